@@ -1,0 +1,13 @@
+pub mod Basics
+pub mod Limits
+pub mod Bytes
+pub mod Dollars
+pub mod Lines
+pub mod Forms
+pub mod Reading
+pub mod Version
+pub mod Statements
+pub mod Manifest
+pub mod Text
+pub mod Card
+pub mod Targets
