@@ -1,4 +1,4 @@
--- What each byte does to the number under way.
+-- What each byte does to the number under way, and what a caller of `number` learns.
 use Prim.Native.Nat.{ℕ, suc, _+_, _-_, _*_, _≤_, _<_}
 use mathlib.Core.Bool.{Bool, true, false}
 use mathlib.Core.List.{List, [], _∷_}
@@ -20,13 +20,10 @@ pub record Reading (s : List ℕ) (from n i : ℕ) : Type 0 where
   pub small : n ≤ 65535
   pub rest : number (drop from s) ≡ numberFrom n (drop i s)
 
-pub digit-low : (b : ℕ) → digit b ≡ true → 48 ≤ b
+pub digit-range : (b : ℕ) → digit b ≡ true → (48 ≤ b) × (b ≤ 57)
 unfolding digit
-digit-low b h = leb-true 48 b (and-left (leb 48 b) (leb b 57) h)
-
-pub digit-high : (b : ℕ) → digit b ≡ true → b ≤ 57
-unfolding digit
-digit-high b h = leb-true b 57 (and-right (leb 48 b) (leb b 57) h)
+digit-range b h =
+    (leb-true 48 b (and-left (leb 48 b) (leb b 57) h), leb-true b 57 (and-right (leb 48 b) (leb b 57) h))
 
 -- Digits only add to a number that is too great already.
 pub too-great : (n : ℕ) (s : List ℕ) → 65535 < n → numberFrom n s ≡ none
@@ -35,9 +32,9 @@ too-great n [] h = rw (lt-leb _ _ h)
 too-great n (b ∷ s) h =
     split (eqb b dot) (λ (e : eqb b dot ≡ true). rw (e, lt-leb _ _ h))
     (λ (e : eqb b dot ≡ false).
-      split (digit b)
-      (λ (d : digit b ≡ true). rw (e, d) (too-great (n * 10 + (b - 48)) s (omega arith)))
-      (λ (d : digit b ≡ false). rw (e, d)))
+    split (digit b)
+    (λ (d : digit b ≡ true). rw (e, d) (too-great (n * 10 + (b - 48)) s (omega arith)))
+    (λ (d : digit b ≡ false). rw (e, d)))
 
 pub no-byte : (s : List ℕ) (from : ℕ) → length s ≤ from → number (drop from s) ≡ none
 unfolding number
@@ -52,7 +49,7 @@ module _ (s : List ℕ) (from : ℕ) (h : from < length s) where
   unfolding number
   begin d = record { small = omega arith; rest = rw (drop-cons s from 0 h, d) }
 
-module _ (s : List ℕ) (from n i : ℕ) (r : Reading s from n i) where
+module _ {s : List ℕ} {from n i : ℕ} (r : Reading s from n i) where
   pub at-end : length s ≤ i → value n (drop i s) ≡ number (drop from s)
   unfolding numberFrom inRange
   at-end h = rw (r .rest, drop-of-length-le s {i = i} h, le-leb _ _ (r .small))
@@ -79,12 +76,12 @@ module _ (s : List ℕ) (from n i : ℕ) (r : Reading s from n i) where
         more o = record { small = o; rest = step }
 
 -- What a call of `number` gave, as its caller goes on: no number, the last one, or one with a byte after it.
-module _ (s : List ℕ) (p : Part) (m : Number) (e : partOf s p ≡ m) where
+module _ (s : List ℕ) {p : Part} {m : Number} (e : partOf s p ≡ m) where
   pub none-read : p ≡ Malformed → m ≡ none
   unfolding partOf
   none-read q = sym e ∙ ap (partOf s) q
 
-  module _ (n i : ℕ) (q : p ≡ Value n i) where
+  module _ {n i : ℕ} (q : p ≡ Value n i) where
     pub last-read : length s ≤ i → m ≡ value n []
     unfolding partOf
     last-read h = sym e ∙ ap (partOf s) q ∙ ap (value n) (drop-of-length-le s {i = i} h)

@@ -1,7 +1,7 @@
 // The version that a manifest asks for: read from bytes, and compared.
 ghost use mathlib.Core.Path.{_≡_};
 ghost use lib.ListN.{drop};
-ghost use Rattle.version.specs.Version.{digit, number, readVersion, above, refused};
+ghost use Rattle.version.specs.Version.{digit, number, minorFrom, patchFrom, readVersion, above, refused, least};
 ghost use Rattle.version.specs.Part.{partOf};
 
 pub struct Version {
@@ -57,7 +57,44 @@ fn number(s: &[u8], from: usize) -> Part
     Part::Value(n, i)
 }
 
+// The version whose second number starts at `from`.
+fn minor_from(s: &[u8], from: usize, major: u32) -> ReadVersion
+    ensures { λ r. ⌜ r ≡ minorFrom major (number (drop from (now (s .entry)))) ⌝ }
+{
+    let second = number(s, from);
+    let Part::Value(minor, i) = second else {
+        return ReadVersion::Malformed;
+    };
+    if i < s.len() {
+        return patch_from(s, i + 1, major, minor);
+    }
+    ReadVersion::Read(Version {
+        major,
+        minor,
+        patch: 0,
+    })
+}
+
+// The version whose third and last number starts at `from`.
+fn patch_from(s: &[u8], from: usize, major: u32, minor: u32) -> ReadVersion
+    ensures { λ r. ⌜ r ≡ patchFrom major minor (number (drop from (now (s .entry)))) ⌝ }
+{
+    let third = number(s, from);
+    let Part::Value(patch, end) = third else {
+        return ReadVersion::Malformed;
+    };
+    if end < s.len() {
+        return ReadVersion::Malformed;
+    }
+    ReadVersion::Read(Version {
+        major,
+        minor,
+        patch,
+    })
+}
+
 impl Version {
+    // The version of ninja whose manifests this edition reads.
     pub const OURS: Version = Version {
         major: 1,
         minor: 5,
@@ -77,26 +114,17 @@ impl Version {
         let Part::Value(major, i) = first else {
             return ReadVersion::Malformed;
         };
-        if s.len() <= i {
-            return ReadVersion::Read(Version { major: major, minor: 0, patch: 0 });
+        if i < s.len() {
+            return minor_from(s, i + 1, major);
         }
-        let second = number(s, i + 1);
-        let Part::Value(minor, j) = second else {
-            return ReadVersion::Malformed;
-        };
-        if s.len() <= j {
-            return ReadVersion::Read(Version { major: major, minor: minor, patch: 0 });
-        }
-        let third = number(s, j + 1);
-        let Part::Value(patch, k) = third else {
-            return ReadVersion::Malformed;
-        };
-        if s.len() <= k {
-            return ReadVersion::Read(Version { major: major, minor: minor, patch: patch });
-        }
-        ReadVersion::Malformed
+        ReadVersion::Read(Version {
+            major,
+            minor: 0,
+            patch: 0,
+        })
     }
 
+    // Whether this version is greater than the other.
     pub fn above(self, other: Version) -> bool
         ensures { λ r. ⌜ r ≡ above self other ⌝ }
     {
@@ -108,14 +136,21 @@ impl Version {
         }
         other.patch < self.patch
     }
-}
 
-// Whether a manifest that asks for this version is refused.
-pub fn refused(s: &[u8]) -> bool
-    ensures { λ r. ⌜ r ≡ refused (now (s .entry)) ⌝ }
-{
-    match Version::read(s) {
-        ReadVersion::Read(v) => v.above(Version::OURS),
-        ReadVersion::Malformed => true,
+    // Whether a manifest that asks for this version is refused.
+    pub fn refused(s: &[u8]) -> bool
+        ensures { λ r. ⌜ r ≡ refused (now (s .entry)) ⌝ }
+    {
+        match Version::read(s) {
+            ReadVersion::Read(v) => v.above(Version::OURS),
+            ReadVersion::Malformed => true,
+        }
+    }
+
+    // The version that a manifest asks for where it names none.
+    pub fn least() -> Version
+        ensures { λ r. ⌜ r ≡ least ⌝ }
+    {
+        Version::LEAST
     }
 }

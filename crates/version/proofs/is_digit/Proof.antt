@@ -1,17 +1,14 @@
+-- `version::is_digit` meets its contract.
 use borrow.Author.Tests.{le-leb, lt-leb}
 use Rattle.version.specs.Version.{digit}
 use borrow.Author.Needs.{needs}
 use Rattle.version.proofs.is_digit.Statement.{statement}
 use Rattle.version.proofs.is_digit.Tie as tie
-use Rattle.version.proofs.is_digit.Reads as reads
-use Rattle.version.proofs.is_digit.Lts as lts
 
--- src/lib.rt:24:1
 returns : tie.Need-returns
 unfolding digit
 returns c = rw (le-leb _ _ (c .if1 .taken))
 
--- src/lib.rt:24:1
 returns-2 : tie.Need-returns-2
 unfolding digit
 returns-2 c = rw (lt-leb _ _ (c .if1 .left))
