@@ -1,0 +1,1 @@
+// Slices of numbers: compare, copy, clear.
