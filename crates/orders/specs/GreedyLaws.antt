@@ -1,0 +1,276 @@
+-- `greedy` is the least list where an order exists, and stops short where none does; then `circleOf` is a circle.
+use mathlib.Core.Path.{_≡_, refl, sym, ap, _∙_}
+use mathlib.Core.Logic.{_⊎_, inl, inr, _↔_}
+use mathlib.Core.Bool.{Bool, true, false, not, _&&_, _||_, true≢false}
+use mathlib.Core.Option.{Option, none, some}
+use mathlib.Core.List.{List, [], _∷_, _++_}
+use Prim.Native.Nat.{ℕ, zero, suc, _+_, _≤_, _<_}
+use native.Mathlib.Nat.{add-zero, add-suc}
+use native.Mathlib.Decide.{decLt}
+use native.Mathlib.Omega.{arith}
+use lib.Dec.{eqb}
+use lib.ListN.{length, getD, take, drop, length-append, length-drop, List·getD-append}
+use lib.Seq.{getD-drop, getD-append-seam}
+use borrow.Author.Tests.{eqb-true, eqb-false, not-true, not-false}
+use Rattle.lists.specs.Members.{_∈_, _∉_, Each, Once, Rising, _⊆_, has, all, find, split, or-cases, and-both, and-cases, in-cons, in-snoc, in-drop, in-at, place, not-in-nil, here, there}
+use Rattle.lists.specs.Members.{has-true, has-false, in-has, not-in-has, all-true, all-false, true-all, find-some, find-none, find-least, each-nil, each-snoc, once-tail, once-length, once-full}
+use Rattle.orders.specs.Order.{Lists, After, IsOrder, Ready, Lowest, IsLeast, IsCircle, Trap, order-ready, ready-order, lowest-least, least-order, trap-no-order, order-no-circle, least-unique, first-difference}
+use Rattle.orders.specs.Greedy.{In, By, ready, next, extend, greedy, covers, whole, orZero, from, chase, blocker, missing, circleFrom, circleOf}
+
+-- wanted, and not in l
+abbrev pub Lacking : List ℕ → List ℕ → ℕ → Type 0
+Lacking want l s = (s ∈ want) × (s ∉ l)
+
+pub covers-true : (l want : List ℕ) → covers l want ≡ true → want ⊆ l
+unfolding covers
+covers-true l want e s h = has-true s l (all-true (λ s. has s l) want e h)
+
+pub true-covers : (l want : List ℕ) → want ⊆ l → covers l want ≡ true
+unfolding covers
+true-covers l want f = true-all (λ s. has s l) want (λ s h. in-has (f s h))
+
+pub covers-false : (l want : List ℕ) → covers l want ≡ false → (s : ℕ) × Lacking want l s
+unfolding covers
+covers-false l want e = let (s, h, f) = all-false (λ s. has s l) want e in (s, (h, has-false s l f))
+
+module _ (want : List ℕ) (before : ℕ → List ℕ) where
+  pub ready-true : (l : List ℕ) (s : ℕ) → s ∈ want → ready want before l s ≡ true → Ready (In want) (By before) l s
+  unfolding ready
+  ready-true l s w e =
+      let p : ℕ → Bool = λ m. has m l || not (has m want) in
+      let (a, b) = and-both (not (has s l)) (all p (before s)) e in
+      record {
+        wanted = w;
+        new = has-false s l (not-true (has s l) a);
+        after = λ m h v. elim (or-cases (has m l) (not (has m want)) (all-true p (before s) b h)) [
+          | inl c ↦ has-true m l c
+          | inr c ↦ absurd (has-false m want (not-true (has m want) c) v)
+        ];
+      }
+
+  pub true-ready : (l : List ℕ) (s : ℕ) → Ready (In want) (By before) l s → ready want before l s ≡ true
+  unfolding ready
+  true-ready l s r =
+      rw (not-in-has (r .new)) (true-all (λ m. has m l || not (has m want)) (before s) (λ m h. elim (split (has m l)) [
+        | inl c ↦ rw c
+        | inr c ↦ rw c (ap not (not-in-has (λ v. has-false m l c (r .after m h v))))
+      ]))
+
+  pub next-ready : (l : List ℕ) {s : ℕ} → next want before l ≡ some s → Ready (In want) (By before) l s
+  unfolding next
+  next-ready l {s} e = let (h, f) = find-some (ready want before l) want e in ready-true l s h f
+
+  pub next-lowest : Rising want → (l : List ℕ) {s : ℕ} → next want before l ≡ some s → Lowest (In want) (By before) l s
+  unfolding next
+  next-lowest u l e = record { ready = next-ready l e; least = λ t r. find-least (ready want before l) want u e (r .wanted) (true-ready l t r) }
+
+  pub next-none : (l : List ℕ) → next want before l ≡ none → (s : ℕ) → ¬ Ready (In want) (By before) l s
+  unfolding next
+  next-none l e s r = true≢false (sym (true-ready l s r) ∙ find-none (ready want before l) want e (r .wanted))
+
+  extend-keeps : (P : List ℕ → Type 0) → ((l : List ℕ) (s : ℕ) → next want before l ≡ some s → P l → P (l ++ (s ∷ [])))
+      → (k : ℕ) (o : Option ℕ) (l : List ℕ) → next want before l ≡ o → P l → P (extend want before k o l)
+  unfolding extend
+  extend-keeps P f zero o l e h = h
+  extend-keeps P f (suc k) none l e h = h
+  extend-keeps P f (suc k) (some s) l e h = extend-keeps P f k (next want before (l ++ (s ∷ []))) (l ++ (s ∷ [])) refl (f l s e h)
+
+  extend-end : (k : ℕ) (o : Option ℕ) (l : List ℕ) → next want before l ≡ o
+      → (next want before (extend want before k o l) ≡ none) ⊎ (length (extend want before k o l) ≡ length l + k)
+  unfolding extend
+  extend-end zero o l e = inr (omega arith)
+  extend-end (suc k) none l e = inl e
+  extend-end (suc k) (some s) l e = elim (extend-end k (next want before (l ++ (s ∷ []))) (l ++ (s ∷ [])) refl) [
+    | inl a ↦ inl a
+    | inr b ↦ inr (omega (arith, length-append l (s ∷ [])))
+  ]
+
+  -- whatever each turn keeps holds of the whole list
+  pub greedy-each : (P : List ℕ → ℕ → Type 0) → ((l : List ℕ) (s : ℕ) → next want before l ≡ some s → P l s) → Each P (greedy want before)
+  unfolding greedy
+  greedy-each P f = extend-keeps (Each P) (λ l s e h. each-snoc P l s h (f l s e)) (length want) (next want before []) [] refl (each-nil P)
+
+  pub greedy-ready : Each (Ready (In want) (By before)) (greedy want before)
+  greedy-ready = greedy-each (Ready (In want) (By before)) (λ l s e. next-ready l e)
+
+  pub greedy-lowest : Rising want → Each (Lowest (In want) (By before)) (greedy want before)
+  greedy-lowest u = greedy-each (Lowest (In want) (By before)) (λ l s e. next-lowest u l e)
+
+  pub greedy-once : Once (greedy want before)
+  greedy-once i b = greedy-ready i b .new
+
+  pub greedy-wanted : greedy want before ⊆ want
+  greedy-wanted s h = let (i, b, e) = place h in rw e at (greedy-ready i b .wanted)
+
+  greedy-stops : (next want before (greedy want before) ≡ none) ⊎ (length (greedy want before) ≡ 0 + length want)
+  unfolding greedy
+  greedy-stops = extend-end (length want) (next want before []) [] refl
+
+  -- after the last turn nothing is ready
+  pub greedy-end : (s : ℕ) → ¬ Ready (In want) (By before) (greedy want before) s
+  greedy-end s r = elim greedy-stops [
+    | inl e ↦ next-none (greedy want before) e s r
+    | inr e ↦ r .new (once-full (greedy want before) want greedy-once greedy-wanted (omega arith) s (r .wanted))
+  ]
+
+  -- a wanted step that greedy lacks has such a step before it
+  pub blocked : (s : ℕ) → Lacking want (greedy want before) s
+      → By before (blocker want before (greedy want before) s) s × Lacking want (greedy want before) (blocker want before (greedy want before) s)
+  unfolding blocker orZero
+  blocked s (w, n) = go (find p (before s)) refl
+    where
+      l : List ℕ
+      l = greedy want before
+
+      p : ℕ → Bool
+      p m = has m want && not (has m l)
+
+      go : (o : Option ℕ) → find p (before s) ≡ o → By before (orZero o) s × Lacking want l (orZero o)
+      go none e = absurd (greedy-end s (record {
+        wanted = w;
+        new = n;
+        after = λ m h v. elim (and-cases (has m want) (not (has m l)) (find-none p (before s) e h)) [
+          | inl a ↦ absurd (has-false m want a v)
+          | inr b ↦ has-true m l (not-false (has m l) b)
+        ];
+      }))
+      go (some m) e =
+          let (h, f) = find-some p (before s) e in
+          let (a, b) = and-both (has m want) (not (has m l)) f in
+          (h, (has-true m want a, has-false m l (not-true (has m l) b)))
+
+  pub greedy-trap : Trap (In want) (By before) (Lacking want (greedy want before))
+  greedy-trap s c = let (h, d) = blocked s c in (blocker want before (greedy want before) s, h, d .0, d)
+
+  -- `whole`
+
+  pub whole-true : whole want before ≡ true → want ⊆ greedy want before
+  unfolding whole
+  whole-true e = covers-true (greedy want before) want e
+
+  pub true-whole : want ⊆ greedy want before → whole want before ≡ true
+  unfolding whole
+  true-whole f = true-covers (greedy want before) want f
+
+  pub whole-false : whole want before ≡ false → (s : ℕ) × Lacking want (greedy want before) s
+  unfolding whole
+  whole-false e = covers-false (greedy want before) want e
+
+  pub whole-order : whole want before ≡ true → IsOrder (In want) (By before) (greedy want before)
+  whole-order e = ready-order (greedy want before) (whole-true e) greedy-ready
+
+  pub whole-least : Rising want → whole want before ≡ true → IsLeast (In want) (By before) (greedy want before)
+  whole-least u e = lowest-least (greedy want before) (whole-true e) (greedy-lowest u)
+
+  pub order-whole : {l : List ℕ} → IsOrder (In want) (By before) l → whole want before ≡ true
+  order-whole o = elim (split (whole want before)) [
+    | inl e ↦ e
+    | inr e ↦ (let (s, c) = whole-false e in absurd (trap-no-order greedy-trap (c .0) c o))
+  ]
+
+-- The circle
+
+-- each entry of l has the next before it
+abbrev pub Linked : (ℕ → ℕ → Type 0) → List ℕ → Type 0
+Linked Before l = (i : ℕ) → suc i < length l → Before (getD l (suc i) 0) (getD l i 0)
+
+linked-init : (Before : ℕ → ℕ → Type 0) (l r : List ℕ) → Linked Before (l ++ r) → Linked Before l
+linked-init Before l r f i b =
+    rw (List·getD-append l r 0 (suc i) b, List·getD-append l r 0 i (omega arith)) at (f i (omega (arith, length-append l r)))
+
+linked-last : (Before : ℕ → ℕ → Type 0) (l : List ℕ) (s i : ℕ) → Linked Before (l ++ (s ∷ [])) → suc i ≡ length l → Before s (getD l i 0)
+linked-last Before l s i f e =
+    rw (e, getD-append-seam l s [] 0, List·getD-append l (s ∷ []) 0 i (omega arith)) at (f i (omega (arith, length-append l (s ∷ []))))
+
+linked-snoc : (Before : ℕ → ℕ → Type 0) (l : List ℕ) (m : ℕ) → Linked Before l → ((i : ℕ) → suc i ≡ length l → Before m (getD l i 0)) → Linked Before (l ++ (m ∷ []))
+linked-snoc Before l m f g i b = elim (decLt (suc i) (length l)) [
+  | yes d ↦ rw (List·getD-append l (m ∷ []) 0 (suc i) d, List·getD-append l (m ∷ []) 0 i (omega arith)) (f i d)
+  | no d ↦ (
+      let e : suc i ≡ length l = omega (arith, length-append l (m ∷ [])) in
+      rw (List·getD-append l (m ∷ []) 0 i (omega arith), e, getD-append-seam l m [] 0) (g i e)
+      )
+]
+
+from-drop : (s : ℕ) (l : List ℕ) → s ∈ l → (j : ℕ) × (j < length l) × (getD l j 0 ≡ s) × (from s l ≡ drop j l)
+unfolding from
+from-drop s (y ∷ l) h = elim (split (eqb s y)) [
+  | inl a ↦ (0, omega arith, sym (eqb-true s y a), rw (a, from))
+  | inr b ↦ elim (in-cons h) [
+    | inl q ↦ absurd (eqb-false s y b q)
+    | inr k ↦ (let (j, c, e, g) = from-drop s l k in (suc j, omega arith, e, rw (b, from) g))
+  ]
+]
+
+once-drop : (l : List ℕ) (j : ℕ) → Once l → Once (drop j l)
+once-drop l zero o = o
+once-drop [] (suc j) o = o
+once-drop (x ∷ l) (suc j) o = once-drop l j (once-tail x l o)
+
+module _ {Want : ℕ → Type 0} {Before : ℕ → ℕ → Type 0} where
+  drop-circle : (l : List ℕ) (s j : ℕ) → Once l → ((t : ℕ) → t ∈ l → Want t) → Linked Before (l ++ (s ∷ [])) → j < length l → getD l j 0 ≡ s
+      → IsCircle Want Before (drop j l)
+  drop-circle l s j o w f b e = record {
+    one-or-more = omega (arith, length-drop j l);
+    wanted = λ t h. w t (in-drop j l h);
+    next = λ i c. rw (getD-drop j l (suc i) 0, getD-drop j l i 0, add-suc j i)
+        (linked-init Before l (s ∷ []) f (j + i) (omega (arith, length-drop j l)));
+    last = λ i c. rw (getD-drop j l 0 0, getD-drop j l i 0, add-zero j, e) (linked-last Before l s (j + i) f (omega (arith, length-drop j l)));
+    once = once-drop l j o;
+  }
+
+  chase-circle : (C : ℕ → Type 0) (f : ℕ → ℕ) (n : ℕ) → ((s : ℕ) → C s → Before (f s) s × C (f s)) → ((s : ℕ) → C s → Want s)
+      → ((l : List ℕ) → Once l → ((s : ℕ) → s ∈ l → C s) → length l ≤ n)
+      → (k : ℕ) (l : List ℕ) (s : ℕ) → Once l → ((t : ℕ) → t ∈ l → C t) → C s → Linked Before (l ++ (s ∷ [])) → length l + k ≡ suc n
+      → IsCircle Want Before (chase f k l s)
+  unfolding chase
+  chase-circle C f n go w most zero l s o a c g e = absurd (omega (arith, most l o a))
+  chase-circle C f n go w most (suc k) l s o a c g e = elim (split (has s l)) [
+    | inl h ↦ (let (j, b, q, r) = from-drop s l (has-true s l h) in rw (h, chase, r) (drop-circle l s j o (λ t i. w t (a t i)) g b q))
+    | inr h ↦ rw (h, chase) (chase-circle C f n go w most k (l ++ (s ∷ [])) (f s)
+        (each-snoc (λ earlier x. x ∉ earlier) l s o (has-false s l h))
+        (λ t i. elim (in-snoc l i) [ inl b ↦ a t b | inr q ↦ rw q c ])
+        (go s c .1)
+        (linked-snoc Before (l ++ (s ∷ [])) (f s) g (λ i q. let r : i ≡ length l = omega (arith, length-append l (s ∷ [])) in rw (r, getD-append-seam l s [] 0) (go s c .0)))
+        (omega (arith, length-append l (s ∷ []))))
+  ]
+
+missing-lacks : (want l : List ℕ) → covers l want ≡ false → Lacking want l (missing want l)
+unfolding missing orZero
+missing-lacks want l e = go (find (λ s. not (has s l)) want) refl
+  where
+    go : (o : Option ℕ) → find (λ s. not (has s l)) want ≡ o → Lacking want l (orZero o)
+    go none f =
+        let (s, c) = covers-false l want e in
+        absurd (c .1 (has-true s l (not-false (has s l) (find-none (λ s. not (has s l)) want f (c .0)))))
+    go (some s) f = let (h, g) = find-some (λ s. not (has s l)) want f in (h, has-false s l (not-true (has s l) g))
+
+module _ (want : List ℕ) (before : ℕ → List ℕ) where
+  pub not-whole-circle : whole want before ≡ false → IsCircle (In want) (By before) (circleOf want before)
+  unfolding whole circleOf circleFrom
+  not-whole-circle e =
+      let l : List ℕ = greedy want before in
+      chase-circle (Lacking want l) (blocker want before l) (length want) (blocked want before) (λ s c. c .0)
+      (λ r o a. once-length r want o (λ s h. a s h .0)) (suc (length want)) [] (missing want l) (each-nil (λ earlier x. x ∉ earlier))
+      (λ t h. absurd (not-in-nil h)) (missing-lacks want l e) (λ i b. absurd (omega arith)) (omega arith)
+
+  pub circle-not-whole : {c : List ℕ} → IsCircle (In want) (By before) c → whole want before ≡ false
+  circle-not-whole o = elim (split (whole want before)) [ inl e ↦ absurd (order-no-circle (whole-order want before e) o) | inr e ↦ e ]
+
+  -- no order exists exactly where greedy is not whole, and exactly there a circle exists
+  pub no-order : (¬ ((l : List ℕ) × IsOrder (In want) (By before) l)) ↔ (whole want before ≡ false)
+  no-order = (
+    λ f. elim (split (whole want before)) [ inl e ↦ absurd (f (greedy want before, whole-order want before e)) | inr e ↦ e ],
+    λ e o. true≢false (sym (order-whole want before (o .1)) ∙ e),
+  )
+
+  pub some-circle : ((c : List ℕ) × IsCircle (In want) (By before) c) ↔ (whole want before ≡ false)
+  some-circle = (λ o. circle-not-whole (o .1), λ e. (circleOf want before, not-whole-circle e))
+
+  pub no-order-circle : (¬ ((l : List ℕ) × IsOrder (In want) (By before) l)) ↔ ((c : List ℕ) × IsCircle (In want) (By before) c)
+  no-order-circle = (λ f. some-circle .1 (no-order .0 f), λ o. no-order .1 (some-circle .0 o))
+
+  pub least-greedy : Rising want → {l : List ℕ} → IsLeast (In want) (By before) l → l ≡ greedy want before
+  least-greedy u o = least-unique o (whole-least want before u (order-whole want before (least-order o)))
+
+  pub order-greedy : Rising want → {l : List ℕ} → IsOrder (In want) (By before) l → IsLeast (In want) (By before) (greedy want before)
+  order-greedy u o = whole-least want before u (order-whole want before o)
