@@ -1,3 +1,5 @@
 pub mod Order
 pub mod Greedy
 pub mod GreedyLaws
+pub mod Reach
+pub mod Along

@@ -1,20 +1,9 @@
--- What the definitions are written with: a lazy choice, the bytes of a text, tests and cuts on lists.
-use Prim.Native.Nat.{ℕ, zero, suc, _+_}
-use Prim.Native.Char.{code}
-use Prim.Native.String as text
-use Prim.Native.String.{String}
+-- What the definitions are written with: tests and cuts on lists.
+use Prim.Native.Nat.{ℕ, _+_}
 use mathlib.Core.List.{List, [], _∷_, _++_}
 use mathlib.Core.Bool.{Bool, true, false, _&&_, _||_, not}
 use lib.Dec.{eqb, ltb}
-
--- only the branch that is taken is computed
-abbrev pub ifB : {A : Type 0} → Bool → (Unit {0} → A) → (Unit {0} → A) → A
-ifB true f g = f tt
-ifB false f g = g tt
-
-abbrev pub bytes : String → List ℕ
-bytes text.[] = []
-bytes (text._∷_ c s) = code c ∷ bytes s
+use Rattle.lists.specs.Tests.{ifB}
 
 abbrev pub isEmpty : {A : Type 0} → List A → Bool
 isEmpty [] = true

@@ -3,7 +3,7 @@
 use Prim.Native.Nat.{ℕ}
 use mathlib.Core.Bool.{Bool, _&&_, _||_}
 use lib.Dec.{eqb, leb}
-use Rattle.rules.specs.Basics.{ifB}
+use Rattle.lists.specs.Tests.{ifB}
 
 abbrev pub newline : ℕ
 newline = 10

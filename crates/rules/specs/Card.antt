@@ -5,7 +5,8 @@ use mathlib.Core.Option.{Option, none, some}
 use mathlib.Core.Bool.{Bool, true, false, _&&_, _||_}
 use lib.Dec.{eqb, leb, ltb}
 use lib.ListN.{length, take, drop}
-use Rattle.rules.specs.Basics.{ifB, sameBytes, lessBytes}
+use Rattle.lists.specs.Tests.{ifB}
+use Rattle.rules.specs.Basics.{sameBytes, lessBytes}
 use Rattle.rules.specs.Limits.{maxRecords, maxCard, maxPath, maxTime}
 
 -- "Numbers are little-endian."

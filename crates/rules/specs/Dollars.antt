@@ -4,7 +4,8 @@ use mathlib.Core.List.{List, [], _∷_, _++_}
 use mathlib.Core.Option.{Option, none, some}
 use mathlib.Core.Bool.{Bool, true, false, not, _&&_, _||_}
 use lib.Dec.{eqb}
-use Rattle.rules.specs.Basics.{ifB, isEmpty}
+use Rattle.lists.specs.Tests.{ifB}
+use Rattle.rules.specs.Basics.{isEmpty}
 use Rattle.rules.specs.Bytes.{newline, space, dollar, colon, openBrace, closeBrace, shortByte, nameByte}
 
 -- "Dollars are read from the left." Where that reading stands after the bytes so far.

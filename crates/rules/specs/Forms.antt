@@ -5,7 +5,9 @@ use mathlib.Core.Option.{Option, none, some}
 use mathlib.Core.Bool.{Bool, true, false, not, _&&_, _||_}
 use lib.Dec.{eqb}
 use lib.ListN.{length}
-use Rattle.rules.specs.Basics.{ifB, bytes, isEmpty, sameBytes, among, whilst, past}
+use Rattle.lists.specs.Tests.{ifB}
+use Rattle.lists.specs.Text.{bytes}
+use Rattle.rules.specs.Basics.{isEmpty, sameBytes, among, whilst, past}
 use Rattle.rules.specs.Bytes.{newline, space, dollar, colon, bar, equals, nameByte}
 use Rattle.rules.specs.Dollars.{Scan, plain, afterJoin, afterDollar, inBraces, inName, bad, turn, badDollar}
 use Rattle.rules.specs.Lines.{isSpace, startsWith}

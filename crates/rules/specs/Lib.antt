@@ -5,9 +5,16 @@ pub mod Dollars
 pub mod Lines
 pub mod Forms
 pub mod Reading
-pub mod Version
 pub mod Statements
 pub mod Manifest
 pub mod Text
 pub mod Card
 pub mod Targets
+pub mod Graph
+pub mod Stale
+pub mod Words
+pub mod Answers
+pub mod PlanAsk
+pub mod TextAsk
+pub mod Promises
+pub mod Marked

@@ -3,7 +3,8 @@ use Prim.Native.Nat.{ℕ, suc}
 use mathlib.Core.List.{List, [], _∷_, _++_}
 use mathlib.Core.Bool.{Bool, true, false, not, _&&_}
 use lib.Dec.{eqb}
-use Rattle.rules.specs.Basics.{ifB, isEmpty, past}
+use Rattle.lists.specs.Tests.{ifB}
+use Rattle.rules.specs.Basics.{isEmpty, past}
 use Rattle.rules.specs.Bytes.{newline, space, hash, dollar}
 
 -- "Every line ends with a newline. `$` before a newline joins the lines." "A line whose first non-space byte is `#` is a comment .. A comment

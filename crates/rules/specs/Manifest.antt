@@ -7,7 +7,8 @@ use lib.Dec.{eqb, ltb}
 use lib.ListN.{length}
 use Rattle.rules.specs.declared.Refusal.{Refusal}
 use Rattle.rules.specs.declared.Refusal.the-variants.{LongManifest, BadByte, BadLine, BadDollar, NotYet, BadRule}
-use Rattle.rules.specs.Basics.{ifB, bytes}
+use Rattle.lists.specs.Tests.{ifB}
+use Rattle.lists.specs.Text.{bytes}
 use Rattle.rules.specs.Limits.{maxManifest}
 use Rattle.rules.specs.Bytes.{newline, forbidden}
 use Rattle.rules.specs.Lines.{Line, linesOf, isComment, isBlank, isIndented}

@@ -5,7 +5,9 @@ use mathlib.Core.Option.{Option, none, some}
 use mathlib.Core.Bool.{Bool, true, false, not, _||_}
 use lib.Dec.{eqb}
 use lib.ListN.{length, getD}
-use Rattle.rules.specs.Basics.{ifB, bytes, sameBytes, among, any}
+use Rattle.lists.specs.Tests.{ifB}
+use Rattle.lists.specs.Text.{bytes}
+use Rattle.rules.specs.Basics.{sameBytes, among, any}
 
 -- a name and its value
 pub record Bound : Type 0 where

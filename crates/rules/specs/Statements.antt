@@ -6,12 +6,14 @@ use lib.Dec.{eqb, leb, ltb}
 use lib.ListN.{length}
 use Rattle.rules.specs.declared.Refusal.{Refusal}
 use Rattle.rules.specs.declared.Refusal.the-variants.{BadLine, BadRule, BadPath, OverLimit, BadVersion}
-use Rattle.rules.specs.Basics.{ifB, bytes, isEmpty, sameBytes, among, any, all, sum}
+use Rattle.lists.specs.Tests.{ifB}
+use Rattle.lists.specs.Text.{bytes}
+use Rattle.rules.specs.Basics.{isEmpty, sameBytes, among, any, all, sum}
 use Rattle.rules.specs.Limits.{maxSteps, maxFiles, maxRules, maxBindings, maxMentions, maxName, maxPath, maxValue, maxWritten}
 use Rattle.rules.specs.Dollars.{expand}
 use Rattle.rules.specs.Forms.{Form, ruleForm, buildForm, defaultForm, bindingForm, BuildLine}
 use Rattle.rules.specs.Reading.{Bound, Rule, Step, Reading, fileVar, hasKey, declared, mention, numbersOf, isMade}
-use Rattle.rules.specs.Version.{acceptable}
+use Rattle.version.specs.Version.{refused as versionRefused}
 
 -- the open block: none, a rule's (with the start of its line and what it holds so far), or a build step's
 pub data Block : Type 0 where
@@ -140,8 +142,8 @@ setVar n v rd =
 
 -- "`ninja_required_version` at file level is checked at once": "version malformed or above OURS" (10)
 unfoldable pub wrongVersion : List ℕ → List ℕ → Bool
-unfolding sameBytes acceptable
-wrongVersion n v = sameBytes n (bytes "ninja_required_version") && not (acceptable v)
+unfolding sameBytes versionRefused
+wrongVersion n v = sameBytes n (bytes "ninja_required_version") && versionRefused v
 
 -- "`NAME = value`: expanded at once; a later line replaces it."
 unfoldable pub addVar : ℕ → List ℕ → List ℕ → Reading → Outcome

@@ -5,7 +5,8 @@ use mathlib.Core.Option.{Option, none, some}
 use mathlib.Core.Bool.{Bool, true, false, not, _&&_, _||_}
 use lib.Dec.{eqb, ltb}
 use lib.ListN.{length}
-use Rattle.rules.specs.Basics.{ifB, isEmpty, among}
+use Rattle.lists.specs.Tests.{ifB}
+use Rattle.rules.specs.Basics.{isEmpty, among}
 use Rattle.rules.specs.Limits.{maxTargets, maxPath}
 use Rattle.rules.specs.Bytes.{newline}
 

@@ -4,7 +4,9 @@ use mathlib.Core.List.{List, [], _∷_, _++_, map}
 use mathlib.Core.Option.{Option, none, some}
 use mathlib.Core.Bool.{Bool, true, false}
 use lib.ListN.{getD}
-use Rattle.rules.specs.Basics.{ifB, bytes, sameBytes, among, any}
+use Rattle.lists.specs.Tests.{ifB}
+use Rattle.lists.specs.Text.{bytes}
+use Rattle.rules.specs.Basics.{sameBytes, among, any}
 use Rattle.rules.specs.Bytes.{space, newline}
 use Rattle.rules.specs.Dollars.{expand, refs}
 use Rattle.rules.specs.Reading.{Bound, Rule, Step, Reading, find, fileVar, keysOf}

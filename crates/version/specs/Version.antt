@@ -29,6 +29,7 @@ inRange n s = ifB (leb n 65535) (λ _. value n s) (λ _. none)
 -- The rest of a decimal number whose digits so far give n. It ends at a dot or at the end. "leading zeros allowed": only
 -- the value is limited.
 unfoldable pub numberFrom : ℕ → List ℕ → Number
+unfolding digit inRange
 numberFrom n [] = inRange n []
 numberFrom n (b ∷ s) =
     ifB (eqb b dot)
@@ -37,6 +38,7 @@ numberFrom n (b ∷ s) =
 
 -- A decimal number has one digit at least.
 unfoldable pub number : List ℕ → Number
+unfolding digit numberFrom
 number [] = none
 number (b ∷ s) = ifB (digit b) (λ _. numberFrom 0 (b ∷ s)) (λ _. none)
 
@@ -50,16 +52,19 @@ patchFrom a b (value c []) = Read (version a b c)
 patchFrom a b (value c (d ∷ s)) = Malformed
 
 unfoldable pub minorFrom : ℕ → Number → ReadVersion
+unfolding number patchFrom
 minorFrom a none = Malformed
 minorFrom a (value b []) = Read (version a b 0)
 minorFrom a (value b (d ∷ s)) = patchFrom a b (number s)
 
 unfoldable pub majorFrom : Number → ReadVersion
+unfolding number minorFrom
 majorFrom none = Malformed
 majorFrom (value a []) = Read (version a 0 0)
 majorFrom (value a (d ∷ s)) = minorFrom a (number s)
 
 unfoldable pub readVersion : List ℕ → ReadVersion
+unfolding number majorFrom
 readVersion s = majorFrom (number s)
 
 -- The greater version has the greater number at the first place where the two differ.
@@ -77,11 +82,13 @@ abbrev pub least : Version
 least = version 0 0 0
 
 unfoldable pub tooNew : ReadVersion → Bool
+unfolding above
 tooNew (Read v) = above v ours
 tooNew Malformed = true
 
 -- Refusal 10: "version malformed or above OURS"
 unfoldable pub refused : List ℕ → Bool
+unfolding tooNew readVersion
 refused s = tooNew (readVersion s)
 
 both-false : (b : Bool) → ifB b (λ _. false) (λ _. false) ≡ false
