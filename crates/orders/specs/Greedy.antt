@@ -27,12 +27,14 @@ extend want before (suc k) none l = l
 extend want before (suc k) (some s) l = let r = l ++ (s ∷ []) in extend want before k (next want before r) r
 
 unfoldable pub greedy : List ℕ → (ℕ → List ℕ) → List ℕ
+unfolding has all find ready next extend
 greedy want before = extend want before (length want) (next want before []) []
 
 unfoldable pub covers : List ℕ → List ℕ → Bool
 covers l want = all (λ s. has s l) want
 
 unfoldable pub whole : List ℕ → (ℕ → List ℕ) → Bool
+unfolding has all greedy covers
 whole want before = covers (greedy want before) want
 
 unfoldable pub orZero : Option ℕ → ℕ
@@ -60,4 +62,5 @@ unfoldable pub circleFrom : List ℕ → (ℕ → List ℕ) → List ℕ → Lis
 circleFrom want before l = chase (blocker want before l) (suc (length want)) [] (missing want l)
 
 unfoldable pub circleOf : List ℕ → (ℕ → List ℕ) → List ℕ
+unfolding has find greedy orZero from chase blocker missing circleFrom
 circleOf want before = circleFrom want before (greedy want before)

@@ -1,3 +1,4 @@
 pub mod Order
 pub mod Greedy
 pub mod GreedyLaws
+pub mod Reach
