@@ -234,7 +234,7 @@ in-upstream before n small s b {m} = (λ h. there-to (in-reach before n (before 
 -- Steps of an order, and what is upstream of them
 
 module _ {Want : ℕ → Type 0} {before : ℕ → List ℕ} (closed : Closed before Want) {l : List ℕ} (o : IsOrder Want (By before) l) where
-  direct-earlier : (i : ℕ) → i < length l → (m : ℕ) → m ∈ before (getD l i 0) → m ∈ take i l
+  pub direct-earlier : (i : ℕ) → i < length l → (m : ℕ) → m ∈ before (getD l i 0) → m ∈ take i l
   direct-earlier i b m h = o .after i b m h (closed (getD l i 0) (o .lists .no-others (getD l i 0) (in-at l i b)) m h)
 
   -- in an order of a closed set, all that is upstream of a step comes earlier
