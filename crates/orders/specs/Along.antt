@@ -1,17 +1,16 @@
 -- Values computed step by step along an order: they solve their equations, and do not depend on the order.
 use mathlib.Core.Path.{_≡_, refl, sym, ap, _∙_}
-use mathlib.Core.Logic.{_⊎_, inl, inr}
-use mathlib.Core.Bool.{Bool, true, false, cond}
+use mathlib.Core.Bool.{cond}
 use mathlib.Core.List.{List, [], _∷_, _++_}
-use Prim.Native.Nat.{ℕ, zero, suc, _≤_, _<_}
+use Prim.Native.Nat.{ℕ, zero, suc, _<_}
 use native.Mathlib.Omega.{arith}
 use lib.Dec.{eqb}
 use lib.ListN.{length, getD, take, drop, take-append-drop}
 use lib.Seq.{take-suc}
 use borrow.Author.Tests.{eq-eqb, ne-eqb}
 use Rattle.lists.specs.Members.{_∈_, _∉_, here, there, in-at, at-before, place, place-before, once-apart}
-use Rattle.orders.specs.Order.{Lists, IsOrder}
-use Rattle.orders.specs.Greedy.{In, By}
+use Rattle.orders.specs.Order.{IsOrder}
+use Rattle.orders.specs.Greedy.{By}
 use Rattle.orders.specs.Reach.{Closed, direct-earlier}
 
 -- the value of a step rests on the values of the steps before it

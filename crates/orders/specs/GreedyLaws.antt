@@ -5,16 +5,16 @@ use mathlib.Core.Bool.{Bool, true, false, not, _&&_, _||_, true≢false}
 use mathlib.Core.Option.{Option, none, some}
 use mathlib.Core.List.{List, [], _∷_, _++_}
 use Prim.Native.Nat.{ℕ, zero, suc, _+_, _≤_, _<_}
-use native.Mathlib.Nat.{add-zero, add-suc}
+use native.Mathlib.Nat.{add-zero, add-suc, le-antisymm}
 use native.Mathlib.Decide.{decLt}
 use native.Mathlib.Omega.{arith}
 use lib.Dec.{eqb}
 use lib.ListN.{length, getD, take, drop, length-append, length-drop, List·getD-append}
 use lib.Seq.{getD-drop, getD-append-seam}
 use borrow.Author.Tests.{eqb-true, eqb-false, not-true, not-false}
-use Rattle.lists.specs.Members.{_∈_, _∉_, Each, Once, Rising, _⊆_, has, all, find, split, or-cases, and-both, and-cases, in-cons, in-snoc, in-drop, in-at, place, not-in-nil, here, there}
-use Rattle.lists.specs.Members.{has-true, has-false, in-has, not-in-has, all-true, all-false, true-all, find-some, find-none, find-least, each-nil, each-snoc, once-tail, once-length, once-full}
-use Rattle.orders.specs.Order.{Lists, After, IsOrder, Ready, Lowest, IsLeast, IsCircle, Trap, order-ready, ready-order, lowest-least, least-order, trap-no-order, order-no-circle, least-unique, first-difference}
+use Rattle.lists.specs.Members.{_∈_, _∉_, Each, Once, Rising, _⊆_, has, all, find, split, or-cases, and-both, and-cases, in-cons, in-snoc, in-drop, place, not-in-nil}
+use Rattle.lists.specs.Members.{has-true, has-false, in-has, not-in-has, all-true, all-false, true-all, find-some, find-none, find-least, each-nil, each-snoc, once-tail, once-length, once-full, rising-once}
+use Rattle.orders.specs.Order.{IsOrder, Ready, Lowest, IsLeast, IsCircle, Trap, ready-order, lowest-least, least-order, trap-no-order, order-no-circle, lowest-unique, least-unique, first-difference}
 use Rattle.orders.specs.Greedy.{In, By, ready, next, extend, greedy, covers, whole, orZero, from, chase, blocker, missing, circleFrom, circleOf}
 
 -- wanted, and not in l
@@ -269,8 +269,26 @@ module _ (want : List ℕ) (before : ℕ → List ℕ) where
   pub no-order-circle : (¬ ((l : List ℕ) × IsOrder (In want) (By before) l)) ↔ ((c : List ℕ) × IsCircle (In want) (By before) c)
   no-order-circle = (λ f. some-circle .1 (no-order .0 f), λ o. no-order .1 (some-circle .0 o))
 
-  pub least-greedy : Rising want → {l : List ℕ} → IsLeast (In want) (By before) l → l ≡ greedy want before
-  least-greedy u o = least-unique o (whole-least want before u (order-whole want before (least-order o)))
-
   pub order-greedy : Rising want → {l : List ℕ} → IsOrder (In want) (By before) l → IsLeast (In want) (By before) (greedy want before)
   order-greedy u o = whole-least want before u (order-whole want before o)
+
+  pub least-greedy : Rising want → {l : List ℕ} → IsLeast (In want) (By before) l → l ≡ greedy want before
+  least-greedy u o = least-unique o (order-greedy u (least-order o))
+
+  -- whole or not, greedy is what taking the lowest at each turn comes to
+  pub lowest-greedy : Rising want → (l : List ℕ) → Each (Lowest (In want) (By before)) l → ((s : ℕ) → ¬ Ready (In want) (By before) l s) → l ≡ greedy want before
+  lowest-greedy u l f n = lowest-unique l (greedy want before) f n (greedy-lowest want before u) (greedy-end want before)
+
+  -- at the first place where another order differs from greedy it has the higher number
+  pub greedy-first : Rising want → {r : List ℕ} → IsOrder (In want) (By before) r
+      → (greedy want before ≡ r) ⊎ ((i : ℕ) × (i < length (greedy want before)) × (take i (greedy want before) ≡ take i r) × (getD (greedy want before) i 0 < getD r i 0))
+  greedy-first u o = first-difference (order-greedy u o) o
+
+  pub greedy-length : length (greedy want before) ≤ length want
+  greedy-length = once-length (greedy want before) want (greedy-once want before) (greedy-wanted want before)
+
+  pub whole-length : Rising want → whole want before ≡ true → length (greedy want before) ≡ length want
+  whole-length u e = le-antisymm greedy-length (once-length want (greedy want before) (rising-once want u) (whole-true want before e))
+
+  pub circle-length : {c : List ℕ} → IsCircle (In want) (By before) c → length c ≤ length want
+  circle-length {c} o = once-length c want (o .once) (o .wanted)

@@ -1,13 +1,13 @@
 -- What is upstream of a step, the closure of a list of steps computed, and why steps upstream of one another have an order.
-use mathlib.Core.Path.{_≡_, refl, sym, ap, _∙_}
+use mathlib.Core.Path.{_≡_, refl}
 use mathlib.Core.Logic.{_⊎_, inl, inr, _↔_}
-use mathlib.Core.Bool.{Bool, true, false, cond, _||_}
-use mathlib.Core.List.{List, [], _∷_, _++_}
-use Prim.Native.Nat.{ℕ, zero, suc, _+_, _≤_, _<_}
+use mathlib.Core.Bool.{true, cond, _||_}
+use mathlib.Core.List.{List, [], _∷_}
+use Prim.Native.Nat.{ℕ, zero, suc, _+_, _<_}
 use native.Mathlib.Omega.{arith}
 use lib.ListN.{length, getD, take}
-use Rattle.lists.specs.Members.{_∈_, _∉_, here, there, Once, Rising, _⊆_, has, keep, upTo, split, or-cases, or-neither, in-cons, not-in-nil, in-at, place, place-before, in-take-more, cons-⊆}
-use Rattle.lists.specs.Members.{has-true, has-false, in-has, in-keep, keep-in, in-upTo, upTo-in, each-nil, once-head, once-tail, once-cons, once-below, rising-keep, rising-upTo}
+use Rattle.lists.specs.Members.{_∈_, _∉_, here, there, Once, Rising, _⊆_, has, keep, upTo, split, or-cases, or-neither, in-cons, not-in-nil, in-at, place-before, in-take-more}
+use Rattle.lists.specs.Members.{has-true, has-false, in-has, in-keep, keep-in, upTo-in, each-nil, once-head, once-tail, once-cons, once-below, rising-keep, rising-upTo}
 use Rattle.orders.specs.Order.{IsOrder, no-descent}
 use Rattle.orders.specs.Greedy.{In, By, greedy, whole, blocker}
 use Rattle.orders.specs.GreedyLaws.{Lacking, blocked, whole-false}
