@@ -299,6 +299,11 @@ once-head x l o h = let (i, b, e) = place h in o (suc i) (omega arith) (here e)
 pub once-tail : (x : ℕ) (l : List ℕ) → Once (x ∷ l) → Once l
 once-tail x l o i b h = o (suc i) (omega arith) (there h)
 
+pub once-drop : (l : List ℕ) (j : ℕ) → Once l → Once (drop j l)
+once-drop l zero o = o
+once-drop [] (suc j) o = o
+once-drop (x ∷ l) (suc j) o = once-drop l j (once-tail x l o)
+
 pub once-cons : (x : ℕ) (l : List ℕ) → x ∉ l → Once l → Once (x ∷ l)
 once-cons x l n o zero b h = not-in-nil h
 once-cons x l n o (suc i) b (here e) = n (rw (← e) (in-at l i (le-of-suc-le-suc b)))
