@@ -1,6 +1,6 @@
 -- Membership in a list of numbers and its tests, lists without repeats, rising lists, and the pigeonhole.
 use mathlib.Core.Path.{_≡_, refl, sym, ap, ap₂, _∙_}
-use mathlib.Core.Logic.{_≢_, _⊎_, inl, inr, _↔_}
+use mathlib.Core.Logic.{_⊎_, inl, inr}
 use mathlib.Core.Bool.{Bool, true, false, not, cond, _&&_, _||_, true≢false, false≢true}
 use mathlib.Core.Option.{Option, none, some, Option·none-ne-some, Option·some-injective}
 use mathlib.Core.List.{List, [], _∷_, _++_}
@@ -298,6 +298,11 @@ once-head x l o h = let (i, b, e) = place h in o (suc i) (omega arith) (here e)
 
 pub once-tail : (x : ℕ) (l : List ℕ) → Once (x ∷ l) → Once l
 once-tail x l o i b h = o (suc i) (omega arith) (there h)
+
+pub once-drop : (l : List ℕ) (j : ℕ) → Once l → Once (drop j l)
+once-drop l zero o = o
+once-drop [] (suc j) o = o
+once-drop (x ∷ l) (suc j) o = once-drop l j (once-tail x l o)
 
 pub once-cons : (x : ℕ) (l : List ℕ) → x ∉ l → Once l → Once (x ∷ l)
 once-cons x l n o zero b h = not-in-nil h

@@ -1,12 +1,12 @@
--- The list that takes at each turn the lowest wanted step that is ready, and, where it stops short, a circle; both computed.
-use mathlib.Core.Bool.{Bool, not, cond, _&&_, _||_}
+-- The list that takes at each turn the lowest wanted step that is ready, computed.
+use mathlib.Core.Bool.{Bool, not, _&&_, _||_}
 use mathlib.Core.Option.{Option, none, some}
 use mathlib.Core.List.{List, [], _∷_, _++_}
 use Prim.Native.Nat.{ℕ, zero, suc}
-use lib.Dec.{eqb}
 use lib.ListN.{length}
 use Rattle.lists.specs.Members.{_∈_, has, all, find}
 
+-- the wanted steps as a list, and what is before each step as a list
 abbrev pub In : List ℕ → ℕ → Type 0
 In want s = s ∈ want
 
@@ -41,26 +41,6 @@ unfoldable pub orZero : Option ℕ → ℕ
 orZero none = 0
 orZero (some s) = s
 
--- l from its first x on
-unfoldable pub from : ℕ → List ℕ → List ℕ
-from x [] = []
-from x (y ∷ l) = let r = from x l in cond (eqb x y) (y ∷ l) r
-
--- the trail that goes on from s by f until a step comes again, from that step on
-unfoldable pub chase : (ℕ → ℕ) → ℕ → List ℕ → ℕ → List ℕ
-chase f zero trail s = []
-chase f (suc k) trail s = let r = chase f k (trail ++ (s ∷ [])) (f s) in cond (has s trail) (from s trail) r
-
 -- a wanted step before s that l lacks
 unfoldable pub blocker : List ℕ → (ℕ → List ℕ) → List ℕ → ℕ → ℕ
 blocker want before l s = orZero (find (λ m. has m want && not (has m l)) (before s))
-
-unfoldable pub missing : List ℕ → List ℕ → ℕ
-missing want l = orZero (find (λ s. not (has s l)) want)
-
-unfoldable pub circleFrom : List ℕ → (ℕ → List ℕ) → List ℕ → List ℕ
-circleFrom want before l = chase (blocker want before l) (suc (length want)) [] (missing want l)
-
-unfoldable pub circleOf : List ℕ → (ℕ → List ℕ) → List ℕ
-unfolding has find greedy orZero from chase blocker missing circleFrom
-circleOf want before = circleFrom want before (greedy want before)

@@ -1,21 +1,18 @@
--- `greedy` is the least list where an order exists, and stops short where none does; then `circleOf` is a circle.
+-- `greedy` is whole exactly where an order exists, and is then the least list.
 use mathlib.Core.Path.{_≡_, refl, sym, ap, _∙_}
-use mathlib.Core.Logic.{_⊎_, inl, inr, _↔_}
+use mathlib.Core.Logic.{_⊎_, inl, inr}
 use mathlib.Core.Bool.{Bool, true, false, not, _&&_, _||_, true≢false}
 use mathlib.Core.Option.{Option, none, some}
 use mathlib.Core.List.{List, [], _∷_, _++_}
 use Prim.Native.Nat.{ℕ, zero, suc, _+_, _≤_, _<_}
-use native.Mathlib.Nat.{add-zero, add-suc}
-use native.Mathlib.Decide.{decLt}
+use native.Mathlib.Nat.{le-antisymm}
 use native.Mathlib.Omega.{arith}
-use lib.Dec.{eqb}
-use lib.ListN.{length, getD, take, drop, length-append, length-drop, List·getD-append}
-use lib.Seq.{getD-drop, getD-append-seam}
-use borrow.Author.Tests.{eqb-true, eqb-false, not-true, not-false}
-use Rattle.lists.specs.Members.{_∈_, _∉_, Each, Once, Rising, _⊆_, has, all, find, split, or-cases, and-both, and-cases, in-cons, in-snoc, in-drop, in-at, place, not-in-nil, here, there}
-use Rattle.lists.specs.Members.{has-true, has-false, in-has, not-in-has, all-true, all-false, true-all, find-some, find-none, find-least, each-nil, each-snoc, once-tail, once-length, once-full}
-use Rattle.orders.specs.Order.{Lists, After, IsOrder, Ready, Lowest, IsLeast, IsCircle, Trap, order-ready, ready-order, lowest-least, least-order, trap-no-order, order-no-circle, least-unique, first-difference}
-use Rattle.orders.specs.Greedy.{In, By, ready, next, extend, greedy, covers, whole, orZero, from, chase, blocker, missing, circleFrom, circleOf}
+use lib.ListN.{length, getD, take, length-append}
+use borrow.Author.Tests.{not-true, not-false}
+use Rattle.lists.specs.Members.{_∈_, _∉_, Each, Once, Rising, _⊆_, has, all, find, split, or-cases, and-both, and-cases, place}
+use Rattle.lists.specs.Members.{has-true, has-false, in-has, not-in-has, all-true, all-false, true-all, find-some, find-none, find-least, each-nil, each-snoc, once-length, once-full, rising-once}
+use Rattle.orders.specs.Order.{IsOrder, Ready, Lowest, IsLeast, Trap, ready-order, lowest-least, least-order, trap-no-order, lowest-unique, least-unique, first-difference}
+use Rattle.orders.specs.Greedy.{In, By, ready, next, extend, greedy, covers, whole, orZero, blocker}
 
 -- wanted, and not in l
 abbrev pub Lacking : List ℕ → List ℕ → ℕ → Type 0
@@ -142,8 +139,6 @@ module _ (want : List ℕ) (before : ℕ → List ℕ) where
   pub greedy-trap : Trap (In want) (By before) (Lacking want (greedy want before))
   greedy-trap s c = let (h, d) = blocked s c in (blocker want before (greedy want before) s, h, d .0, d)
 
-  -- `whole`
-
   pub whole-true : whole want before ≡ true → want ⊆ greedy want before
   unfolding whole
   whole-true e = covers-true (greedy want before) want e
@@ -168,109 +163,23 @@ module _ (want : List ℕ) (before : ℕ → List ℕ) where
     | inr e ↦ (let (s, c) = whole-false e in absurd (trap-no-order greedy-trap (c .0) c o))
   ]
 
--- The circle
-
--- each entry of l has the next before it
-abbrev pub Linked : (ℕ → ℕ → Type 0) → List ℕ → Type 0
-Linked Before l = (i : ℕ) → suc i < length l → Before (getD l (suc i) 0) (getD l i 0)
-
-linked-init : (Before : ℕ → ℕ → Type 0) (l r : List ℕ) → Linked Before (l ++ r) → Linked Before l
-linked-init Before l r f i b =
-    rw (List·getD-append l r 0 (suc i) b, List·getD-append l r 0 i (omega arith)) at (f i (omega (arith, length-append l r)))
-
-linked-last : (Before : ℕ → ℕ → Type 0) (l : List ℕ) (s i : ℕ) → Linked Before (l ++ (s ∷ [])) → suc i ≡ length l → Before s (getD l i 0)
-linked-last Before l s i f e =
-    rw (e, getD-append-seam l s [] 0, List·getD-append l (s ∷ []) 0 i (omega arith)) at (f i (omega (arith, length-append l (s ∷ []))))
-
-linked-snoc : (Before : ℕ → ℕ → Type 0) (l : List ℕ) (m : ℕ) → Linked Before l → ((i : ℕ) → suc i ≡ length l → Before m (getD l i 0)) → Linked Before (l ++ (m ∷ []))
-linked-snoc Before l m f g i b = elim (decLt (suc i) (length l)) [
-  | yes d ↦ rw (List·getD-append l (m ∷ []) 0 (suc i) d, List·getD-append l (m ∷ []) 0 i (omega arith)) (f i d)
-  | no d ↦ (
-      let e : suc i ≡ length l = omega (arith, length-append l (m ∷ [])) in
-      rw (List·getD-append l (m ∷ []) 0 i (omega arith), e, getD-append-seam l m [] 0) (g i e)
-      )
-]
-
-from-drop : (s : ℕ) (l : List ℕ) → s ∈ l → (j : ℕ) × (j < length l) × (getD l j 0 ≡ s) × (from s l ≡ drop j l)
-unfolding from
-from-drop s (y ∷ l) h = elim (split (eqb s y)) [
-  | inl a ↦ (0, omega arith, sym (eqb-true s y a), rw (a, from))
-  | inr b ↦ elim (in-cons h) [
-    | inl q ↦ absurd (eqb-false s y b q)
-    | inr k ↦ (let (j, c, e, g) = from-drop s l k in (suc j, omega arith, e, rw (b, from) g))
-  ]
-]
-
-once-drop : (l : List ℕ) (j : ℕ) → Once l → Once (drop j l)
-once-drop l zero o = o
-once-drop [] (suc j) o = o
-once-drop (x ∷ l) (suc j) o = once-drop l j (once-tail x l o)
-
-module _ {Want : ℕ → Type 0} {Before : ℕ → ℕ → Type 0} where
-  drop-circle : (l : List ℕ) (s j : ℕ) → Once l → ((t : ℕ) → t ∈ l → Want t) → Linked Before (l ++ (s ∷ [])) → j < length l → getD l j 0 ≡ s
-      → IsCircle Want Before (drop j l)
-  drop-circle l s j o w f b e = record {
-    one-or-more = omega (arith, length-drop j l);
-    wanted = λ t h. w t (in-drop j l h);
-    next = λ i c. rw (getD-drop j l (suc i) 0, getD-drop j l i 0, add-suc j i)
-        (linked-init Before l (s ∷ []) f (j + i) (omega (arith, length-drop j l)));
-    last = λ i c. rw (getD-drop j l 0 0, getD-drop j l i 0, add-zero j, e) (linked-last Before l s (j + i) f (omega (arith, length-drop j l)));
-    once = once-drop l j o;
-  }
-
-  chase-circle : (C : ℕ → Type 0) (f : ℕ → ℕ) (n : ℕ) → ((s : ℕ) → C s → Before (f s) s × C (f s)) → ((s : ℕ) → C s → Want s)
-      → ((l : List ℕ) → Once l → ((s : ℕ) → s ∈ l → C s) → length l ≤ n)
-      → (k : ℕ) (l : List ℕ) (s : ℕ) → Once l → ((t : ℕ) → t ∈ l → C t) → C s → Linked Before (l ++ (s ∷ [])) → length l + k ≡ suc n
-      → IsCircle Want Before (chase f k l s)
-  unfolding chase
-  chase-circle C f n go w most zero l s o a c g e = absurd (omega (arith, most l o a))
-  chase-circle C f n go w most (suc k) l s o a c g e = elim (split (has s l)) [
-    | inl h ↦ (let (j, b, q, r) = from-drop s l (has-true s l h) in rw (h, chase, r) (drop-circle l s j o (λ t i. w t (a t i)) g b q))
-    | inr h ↦ rw (h, chase) (chase-circle C f n go w most k (l ++ (s ∷ [])) (f s)
-        (each-snoc (λ earlier x. x ∉ earlier) l s o (has-false s l h))
-        (λ t i. elim (in-snoc l i) [ inl b ↦ a t b | inr q ↦ rw q c ])
-        (go s c .1)
-        (linked-snoc Before (l ++ (s ∷ [])) (f s) g (λ i q. let r : i ≡ length l = omega (arith, length-append l (s ∷ [])) in rw (r, getD-append-seam l s [] 0) (go s c .0)))
-        (omega (arith, length-append l (s ∷ []))))
-  ]
-
-missing-lacks : (want l : List ℕ) → covers l want ≡ false → Lacking want l (missing want l)
-unfolding missing orZero
-missing-lacks want l e = go (find (λ s. not (has s l)) want) refl
-  where
-    go : (o : Option ℕ) → find (λ s. not (has s l)) want ≡ o → Lacking want l (orZero o)
-    go none f =
-        let (s, c) = covers-false l want e in
-        absurd (c .1 (has-true s l (not-false (has s l) (find-none (λ s. not (has s l)) want f (c .0)))))
-    go (some s) f = let (h, g) = find-some (λ s. not (has s l)) want f in (h, has-false s l (not-true (has s l) g))
-
-module _ (want : List ℕ) (before : ℕ → List ℕ) where
-  pub not-whole-circle : whole want before ≡ false → IsCircle (In want) (By before) (circleOf want before)
-  unfolding whole circleOf circleFrom
-  not-whole-circle e =
-      let l : List ℕ = greedy want before in
-      chase-circle (Lacking want l) (blocker want before l) (length want) (blocked want before) (λ s c. c .0)
-      (λ r o a. once-length r want o (λ s h. a s h .0)) (suc (length want)) [] (missing want l) (each-nil (λ earlier x. x ∉ earlier))
-      (λ t h. absurd (not-in-nil h)) (missing-lacks want l e) (λ i b. absurd (omega arith)) (omega arith)
-
-  pub circle-not-whole : {c : List ℕ} → IsCircle (In want) (By before) c → whole want before ≡ false
-  circle-not-whole o = elim (split (whole want before)) [ inl e ↦ absurd (order-no-circle (whole-order want before e) o) | inr e ↦ e ]
-
-  -- no order exists exactly where greedy is not whole, and exactly there a circle exists
-  pub no-order : (¬ ((l : List ℕ) × IsOrder (In want) (By before) l)) ↔ (whole want before ≡ false)
-  no-order = (
-    λ f. elim (split (whole want before)) [ inl e ↦ absurd (f (greedy want before, whole-order want before e)) | inr e ↦ e ],
-    λ e o. true≢false (sym (order-whole want before (o .1)) ∙ e),
-  )
-
-  pub some-circle : ((c : List ℕ) × IsCircle (In want) (By before) c) ↔ (whole want before ≡ false)
-  some-circle = (λ o. circle-not-whole (o .1), λ e. (circleOf want before, not-whole-circle e))
-
-  pub no-order-circle : (¬ ((l : List ℕ) × IsOrder (In want) (By before) l)) ↔ ((c : List ℕ) × IsCircle (In want) (By before) c)
-  no-order-circle = (λ f. some-circle .1 (no-order .0 f), λ o. no-order .1 (some-circle .0 o))
+  pub order-greedy : Rising want → {l : List ℕ} → IsOrder (In want) (By before) l → IsLeast (In want) (By before) (greedy want before)
+  order-greedy u o = whole-least u (order-whole o)
 
   pub least-greedy : Rising want → {l : List ℕ} → IsLeast (In want) (By before) l → l ≡ greedy want before
-  least-greedy u o = least-unique o (whole-least want before u (order-whole want before (least-order o)))
+  least-greedy u o = least-unique o (order-greedy u (least-order o))
 
-  pub order-greedy : Rising want → {l : List ℕ} → IsOrder (In want) (By before) l → IsLeast (In want) (By before) (greedy want before)
-  order-greedy u o = whole-least want before u (order-whole want before o)
+  -- whole or not, greedy is what taking the lowest at each turn comes to
+  pub lowest-greedy : Rising want → (l : List ℕ) → Each (Lowest (In want) (By before)) l → ((s : ℕ) → ¬ Ready (In want) (By before) l s) → l ≡ greedy want before
+  lowest-greedy u l f n = lowest-unique l (greedy want before) f n (greedy-lowest u) greedy-end
+
+  -- at the first place where another order differs from greedy it has the higher number
+  pub greedy-first : Rising want → {r : List ℕ} → IsOrder (In want) (By before) r
+      → (greedy want before ≡ r) ⊎ ((i : ℕ) × (i < length (greedy want before)) × (take i (greedy want before) ≡ take i r) × (getD (greedy want before) i 0 < getD r i 0))
+  greedy-first u o = first-difference (order-greedy u o) o
+
+  pub greedy-length : length (greedy want before) ≤ length want
+  greedy-length = once-length (greedy want before) want greedy-once greedy-wanted
+
+  pub whole-length : Rising want → whole want before ≡ true → length (greedy want before) ≡ length want
+  whole-length u e = le-antisymm greedy-length (once-length want (greedy want before) (rising-once want u) (whole-true e))

@@ -1,9 +1,9 @@
 -- Orders, least lists and circles of the wanted steps, given what stands before what (document 01, "Needed and stale" and row 14).
-use mathlib.Core.Path.{_≡_, refl, sym, ap, _∙_}
+use mathlib.Core.Path.{_≡_, refl, sym, _∙_}
 use mathlib.Core.Logic.{_⊎_, inl, inr}
-use mathlib.Core.List.{List, [], _∷_, _++_}
+use mathlib.Core.List.{List}
 use Prim.Native.Nat.{ℕ, zero, suc, _≤_, _<_}
-use native.Mathlib.Nat.{le-antisymm, le-of-eq}
+use native.Mathlib.Nat.{le-antisymm}
 use native.Mathlib.Numerals.{lt-of-le-of-ne}
 use native.Mathlib.Decide.{decLt, ℕ-discrete}
 use native.Mathlib.Omega.{arith}
@@ -118,8 +118,31 @@ module _ {Want : ℕ → Type 0} {Before : ℕ → ℕ → Type 0} where
         | inr d ↦ inr d
       ]
 
-  pub least-unique : {l r : List ℕ} → IsLeast Want Before l → IsLeast Want Before r → l ≡ r
-  least-unique {l} {r} o p = elim (first-difference o (least-order p)) [
-    | inl e ↦ e
-    | inr d ↦ (let (i, b, e, c) = d in absurd (omega (arith, least-le p (least-order o) i (omega (arith, lists-length (o .lists) (p .lists))) (sym e))))
+  -- two lists with the lowest at each place begin alike
+  lowest-same : (l r : List ℕ) → Each (Lowest Want Before) l → Each (Lowest Want Before) r → (n : ℕ) → n ≤ length l → n ≤ length r → take n l ≡ take n r
+  lowest-same l r f g zero b c = refl
+  lowest-same l r f g (suc n) b c =
+      let e : take n l ≡ take n r = lowest-same l r f g n (omega arith) (omega arith) in
+      let q : getD l n 0 ≡ getD r n 0 = le-antisymm (f n b .least (getD r n 0) (rw e (g n c .ready))) (g n c .least (getD l n 0) (rw (← e) (f n b .ready))) in
+      take-suc l n 0 b ∙ (rw (e, q)) ∙ sym (take-suc r n 0 c)
+
+  lowest-longest : (l r : List ℕ) → Each (Lowest Want Before) l → Each (Lowest Want Before) r → ((s : ℕ) → ¬ Ready Want Before l s) → length r ≤ length l
+  lowest-longest l r f g n = elim (decLt (length l) (length r)) [
+    | yes b ↦ absurd (n (getD r (length l) 0)
+        (rw (← lowest-same l r f g (length l) (omega arith) (omega arith), take-length l) at (g (length l) b .ready)))
+    | no b ↦ omega arith
   ]
+
+  -- a list with the lowest at each place, after which nothing is ready, is the only one
+  pub lowest-unique : (l r : List ℕ) → Each (Lowest Want Before) l → ((s : ℕ) → ¬ Ready Want Before l s)
+      → Each (Lowest Want Before) r → ((s : ℕ) → ¬ Ready Want Before r s) → l ≡ r
+  lowest-unique l r f m g n =
+      let a : length r ≤ length l = lowest-longest l r f g m in
+      let b : length l ≤ length r = lowest-longest r l g f n in
+      sym (take-length l) ∙ lowest-same l r f g (length l) (omega arith) b ∙ take-all (length l) r a
+
+  pub least-end : {l : List ℕ} → IsLeast Want Before l → (s : ℕ) → ¬ Ready Want Before l s
+  least-end o s r = r .new (o .lists .each s (r .wanted))
+
+  pub least-unique : {l r : List ℕ} → IsLeast Want Before l → IsLeast Want Before r → l ≡ r
+  least-unique {l} {r} o p = lowest-unique l r (o .lowest) (least-end o) (p .lowest) (least-end p)

@@ -1,13 +1,13 @@
 -- What is upstream of a step, the closure of a list of steps computed, and why steps upstream of one another have an order.
-use mathlib.Core.Path.{_≡_, refl, sym, ap, _∙_}
+use mathlib.Core.Path.{_≡_, refl}
 use mathlib.Core.Logic.{_⊎_, inl, inr, _↔_}
-use mathlib.Core.Bool.{Bool, true, false, cond, _||_}
-use mathlib.Core.List.{List, [], _∷_, _++_}
-use Prim.Native.Nat.{ℕ, zero, suc, _+_, _≤_, _<_}
+use mathlib.Core.Bool.{true, cond, _||_}
+use mathlib.Core.List.{List, [], _∷_}
+use Prim.Native.Nat.{ℕ, zero, suc, _+_, _<_}
 use native.Mathlib.Omega.{arith}
 use lib.ListN.{length, getD, take}
-use Rattle.lists.specs.Members.{_∈_, _∉_, here, there, Once, Rising, _⊆_, has, keep, upTo, split, or-cases, or-neither, in-cons, not-in-nil, in-at, place, place-before, in-take-more, cons-⊆}
-use Rattle.lists.specs.Members.{has-true, has-false, in-has, in-keep, keep-in, in-upTo, upTo-in, each-nil, once-head, once-tail, once-cons, once-below, rising-keep, rising-upTo}
+use Rattle.lists.specs.Members.{_∈_, _∉_, here, there, Once, Rising, _⊆_, has, keep, upTo, split, or-cases, or-neither, in-cons, not-in-nil, in-at, place-before, in-take-more}
+use Rattle.lists.specs.Members.{has-true, has-false, in-has, in-keep, keep-in, in-upTo, upTo-in, each-nil, once-head, once-tail, once-cons, once-below, rising-keep, rising-upTo, rising-ext}
 use Rattle.orders.specs.Order.{IsOrder, no-descent}
 use Rattle.orders.specs.Greedy.{In, By, greedy, whole, blocker}
 use Rattle.orders.specs.GreedyLaws.{Lacking, blocked, whole-false}
@@ -47,6 +47,10 @@ upstream before n s = reach before n (before s)
 pub in-sorted : (n : ℕ) (l : List ℕ) {x : ℕ} → x ∈ sorted n l → x ∈ l
 unfolding sorted
 in-sorted n l {x} h = has-true x l (in-keep (λ s. has s l) (upTo n) h .1)
+
+pub sorted-low : (n : ℕ) (l : List ℕ) {x : ℕ} → x ∈ sorted n l → x < n
+unfolding sorted
+sorted-low n l h = in-upTo n (in-keep (λ s. has s l) (upTo n) h .0)
 
 pub sorted-in : (n : ℕ) (l : List ℕ) {x : ℕ} → x ∈ l → x < n → x ∈ sorted n l
 unfolding sorted
@@ -107,9 +111,9 @@ unfolding spread
 spread-least before P c zero l ys a b x h = a x h
 spread-least before P c (suc k) l [] a b x h = a x h
 spread-least before P c (suc k) l (y ∷ ys) a b x h = spread-least before P c k (y ∷ l) (fresh (before y) (y ∷ l) ys)
-  (λ z m. elim (in-cons m) [ inl q ↦ rw q (b y (here refl)) | inr i ↦ a z i ])
-  (λ z m. elim (in-fresh (y ∷ l) ys (before y) m) [ inl i ↦ c y (b y (here refl)) z (i .0) | inr i ↦ b z (there i) ])
-  x h
+    (λ z m. elim (in-cons m) [ inl q ↦ rw q (b y (here refl)) | inr i ↦ a z i ])
+    (λ z m. elim (in-fresh (y ∷ l) ys (before y) m) [ inl i ↦ c y (b y (here refl)) z (i .0) | inr i ↦ b z (there i) ])
+    x h
 
 -- l and ys share nothing, hold start, and hold what is before the members of l
 record Spread (before : ℕ → List ℕ) (n : ℕ) (start l ys : List ℕ) : Type 0 where
@@ -133,7 +137,7 @@ module _ (before : ℕ → List ℕ) (n : ℕ) (start : List ℕ) (small : Close
     low = cons-low;
     low-ys = λ x h. elim (in-fresh (y ∷ l) ys (before y) h) [ inl a ↦ small y (cons-low y (here refl)) x (a .0) | inr b ↦ r .low-ys x (there b) ];
     starts = λ x h. moved x (r .starts x h);
-    closed = λ x h m k. elim (in-cons h) [ inl q ↦ fresh-in (y ∷ l) ys (before y) (rw q at k) | inr i ↦ moved m (r .closed x i m k) ]
+    closed = λ x h m k. elim (in-cons h) [ inl q ↦ fresh-in (y ∷ l) ys (before y) (rw q at k) | inr i ↦ moved m (r .closed x i m k) ];
   }
     where
       cons-low : (x : ℕ) → x ∈ y ∷ l → x < n
@@ -160,12 +164,16 @@ pub rising-reach : (before : ℕ → List ℕ) (n : ℕ) (start : List ℕ) → 
 unfolding reach
 rising-reach before n start = rising-sorted n (spread before n [] (fresh start [] []))
 
+pub reach-low : (before : ℕ → List ℕ) (n : ℕ) (start : List ℕ) {x : ℕ} → x ∈ reach before n start → x < n
+unfolding reach
+reach-low before n start h = sorted-low n (spread before n [] (fresh start [] [])) h
+
 pub reach-least : (before : ℕ → List ℕ) (n : ℕ) (start : List ℕ) (P : ℕ → Type 0)
     → ((s : ℕ) → s ∈ start → P s) → Closed before P → (s : ℕ) → s ∈ reach before n start → P s
 unfolding reach
 reach-least before n start P a c s h = spread-least before P c n [] (fresh start [] []) (λ x i. absurd (not-in-nil i))
-  (λ x i. elim (in-fresh [] [] start i) [ inl b ↦ a x (b .0) | inr b ↦ absurd (not-in-nil b) ])
-  s (in-sorted n (spread before n [] (fresh start [] [])) h)
+    (λ x i. elim (in-fresh [] [] start i) [ inl b ↦ a x (b .0) | inr b ↦ absurd (not-in-nil b) ])
+    s (in-sorted n (spread before n [] (fresh start [] [])) h)
 
 module _ (before : ℕ → List ℕ) (n : ℕ) (start : List ℕ) (small : Closed before (λ s. s < n)) (low : (s : ℕ) → s ∈ start → s < n) where
   spread-done : Spread before n start (spread before n [] (fresh start [] [])) []
@@ -176,7 +184,7 @@ module _ (before : ℕ → List ℕ) (n : ℕ) (start : List ℕ) (small : Close
     low = λ x h. absurd (not-in-nil h);
     low-ys = λ x h. elim (in-fresh [] [] start h) [ inl b ↦ low x (b .0) | inr b ↦ absurd (not-in-nil b) ];
     starts = λ x h. fresh-in [] [] start h;
-    closed = λ x h. absurd (not-in-nil h)
+    closed = λ x h. absurd (not-in-nil h);
   })
 
   pub reach-start : start ⊆ reach before n start
@@ -202,39 +210,46 @@ pub upstream-closed : {before : ℕ → List ℕ} {P : ℕ → Type 0} → Close
 upstream-closed c {m} {s} (direct h) p = c s p m h
 upstream-closed c {m} {s} (further {k = k} u h) p = upstream-closed c u (c s p k h)
 
+-- in start, or upstream of a step of start
+abbrev pub Reached : (ℕ → List ℕ) → List ℕ → ℕ → Type 0
+Reached before start x = (x ∈ start) ⊎ ((s : ℕ) × (s ∈ start) × Upstream before x s)
+
+reached-closed : (before : ℕ → List ℕ) (start : List ℕ) → Closed before (Reached before start)
+reached-closed before start k (inl h) m i = inr (k, h, direct i)
+reached-closed before start k (inr (s, h, u)) m i = inr (s, h, upstream-more i u)
+
+pub reach-sound : (before : ℕ → List ℕ) (n : ℕ) (start : List ℕ) {x : ℕ} → x ∈ reach before n start → Reached before start x
+reach-sound before n start {x} h = reach-least before n start (Reached before start) (λ s i. inl i) (reached-closed before start) x h
+
 module _ (before : ℕ → List ℕ) (n : ℕ) (start : List ℕ) (small : Closed before (λ s. s < n)) (low : (s : ℕ) → s ∈ start → s < n) where
-  pub in-reach : {x : ℕ} → (x ∈ reach before n start) ↔ ((x ∈ start) ⊎ ((s : ℕ) × (s ∈ start) × Upstream before x s))
-  in-reach {x} = (reach-least before n start Reached (λ s h. inl h) more x, back)
-    where
-      Reached : ℕ → Type 0
-      Reached x = (x ∈ start) ⊎ ((s : ℕ) × (s ∈ start) × Upstream before x s)
+  pub reach-complete : {x : ℕ} → Reached before start x → x ∈ reach before n start
+  reach-complete {x} (inl h) = reach-start before n start small low x h
+  reach-complete (inr (s, h, u)) = upstream-closed (reach-closed before n start small low) u (reach-start before n start small low s h)
 
-      more : Closed before Reached
-      more k (inl h) m i = inr (k, h, direct i)
-      more k (inr (s, h, u)) m i = inr (s, h, upstream-more i u)
+  pub in-reach : {x : ℕ} → (x ∈ reach before n start) ↔ Reached before start x
+  in-reach = (reach-sound before n start, reach-complete)
 
-      back : (x ∈ start) ⊎ ((s : ℕ) × (s ∈ start) × Upstream before x s) → x ∈ reach before n start
-      back (inl h) = reach-start before n start small low x h
-      back (inr (s, h, u)) = upstream-closed (reach-closed before n start small low) u (reach-start before n start small low s h)
+  -- a rising list that holds start, is closed and holds only what is reached is reach
+  pub reach-unique : (l : List ℕ) → Rising l → start ⊆ l → Closed before (In l) → ((x : ℕ) → x ∈ l → Reached before start x) → l ≡ reach before n start
+  reach-unique l r f c g =
+      rising-ext l (reach before n start) r (rising-reach before n start) (λ x h. reach-complete (g x h)) (reach-least before n start (In l) f c)
 
--- `upstream`
+pub upstream-sound : (before : ℕ → List ℕ) (n s : ℕ) {m : ℕ} → m ∈ upstream before n s → Upstream before m s
+unfolding upstream
+upstream-sound before n s h = elim (reach-sound before n (before s) h) [ inl i ↦ direct i | inr r ↦ further (r .2) (r .1) ]
 
 pub in-upstream : (before : ℕ → List ℕ) (n : ℕ) → Closed before (λ s. s < n) → (s : ℕ) → s < n → {m : ℕ} → (m ∈ upstream before n s) ↔ Upstream before m s
 unfolding upstream
-in-upstream before n small s b {m} = (λ h. there-to (in-reach before n (before s) small (small s b) .0 h), λ u. in-reach before n (before s) small (small s b) .1 (back u))
+in-upstream before n small s b {m} = (upstream-sound before n s, λ u. reach-complete before n (before s) small (small s b) (apart u))
   where
-    there-to : (m ∈ before s) ⊎ ((k : ℕ) × (k ∈ before s) × Upstream before m k) → Upstream before m s
-    there-to (inl h) = direct h
-    there-to (inr (k, h, u)) = further u h
-
-    back : Upstream before m s → (m ∈ before s) ⊎ ((k : ℕ) × (k ∈ before s) × Upstream before m k)
-    back (direct h) = inl h
-    back (further {k = k} u h) = inr (k, h, u)
+    apart : Upstream before m s → Reached before (before s) m
+    apart (direct h) = inl h
+    apart (further {k = k} u h) = inr (k, h, u)
 
 -- Steps of an order, and what is upstream of them
 
 module _ {Want : ℕ → Type 0} {before : ℕ → List ℕ} (closed : Closed before Want) {l : List ℕ} (o : IsOrder Want (By before) l) where
-  direct-earlier : (i : ℕ) → i < length l → (m : ℕ) → m ∈ before (getD l i 0) → m ∈ take i l
+  pub direct-earlier : (i : ℕ) → i < length l → (m : ℕ) → m ∈ before (getD l i 0) → m ∈ take i l
   direct-earlier i b m h = o .after i b m h (closed (getD l i 0) (o .lists .no-others (getD l i 0) (in-at l i b)) m h)
 
   -- in an order of a closed set, all that is upstream of a step comes earlier
@@ -245,7 +260,8 @@ module _ {Want : ℕ → Type 0} {before : ℕ → List ℕ} (closed : Closed be
       in-take-more l j i (omega arith) (upstream-earlier u j q d)
 
   -- so steps of the set have an order in which each comes after any of them upstream of it
-  pub upstream-whole : (want : List ℕ) (up : ℕ → List ℕ) → ((s : ℕ) → s ∈ want → Want s) → ((s m : ℕ) → m ∈ up s → Upstream before m s) → whole want up ≡ true
+  pub upstream-whole : (want : List ℕ) (up : ℕ → List ℕ) → ((s : ℕ) → s ∈ want → Want s)
+      → ((s : ℕ) → s ∈ want → (m : ℕ) → m ∈ up s → Upstream before m s) → whole want up ≡ true
   upstream-whole want up f g = elim (split (whole want up)) [
     | inl e ↦ e
     | inr e ↦ (let (s, c) = whole-false want up e in absurd (no-descent (Lacking want (greedy want up)) l down (o .lists .each s (f s (c .0))) c))
@@ -255,4 +271,4 @@ module _ {Want : ℕ → Type 0} {before : ℕ → List ℕ} (closed : Closed be
       down i b d =
           let m : ℕ = blocker want up (greedy want up) (getD l i 0) in
           let (h, c) = blocked want up (getD l i 0) d in
-          (m, upstream-earlier (g (getD l i 0) m h) i b refl, c)
+          (m, upstream-earlier (g (getD l i 0) (d .0) m h) i b refl, c)
