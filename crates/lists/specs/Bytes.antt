@@ -120,8 +120,11 @@ less-total (x ∷ s) (y ∷ t) p q =
     let b : x ≤ y = ltb-false y x (rw (ne-eqb y x (λ (d : y ≡ x). ne (sym d))) at q) in
     absurd (ne (omega arith)))
 
-pub less-ne : (s t : List ℕ) → lessBytes s t ≡ true → s ≡ t → ⊥
-less-ne s t p e = differ p (rw e (less-irrefl t))
+pub eq-less : {s t : List ℕ} → s ≡ t → lessBytes s t ≡ false
+eq-less {s} {t} e = rw e (less-irrefl t)
+
+pub less-ne : {s t : List ℕ} → lessBytes s t ≡ true → s ≡ t → ⊥
+less-ne p e = differ p (eq-less e)
 
 -- The first place where two lists differ decides, and a shorter list comes before what it begins.
 pub less-at : (k : ℕ) (s t : List ℕ) → take k s ≡ take k t → k < length s → k < length t → getD s k 0 < getD t k 0 → lessBytes s t ≡ true
