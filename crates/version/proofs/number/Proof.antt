@@ -72,7 +72,7 @@ add-n c = omega (arith, digit-range _ (digit-here c))
 returns-5 : tie.Need-returns-5 Inv-loop μ-loop
 unfolding partOf
 returns-5 c =
-    over (c .before .before .before .before .before .before .loop .inv) (c .before .before .before .before .before .loop-test .taken) (c .before .before .before .if3 .left) (digit-here (c .before)) (c .if5 .taken)
+    over (c .before .before .before .before .before .before .loop .inv) (c .before .before .before .before .before .loop-test .taken) (c .before .before .before .if3 .left) (digit-here (c .before)) (omega arith)
 
 add-i : tie.Need-add-i Inv-loop μ-loop
 add-i c = search needs
