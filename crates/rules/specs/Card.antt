@@ -6,7 +6,7 @@ use mathlib.Core.Bool.{Bool, true, false, _&&_, _||_}
 use lib.Dec.{eqb, leb, ltb}
 use lib.ListN.{length, take, drop}
 use Rattle.lists.specs.Tests.{ifB}
-use Rattle.rules.specs.Basics.{sameBytes, lessBytes}
+use Rattle.lists.specs.Bytes.{eqBytes, lessBytes}
 use Rattle.rules.specs.Limits.{maxRecords, maxCard, maxPath, maxTime}
 
 -- "Numbers are little-endian."
@@ -80,6 +80,6 @@ soundCard s =
 
 -- "A file not listed is missing and has time 0."
 unfoldable pub timeIn : List Entry → List ℕ → ℕ
-unfolding sameBytes
+unfolding eqBytes
 timeIn [] n = 0
-timeIn (e ∷ l) n = ifB (sameBytes n (e .name)) (λ _. e .time) (λ _. timeIn l n)
+timeIn (e ∷ l) n = ifB (eqBytes n (e .name)) (λ _. e .time) (λ _. timeIn l n)

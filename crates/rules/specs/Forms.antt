@@ -7,7 +7,9 @@ use lib.Dec.{eqb}
 use lib.ListN.{length}
 use Rattle.lists.specs.Tests.{ifB}
 use Rattle.lists.specs.Text.{bytes}
-use Rattle.rules.specs.Basics.{isEmpty, sameBytes, among, whilst, past}
+use Rattle.lists.specs.Bytes.{eqBytes}
+use Rattle.lists.specs.Runs.{run, afterRun}
+use Rattle.rules.specs.Basics.{isEmpty, among}
 use Rattle.rules.specs.Bytes.{newline, space, dollar, colon, bar, equals, nameByte}
 use Rattle.rules.specs.Dollars.{Scan, plain, afterJoin, afterDollar, inBraces, inName, bad, turn, badDollar}
 use Rattle.rules.specs.Lines.{isSpace, startsWith}
@@ -39,12 +41,12 @@ gap (b ∷ c ∷ s) =
 
 -- a name ends at the first byte that is no name byte (reading 1)
 unfoldable pub nameOf : List ℕ → List ℕ
-unfolding whilst nameByte
-nameOf s = whilst nameByte s
+unfolding run nameByte
+nameOf s = run nameByte s
 
 unfoldable pub afterName : List ℕ → List ℕ
-unfolding past nameByte
-afterName s = past nameByte s
+unfolding afterRun nameByte
+afterName s = afterRun nameByte s
 
 -- "The keywords `rule build default pool include subninja` are a 4 where a rule or key is named, the last three a 6."
 unfoldable pub keyword : List ℕ → Bool
@@ -217,8 +219,8 @@ cutDefault s =
 
 -- "A raw value is handed back as the caller's own bytes without their leading spaces. Trailing spaces stay."
 unfoldable pub rawValue : List ℕ → List ℕ
-unfolding past
-rawValue s = past isSpace s
+unfolding afterRun
+rawValue s = afterRun isSpace s
 
 -- "`NAME = value`", from behind the name on
 unfoldable pub cutValue : List ℕ → List ℕ → Cut Form
@@ -233,14 +235,14 @@ cutBinding s = then (keyWord (nameOf s)) λ w. cutValue w (gap (afterName s))
 
 -- a line without indent; a keyword at its start always begins its statement (reading 6)
 unfoldable pub cutStatement : List ℕ → Cut Form
-unfolding cutRule cutBuild cutDefault cutBinding nameOf afterName sameBytes
+unfolding cutRule cutBuild cutDefault cutBinding nameOf afterName eqBytes
 cutStatement s =
     let w = nameOf s in
-    ifB (sameBytes w (bytes "rule")) (λ _. cutRule (afterName s)) λ _.
-    ifB (sameBytes w (bytes "build")) (λ _. cutBuild (afterName s)) λ _.
-    ifB (sameBytes w (bytes "default")) (λ _. cutDefault (afterName s)) λ _. cutBinding s
+    ifB (eqBytes w (bytes "rule")) (λ _. cutRule (afterName s)) λ _.
+    ifB (eqBytes w (bytes "build")) (λ _. cutBuild (afterName s)) λ _.
+    ifB (eqBytes w (bytes "default")) (λ _. cutDefault (afterName s)) λ _. cutBinding s
 
 -- an indented line; in a block the first word is always a key (reading 6)
 unfoldable pub cutIndented : List ℕ → Cut Form
-unfolding cutBinding past
-cutIndented s = cutBinding (past isSpace s)
+unfolding cutBinding afterRun
+cutIndented s = cutBinding (afterRun isSpace s)

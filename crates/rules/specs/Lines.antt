@@ -4,7 +4,8 @@ use mathlib.Core.List.{List, [], _∷_, _++_}
 use mathlib.Core.Bool.{Bool, true, false, not, _&&_}
 use lib.Dec.{eqb}
 use Rattle.lists.specs.Tests.{ifB}
-use Rattle.rules.specs.Basics.{isEmpty, past}
+use Rattle.lists.specs.Runs.{afterRun}
+use Rattle.rules.specs.Basics.{isEmpty}
 use Rattle.rules.specs.Bytes.{newline, space, hash, dollar}
 
 -- "Every line ends with a newline. `$` before a newline joins the lines." "A line whose first non-space byte is `#` is a comment .. A comment
@@ -82,13 +83,13 @@ startsWith c (b ∷ s) = eqb b c
 
 -- "A line whose first non-space byte is `#` is a comment and closes no block."
 unfoldable pub isComment : List ℕ → Bool
-unfolding startsWith past
-isComment s = startsWith hash (past isSpace s)
+unfolding startsWith afterRun
+isComment s = startsWith hash (afterRun isSpace s)
 
 -- "An empty line or one of spaces only closes a block."
 unfoldable pub isBlank : List ℕ → Bool
-unfolding past
-isBlank s = isEmpty (past isSpace s)
+unfolding afterRun
+isBlank s = isEmpty (afterRun isSpace s)
 
 -- any leading space makes a line indented, however deep (reading 11)
 unfoldable pub isIndented : List ℕ → Bool

@@ -3,11 +3,12 @@ use Prim.Native.Nat.{ℕ, zero, suc, _+_}
 use mathlib.Core.List.{List, [], _∷_, _++_, map}
 use mathlib.Core.Option.{Option, none, some}
 use mathlib.Core.Bool.{Bool, true, false, not, _||_}
-use lib.Dec.{eqb}
 use lib.ListN.{length, getD}
 use Rattle.lists.specs.Tests.{ifB}
 use Rattle.lists.specs.Text.{bytes}
-use Rattle.rules.specs.Basics.{sameBytes, among, any}
+use Rattle.lists.specs.Bytes.{eqBytes}
+use Rattle.lists.specs.Members.{has}
+use Rattle.rules.specs.Basics.{among, any}
 
 -- a name and its value
 pub record Bound : Type 0 where
@@ -45,9 +46,9 @@ nothingRead = record { rules = []; vars = []; files = []; steps = []; defaults =
 
 -- the newest binding of a name: "a later line replaces it", "last one wins"
 unfoldable pub find : List ℕ → List Bound → Option (List ℕ)
-unfolding sameBytes
+unfolding eqBytes
 find n [] = none
-find n (b ∷ l) = ifB (sameBytes n (b .name)) (λ _. some (b .value)) (λ _. find n l)
+find n (b ∷ l) = ifB (eqBytes n (b .name)) (λ _. some (b .value)) (λ _. find n l)
 
 abbrev pub orEmpty : Option (List ℕ) → List ℕ
 orEmpty none = []
@@ -64,14 +65,14 @@ hasKey n l = among n (map (λ (b : Bound). b .name) l)
 
 -- the keys of the rule of this name
 unfoldable pub keysOf : List ℕ → List Rule → List Bound
-unfolding sameBytes
+unfolding eqBytes
 keysOf n [] = []
-keysOf n (r ∷ l) = ifB (sameBytes n (r .name)) (λ _. r .keys) (λ _. keysOf n l)
+keysOf n (r ∷ l) = ifB (eqBytes n (r .name)) (λ _. r .keys) (λ _. keysOf n l)
 
 -- "`phony` is declared from the start."
 unfoldable pub isPhony : List ℕ → Bool
-unfolding sameBytes
-isPhony n = sameBytes n (bytes "phony")
+unfolding eqBytes
+isPhony n = eqBytes n (bytes "phony")
 
 unfoldable pub declared : List ℕ → Reading → Bool
 unfolding isPhony among
@@ -79,9 +80,9 @@ declared n rd = isPhony n || among n (map (λ (r : Rule). r .name) (rd .rules))
 
 -- a file's number: where it was first mentioned, and the number of files for one that is not mentioned
 unfoldable pub numberOf : List ℕ → List (List ℕ) → ℕ
-unfolding sameBytes
+unfolding eqBytes
 numberOf p [] = 0
-numberOf p (f ∷ l) = ifB (sameBytes p f) (λ _. 0) (λ _. suc (numberOf p l))
+numberOf p (f ∷ l) = ifB (eqBytes p f) (λ _. 0) (λ _. suc (numberOf p l))
 
 unfoldable pub mention : List (List ℕ) → List (List ℕ) → List (List ℕ)
 unfolding among
@@ -91,10 +92,6 @@ mention files (p ∷ ps) = ifB (among p files) (λ _. mention files ps) (λ _. m
 unfoldable pub numbersOf : List (List ℕ) → List (List ℕ) → List ℕ
 unfolding numberOf
 numbersOf files ps = map (λ (p : List ℕ). numberOf p files) ps
-
-unfoldable pub has : ℕ → List ℕ → Bool
-unfolding any
-has n l = any (eqb n) l
 
 -- is this file the output of a step
 unfoldable pub isOutput : ℕ → List Step → Bool

@@ -8,7 +8,7 @@ use Rattle.lists.specs.Tests.{ifB}
 use Rattle.lists.specs.Members.{has, keep}
 use Rattle.orders.specs.Greedy.{greedy}
 use Rattle.orders.specs.Reach.{upstream}
-use Rattle.orders.specs.Along.{along, look}
+use Rattle.orders.specs.Along.{values}
 use Rattle.rules.specs.Basics.{isEmpty, any}
 use Rattle.rules.specs.Reading.{Step, isPhony}
 use Rattle.rules.specs.Graph.{stepAt, inputs, counted, makers, makersOf, before, needed, neededOrder}
@@ -75,8 +75,8 @@ verdict steps card known s = record {
 
 -- the verdicts on the needed steps, told along their order
 unfoldable pub verdicts : List Step → (ℕ → ℕ) → List ℕ → ℕ → Verdict
-unfolding look along verdict
-verdicts steps card order s = look unknown (along unknown (verdict steps card) order []) s
+unfolding values verdict
+verdicts steps card order s = values unknown (verdict steps card) order s
 
 -- "A command step is one whose rule isn't `phony`."
 unfoldable pub staleNeeded : List Step → (ℕ → ℕ) → List ℕ → List ℕ

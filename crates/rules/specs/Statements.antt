@@ -8,7 +8,8 @@ use Rattle.rules.specs.declared.Refusal.{Refusal}
 use Rattle.rules.specs.declared.Refusal.the-variants.{BadLine, BadRule, BadPath, OverLimit, BadVersion}
 use Rattle.lists.specs.Tests.{ifB}
 use Rattle.lists.specs.Text.{bytes}
-use Rattle.rules.specs.Basics.{isEmpty, sameBytes, among, any, all, sum}
+use Rattle.lists.specs.Bytes.{eqBytes}
+use Rattle.rules.specs.Basics.{isEmpty, among, any, all, sum}
 use Rattle.rules.specs.Limits.{maxSteps, maxFiles, maxRules, maxBindings, maxMentions, maxName, maxPath, maxValue, maxWritten}
 use Rattle.rules.specs.Dollars.{expand}
 use Rattle.rules.specs.Forms.{Form, ruleForm, buildForm, defaultForm, bindingForm, BuildLine}
@@ -142,8 +143,8 @@ setVar n v rd =
 
 -- "`ninja_required_version` at file level is checked at once": "version malformed or above OURS" (10)
 unfoldable pub wrongVersion : List ℕ → List ℕ → Bool
-unfolding sameBytes versionRefused
-wrongVersion n v = sameBytes n (bytes "ninja_required_version") && versionRefused v
+unfolding eqBytes versionRefused
+wrongVersion n v = eqBytes n (bytes "ninja_required_version") && versionRefused v
 
 -- "`NAME = value`: expanded at once; a later line replaces it."
 unfoldable pub addVar : ℕ → List ℕ → List ℕ → Reading → Outcome

@@ -6,7 +6,8 @@ use mathlib.Core.Bool.{Bool, true, false}
 use lib.ListN.{getD}
 use Rattle.lists.specs.Tests.{ifB}
 use Rattle.lists.specs.Text.{bytes}
-use Rattle.rules.specs.Basics.{sameBytes, among, any}
+use Rattle.lists.specs.Bytes.{eqBytes}
+use Rattle.rules.specs.Basics.{among, any}
 use Rattle.rules.specs.Bytes.{space, newline}
 use Rattle.rules.specs.Dollars.{expand, refs}
 use Rattle.rules.specs.Reading.{Bound, Rule, Step, Reading, find, fileVar, keysOf}
@@ -22,11 +23,11 @@ namesOf rd fs = map (λ (f : ℕ). getD (rd .files) f []) fs
 
 -- "`$in` is the explicit inputs, `$out` the outputs"
 unfoldable pub ofStep : Reading → Step → List ℕ → Option (List ℕ)
-unfolding sameBytes joinedBy namesOf
+unfolding eqBytes joinedBy namesOf
 ofStep rd s n =
-    ifB (sameBytes n (bytes "in")) (λ _. some (joinedBy space (namesOf rd (s .ins)))) λ _.
-    ifB (sameBytes n (bytes "in_newline")) (λ _. some (joinedBy newline (namesOf rd (s .ins)))) λ _.
-    ifB (sameBytes n (bytes "out")) (λ _. some (joinedBy space (namesOf rd (s .outs)))) λ _. none
+    ifB (eqBytes n (bytes "in")) (λ _. some (joinedBy space (namesOf rd (s .ins)))) λ _.
+    ifB (eqBytes n (bytes "in_newline")) (λ _. some (joinedBy newline (namesOf rd (s .ins)))) λ _.
+    ifB (eqBytes n (bytes "out")) (λ _. some (joinedBy space (namesOf rd (s .outs)))) λ _. none
 
 -- what a name is looked up as: a text as it is, or a rule's text, still to be expanded
 pub data Found : Type 0 where
