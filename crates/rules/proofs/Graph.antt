@@ -22,14 +22,14 @@ in-makersFrom k [] f h = absurd (not-in-nil h)
 in-makersFrom k (s ∷ l) f {m} h =
     split (has f (s .outs))
     (λ (e : has f (s .outs) ≡ true).
-      let h′ : m ∈ k ∷ makersFrom (suc k) l f = rw (e, makersFrom) at h in
-      elim (in-cons h′) [
-        | inl p ↦ (0, omega arith, omega arith, has-true f (s .outs) e)
-        | inr q ↦ (let (i, b, d, o) = in-makersFrom (suc k) l f q in (suc i, omega arith, omega arith, o))
-      ])
+    let h′ : m ∈ k ∷ makersFrom (suc k) l f = rw (e, makersFrom) at h in
+    elim (in-cons h′) [
+      | inl p ↦ (0, omega arith, omega arith, has-true f (s .outs) e)
+      | inr q ↦ (let (i, b, d, o) = in-makersFrom (suc k) l f q in (suc i, omega arith, omega arith, o))
+    ])
     (λ (e : has f (s .outs) ≡ false).
-      let h′ : m ∈ makersFrom (suc k) l f = rw (e, makersFrom) at h in
-      let (i, b, d, o) = in-makersFrom (suc k) l f h′ in (suc i, omega arith, omega arith, o))
+    let h′ : m ∈ makersFrom (suc k) l f = rw (e, makersFrom) at h in
+    let (i, b, d, o) = in-makersFrom (suc k) l f h′ in (suc i, omega arith, omega arith, o))
 
 makersFrom-in : (k : ℕ) (l : List Step) (f i : ℕ) → i < length l → f ∈ getD l i noStep .outs → k + i ∈ makersFrom k l f
 unfolding makersFrom
@@ -45,11 +45,11 @@ makersFrom-in k (s ∷ l) f (suc i) b h =
 pub in-makers : (steps : List Step) (f : ℕ) {m : ℕ} → (m ∈ makers steps f) ↔ Makes steps m f
 unfolding makers
 in-makers steps f {m} = (
-    λ h. let (i, b, e, o) = in-makersFrom 0 steps f h in
+  λ h. let (i, b, e, o) = in-makersFrom 0 steps f h in
       let d : m ≡ i = omega arith in
       record { step = omega arith; output = rw d o },
-    λ w. let e : 0 + m ≡ m = omega arith in rw e at (makersFrom-in 0 steps f m (w .step) (w .output)),
-  )
+  λ w. let e : 0 + m ≡ m = omega arith in rw e at (makersFrom-in 0 steps f m (w .step) (w .output)),
+)
 
 -- what a concatenation of lists holds
 pub in-concat : (g : ℕ → List ℕ) (fs : List ℕ) {m : ℕ} → m ∈ concat (map g fs) → (f : ℕ) × (f ∈ fs) × (m ∈ g f)
@@ -76,9 +76,9 @@ makersOf-in steps {f} i w = concat-in (makers steps) i (in-makers steps f .1 w)
 pub in-before : (steps : List Step) (s : ℕ) {m : ℕ} → (m ∈ before steps s) ↔ Feeds steps m s
 unfolding before
 in-before steps s = (
-    λ h. let (f, i, w) = in-makersOf steps (inputs (stepAt steps s)) h in record { file = f; input = i; made = w },
-    λ w. makersOf-in steps (w .input) (w .made),
-  )
+  λ h. let (f, i, w) = in-makersOf steps (inputs (stepAt steps s)) h in record { file = f; input = i; made = w },
+  λ w. makersOf-in steps (w .input) (w .made),
+)
 
 pub before-low : (steps : List Step) → Closed (before steps) (λ s. s < length steps)
 before-low steps s b m h = in-before steps s .0 h .made .step
@@ -91,12 +91,12 @@ makers-low steps fs m h = let (f, i, w) = in-makersOf steps fs h in w .step
 pub in-needed : (steps : List Step) (rs : List ℕ) {s : ℕ} → (s ∈ needed steps rs) ↔ Needed steps rs s
 unfolding needed
 in-needed steps rs {s} = (
-    λ h. reach-least (before steps) (length steps) (makersOf steps rs) (Needed steps rs)
+  λ h. reach-least (before steps) (length steps) (makersOf steps rs) (Needed steps rs)
       (λ m i. let (f, j, w) = in-makersOf steps rs i in target j w)
       (λ k n m i. input n (in-before steps k .0 i))
       s h,
-    complete,
-  )
+  complete,
+)
   where
     complete : {m : ℕ} → Needed steps rs m → m ∈ reaching.reach (before steps) (length steps) (makersOf steps rs)
     complete {m} (target i w) = reach-start (before steps) (length steps) (makersOf steps rs) (before-low steps) (makers-low steps rs) m (makersOf-in steps i w)

@@ -1,2 +1,3 @@
 pub mod Graph
 pub mod Stale
+pub mod Demand3
