@@ -1,11 +1,11 @@
 -- A list with zeros at the places from f up to, not including, e.
 use Prim.Native.Nat.{ℕ, zero, suc, _+_, _-_, _≤_, _<_}
-use mathlib.Core.List.{List, [], _∷_, _++_, append-nil, append-assoc}
+use mathlib.Core.List.{List, _++_, append-nil, append-assoc}
 use mathlib.Core.Path.{_≡_, refl, sym, _∙_, ap}
 use native.Mathlib.Numerals.{add-one}
 use native.Mathlib.Omega.{arith}
 use lib.ListN.{length, take, drop, getD, set, replicate, length-replicate, take-append-drop, length-append, length-take, replicate-append-replicate}
-use lib.Seq.{take-all, drop-length, drop-cons, length-take-le, take-length, paste, length-paste, length-paste-head, take-paste, drop-paste, set-at, append-snoc}
+use lib.Seq.{take-all, drop-length, drop-cons, paste, length-paste, set-at, append-snoc}
 use Rattle.lists.specs.Parts.{part, part-paste, part-paste-before, part-paste-after, getD-paste-in, getD-paste-before, getD-paste-after}
 
 abbrev pub zeros : ℕ → List ℕ

@@ -1,12 +1,12 @@
 -- A part of a list, from place f up to, not including, place e: what `&l[f..e]` lends. With what a store and a copy
 -- (`set`, and `paste` of `lib.Seq`) leave of it.
 use Prim.Native.Nat.{ℕ, zero, suc, _+_, _-_, _≤_, _<_}
-use mathlib.Core.List.{List, [], _∷_, _++_, append-nil, append-assoc}
-use mathlib.Core.Path.{_≡_, refl, sym, _∙_, ap}
+use mathlib.Core.List.{List, [], _∷_, _++_, append-assoc}
+use mathlib.Core.Path.{_≡_, sym, _∙_, ap}
 use native.Mathlib.Numerals.{add-one}
 use native.Mathlib.Omega.{arith}
-use lib.ListN.{length, take, drop, getD, set, length-append, length-take, length-drop, List·getD-append}
-use lib.Seq.{length-take-le, take-length, drop-length, take-suc, drop-cons, take-append-le, drop-append-le, drop-append-add, getD-append-add, take-all, drop-drop, take-take, take-add, getD-take, getD-drop, take-set-le, take-set-lt, drop-set-lt, drop-set-add, paste, length-paste-head, take-nil, drop-nil, take-paste, drop-paste, take-at, drop-at}
+use lib.ListN.{length, take, drop, getD, set, length-take, length-drop, List·getD-append}
+use lib.Seq.{length-take-le, take-length, take-suc, drop-cons, take-append-le, take-all, drop-drop, take-take, take-add, getD-take, getD-drop, take-set-le, take-set-lt, drop-set-lt, drop-set-add, paste, length-paste-head, take-nil, drop-nil, take-paste, drop-paste, drop-at}
 
 abbrev pub part : List ℕ → ℕ → ℕ → List ℕ
 part l f e = take (e - f) (drop f l)

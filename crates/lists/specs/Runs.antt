@@ -1,15 +1,23 @@
 -- Scans: the longest run of a class of bytes at the front, and what follows it; and what a reader from place to place says.
-use Prim.Native.Nat.{ℕ, zero, suc, _+_, _-_, _≤_, _<_}
-use mathlib.Core.Bool.{Bool, true, false}
+use Prim.Native.Nat.{ℕ, _+_, _-_, _≤_, _<_}
+use mathlib.Core.Bool.{Bool, true, false, not}
 use mathlib.Core.List.{List, [], _∷_, _++_}
 use mathlib.Core.Path.{_≡_, refl, sym, _∙_, ap}
 use native.Mathlib.Nat.{le-refl, le-trans}
 use native.Mathlib.Numerals.{add-one}
 use native.Mathlib.Omega.{arith}
+use lib.Dec.{eqb}
 use lib.ListN.{length, take, drop, getD, length-append, length-drop, drop-of-length-le}
 use lib.Seq.{drop-cons, take-append-seam}
 use Rattle.lists.specs.Parts.{part}
-use Rattle.lists.specs.Tests.{ifB, split, differ}
+use Rattle.lists.specs.Tests.{ifB, split}
+
+-- The class of one byte, and that of all others.
+abbrev pub is : ℕ → ℕ → Bool
+is b x = eqb x b
+
+abbrev pub isNot : ℕ → ℕ → Bool
+isNot b x = not (eqb x b)
 
 unfoldable pub run : (ℕ → Bool) → List ℕ → List ℕ
 run p [] = []
