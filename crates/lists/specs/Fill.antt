@@ -6,7 +6,7 @@ use native.Mathlib.Numerals.{add-one}
 use native.Mathlib.Omega.{arith}
 use lib.ListN.{length, take, drop, getD, set, replicate, length-replicate, take-append-drop, length-append, length-take, replicate-append-replicate}
 use lib.Seq.{take-all, drop-length, drop-cons, paste, length-paste, set-at, append-snoc}
-use Rattle.lists.specs.Parts.{part, part-paste, part-paste-before, part-paste-after, getD-paste-in, getD-paste-before, getD-paste-after}
+use Rattle.lists.specs.Parts.{part, put-back-paste, part-paste, part-paste-before, part-paste-after, getD-paste-in, getD-paste-before, getD-paste-after}
 
 abbrev pub zeros : ℕ → List ℕ
 zeros n = replicate n 0
@@ -91,3 +91,11 @@ zeroed-more l f i h k =
     rw
     (drop-cons l i 0 k, set-at (take f l ++ zeros (i - f)) (getD l i 0) (drop (suc i) l) 0 i n, z, ← replicate-append-replicate {A = ℕ} (i - f) 1 0, ← append-assoc (take f l) (zeros (i - f)) (zeros 1), add-one i)
     (sym (append-snoc (take f l ++ zeros (i - f)) 0 (drop (suc i) l)))
+
+-- A callee zeroed places of the part `&mut d[f..e]` that it was lent.
+pub put-back-zeroed : (d : List ℕ) (f e a b : ℕ) → f ≤ e → e ≤ length d → a ≤ b → b ≤ e - f
+    → take f d ++ (zeroed (part d f e) a b ++ drop (e - f) (drop f d)) ≡ zeroed d (f + a) (f + b)
+put-back-zeroed d f e a b hf he ha hb =
+    let z : f + b - (f + a) ≡ b - a = omega arith in
+    rw (zeroed-paste (part d f e) a b ha, zeroed-paste d (f + a) (f + b) (omega arith), z)
+    (put-back-paste d f e a (zeros (b - a)) (b - a) hf he (omega arith))

@@ -1,12 +1,12 @@
 -- A part of a list, from place f up to, not including, place e: what `&l[f..e]` lends. With what a store and a copy
 -- (`set`, and `paste` of `lib.Seq`) leave of it.
 use Prim.Native.Nat.{ℕ, zero, suc, _+_, _-_, _≤_, _<_}
-use mathlib.Core.List.{List, [], _∷_, _++_, append-assoc}
+use mathlib.Core.List.{List, [], _∷_, _++_, append-nil, append-assoc}
 use mathlib.Core.Path.{_≡_, sym, _∙_, ap}
 use native.Mathlib.Numerals.{add-one}
 use native.Mathlib.Omega.{arith}
-use lib.ListN.{length, take, drop, getD, set, length-take, length-drop, List·getD-append}
-use lib.Seq.{length-take-le, take-length, take-suc, drop-cons, take-append-le, take-all, drop-drop, take-take, take-add, getD-take, getD-drop, take-set-le, take-set-lt, drop-set-lt, drop-set-add, paste, length-paste-head, take-nil, drop-nil, take-paste, drop-paste, drop-at}
+use lib.ListN.{length, take, drop, getD, set, length-take, length-drop, take-append-drop, List·getD-append}
+use lib.Seq.{length-take-le, take-length, drop-length, take-suc, drop-cons, take-append-le, drop-append-le, take-all, drop-drop, take-take, take-add, getD-take, getD-drop, take-set-le, take-set-lt, drop-set-lt, drop-set-add, paste, length-paste-head, take-nil, drop-nil, take-paste, drop-paste, drop-at}
 
 abbrev pub part : List ℕ → ℕ → ℕ → List ℕ
 part l f e = take (e - f) (drop f l)
@@ -88,6 +88,30 @@ part-set-in l f e i v h = rw (drop-set-add f l i v) (take-set-lt (e - f) (drop f
 pub put-back : (d : List ℕ) (f e : ℕ) (s : List ℕ) → f ≤ e → length s ≡ e - f → take f d ++ (s ++ drop (e - f) (drop f d)) ≡ paste d f s (e - f)
 put-back d f e s h n =
     rw (drop-drop (e - f) f d, take-all (e - f) s (omega arith), append-assoc)
+
+-- A copy into the front part of a list, and into what follows its first f places.
+pub paste-front : (d : List ℕ) (k at : ℕ) (s : List ℕ) (n : ℕ) → k ≤ length d → at + n ≤ k → paste (take k d) at s n ++ drop k d ≡ paste d at s n
+paste-front d k at s n hk h =
+    rw (take-take at k d (omega arith), append-assoc (take at d ++ take n s) (drop (at + n) (take k d)) (drop k d))
+    (ap (λ (r : List ℕ). take at d ++ take n s ++ r)
+    (sym (drop-append-le (at + n) (take k d) (drop k d) (omega (arith, length-take-le k d hk)))
+    ∙ ap (drop (at + n)) (take-append-drop k d)))
+
+pub paste-behind : (d : List ℕ) (f at : ℕ) (s : List ℕ) (n : ℕ) → take f d ++ paste (drop f d) at s n ≡ paste d (f + at) s n
+paste-behind d f at s n =
+    let z : f + (at + n) ≡ f + at + n = omega arith in
+    rw (take-add f at d, drop-drop (at + n) f d, z) (simp append-assoc)
+
+-- A callee copied into the part that it was lent.
+pub put-back-paste : (d : List ℕ) (f e at : ℕ) (s : List ℕ) (n : ℕ) → f ≤ e → e ≤ length d → at + n ≤ e - f
+    → take f d ++ (paste (part d f e) at s n ++ drop (e - f) (drop f d)) ≡ paste d (f + at) s n
+put-back-paste d f e at s n hf he h =
+    rw (paste-front (drop f d) (e - f) at s n (omega (arith, length-drop f d)) h) (paste-behind d f at s n)
+
+pub paste-over : (d s : List ℕ) → length d ≡ length s → paste d 0 s (length s) ≡ s
+paste-over d s e =
+    let z : 0 + length s ≡ length d = omega arith in
+    rw (take-length s, z, drop-length d) (append-nil s)
 
 pub paste-whole : (d : List ℕ) (at : ℕ) (s : List ℕ) → paste d at s (length s) ≡ take at d ++ s ++ drop (at + length s) d
 paste-whole d at s = rw (take-length s)
