@@ -56,7 +56,8 @@ pub record Reads (f : List ℕ → List ℕ) (s : List ℕ) (i r : ℕ) : Type 0
   pub rest : drop r s ≡ f (drop i s)
 
 -- One reader after another.
-pub reads-then : {f g : List ℕ → List ℕ} {s : List ℕ} {i j r : ℕ} → Reads f s i j → Reads g s j r → Reads (λ (l : List ℕ). g (f l)) s i r
+pub reads-then : {f g : List ℕ → List ℕ} {s : List ℕ} {i j r : ℕ} → Reads f s i j → Reads g s j r
+    → Reads (λ (l : List ℕ). g (f l)) s i r
 reads-then a b = record { forward = le-trans (a .forward) (b .forward); within = b .within; rest = rw (← (a .rest)) (b .rest) }
 
 -- A place is told by how much is left.
@@ -67,8 +68,15 @@ reads-place {f} {s} {i} {r} a = rw (← (a .rest), length-drop r s) (omega (arit
 pub part-run : (p : ℕ → Bool) {s : List ℕ} {i r : ℕ} → Reads (afterRun p) s i r → part s i r ≡ run p (drop i s)
 part-run p {s} {i} {r} a =
     let n : r - i ≡ length (run p (drop i s)) =
-    omega
-    (arith, a .forward, a .within, length-drop i s, length-drop r s, ap length (a .rest), simp length-append at (ap length (run-append p (drop i s)))) in
+    omega (
+      arith,
+      a .forward,
+      a .within,
+      length-drop i s,
+      length-drop r s,
+      ap length (a .rest),
+      simp length-append at (ap length (run-append p (drop i s))),
+    ) in
     rw n (take-run p (drop i s))
 
 -- The state of a loop that scans from i and is at k.
