@@ -1,0 +1,1 @@
+// Orders of steps: specs alone.

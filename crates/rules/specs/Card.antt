@@ -1,0 +1,85 @@
+-- The time card: which bytes are a sound one, and the time of each file on it.
+use Prim.Native.Nat.{ℕ, zero, suc, _+_, _*_}
+use mathlib.Core.List.{List, [], _∷_, map}
+use mathlib.Core.Option.{Option, none, some}
+use mathlib.Core.Bool.{Bool, true, false, _&&_, _||_}
+use lib.Dec.{eqb, leb, ltb}
+use lib.ListN.{length, take, drop}
+use Rattle.lists.specs.Tests.{ifB}
+use Rattle.lists.specs.Bytes.{eqBytes, lessBytes}
+use Rattle.rules.specs.Limits.{maxRecords, maxCard, maxPath, maxTime}
+
+-- "Numbers are little-endian."
+unfoldable pub littleEndian : List ℕ → ℕ
+littleEndian [] = 0
+littleEndian (b ∷ s) = b + 256 * littleEndian s
+
+-- the number of `size` bytes at an offset
+unfoldable pub numberAt : ℕ → ℕ → List ℕ → ℕ
+unfolding littleEndian
+numberAt at size s = littleEndian (take size (drop at s))
+
+-- "Each record: name offset counted from the names (4), name length 1 to 255 (4), time 1 to 2^63 - 1 (8)."
+pub record CardRecord : Type 0 where
+  pub offset : ℕ
+  pub size : ℕ
+  pub time : ℕ
+
+-- the first records of those bytes
+unfoldable pub recordsOf : ℕ → List ℕ → List CardRecord
+unfolding numberAt
+recordsOf zero s = []
+recordsOf (suc n) s = record { offset = numberAt 0 4 s; size = numberAt 4 4 s; time = numberAt 8 8 s } ∷ recordsOf n (drop 16 s)
+
+-- "Names lie end to end in record order to the end": each starts where the one before it ends, the last ends where the card does
+unfoldable pub soundRecords : ℕ → ℕ → List CardRecord → Bool
+soundRecords at end [] = eqb at end
+soundRecords at end (r ∷ rs) =
+    eqb (r .offset) at && leb 1 (r .size) && leb (r .size) maxPath && leb 1 (r .time) && leb (r .time) maxTime && soundRecords (at + r .size) end rs
+
+pub record Entry : Type 0 where
+  pub name : List ℕ
+  pub time : ℕ
+
+unfoldable pub entriesOf : List CardRecord → List ℕ → List Entry
+entriesOf [] names = []
+entriesOf (r ∷ rs) names = record { name = take (r .size) names; time = r .time } ∷ entriesOf rs (drop (r .size) names)
+
+-- "strictly rising by bytes (a prefix comes first)"
+unfoldable pub rising : List Entry → Bool
+unfolding lessBytes
+rising [] = true
+rising (e ∷ []) = true
+rising (e ∷ f ∷ l) = lessBytes (e .name) (f .name) && rising (f ∷ l)
+
+-- "A header of counts and offsets, 4 bytes each: count n, offset of records (16), offset of names (16 + 16n), total length."
+unfoldable pub soundHeader : List ℕ → Bool
+unfolding numberAt
+soundHeader s =
+    leb 16 (length s) && leb (length s) maxCard && leb (numberAt 0 4 s) maxRecords && eqb (numberAt 4 4 s) 16 && eqb (numberAt 8 4 s) (16 + 16 * numberAt 0 4 s) && eqb (numberAt 12 4 s) (length s) && leb (numberAt 8 4 s) (length s)
+
+unfoldable pub cardRecords : List ℕ → List CardRecord
+unfolding recordsOf numberAt
+cardRecords s = recordsOf (numberAt 0 4 s) (drop 16 s)
+
+unfoldable pub cardNames : List ℕ → List ℕ
+unfolding numberAt
+cardNames s = drop (16 + 16 * numberAt 0 4 s) s
+
+unfoldable pub cardEntries : List ℕ → List Entry
+unfolding entriesOf cardRecords cardNames
+cardEntries s = entriesOf (cardRecords s) (cardNames s)
+
+-- a card that breaks no rule; its records are looked at only under a sound header
+unfoldable pub soundCard : List ℕ → Bool
+unfolding soundHeader soundRecords cardRecords cardNames rising cardEntries
+soundCard s =
+    ifB (soundHeader s)
+    (λ _. soundRecords 0 (length (cardNames s)) (cardRecords s) && rising (cardEntries s))
+    (λ _. false)
+
+-- "A file not listed is missing and has time 0."
+unfoldable pub timeIn : List Entry → List ℕ → ℕ
+unfolding eqBytes
+timeIn [] n = 0
+timeIn (e ∷ l) n = ifB (eqBytes n (e .name)) (λ _. e .time) (λ _. timeIn l n)
