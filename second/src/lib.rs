@@ -4,12 +4,15 @@
 pub mod bytes;
 pub mod card;
 pub mod expand;
+pub mod generate;
 pub mod graph;
 pub mod limits;
 pub mod line;
 pub mod manifest;
+pub mod naive;
 pub mod plan;
 pub mod program;
+pub mod rng;
 pub mod scan;
 pub mod targets;
 pub mod text;

@@ -113,7 +113,7 @@ fn limits_of_paths_and_steps() {
 
 #[test]
 fn readings_that_look_right() {
-    // Stopping an order chain at a fresh step: 0 is stale and upstream of 2 only through fresh 1.
+    // Stopping an order chain at a fresh step: 2 is upstream of 0 only through 1, which is fresh.
     let chain = b"rule r\n  command = r\nbuild z: r b\nbuild b: r || a\nbuild a: r i\n";
     let times = [("i", 9), ("b", 5)];
     assert_eq!(list(chain, &times, ""), [2, 0]);
