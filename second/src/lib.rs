@@ -14,6 +14,7 @@ pub mod plan;
 pub mod program;
 pub mod rng;
 pub mod scan;
+pub mod shapes;
 pub mod targets;
 pub mod text;
 pub mod version;
