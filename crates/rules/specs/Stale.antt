@@ -1,5 +1,5 @@
 -- Stale and fresh, the times of files, and the list.
-use Prim.Native.Nat.{ℕ, zero, max}
+use Prim.Native.Nat.{ℕ, max}
 use mathlib.Core.List.{List, [], _∷_, map}
 use mathlib.Core.Bool.{Bool, true, false, not, _&&_, _||_}
 use lib.Dec.{eqb, ltb}
