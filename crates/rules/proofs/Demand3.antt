@@ -25,6 +25,7 @@ use Rattle.rules.specs.Words.{Feeds, Needed, input, Upstream, NeededOrde
 use Rattle.rules.specs.PlanAsk.{PlanOutcome, listed, circular, noPlan, cardTime, missingSource, listedOr15, planFrom}
 use Rattle.rules.proofs.Graph.{in-before, before-low, in-needed, in-upstream, needed-low, upstream-words, words-upstream}
 use Rattle.rules.proofs.Stale.{verdict-local}
+use Rattle.rules.proofs.Sources.{MissingIn, missing-none}
 
 module _ (steps : List Step) (targets : List ℕ) where
   wanted : (s : ℕ) → In (needed steps targets) s ↔ Needed steps targets s
@@ -131,7 +132,7 @@ pub record Demand3 (card : List ℕ) (rd : Reading) (targets : List ℕ) : Type 
   -- an order and a circle exclude each other
   pub exclude : (l c : List ℕ) → NeededOrder (rd .steps) targets l → NeededCircle (rd .steps) targets c → ⊥
   -- otherwise, if no needed source is missing, the list
-  pub listing : (l : List ℕ) → NeededOrder (rd .steps) targets l → missingSource card rd targets ≡ none → Listing card rd targets
+  pub listing : (l : List ℕ) → NeededOrder (rd .steps) targets l → ((f : ℕ) → ¬ MissingIn card rd targets f) → Listing card rd targets
 
 module _ (card : List ℕ) (rd : Reading) (targets : List ℕ) where
   plan-circle : hasOrder (rd .steps) targets ≡ false → planFrom card rd targets ≡ circular (rd .steps) targets
@@ -162,7 +163,7 @@ module _ (card : List ℕ) (rd : Reading) (targets : List ℕ) where
     exclude = λ l c o k. order-no-circle o k;
     listing = λ l o m. record {
       list = listOf (rd .steps) (cardTime card rd) targets;
-      outcome = plan-list (has-order (rd .steps) targets o) m;
+      outcome = plan-list (has-order (rd .steps) targets o) (missing-none card rd targets m);
       verdicts = told (rd .steps) (cardTime card rd) targets;
       sentences = told-along (rd .steps) targets (cardTime card rd) (order-right (rd .steps) targets (has-order (rd .steps) targets o));
       fixed = λ v p s n. told-once (rd .steps) targets (cardTime card rd) o v (told (rd .steps) (cardTime card rd) targets) p

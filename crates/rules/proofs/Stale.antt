@@ -5,9 +5,8 @@ use mathlib.Core.Logic.{inl, inr}
 use mathlib.Core.Bool.{Bool, true, false, _||_}
 use mathlib.Core.List.{List, [], _∷_, _++_, map}
 use Rattle.lists.specs.Tests.{ifB, split}
-use Rattle.lists.specs.Members.{_∈_, here, there, in-left, in-right, in-append, not-in-nil}
+use Rattle.lists.specs.Members.{_∈_, here, there, in-left, in-right, in-append, not-in-nil, any}
 use Rattle.orders.specs.Along.{Local}
-use Rattle.rules.specs.Basics.{any}
 use Rattle.rules.specs.Reading.{Step}
 use Rattle.rules.specs.Graph.{inputs, counted, stepAt, makers, makersOf, before}
 use Rattle.rules.specs.Stale.{Verdict, phonyStep, madeTime, timeOf, greatest, newestInput, makerStale, staleCommand, stalePhony, verdict}

@@ -1,15 +1,15 @@
 -- Stale and fresh, the times of files, and the list.
-use Prim.Native.Nat.{ℕ, zero, max}
+use Prim.Native.Nat.{ℕ, max}
 use mathlib.Core.List.{List, [], _∷_, map}
 use mathlib.Core.Bool.{Bool, true, false, not, _&&_, _||_}
 use lib.Dec.{eqb, ltb}
 use lib.ListN.{length, getD}
 use Rattle.lists.specs.Tests.{ifB}
-use Rattle.lists.specs.Members.{has, keep}
+use Rattle.lists.specs.Members.{has, keep, any}
 use Rattle.orders.specs.Greedy.{greedy}
 use Rattle.orders.specs.Reach.{upstream}
 use Rattle.orders.specs.Along.{values}
-use Rattle.rules.specs.Basics.{isEmpty, any}
+use Rattle.rules.specs.Basics.{isEmpty}
 use Rattle.rules.specs.Reading.{Step, isPhony}
 use Rattle.rules.specs.Graph.{stepAt, inputs, counted, makers, makersOf, before, needed, neededOrder}
 

@@ -33,6 +33,12 @@ pub record NeededSource (steps : List Step) (targets : List ℕ) (f : ℕ) : Typ
   pub no-maker : (m : ℕ) → ¬ Makes steps m f
   pub needed : (f ∈ targets) ⊎ ((s : ℕ) × Needed steps targets s × (f ∈ inputs (stepAt steps s)))
 
+-- "a needed source is missing", where `card` gives the times of the files
+pub record Missing (steps : List Step) (card : ℕ → ℕ) (files : ℕ) (targets : List ℕ) (f : ℕ) : Type 0 where
+  pub file : f < files
+  pub absent : card f ≡ 0
+  pub source : NeededSource steps targets f
+
 -- "Upstream of a step are the makers of its inputs, of any kind, and whatever is upstream of those, through fresh and phony steps too."
 pub data Upstream (steps : List Step) (m : ℕ) : ℕ → Type 0 where
   maker : {s : ℕ} → Feeds steps m s → Upstream steps m s
