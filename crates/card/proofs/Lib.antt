@@ -2,3 +2,4 @@ pub mod Numbers
 pub mod Rules
 pub mod Places
 pub mod Search
+pub mod Naming

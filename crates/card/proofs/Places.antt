@@ -69,6 +69,15 @@ entry-lies s p (suc n) at names h (suc k) l =
 
 -- ---- a sound card
 
+-- The header comes first.
+pub bad-header : (s : List ℕ) → soundHeader s ≡ false → false ≡ soundCard s
+unfolding soundCard
+bad-header s h = rw h
+
+pub good-header : (s : List ℕ) {b : Bool} → soundHeader s ≡ true → b ≡ soundNames s → b ≡ soundCard s
+unfolding soundCard
+good-header s h e = rw h e
+
 module _ (s : List ℕ) (h : soundCard s ≡ true) where
   pub card-header : soundHeader s ≡ true
   unfolding soundCard

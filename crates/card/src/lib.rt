@@ -7,7 +7,8 @@ ghost use Rattle.lists.specs.Order.{orderBytes};
 ghost use Rattle.rules.specs.Card.{recordAt, soundHeader, soundRecord, soundNames, soundCard, cardEntries, timeIn};
 ghost use Rattle.card.specs.Fields.{Byte, Number, Headed, Listed, entryAt};
 use lists::Order;
-use lists::bytes::{compare, less};
+use lists::bytes::compare;
+use lists::bytes::less;
 
 // Whether a card breaks no rule.
 pub fn sound(card: &[u8]) -> bool

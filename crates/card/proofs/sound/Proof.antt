@@ -1,3 +1,8 @@
+use mathlib.Core.Path.{sym, _∙_}
+use native.Mathlib.Omega.{arith}
+use borrow.Author.Tests.{not-true, not-false}
+use Rattle.card.proofs.Rules.{header}
+use Rattle.card.proofs.Places.{bad-header, good-header, headed}
 use borrow.Author.Needs.{needs}
 use Rattle.card.proofs.sound.Statement.{statement}
 use Rattle.card.proofs.sound.Tie as tie
@@ -13,19 +18,19 @@ sound-header-requires c κs = search needs
 
 -- src/lib.rt:17:9
 returns : tie.Need-returns
-returns c = search needs
+returns c = bad-header _ (sym (c .before .sound-header .ensures) ∙ not-true _ (c .if1 .taken))
 
 -- src/lib.rt:19:9
 word-requires : tie.Need-word-requires
-word-requires c κs = search needs
+word-requires c κs = let h = header (sym (c .before .sound-header .ensures) ∙ not-false _ (c .if1 .left)) in omega arith
 
 -- src/lib.rt:20:5
 sound-names-requires : tie.Need-sound-names-requires
-sound-names-requires c κs = search needs
+sound-names-requires c κs = headed (sym (c .before .before .sound-header .ensures) ∙ not-false _ (c .before .if1 .left)) (c .word .ensures .is)
 
 -- src/lib.rt:13:1
 returns-2 : tie.Need-returns-2
-returns-2 c = search needs
+returns-2 c = good-header _ (sym (c .before .before .before .sound-header .ensures) ∙ not-false _ (c .before .before .if1 .left)) (c .sound-names .ensures)
 
 pub sound-spec : {M : Type 1} → statement M
 sound-spec =

@@ -1,3 +1,11 @@
+use Prim.Native.Nat.{_-_}
+use mathlib.Core.Path.{sym, _∙_}
+use native.Mathlib.Omega.{arith}
+use borrow.Author.Tests.{not-true, not-false}
+use Rattle.lists.specs.Tests.{differ}
+use Rattle.rules.specs.Card.{recordAt}
+use Rattle.card.proofs.Rules.{refuted}
+use Rattle.card.proofs.Naming.{Naming, naming-begin, naming-end, turn, turned}
 use borrow.Author.Needs.{needs}
 use Rattle.card.proofs.sound_names.Statement.{statement}
 use Rattle.card.proofs.sound_names.Tie as tie
@@ -8,10 +16,10 @@ use Rattle.card.proofs.word.Reads as word-reads
 use Rattle.lists.proofs.bytes.less.Reads as less-reads
 
 abbrev Inv-loop : tie.InvT-loop
-Inv-loop card n names from₀ to₀ k₀ from to k = ?
+Inv-loop card n names from₀ to₀ k₀ from to k = Naming card n from to k
 
 abbrev μ-loop : tie.MeasureT-loop
-μ-loop card n names from₀ to₀ k₀ from to k = ?
+μ-loop card n names from₀ to₀ k₀ from to k = n - k
 
 -- src/lib.rt:77:22
 mul-names : tie.Need-mul-names Inv-loop μ-loop
@@ -23,7 +31,7 @@ add-names c = search needs
 
 -- src/lib.rt:81:5
 loop-holds : tie.Need-loop-holds Inv-loop μ-loop
-loop-holds c = search needs
+loop-holds c = naming-begin (c .before .pre)
 
 -- src/lib.rt:82:23
 mul-at : tie.Need-mul-at Inv-loop μ-loop
@@ -43,7 +51,7 @@ sound-record-requires c κs = search needs
 
 -- src/lib.rt:84:13
 returns : tie.Need-returns Inv-loop μ-loop
-returns c = search needs
+returns c = refuted _ (λ h. differ (turn (c .before .before .before .loop .inv) (c .before .before .loop-test .taken) h .fair) (sym (c .before .sound-record .ensures) ∙ not-true _ (c .if1 .taken)))
 
 -- src/lib.rt:86:35
 add-word : tie.Need-add-word Inv-loop μ-loop
@@ -59,7 +67,8 @@ add-end c = search needs
 
 -- src/lib.rt:88:13
 returns-2 : tie.Need-returns-2 Inv-loop μ-loop
-returns-2 c = search needs
+unfolding recordAt
+returns-2 c = refuted _ (λ h. let t = turn (c .before .before .before .before .before .loop .inv) (c .before .before .before .before .loop-test .taken) h in omega (arith, c .before .word .ensures .is))
 
 -- src/lib.rt:90:18
 sub-less : tie.Need-sub-less Inv-loop μ-loop
@@ -91,7 +100,8 @@ less-requires c κs = search needs
 
 -- src/lib.rt:91:13
 returns-3 : tie.Need-returns-3 Inv-loop μ-loop
-returns-3 c = search needs
+unfolding recordAt
+returns-3 c = refuted _ (λ h. differ (turn (c .before .before .before .before .before .before .before .before .before .loop .inv) (c .before .before .before .before .before .before .before .before .loop-test .taken) h .less) (rw (← c .before .before .before .before .before .word .ensures .is) (sym (c .before .less .ensures) ∙ not-true _ (c .if3 .taken))))
 
 -- src/lib.rt:95:9
 add-k : tie.Need-add-k Inv-loop μ-loop
@@ -103,11 +113,13 @@ loop-less c = search needs
 
 -- src/lib.rt:81:5
 loop-again : tie.Need-loop-again Inv-loop μ-loop
-loop-again c = search needs
+unfolding recordAt
+loop-again c =
+    turned (c .before .before .before .before .before .before .before .before .before .loop .inv) (c .before .before .before .before .before .before .before .before .loop-test .taken) _ (c .before .before .before .before .before .word .ensures .is) (sym (c .before .before .before .before .before .before .before .sound-record .ensures) ∙ not-false _ (c .before .before .before .before .before .before .if1 .left)) (c .before .before .before .before .if2 .left) (sym (c .before .less .ensures) ∙ not-false _ (c .if3 .left))
 
 -- src/lib.rt:73:1
 returns-4 : tie.Need-returns-4 Inv-loop μ-loop
-returns-4 c = search needs
+returns-4 c = naming-end (c .before .loop .inv) (c .loop-test .left)
 
 pub sound-names-spec : {M : Type 1} → statement M
 sound-names-spec =
