@@ -2,7 +2,8 @@
 use Prim.Native.Nat.{ℕ, _+_, _*_, _^_, _≤_, _<_}
 use mathlib.Core.List.{List, []}
 use mathlib.Core.Path.{_≡_}
-use lib.ListN.{length, getD}
+use lib.ListN.{length, drop, getD}
+use Rattle.lists.specs.Bytes.{lessBytes}
 use Rattle.lists.specs.Parts.{part}
 use Rattle.rules.specs.Limits.{maxCard, maxRecords}
 use Rattle.rules.specs.Card.{numberAt, Entry, cardEntries}
@@ -39,3 +40,9 @@ pub record Listed (s : List ℕ) (k : ℕ) : Type 0 where
   pub room : 16 + 16 * numberAt 0 4 s + numberAt (16 + 16 * k) 4 s + numberAt (16 + 16 * k + 4) 4 s ≤ length s
   pub name : entryAt s k .name ≡ part s (16 + 16 * numberAt 0 4 s + numberAt (16 + 16 * k) 4 s) (16 + 16 * numberAt 0 4 s + numberAt (16 + 16 * k) 4 s + numberAt (16 + 16 * k + 4) 4 s)
   pub time : entryAt s k .time ≡ numberAt (16 + 16 * k + 8) 8 s
+
+-- their first i bytes are the same, so what follows decides
+pub record Alike (a b : List ℕ) (i : ℕ) : Type 0 where
+  pub in-first : i ≤ length a
+  pub in-second : i ≤ length b
+  pub rest : lessBytes a b ≡ lessBytes (drop i a) (drop i b)

@@ -3,9 +3,10 @@ ghost use mathlib.Core.Path.{_≡_};
 ghost use mathlib.Core.Bool.{true};
 ghost use Prim.Native.Nat.{_+_, _≤_};
 ghost use lib.ListN.{length};
+ghost use Rattle.lists.specs.Bytes.{lessBytes};
 ghost use Rattle.lists.specs.Order.{orderBytes};
 ghost use Rattle.rules.specs.Card.{recordAt, soundHeader, soundRecord, soundNames, soundCard, cardEntries, timeIn};
-ghost use Rattle.card.specs.Fields.{Byte, Number, Headed, Listed, entryAt};
+ghost use Rattle.card.specs.Fields.{Byte, Number, Headed, Listed, Alike, entryAt};
 use lists::Order;
 use lists::bytes::compare;
 use lists::bytes::less;
@@ -91,7 +92,7 @@ fn sound_names(card: &[u8], n: usize) -> bool
         if card.len() < end {
             return false;
         }
-        if !less(&card[from..to], &card[to..end]) {
+        if !comes_before(&card[from..to], &card[to..end]) {
             return false;
         }
         from = to;
@@ -124,6 +125,31 @@ fn sound_record(card: &[u8], at: usize, start: usize) -> bool
         return false;
     }
     true
+}
+
+// Whether one name comes before another. Neighbours on a card share long beginnings, which are passed in eights.
+fn comes_before(a: &[u8], b: &[u8]) -> bool
+    ensures { λ r. ⌜ r ≡ lessBytes (now (a .entry)) (now (b .entry)) ⌝ }
+{
+    let i = shared(a, b);
+    less(&a[i..], &b[i..])
+}
+
+// How many bytes, in eights, the two begin with alike.
+fn shared(a: &[u8], b: &[u8]) -> usize
+    ensures { λ r. ⌜ Alike (now (a .entry)) (now (b .entry)) r ⌝ }
+{
+    let mut i = 0;
+    while i + 8 <= a.len() {
+        if b.len() < i + 8 {
+            return i;
+        }
+        if long(a, i) != long(b, i) {
+            return i;
+        }
+        i += 8;
+    }
+    i
 }
 
 // How a name compares with that of entry k.

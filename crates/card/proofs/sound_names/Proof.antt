@@ -13,7 +13,7 @@ use Rattle.card.proofs.sound_names.Reads as reads
 use Rattle.card.proofs.sound_names.Lts as lts
 use Rattle.card.proofs.sound_record.Reads as sound-record-reads
 use Rattle.card.proofs.word.Reads as word-reads
-use Rattle.lists.proofs.bytes.less.Reads as less-reads
+use Rattle.card.proofs.comes_before.Reads as comes-before-reads
 
 abbrev Inv-loop : tie.InvT-loop
 Inv-loop card n names from₀ to₀ k₀ from to k = Naming card n from to k
@@ -71,37 +71,37 @@ unfolding recordAt
 returns-2 c = refuted _ (λ h. let t = turn (c .before .before .before .before .before .loop .inv) (c .before .before .before .before .loop-test .taken) h in omega (arith, c .before .word .ensures .is))
 
 -- src/lib.rt:90:18
-sub-less : tie.Need-sub-less Inv-loop μ-loop
-sub-less c = search needs
+sub-comes-before : tie.Need-sub-comes-before Inv-loop μ-loop
+sub-comes-before c = search needs
 
 -- src/lib.rt:90:18
-part-less-start : tie.Need-part-less-start Inv-loop μ-loop
-part-less-start c = search needs
+part-comes-before-start : tie.Need-part-comes-before-start Inv-loop μ-loop
+part-comes-before-start c = search needs
 
 -- src/lib.rt:90:18
-part-less-end : tie.Need-part-less-end Inv-loop μ-loop
-part-less-end c = search needs
+part-comes-before-end : tie.Need-part-comes-before-end Inv-loop μ-loop
+part-comes-before-end c = search needs
 
 -- src/lib.rt:90:35
-sub-less-2 : tie.Need-sub-less-2 Inv-loop μ-loop
-sub-less-2 c = search needs
+sub-comes-before-2 : tie.Need-sub-comes-before-2 Inv-loop μ-loop
+sub-comes-before-2 c = search needs
 
 -- src/lib.rt:90:35
-part-less-start-2 : tie.Need-part-less-start-2 Inv-loop μ-loop
-part-less-start-2 c = search needs
+part-comes-before-start-2 : tie.Need-part-comes-before-start-2 Inv-loop μ-loop
+part-comes-before-start-2 c = search needs
 
 -- src/lib.rt:90:35
-part-less-end-2 : tie.Need-part-less-end-2 Inv-loop μ-loop
-part-less-end-2 c = search needs
+part-comes-before-end-2 : tie.Need-part-comes-before-end-2 Inv-loop μ-loop
+part-comes-before-end-2 c = search needs
 
 -- src/lib.rt:90:13
-less-requires : tie.Need-less-requires Inv-loop μ-loop
-less-requires c κs = search needs
+comes-before-requires : tie.Need-comes-before-requires Inv-loop μ-loop
+comes-before-requires c κs = search needs
 
 -- src/lib.rt:91:13
 returns-3 : tie.Need-returns-3 Inv-loop μ-loop
 unfolding recordAt
-returns-3 c = refuted _ (λ h. differ (turn (c .before .before .before .before .before .before .before .before .before .loop .inv) (c .before .before .before .before .before .before .before .before .loop-test .taken) h .less) (rw (← c .before .before .before .before .before .word .ensures .is) (sym (c .before .less .ensures) ∙ not-true _ (c .if3 .taken))))
+returns-3 c = refuted _ (λ h. differ (turn (c .before .before .before .before .before .before .before .before .before .loop .inv) (c .before .before .before .before .before .before .before .before .loop-test .taken) h .less) (rw (← c .before .before .before .before .before .word .ensures .is) (sym (c .before .comes-before .ensures) ∙ not-true _ (c .if3 .taken))))
 
 -- src/lib.rt:95:9
 add-k : tie.Need-add-k Inv-loop μ-loop
@@ -115,7 +115,7 @@ loop-less c = search needs
 loop-again : tie.Need-loop-again Inv-loop μ-loop
 unfolding recordAt
 loop-again c =
-    turned (c .before .before .before .before .before .before .before .before .before .loop .inv) (c .before .before .before .before .before .before .before .before .loop-test .taken) _ (c .before .before .before .before .before .word .ensures .is) (sym (c .before .before .before .before .before .before .before .sound-record .ensures) ∙ not-false _ (c .before .before .before .before .before .before .if1 .left)) (c .before .before .before .before .if2 .left) (sym (c .before .less .ensures) ∙ not-false _ (c .if3 .left))
+    turned (c .before .before .before .before .before .before .before .before .before .loop .inv) (c .before .before .before .before .before .before .before .before .loop-test .taken) _ (c .before .before .before .before .before .word .ensures .is) (sym (c .before .before .before .before .before .before .before .sound-record .ensures) ∙ not-false _ (c .before .before .before .before .before .before .if1 .left)) (c .before .before .before .before .if2 .left) (sym (c .before .comes-before .ensures) ∙ not-false _ (c .if3 .left))
 
 -- src/lib.rt:73:1
 returns-4 : tie.Need-returns-4 Inv-loop μ-loop
@@ -139,13 +139,13 @@ sound-names-spec =
     word-requires
     add-end
     returns-2
-    sub-less
-    part-less-start
-    part-less-end
-    sub-less-2
-    part-less-start-2
-    part-less-end-2
-    less-requires
+    sub-comes-before
+    part-comes-before-start
+    part-comes-before-end
+    sub-comes-before-2
+    part-comes-before-start-2
+    part-comes-before-end-2
+    comes-before-requires
     returns-3
     add-k
     loop-less
