@@ -2,3 +2,4 @@
 //! sources, so they are few; slices pass as a pointer and a length.
 
 pub mod card;
+pub mod measure;
