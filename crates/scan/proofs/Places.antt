@@ -1,12 +1,15 @@
 -- Reading a slice from place to place.
-use Prim.Native.Nat.{ℕ, _+_, _≤_, _<_}
+use Prim.Native.Nat.{ℕ, _+_, suc, _≤_, _<_}
+use mathlib.Core.Bool.{true, false}
 use mathlib.Core.List.{List, [], _∷_}
 use mathlib.Core.Path.{_≡_, refl, sym, _∙_}
 use native.Mathlib.Nat.{le-refl, le-trans}
 use native.Mathlib.Numerals.{add-one}
+use native.Mathlib.Omega.{arith}
 use lib.ListN.{length, drop, getD, drop-of-length-le}
 use lib.Seq.{drop-cons}
 use Rattle.lists.specs.Runs.{Reads}
+use Rattle.rules.specs.Basics.{isEmpty}
 
 -- The byte at a place, and what is left behind it.
 pub at-cons : (s : List ℕ) (k : ℕ) → k < length s → drop k s ≡ getD s k 0 ∷ drop (k + 1) s
@@ -30,3 +33,13 @@ going-on a h w e = record { forward = le-trans (a .forward) h; within = w; same 
 -- Where f leaves the rest as it is, the reader stops.
 pub going-stop : {f : List ℕ → List ℕ} {s : List ℕ} {i k : ℕ} → Going f s i k → f (drop k s) ≡ drop k s → Reads f s i k
 going-stop a e = record { forward = a .forward; within = a .within; rest = sym (a .same ∙ e) }
+
+-- ---- the test for an empty list
+
+pub empty : {A : Type 0} (s : List A) → length s ≡ 0 → isEmpty s ≡ true
+empty [] h = refl
+empty (b ∷ s) h = absurd (let z : suc (length s) ≡ 0 = h in omega arith)
+
+pub not-empty : {A : Type 0} (s : List A) → (length s ≡ 0 → ⊥) → isEmpty s ≡ false
+not-empty [] h = absurd (h refl)
+not-empty (b ∷ s) h = refl
