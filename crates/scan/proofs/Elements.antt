@@ -2,6 +2,7 @@
 use Prim.Native.Nat.{ℕ, _+_, _≤_, _<_}
 use mathlib.Core.Bool.{true, false, not, _&&_, _||_}
 use mathlib.Core.List.{List, [], _∷_}
+use mathlib.Core.Option.{none}
 use mathlib.Core.Path.{_≡_, refl, sym, _∙_, ap}
 use native.Mathlib.Omega.{arith}
 use native.Mathlib.Nat.{le-antisymm, le-refl, le-trans}
@@ -19,7 +20,7 @@ use Rattle.rules.specs.Forms.{nameOf, afterName}
 use Rattle.classes.proofs.Sorted.{sorted}
 use Rattle.scan.specs.declared.Dollar.{Dollar}
 use Rattle.scan.specs.declared.Dollar.the-variants.{Byte, Join, Name, Bad}
-use Rattle.scan.specs.Element.{Element, literal, joins, names, wrong, braced, element, Found, FoundName, Tells}
+use Rattle.scan.specs.Element.{Element, literal, joins, names, wrong, braced, element, restOf, Found, FoundName, Tells, Passed}
 use Rattle.scan.proofs.Places.{at-cons, at-end, not-empty}
 use Rattle.scan.proofs.Gaps.{part-name}
 
@@ -120,3 +121,30 @@ module _ (s : List ℕ) {at k : ℕ} (h : at < length s) (c : k ≡ classOf (get
   pub other-begins : (k ≡ 1 → ⊥) → (k ≡ 10 → ⊥) → (k ≡ 4 → ⊥) → (k ≡ 5 → ⊥) → (k ≡ 3 → ⊥) → (k ≡ 6 → ⊥) → element (drop at s) ≡ wrong
   unfolding byClass
   other-begins a b c d e f = here ∙ rw (ne-eqb k 5 d, ne-eqb k 3 e, ne-eqb k 6 f, ne-eqb k 4 c, ne-eqb k 10 b, ne-eqb k 1 a)
+
+-- ---- what follows, whatever it is
+
+module _ (s : List ℕ) (at : ℕ) (r : Dollar) (t : Tells s at (element (drop at s)) r) where
+  pub past-byte : {b n : ℕ} → r ≡ Byte b n → Passed s at n
+  unfolding Tells restOf
+  past-byte {b} {n} e =
+      let f : Tells s at (element (drop at s)) (Byte b n) = rw e at t in
+      record { forward = f .forward; within = f .within; rest = ap restOf (f .is) }
+
+  pub past-join : {n : ℕ} → r ≡ Join n → Passed s at n
+  unfolding Tells restOf
+  past-join {n} e =
+      let f : Tells s at (element (drop at s)) (Join n) = rw e at t in
+      record { forward = f .forward; within = f .within; rest = ap restOf (f .is) }
+
+  pub past-name : {a b n : ℕ} → r ≡ Name a b n → Passed s at n
+  unfolding Tells restOf
+  past-name {a} {b} {n} e =
+      let f : Tells s at (element (drop at s)) (Name a b n) = rw e at t in
+      record { forward = f .found .forward; within = f .found .within; rest = ap restOf (f .found .is) }
+
+  pub past-bad : r ≡ Bad → restOf (element (drop at s)) ≡ none
+  unfolding Tells restOf
+  past-bad e =
+      let f : Tells s at (element (drop at s)) Bad = rw e at t in
+      ap restOf f

@@ -1,3 +1,5 @@
 pub mod Places
 pub mod Gaps
 pub mod Elements
+pub mod Look
+pub mod Cuts

@@ -2,6 +2,7 @@
 pub mod tokens;
 pub mod words;
 pub mod dollars;
+pub mod texts;
 
 // What a word is: a name, or one of those that fit no form (4) or are not yet in this edition (6).
 pub enum Word {
@@ -19,4 +20,22 @@ pub enum Dollar {
     // `$name` or `${name}`: where the name starts and where it ends
     Name(usize, usize, usize),
     Bad,
+}
+
+// Where the bytes after a sound `$` start.
+pub enum Past {
+    To(usize),
+    Bad,
+}
+
+// Where a path ends, or where its first bad `$` stands.
+pub enum PathEnd {
+    Ends(usize),
+    BadDollar(usize),
+}
+
+// Where the first fault of some bytes stands.
+pub enum FirstBad {
+    Nowhere,
+    At(usize),
 }
