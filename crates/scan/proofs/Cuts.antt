@@ -13,22 +13,10 @@ use Rattle.rules.specs.Bytes.{dollar, classOf}
 use Rattle.rules.specs.Dollars.{Scan, plain, endsBad, badDollar}
 use Rattle.rules.specs.Forms.{pathStop, endsPath, pathFrom, afterPath}
 use Rattle.classes.proofs.Sorted.{sorted}
-use Rattle.scan.specs.declared.Past.{Past}
-use Rattle.scan.specs.declared.Past.the-variants.{To, Bad}
-use Rattle.scan.specs.Element.{element, restOf, Passed, PastAt}
-use Rattle.scan.specs.Texts.{PathEnds, PathBad}
+use Rattle.scan.specs.Element.{element, restOf, Passed}
+use Rattle.scan.specs.Texts.{PathEnds, PathBad, ValueBad}
 use Rattle.scan.proofs.Places.{Going, going-on, at-cons, at-end}
 use Rattle.scan.proofs.Look.{Look, ends, badAt, Cutting, look, look-dollar, look-stop, look-byte, follow-rest, follow-none, look-ends, look-bad, path-cutting, value-cutting}
-
--- what a call of `past` gave
-module _ (s : List ℕ) (at : ℕ) (r : Past) (p : PastAt s at r) where
-  pub past-to : {n : ℕ} → r ≡ To n → Passed s at n
-  unfolding PastAt
-  past-to e = rw e at p
-
-  pub past-none : r ≡ Bad → restOf (element (drop at s)) ≡ none
-  unfolding PastAt
-  past-none e = rw e at p
 
 module _ {stop : Scan → ℕ → Bool} {text after : Scan → List ℕ → List ℕ} (k : Cutting stop text after) {s : List ℕ} {i j : ℕ} (a : Going (look stop plain 0) s i j) where
   pub text-end : length s ≤ j → look stop plain 0 (drop i s) ≡ ends (drop j s)
@@ -70,14 +58,14 @@ module _ {s : List ℕ} {i j : ℕ} (a : Going (look endsPath plain 0) s i j) wh
 -- ---- a raw value
 
 module _ {s : List ℕ} {j : ℕ} (a : Going (look (λ q b. false) plain 0) s 0 j) where
-  pub value-ends : look (λ q b. false) plain 0 s ≡ ends (drop j s) → none ≡ badDollar s
-  value-ends e = sym (look-ends value-cutting s (drop j s) e .1)
+  pub value-ends : look (λ q b. false) plain 0 s ≡ ends (drop j s) → badDollar s ≡ none
+  value-ends e = look-ends value-cutting s (drop j s) e .1
 
-  pub value-bad : j < length s → look (λ q b. false) plain 0 s ≡ badAt (length s - j) → some j ≡ badDollar s
+  pub value-bad : j < length s → look (λ q b. false) plain 0 s ≡ badAt (length s - j) → ValueBad s j
   value-bad h e =
       let (o, b, n) = look-bad value-cutting s (length s - j) e in
-      let z : j ≡ o = omega arith in
-      ap some z ∙ sym b
+      let z : o ≡ j = omega arith in
+      record { within = h; bad = b ∙ ap some z }
 
 -- ---- classes
 

@@ -124,27 +124,18 @@ module _ (s : List ℕ) {at k : ℕ} (h : at < length s) (c : k ≡ classOf (get
 
 -- ---- what follows, whatever it is
 
-module _ (s : List ℕ) (at : ℕ) (r : Dollar) (t : Tells s at (element (drop at s)) r) where
-  pub past-byte : {b n : ℕ} → r ≡ Byte b n → Passed s at n
-  unfolding Tells restOf
-  past-byte {b} {n} e =
-      let f : Tells s at (element (drop at s)) (Byte b n) = rw e at t in
-      record { forward = f .forward; within = f .within; rest = ap restOf (f .is) }
+pub passed-byte : {s : List ℕ} {at b n : ℕ} → Found s at n (element (drop at s)) (literal b (drop n s)) → Passed s at n
+unfolding restOf
+passed-byte f = record { forward = f .forward; within = f .within; rest = ap restOf (f .is) }
 
-  pub past-join : {n : ℕ} → r ≡ Join n → Passed s at n
-  unfolding Tells restOf
-  past-join {n} e =
-      let f : Tells s at (element (drop at s)) (Join n) = rw e at t in
-      record { forward = f .forward; within = f .within; rest = ap restOf (f .is) }
+pub passed-join : {s : List ℕ} {at n : ℕ} → Found s at n (element (drop at s)) (joins (drop n s)) → Passed s at n
+unfolding restOf
+passed-join f = record { forward = f .forward; within = f .within; rest = ap restOf (f .is) }
 
-  pub past-name : {a b n : ℕ} → r ≡ Name a b n → Passed s at n
-  unfolding Tells restOf
-  past-name {a} {b} {n} e =
-      let f : Tells s at (element (drop at s)) (Name a b n) = rw e at t in
-      record { forward = f .found .forward; within = f .found .within; rest = ap restOf (f .found .is) }
+pub passed-name : {s : List ℕ} {at a b n : ℕ} → FoundName s at a b n (element (drop at s)) → Passed s at n
+unfolding restOf
+passed-name f = record { forward = f .found .forward; within = f .found .within; rest = ap restOf (f .found .is) }
 
-  pub past-bad : r ≡ Bad → restOf (element (drop at s)) ≡ none
-  unfolding Tells restOf
-  past-bad e =
-      let f : Tells s at (element (drop at s)) Bad = rw e at t in
-      ap restOf f
+pub passed-bad : {x : Element} → x ≡ wrong → restOf x ≡ none
+unfolding restOf
+passed-bad e = ap restOf e

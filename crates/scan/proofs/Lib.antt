@@ -1,8 +1,10 @@
 pub mod Places
+pub mod Answers
 pub mod Gaps
 pub mod Elements
 pub mod Look
 pub mod Cuts
+pub mod PathLists
 pub mod Ends
 pub mod LineKinds
 pub mod Bytes

@@ -36,6 +36,13 @@ pub enum PathEnd {
     BadDollar(usize),
 }
 
+// What comes next in a list of paths: its end, a path from place to place, or a path with a bad `$` at a place.
+pub enum NextPath {
+    Stop(usize),
+    Path(usize, usize),
+    BadDollar(usize),
+}
+
 // Where the first fault of some bytes stands.
 pub enum FirstBad {
     Nowhere,

@@ -2,13 +2,12 @@
 ghost use mathlib.Core.Path.{_≡_};
 ghost use Prim.Native.Nat.{_≤_};
 ghost use lib.ListN.{length, drop};
-ghost use Rattle.rules.specs.Dollars.{badDollar};
 ghost use Rattle.rules.specs.Forms.{rawValue};
 ghost use Rattle.classes.specs.Table.{classes};
-ghost use Rattle.scan.specs.Texts.{PathAt, placeOf};
-use crate::{FirstBad, Past, PathEnd};
+ghost use Rattle.scan.specs.Texts.{PathAt, NextAt, ValueAt};
+use crate::{FirstBad, NextPath, Past, PathEnd};
 use crate::dollars::past;
-use crate::tokens::spaces;
+use crate::tokens::{gap, spaces};
 
 // One path, with its dollars checked on the way.
 pub fn path(t: &[u8; 256], s: &[u8], from: usize) -> PathEnd
@@ -43,10 +42,32 @@ pub fn path(t: &[u8; 256], s: &[u8], from: usize) -> PathEnd
     PathEnd::Ends(i)
 }
 
+// The next path of a list, behind spaces and joins.
+pub fn next_path(t: &[u8; 256], s: &[u8], from: usize) -> NextPath
+    requires { ⌜ (now t ≡ classes) × (from ≤ length (now s)) ⌝ }
+    ensures { λ r. ⌜ NextAt (now (s .entry)) from r ⌝ }
+{
+    let i = gap(s, from);
+    if s.len() <= i {
+        return NextPath::Stop(i);
+    }
+    let b = s[i];
+    if b == b':' {
+        return NextPath::Stop(i);
+    }
+    if b == b'|' {
+        return NextPath::Stop(i);
+    }
+    match path(t, s, i) {
+        PathEnd::Ends(end) => NextPath::Path(i, end),
+        PathEnd::BadDollar(at) => NextPath::BadDollar(at),
+    }
+}
+
 // The first bad `$` of a raw value.
 pub fn bad_dollar(t: &[u8; 256], raw: &[u8]) -> FirstBad
     requires { ⌜ now t ≡ classes ⌝ }
-    ensures { λ r. ⌜ placeOf r ≡ badDollar (now (raw .entry)) ⌝ }
+    ensures { λ r. ⌜ ValueAt (now (raw .entry)) r ⌝ }
 {
     let mut i = 0;
     while i < raw.len() {

@@ -1,5 +1,6 @@
 use Rattle.scan.specs.Element.{PastAt}
-use Rattle.scan.proofs.Elements.{past-byte, past-join, past-name, past-bad}
+use Rattle.scan.proofs.Answers.{tells-byte, tells-join, tells-name, tells-bad}
+use Rattle.scan.proofs.Elements.{passed-byte, passed-join, passed-name, passed-bad}
 use borrow.Author.Needs.{needs}
 use Rattle.scan.proofs.dollars.past.Statement.{statement}
 use Rattle.scan.proofs.dollars.past.Tie as tie
@@ -30,22 +31,22 @@ enum-told c = search needs
 -- src/dollars.rt:81:1
 returns : tie.Need-returns
 unfolding PastAt
-returns c = past-byte _ _ _ (c .before .before .before .dollar .ensures) (c .before .next .given .1)
+returns c = passed-byte (tells-byte _ _ _ _ (c .before .before .before .dollar .ensures) (c .before .next .given .1))
 
 -- src/dollars.rt:81:1
 returns-2 : tie.Need-returns-2
 unfolding PastAt
-returns-2 c = past-join _ _ _ (c .before .before .before .dollar .ensures) (c .before .next2 .given .1)
+returns-2 c = passed-join (tells-join _ _ _ _ (c .before .before .before .dollar .ensures) (c .before .next2 .given .1))
 
 -- src/dollars.rt:81:1
 returns-3 : tie.Need-returns-3
 unfolding PastAt
-returns-3 c = past-name _ _ _ (c .before .before .before .dollar .ensures) (c .before .next3 .given .1)
+returns-3 c = passed-name (tells-name _ _ _ _ (c .before .before .before .dollar .ensures) (c .before .next3 .given .1))
 
 -- src/dollars.rt:81:1
 returns-4 : tie.Need-returns-4
 unfolding PastAt
-returns-4 c = past-bad _ _ _ (c .before .before .dollar .ensures) (c .enum-told .given .1)
+returns-4 c = passed-bad (tells-bad _ _ _ _ (c .before .before .dollar .ensures) (c .enum-told .given .1))
 
 pub past-spec : {M : Type 1} → statement M
 past-spec =

@@ -5,10 +5,11 @@ use native.Mathlib.Omega.{arith}
 use borrow.Author.Tests.{ne-eqb}
 use lib.ListN.{length}
 use Rattle.rules.specs.Dollars.{plain}
-use Rattle.scan.specs.Texts.{placeOf}
+use Rattle.scan.specs.Texts.{ValueAt}
 use Rattle.scan.proofs.Places.{Going, going-begin}
+use Rattle.scan.proofs.Answers.{past-to, past-bad}
 use Rattle.scan.proofs.Look.{look, value-cutting}
-use Rattle.scan.proofs.Cuts.{past-to, past-none, text-end, text-byte, text-past, text-bad, value-ends, value-bad}
+use Rattle.scan.proofs.Cuts.{text-end, text-byte, text-past, text-bad, value-ends, value-bad}
 use borrow.Author.Needs.{needs}
 use Rattle.scan.proofs.texts.bad_dollar.Statement.{statement}
 use Rattle.scan.proofs.texts.bad_dollar.Tie as tie
@@ -56,8 +57,8 @@ enum-told c = search needs
 
 -- src/texts.rt:59:21
 returns : tie.Need-returns Inv-loop μ-loop
-unfolding placeOf
-returns c = value-bad (c .before .before .before .before .before .before .loop .inv) (c .before .before .before .before .before .loop-test .taken) (text-bad value-cutting (c .before .before .before .before .before .before .loop .inv) (c .before .before .before .before .before .loop-test .taken) (c .before .before .before .if1 .taken) (past-none _ _ _ (c .before .before .past .ensures) (c .enum-told .given .1)))
+unfolding ValueAt
+returns c = value-bad (c .before .before .before .before .before .before .loop .inv) (c .before .before .before .before .before .loop-test .taken) (text-bad value-cutting (c .before .before .before .before .before .before .loop .inv) (c .before .before .before .before .before .loop-test .taken) (c .before .before .before .if1 .taken) (past-bad _ _ _ (c .before .before .past .ensures) (c .enum-told .given .1)))
 
 -- src/texts.rt:63:13
 add-i : tie.Need-add-i Inv-loop μ-loop
@@ -73,7 +74,7 @@ loop-again-2 c = text-byte value-cutting (c .before .before .before .loop .inv) 
 
 -- src/texts.rt:47:1
 returns-2 : tie.Need-returns-2 Inv-loop μ-loop
-unfolding placeOf
+unfolding ValueAt
 returns-2 c = value-ends (c .before .loop .inv) (text-end value-cutting (c .before .loop .inv) (c .loop-test .left))
 
 pub bad-dollar-spec : {M : Type 1} → statement M

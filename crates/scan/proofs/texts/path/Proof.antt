@@ -6,8 +6,9 @@ use Rattle.rules.specs.Forms.{endsPath}
 use Rattle.scan.specs.Element.{Passed}
 use Rattle.scan.specs.Texts.{PathAt}
 use Rattle.scan.proofs.Places.{Going, going-begin}
+use Rattle.scan.proofs.Answers.{past-to, past-bad}
 use Rattle.scan.proofs.Look.{look, path-cutting}
-use Rattle.scan.proofs.Cuts.{past-to, past-none, text-end, text-stop, text-byte, text-past, text-bad, path-ends, path-bad, path-goes-on, path-stops, class-dollar, class-other}
+use Rattle.scan.proofs.Cuts.{text-end, text-stop, text-byte, text-past, text-bad, path-ends, path-bad, path-goes-on, path-stops, class-dollar, class-other}
 use borrow.Author.Needs.{needs}
 use Rattle.scan.proofs.texts.path.Statement.{statement}
 use Rattle.scan.proofs.texts.path.Tie as tie
@@ -61,7 +62,7 @@ enum-told c = search needs
 -- src/texts.rt:27:21
 returns : tie.Need-returns Inv-loop μ-loop
 unfolding PathAt
-returns c = path-bad (c .before .before .before .before .before .before .before .loop .inv) (c .before .before .before .before .before .before .loop-test .taken) (text-bad path-cutting (c .before .before .before .before .before .before .before .loop .inv) (c .before .before .before .before .before .before .loop-test .taken) (class-dollar _ (c .before .before .before .before .class-in .ensures) (c .before .before .before .if1 .taken)) (past-none _ _ _ (c .before .before .past .ensures) (c .enum-told .given .1)))
+returns c = path-bad (c .before .before .before .before .before .before .before .loop .inv) (c .before .before .before .before .before .before .loop-test .taken) (text-bad path-cutting (c .before .before .before .before .before .before .before .loop .inv) (c .before .before .before .before .before .before .loop-test .taken) (class-dollar _ (c .before .before .before .before .class-in .ensures) (c .before .before .before .if1 .taken)) (past-bad _ _ _ (c .before .before .past .ensures) (c .enum-told .given .1)))
 
 -- src/texts.rt:32:17
 returns-2 : tie.Need-returns-2 Inv-loop μ-loop
