@@ -2,9 +2,13 @@
 use Prim.Native.Nat.{ℕ}
 use mathlib.Core.List.{List}
 use mathlib.Core.Option.{none}
-use mathlib.Core.Path.{_≡_}
+use mathlib.Core.Path.{_≡_, sym, _∙_, ap}
 use lib.ListN.{drop}
 use Rattle.rules.specs.Dollars.{badDollar}
+use Rattle.rules.specs.Forms.{Cut, fits, fails, noForm, notYet}
+use Rattle.scan.specs.declared.Word.{Word}
+use Rattle.scan.specs.declared.Word.the-variants.{NoForm, NotYet}
+use Rattle.scan.specs.declared.Word.the-variants as word
 use Rattle.scan.specs.declared.Dollar.{Dollar}
 use Rattle.scan.specs.declared.Dollar.the-variants.{Byte, Join, Name, Bad}
 use Rattle.scan.specs.declared.Past.{Past}
@@ -17,9 +21,25 @@ use Rattle.scan.specs.declared.FirstBad.{FirstBad}
 use Rattle.scan.specs.declared.FirstBad.the-variants.{Nowhere, At}
 use Rattle.scan.specs.declared.LineEnd.{LineEnd}
 use Rattle.scan.specs.declared.LineEnd.the-variants.{Ended, Open}
+use Rattle.scan.specs.Words.{wordCut}
 use Rattle.scan.specs.Element.{Element, literal, joins, names, wrong, element, restOf, Found, FoundName, Tells, Passed, PastAt}
 use Rattle.scan.specs.Texts.{PathEnds, PathBad, PathAt, PathsStop, PathNext, PathsBad, NextAt, ValueBad, ValueAt}
 use Rattle.scan.specs.Endings.{LineEnded, LineOpen, LineAt}
+
+-- ---- `rule_word` and `key_word`
+
+module _ (w : List ℕ) (r : Word) {x : Cut (List ℕ)} (p : wordCut w r ≡ x) where
+  pub word-name : r ≡ word.Name → x ≡ fits w
+  unfolding wordCut
+  word-name e = sym p ∙ ap (wordCut w) e
+
+  pub word-no-form : r ≡ NoForm → x ≡ fails noForm
+  unfolding wordCut
+  word-no-form e = sym p ∙ ap (wordCut w) e
+
+  pub word-not-yet : r ≡ NotYet → x ≡ fails notYet
+  unfolding wordCut
+  word-not-yet e = sym p ∙ ap (wordCut w) e
 
 -- ---- `dollar`
 

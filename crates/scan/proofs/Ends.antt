@@ -14,7 +14,7 @@ use Rattle.lists.specs.Tests.{ifB, split, differ, and-left}
 use Rattle.lists.specs.Parts.{part}
 use Rattle.lists.specs.Runs.{Reads, afterRun, run-stops}
 use Rattle.rules.specs.Bytes.{newline, space, hash, dollar}
-use Rattle.rules.specs.Lines.{At, indent, comment, body, escape, bodyTurn, lineTurn, escaping, endsLine, lineFrom, endedFrom, lineAt, linesAfter, isSpace}
+use Rattle.rules.specs.Lines.{At, indent, comment, body, escape, bodyTurn, lineTurn, escaping, endsLine, lineFrom, endedFrom, Line, lineAt, linesAfter, linesOf, isSpace}
 use Rattle.scan.specs.declared.LineEnd.{LineEnd}
 use Rattle.scan.specs.declared.LineEnd.the-variants.{Ended, Open}
 use Rattle.scan.specs.Endings.{linesFrom, endFrom, EndsAt, EndAt, LineEnded, LineOpen, LineAt}
@@ -196,3 +196,26 @@ module _ {m : List ℕ} {i k : ℕ} (a : Reads (afterRun isSpace) m i k) where
     line-of-body r n f =
         let s : getD m k 0 ≡ space → ⊥ = eqb-false _ _ (run-stops isSpace (drop i m) _ _ (sym (a .rest) ∙ at-cons m k h)) in
         line-at m i r (end-from indent body m i k r (a .forward) (after-spaces ∙ rw (at-cons m k h) (end-other _ _ s n)) f)
+
+-- ---- the lines of a manifest, one after the other
+
+pub lines-begin : (m : List ℕ) → linesOf m ≡ linesFrom 0 m
+unfolding linesOf linesFrom
+lines-begin m = refl
+
+pub lines-end : (m : List ℕ) (i : ℕ) → length m ≤ i → linesFrom i (drop i m) ≡ []
+unfolding linesFrom lineAt linesAfter
+lines-end m i h = rw (at-end m i h)
+
+module _ (m : List ℕ) {i : ℕ} (h : i < length m) where
+  line-first : lineAt i (drop i m) ≡ record { start = i; text = lineFrom indent (drop i m); ended = endedFrom indent (drop i m) } ∷ []
+  unfolding lineAt
+  line-first = rw (at-cons m i h)
+
+  pub lines-next : {e : ℕ} → LineEnded m i e → linesFrom i (drop i m) ≡ record { start = i; text = part m i e; ended = true } ∷ linesFrom (e + 1) (drop (e + 1) m)
+  unfolding linesFrom
+  lines-next a = rw (line-first, a .text, a .ended, a .after)
+
+  pub lines-last : LineOpen m i → linesFrom i (drop i m) ≡ record { start = i; text = drop i m; ended = false } ∷ []
+  unfolding linesFrom
+  lines-last a = rw (line-first, a .text, a .ended, a .after)

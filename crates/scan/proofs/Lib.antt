@@ -8,3 +8,5 @@ pub mod PathLists
 pub mod Ends
 pub mod LineKinds
 pub mod Bytes
+pub mod Faults
+pub mod Pieces

@@ -44,3 +44,39 @@ module _ {s : List ℕ} {i : ℕ} (a : Reads (afterRun isSpace) s 0 i) where
       unfolding kindOf isComment isBlank isIndented
       kind-statement e =
           rw (starts space s (omega arith), ← (a .rest), at-cons s i h, ne-eqb _ _ n, ne-eqb _ _ e)
+
+-- ---- in the rules' words
+
+unfoldable KindIs : List ℕ → LineKind → Type 0
+KindIs s Comment = isComment s ≡ true
+KindIs s Blank = (isComment s ≡ false) × (isBlank s ≡ true)
+KindIs s Indented = (isComment s ≡ false) × (isBlank s ≡ false) × (isIndented s ≡ true)
+KindIs s Statement = (isComment s ≡ false) × (isBlank s ≡ false) × (isIndented s ≡ false)
+
+kind-is : (s : List ℕ) → KindIs s (kindOf s)
+unfolding kindOf KindIs
+kind-is s =
+    split (isComment s) (λ (a : isComment s ≡ true). rw (a, KindIs) a)
+    (λ (a : isComment s ≡ false).
+    split (isBlank s) (λ (b : isBlank s ≡ true). rw (a, b, KindIs) (a, b))
+    (λ (b : isBlank s ≡ false).
+    split (isIndented s)
+    (λ (c : isIndented s ≡ true). rw (a, b, c, KindIs) (a, b, c))
+    (λ (c : isIndented s ≡ false). rw (a, b, c, KindIs) (a, b, c))))
+
+module _ (s : List ℕ) where
+  pub is-comment : Comment ≡ kindOf s → isComment s ≡ true
+  unfolding KindIs
+  is-comment e = rw (← e) at (kind-is s)
+
+  pub is-blank : Blank ≡ kindOf s → (isComment s ≡ false) × (isBlank s ≡ true)
+  unfolding KindIs
+  is-blank e = rw (← e) at (kind-is s)
+
+  pub is-indented : Indented ≡ kindOf s → (isComment s ≡ false) × (isBlank s ≡ false) × (isIndented s ≡ true)
+  unfolding KindIs
+  is-indented e = rw (← e) at (kind-is s)
+
+  pub is-statement : Statement ≡ kindOf s → (isComment s ≡ false) × (isBlank s ≡ false) × (isIndented s ≡ false)
+  unfolding KindIs
+  is-statement e = rw (← e) at (kind-is s)

@@ -184,6 +184,10 @@ module _ {stop : Scan → ℕ → Bool} {text after : Scan → List ℕ → List
   pub look-bad : (s : List ℕ) (m : ℕ) → look stop plain 0 s ≡ badAt m → (o : ℕ) × (badDollar (text plain s) ≡ some o) × (length s - o ≡ m)
   look-bad s m e = told-bad (length s) (after plain s) (badDollar (text plain s)) m (sym (look-told s) ∙ e)
 
+  pub look-sound : (s : List ℕ) → badDollar (text plain s) ≡ none → look stop plain 0 s ≡ ends (after plain s)
+  unfolding lookOf
+  look-sound s e = look-told s ∙ rw e
+
 -- ---- paths and values
 
 path-sound : (q : Scan) (b : ℕ) → endsPath q b ≡ true → endsBad q ≡ false

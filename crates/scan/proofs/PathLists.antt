@@ -1,7 +1,7 @@
 -- Lists of paths: one turn is the gap, and then either the end or one path and the rest.
 use Prim.Native.Nat.{ℕ, zero, suc, _+_, _-_, _≤_, _<_}
 use mathlib.Core.Bool.{Bool, true, false, not, _&&_, _||_}
-use mathlib.Core.List.{List, [], _∷_, _++_}
+use mathlib.Core.List.{List, [], _∷_, _++_, append-nil, append-assoc}
 use mathlib.Core.Option.{Option, none, some}
 use mathlib.Core.Path.{_≡_, refl, sym, _∙_, ap}
 use native.Mathlib.Nat.{le-refl, le-trans, not-suc-le-zero}
@@ -166,3 +166,45 @@ module _ {s : List ℕ} {i g : ℕ} (a : Reads gap s i g) where
     pub begins : (getD s g 0 ≡ colon → ⊥) → (getD s g 0 ≡ bar → ⊥) → pathBegins (drop g s) ≡ true
     unfolding pathBegins
     begins p q = rw (at-cons s g h, ne-eqb _ _ p, ne-eqb _ _ q)
+
+-- ---- a loop over a list of paths
+
+-- the paths l, and then those of c
+unfoldable pub ahead : List (List ℕ) → Cut Paths → Cut Paths
+ahead l c = then c (λ ps. fits (record { raw = l ++ ps .raw; rest = ps .rest }))
+
+ahead-none : (c : Cut Paths) → ahead [] c ≡ c
+unfolding ahead then
+ahead-none (fits ps) = refl
+ahead-none (fails e) = refl
+
+ahead-next : (l : List (List ℕ)) (p : List ℕ) (c : Cut Paths) → ahead l (then c (withPath p)) ≡ ahead (l ++ (p ∷ [])) c
+unfolding ahead then withPath
+ahead-next l p (fits ps) = rw (append-assoc l (p ∷ []) (ps .raw))
+ahead-next l p (fails e) = refl
+
+-- The loop that reads from i on is at k, and has read the paths l.
+pub record Listing (s : List ℕ) (i : ℕ) (l : List (List ℕ)) (k : ℕ) : Type 0 where
+  pub forward : i ≤ k
+  pub within : k ≤ length s
+  pub same : paths (drop i s) ≡ ahead l (paths (drop k s))
+
+pub list-begin : {s : List ℕ} {i : ℕ} → i ≤ length s → Listing s i [] i
+list-begin {s} {i} h = record { forward = le-refl i; within = h; same = sym (ahead-none _) }
+
+module _ {s : List ℕ} {i : ℕ} {l : List (List ℕ)} {k : ℕ} (a : Listing s i l k) where
+  pub list-next : {g r : ℕ} → PathNext s k g r → Listing s i (l ++ (part s g r ∷ [])) r
+  list-next {g} {r} p =
+      record {
+        forward = omega (arith, a .forward, p .forward, p .longer);
+        within = p .within;
+        same = a .same ∙ ap (ahead l) (p .is) ∙ ahead-next l (part s g r) (paths (drop r s));
+      }
+
+  pub list-stop : {g : ℕ} → PathsStop s k g → paths (drop i s) ≡ fits (record { raw = l; rest = drop g s })
+  unfolding ahead then
+  list-stop p = a .same ∙ ap (ahead l) (p .is) ∙ rw (append-nil l)
+
+  pub list-bad : {p : ℕ} → PathsBad s k p → paths (drop i s) ≡ fails (wrongDollar (length s - p))
+  unfolding ahead then
+  list-bad p = a .same ∙ ap (ahead l) (p .is)
