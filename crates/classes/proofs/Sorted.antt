@@ -1,13 +1,13 @@
 -- What the class of a byte says of it: each test of a byte is a test of its class.
 use Prim.Native.Nat.{ℕ, _≤_, _<_}
-use mathlib.Core.Bool.{Bool, true, false, not, _&&_, _||_}
+use mathlib.Core.Bool.{Bool, true, false, not}
 use mathlib.Core.Path.{_≡_, refl, sym, _∙_, ap}
 use native.Mathlib.Omega.{arith}
 use borrow.Author.Tests.{ltb-true, ltb-false, le-leb, lt-leb, ne-eqb, not-true}
-use lib.Dec.{eqb, leb, ltb, lit<}
-use Rattle.lists.specs.Tests.{ifB, split}
+use lib.Dec.{eqb, ltb, lit<}
+use Rattle.lists.specs.Tests.{split}
 use Rattle.rules.specs.Bytes.{newline, space, hash, dollar, dot, colon, equals, openBrace, bar, closeBrace, between, letter, digit, shortByte, nameByte, forbidden, classOf}
-use Rattle.classes.specs.Table.{classes}
+use Rattle.classes.specs.Table.{classes, upTo}
 use Rattle.classes.proofs.Entries.{every, every-at, table-right}
 
 -- ---- tests of bytes that are tests of their classes
@@ -63,7 +63,8 @@ agree f g t far none b =
 -- what class c says of byte b
 pub record Sorted (b c : ℕ) : Type 0 where
   pub short : shortByte b ≡ eqb c 1
-  pub name : nameByte b ≡ leb 1 c && leb c 2
+  pub shortRange : shortByte b ≡ upTo 1 c
+  pub nameRange : nameByte b ≡ upTo 2 c
   pub space : eqb b space ≡ eqb c 3
   pub newline : eqb b newline ≡ eqb c 4
   pub dollar : eqb b dollar ≡ eqb c 5
@@ -76,11 +77,12 @@ pub record Sorted (b c : ℕ) : Type 0 where
   pub forbidden : forbidden b ≡ eqb c 12
 
 pub sorted : (b : ℕ) → Sorted b (classOf b)
-unfolding classes every same between letter digit shortByte nameByte forbidden
+unfolding classes every same upTo between letter digit shortByte nameByte forbidden
 sorted b =
     record {
       short = agree shortByte (λ c. eqb c 1) refl high-short refl b;
-      name = agree nameByte (λ c. leb 1 c && leb c 2) refl high-name refl b;
+      shortRange = agree shortByte (upTo 1) refl high-short refl b;
+      nameRange = agree nameByte (upTo 2) refl high-name refl b;
       space = one space 3 (lit< tt) refl refl;
       newline = one newline 4 (lit< tt) refl refl;
       dollar = one dollar 5 (lit< tt) refl refl;

@@ -1,6 +1,6 @@
 // The 256 byte classes.
 ghost use mathlib.Core.Path.{_≡_};
-ghost use Rattle.rules.specs.Bytes.{classOf, nameByte, shortByte, forbidden};
+ghost use Rattle.rules.specs.Bytes.{classOf};
 ghost use Rattle.classes.specs.Table.{classes};
 
 // The table, made once and lent to whoever sorts bytes: a constant is built anew at every use.
@@ -21,28 +21,6 @@ pub fn class_in(t: &[u8; 256], b: u8) -> u8
     ensures { λ r. ⌜ r ≡ classOf b ⌝ }
 {
     t[wide(b)]
-}
-
-pub fn short_byte(t: &[u8; 256], b: u8) -> bool
-    requires { ⌜ now t ≡ classes ⌝ }
-    ensures { λ r. ⌜ r ≡ shortByte b ⌝ }
-{
-    class_in(t, b) == 1
-}
-
-pub fn name_byte(t: &[u8; 256], b: u8) -> bool
-    requires { ⌜ now t ≡ classes ⌝ }
-    ensures { λ r. ⌜ r ≡ nameByte b ⌝ }
-{
-    let k = class_in(t, b);
-    1 <= k && k <= 2
-}
-
-pub fn forbidden_byte(t: &[u8; 256], b: u8) -> bool
-    requires { ⌜ now t ≡ classes ⌝ }
-    ensures { λ r. ⌜ r ≡ forbidden b ⌝ }
-{
-    class_in(t, b) == 12
 }
 
 // The class of each byte.

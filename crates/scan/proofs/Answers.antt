@@ -22,7 +22,7 @@ use Rattle.scan.specs.declared.FirstBad.the-variants.{Nowhere, At}
 use Rattle.scan.specs.declared.LineEnd.{LineEnd}
 use Rattle.scan.specs.declared.LineEnd.the-variants.{Ended, Open}
 use Rattle.scan.specs.Words.{wordCut}
-use Rattle.scan.specs.Element.{Element, literal, joins, names, wrong, element, restOf, Found, FoundName, Tells, Passed, PastAt}
+use Rattle.scan.specs.Element.{Element, literal, joins, wrong, element, restOf, Found, FoundName, Tells, Passed, PastAt}
 use Rattle.scan.specs.Texts.{PathEnds, PathBad, PathAt, PathsStop, PathNext, PathsBad, NextAt, ValueBad, ValueAt}
 use Rattle.scan.specs.Endings.{LineEnded, LineOpen, LineAt}
 

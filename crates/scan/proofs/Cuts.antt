@@ -1,22 +1,21 @@
 -- A turn of the loops over a path and over a value, and what the ways out of these loops give.
 use Prim.Native.Nat.{ℕ, suc, _+_, _-_, _≤_, _<_}
 use mathlib.Core.Bool.{Bool, true, false, _||_}
-use mathlib.Core.List.{List, [], _∷_}
+use mathlib.Core.List.{List}
 use mathlib.Core.Option.{none, some}
-use mathlib.Core.Path.{_≡_, refl, sym, _∙_, ap}
-use native.Mathlib.Numerals.{add-one}
+use mathlib.Core.Path.{_≡_, sym, _∙_, ap}
 use native.Mathlib.Omega.{arith}
 use borrow.Author.Tests.{eqb-true, ne-eqb}
 use lib.Dec.{eqb}
 use lib.ListN.{length, drop, getD, length-drop}
 use Rattle.rules.specs.Bytes.{dollar, classOf}
 use Rattle.rules.specs.Dollars.{Scan, plain, endsBad, badDollar}
-use Rattle.rules.specs.Forms.{pathStop, endsPath, pathFrom, afterPath}
+use Rattle.rules.specs.Forms.{pathStop, endsPath}
 use Rattle.classes.proofs.Sorted.{sorted}
 use Rattle.scan.specs.Element.{element, restOf, Passed}
 use Rattle.scan.specs.Texts.{PathEnds, PathBad, ValueBad}
 use Rattle.scan.proofs.Places.{Going, going-on, at-cons, at-end}
-use Rattle.scan.proofs.Look.{Look, ends, badAt, Cutting, look, look-dollar, look-stop, look-byte, follow-rest, follow-none, look-ends, look-bad, path-cutting, value-cutting}
+use Rattle.scan.proofs.Look.{ends, badAt, Cutting, look, look-dollar, look-stop, look-byte, follow-rest, follow-none, look-ends, look-bad, path-cutting, value-cutting}
 
 module _ {stop : Scan → ℕ → Bool} {text after : Scan → List ℕ → List ℕ} (k : Cutting stop text after) {s : List ℕ} {i j : ℕ} (a : Going (look stop plain 0) s i j) where
   pub text-end : length s ≤ j → look stop plain 0 (drop i s) ≡ ends (drop j s)

@@ -1,18 +1,17 @@
 -- What a `$` begins, at places of a slice.
 use Prim.Native.Nat.{ℕ, _+_, _≤_, _<_}
-use mathlib.Core.Bool.{true, false, not, _&&_, _||_}
-use mathlib.Core.List.{List, [], _∷_}
+use mathlib.Core.Bool.{true, _||_}
+use mathlib.Core.List.{List, _∷_}
 use mathlib.Core.Option.{none}
-use mathlib.Core.Path.{_≡_, refl, sym, _∙_, ap}
+use mathlib.Core.Path.{_≡_, sym, _∙_, ap}
 use native.Mathlib.Omega.{arith}
-use native.Mathlib.Nat.{le-antisymm, le-refl, le-trans}
-use borrow.Author.Tests.{eq-eqb, ne-eqb}
+use native.Mathlib.Nat.{le-refl, le-trans}
+use borrow.Author.Tests.{ne-eqb}
 use lib.Dec.{eqb}
 use lib.ListN.{length, drop, getD}
 use Rattle.lists.specs.Tests.{ifB}
 use Rattle.lists.specs.Parts.{part, part-none, length-part}
 use Rattle.lists.specs.Runs.{Reads, run, afterRun, part-run}
-use Rattle.rules.specs.Basics.{isEmpty}
 use Rattle.rules.specs.Bytes.{newline, openBrace, closeBrace, shortByte, classOf}
 use Rattle.rules.specs.Dollars.{escaped}
 use Rattle.rules.specs.Lines.{isSpace}
@@ -22,7 +21,7 @@ use Rattle.scan.specs.declared.Dollar.{Dollar}
 use Rattle.scan.specs.declared.Dollar.the-variants.{Byte, Join, Name, Bad}
 use Rattle.scan.specs.Element.{Element, literal, joins, names, wrong, braced, element, restOf, Found, FoundName, Tells, Passed}
 use Rattle.scan.proofs.Places.{at-cons, at-end, not-empty}
-use Rattle.scan.proofs.Gaps.{part-name}
+use Rattle.scan.proofs.Names.{part-name}
 
 -- ---- `${name}`, whose name goes from place i to place e
 
@@ -49,11 +48,11 @@ module _ {s : List ℕ} {i e : ℕ} (a : Reads afterName s i e) where
             ordered = a .forward;
             before = omega arith;
             found =
-              record {
-                forward = omega arith;
-                within = omega arith;
-                is = rw (← (a .rest), at-cons s e h, k, ← (part-name a), not-empty (part s i e) n);
-              };
+                record {
+                  forward = omega arith;
+                  within = omega arith;
+                  is = rw (← (a .rest), at-cons s e h, k, ← (part-name a), not-empty (part s i e) n);
+                };
           }
 
 -- ---- by the class of the byte after the `$`
@@ -98,11 +97,11 @@ module _ (s : List ℕ) {at k : ℕ} (h : at < length s) (c : k ≡ classOf (get
         ordered = a .forward;
         before = le-refl e;
         found =
-          record {
-            forward = a .forward;
-            within = a .within;
-            is = rw (part-run shortByte a, a .rest, at-cons s at h) (sym (rw (at-cons s at h) at (sym here)) ∙ rw p);
-          };
+            record {
+              forward = a .forward;
+              within = a .within;
+              is = rw (part-run shortByte a, a .rest, at-cons s at h) (sym (rw (at-cons s at h) at (sym here)) ∙ rw p);
+            };
       }
 
   pub brace-begins : (r : Dollar) → k ≡ 10 → Tells s (at + 1) (braced (nameOf (drop (at + 1) s)) (afterName (drop (at + 1) s))) r → Tells s at (element (drop at s)) r

@@ -2,7 +2,7 @@
 use Prim.Native.Nat.{ℕ, suc, _+_, _-_, _≤_, _<_}
 use mathlib.Core.Bool.{Bool, true, false, not, _&&_}
 use mathlib.Core.List.{List, [], _∷_, _++_}
-use mathlib.Core.Option.{Option, none, some}
+use mathlib.Core.Option.{none, some}
 use mathlib.Core.Path.{_≡_, refl, sym, _∙_, ap}
 use native.Mathlib.Nat.{le-trans}
 use native.Mathlib.Omega.{arith}
@@ -10,11 +10,11 @@ use borrow.Author.Tests.{eqb-true, eqb-false, ne-eqb}
 use lib.Dec.{eqb}
 use lib.ListN.{length, take, drop, getD, length-drop, length-append}
 use lib.Seq.{take-at}
-use Rattle.lists.specs.Tests.{ifB, split, differ, and-left}
+use Rattle.lists.specs.Tests.{split, and-left}
 use Rattle.lists.specs.Parts.{part}
 use Rattle.lists.specs.Runs.{Reads, afterRun, run-stops}
 use Rattle.rules.specs.Bytes.{newline, space, hash, dollar}
-use Rattle.rules.specs.Lines.{At, indent, comment, body, escape, bodyTurn, lineTurn, escaping, endsLine, lineFrom, endedFrom, Line, lineAt, linesAfter, linesOf, isSpace}
+use Rattle.rules.specs.Lines.{At, indent, comment, body, bodyTurn, lineTurn, escaping, endsLine, lineFrom, endedFrom, lineAt, linesAfter, linesOf, isSpace}
 use Rattle.scan.specs.declared.LineEnd.{LineEnd}
 use Rattle.scan.specs.declared.LineEnd.the-variants.{Ended, Open}
 use Rattle.scan.specs.Endings.{linesFrom, endFrom, EndsAt, EndAt, LineEnded, LineOpen, LineAt}

@@ -1,17 +1,13 @@
--- The gap between tokens, a byte or a join at a time; and what names are in a slice.
+-- The gap between tokens, a byte or a join at a time.
 use Prim.Native.Nat.{ℕ, _+_, _≤_, _<_}
-use mathlib.Core.Bool.{true, false, _&&_}
 use mathlib.Core.List.{List, [], _∷_}
-use mathlib.Core.Path.{_≡_, refl, sym, _∙_}
+use mathlib.Core.Path.{_≡_, refl}
 use native.Mathlib.Omega.{arith}
-use borrow.Author.Tests.{eq-eqb, ne-eqb}
-use lib.Dec.{eqb}
-use lib.ListN.{length, drop, getD}
-use Rattle.lists.specs.Tests.{ifB}
-use Rattle.lists.specs.Parts.{part}
-use Rattle.lists.specs.Runs.{Reads, run, afterRun, part-run}
-use Rattle.rules.specs.Bytes.{newline, space, dollar, nameByte}
-use Rattle.rules.specs.Forms.{gap, nameOf, afterName}
+use borrow.Author.Tests.{ne-eqb}
+use lib.ListN.{length, getD}
+use Rattle.lists.specs.Runs.{Reads}
+use Rattle.rules.specs.Bytes.{newline, space, dollar}
+use Rattle.rules.specs.Forms.{gap}
 use Rattle.scan.proofs.Places.{Going, going-on, going-stop, at-cons, at-end}
 
 -- ---- one turn of the gap
@@ -64,10 +60,3 @@ module _ {s : List ℕ} {i k : ℕ} (a : Going gap s i k) where
         skip-join p =
             let z : k + 1 + 1 ≡ k + 2 = omega arith in
             going-on a (omega arith) (omega arith) (rw (at-cons s k h, e, at-cons s (k + 1) l, p, z) (gap-join _))
-
--- ---- names
-
--- The bytes that `name` passes are the name.
-pub part-name : {s : List ℕ} {i r : ℕ} → Reads afterName s i r → part s i r ≡ nameOf (drop i s)
-unfolding nameOf afterName
-part-name a = part-run nameByte a

@@ -1,6 +1,7 @@
 pub mod Places
 pub mod Answers
 pub mod Gaps
+pub mod Names
 pub mod Elements
 pub mod Look
 pub mod Cuts

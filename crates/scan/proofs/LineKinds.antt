@@ -2,15 +2,14 @@
 use Prim.Native.Nat.{ℕ, _≤_, _<_}
 use mathlib.Core.Bool.{true, false}
 use mathlib.Core.List.{List, [], _∷_}
-use mathlib.Core.Path.{_≡_, refl, sym, _∙_}
+use mathlib.Core.Path.{_≡_, refl}
 use native.Mathlib.Nat.{not-suc-le-zero}
 use native.Mathlib.Omega.{arith}
 use borrow.Author.Tests.{ne-eqb}
 use lib.Dec.{eqb}
-use lib.ListN.{length, drop, getD}
-use Rattle.lists.specs.Tests.{ifB, split}
+use lib.ListN.{length, getD}
+use Rattle.lists.specs.Tests.{split}
 use Rattle.lists.specs.Runs.{Reads, afterRun}
-use Rattle.rules.specs.Basics.{isEmpty}
 use Rattle.rules.specs.Bytes.{space, hash}
 use Rattle.rules.specs.Lines.{isSpace, startsWith, isComment, isBlank, isIndented}
 use Rattle.scan.specs.declared.LineKind.{LineKind}

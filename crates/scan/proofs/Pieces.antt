@@ -1,22 +1,22 @@
 -- The pieces of a raw text, for what a `$` begins read whole; and that a sound text has no bad one.
 use Prim.Native.Nat.{ℕ, suc}
-use mathlib.Core.Bool.{Bool, true, false, not, _&&_}
+use mathlib.Core.Bool.{true, false, not, _&&_}
 use mathlib.Core.List.{List, [], _∷_, _++_, append-nil, append-assoc}
-use mathlib.Core.Option.{Option, none, some}
-use mathlib.Core.Path.{_≡_, refl, sym, _∙_, ap}
+use mathlib.Core.Option.{none, some}
+use mathlib.Core.Path.{_≡_, refl, sym, _∙_}
 use native.Mathlib.Omega.{arith}
 use borrow.Author.Tests.{ne-eqb}
 use lib.Dec.{eqb}
 use lib.ListN.{length}
-use Rattle.lists.specs.Tests.{ifB, split, differ}
+use Rattle.lists.specs.Tests.{split}
 use Rattle.lists.specs.Runs.{run, afterRun}
 use Rattle.rules.specs.Basics.{isEmpty}
 use Rattle.rules.specs.Bytes.{newline, space, dollar, openBrace, closeBrace, shortByte, nameByte}
-use Rattle.rules.specs.Dollars.{Scan, plain, afterJoin, afterDollar, inBraces, inName, bad, afterPlain, escaped, afterEscape, turn, badDollar, Piece, byte, ref, plainGives, gives, givesLast, piecesFrom, pieces}
+use Rattle.rules.specs.Dollars.{plain, afterJoin, afterDollar, inBraces, inName, afterPlain, escaped, afterEscape, turn, badDollar, Piece, byte, ref, plainGives, gives, givesLast, piecesFrom, pieces}
 use Rattle.rules.specs.Lines.{isSpace}
 use Rattle.rules.specs.Forms.{nameOf, afterName}
 use Rattle.scan.specs.Element.{Element, literal, joins, names, wrong, braced, element, restOf}
-use Rattle.scan.proofs.Look.{Look, ends, badAt, look, look-dollar, look-byte, follow-rest, follow-none, look-ends, look-sound, value-cutting}
+use Rattle.scan.proofs.Look.{ends, badAt, look, look-dollar, look-byte, follow-rest, follow-none, look-ends, look-sound, value-cutting}
 
 join-pieces : (s : List ℕ) → piecesFrom afterJoin s ≡ piecesFrom plain (afterRun isSpace s)
 unfolding piecesFrom gives givesLast turn afterRun

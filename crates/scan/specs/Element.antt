@@ -1,6 +1,6 @@
 -- What a `$` begins, read whole. The laws in proofs/Look.antt tie it to the reading byte by byte of the rules.
 use Prim.Native.Nat.{ℕ, _≤_}
-use mathlib.Core.Bool.{Bool, not, _&&_}
+use mathlib.Core.Bool.{not, _&&_}
 use mathlib.Core.List.{List, [], _∷_}
 use mathlib.Core.Option.{Option, none, some}
 use mathlib.Core.Path.{_≡_}

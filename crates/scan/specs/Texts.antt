@@ -7,7 +7,7 @@ use lib.ListN.{length, drop}
 use Rattle.lists.specs.Parts.{part}
 use Rattle.lists.specs.Runs.{Reads}
 use Rattle.rules.specs.Dollars.{plain, badDollar}
-use Rattle.rules.specs.Forms.{Cut, fits, fails, wrongDollar, then, pathFrom, afterPath, Paths, withPath, paths}
+use Rattle.rules.specs.Forms.{fits, fails, wrongDollar, then, pathFrom, afterPath, withPath, paths}
 use Rattle.scan.specs.declared.PathEnd.{PathEnd}
 use Rattle.scan.specs.declared.PathEnd.the-variants.{Ends, BadDollar}
 use Rattle.scan.specs.declared.NextPath.{NextPath}

@@ -2,29 +2,12 @@
 ghost use mathlib.Core.Path.{_≡_};
 ghost use Prim.Native.Nat.{_≤_};
 ghost use lib.ListN.{length, drop};
-ghost use Rattle.lists.specs.Runs.{afterRun, Reads};
-ghost use Rattle.rules.specs.Bytes.{shortByte};
 ghost use Rattle.rules.specs.Forms.{nameOf, afterName};
 ghost use Rattle.classes.specs.Table.{classes};
 ghost use Rattle.scan.specs.Element.{element, braced, Tells, PastAt};
 use crate::Dollar;
 use crate::Past;
 use crate::tokens;
-
-// The longest run of short-name bytes.
-fn short_name(t: &[u8; 256], s: &[u8], from: usize) -> usize
-    requires { ⌜ (now t ≡ classes) × (from ≤ length (now s)) ⌝ }
-    ensures { λ r. ⌜ Reads (afterRun shortByte) (now (s .entry)) from r ⌝ }
-{
-    let mut i = from;
-    while i < s.len() {
-        if !classes::short_byte(t, s[i]) {
-            return i;
-        }
-        i += 1;
-    }
-    i
-}
 
 // The name and the closing brace that follow `${`.
 fn braced(t: &[u8; 256], s: &[u8], from: usize) -> Dollar
@@ -53,26 +36,27 @@ pub fn dollar(t: &[u8; 256], s: &[u8], at: usize) -> Dollar
         return Dollar::Bad;
     }
     let b = s[at];
+    let next = at + 1;
     let k = classes::class_in(t, b);
     if k == 1 {
-        let end = short_name(t, s, at);
+        let end = tokens::short_name(t, s, at);
         return Dollar::Name(at, end, end);
     }
     if k == 10 {
-        return braced(t, s, at + 1);
+        return braced(t, s, next);
     }
     if k == 4 {
-        let next = tokens::spaces(s, at + 1);
-        return Dollar::Join(next);
+        let end = tokens::spaces(s, next);
+        return Dollar::Join(end);
     }
     if k == 5 {
-        return Dollar::Byte(b, at + 1);
+        return Dollar::Byte(b, next);
     }
     if k == 3 {
-        return Dollar::Byte(b, at + 1);
+        return Dollar::Byte(b, next);
     }
     if k == 6 {
-        return Dollar::Byte(b, at + 1);
+        return Dollar::Byte(b, next);
     }
     Dollar::Bad
 }

@@ -1,10 +1,10 @@
 // Scanners over the manifest and its lines: each goes from a place of a lent slice to a place, or answers what it found there.
-pub mod tokens;
-pub mod words;
 pub mod dollars;
-pub mod texts;
 pub mod lines;
 pub mod manifest;
+pub mod texts;
+pub mod tokens;
+pub mod words;
 
 // What a word is: a name, or one of those that fit no form (4) or are not yet in this edition (6).
 pub enum Word {

@@ -5,9 +5,13 @@ ghost use lib.ListN.{length, drop};
 ghost use Rattle.rules.specs.Forms.{rawValue};
 ghost use Rattle.classes.specs.Table.{classes};
 ghost use Rattle.scan.specs.Texts.{PathAt, NextAt, ValueAt};
-use crate::{FirstBad, NextPath, Past, PathEnd};
+use crate::FirstBad;
+use crate::NextPath;
+use crate::Past;
+use crate::PathEnd;
 use crate::dollars::past;
-use crate::tokens::{gap, spaces};
+use crate::tokens::gap;
+use crate::tokens::spaces;
 
 // One path, with its dollars checked on the way.
 pub fn path(t: &[u8; 256], s: &[u8], from: usize) -> PathEnd

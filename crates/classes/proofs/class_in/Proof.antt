@@ -1,8 +1,5 @@
 -- `classes::class_in` meets its contract.
-use mathlib.Core.Path.{_≡_, sym, _∙_, ap}
-use native.Mathlib.Omega.{arith}
 use borrow.Author.Needs.{needs}
-use denote.Ref.{now}
 use Rattle.classes.proofs.Entries.{table-right}
 use Rattle.classes.proofs.class_in.Statement.{statement}
 use Rattle.classes.proofs.class_in.Tie as tie

@@ -1,13 +1,12 @@
+-- `scan::tokens::gap` meets its contract.
 use Prim.Native.Nat.{_-_}
+use borrow.Author.Needs.{needs}
 use lib.ListN.{length}
 use Rattle.rules.specs.Forms.{gap}
 use Rattle.scan.proofs.Places.{Going, going-begin}
 use Rattle.scan.proofs.Gaps.{skip-end, skip-space, skip-other, skip-last, skip-dollar, skip-join}
-use borrow.Author.Needs.{needs}
 use Rattle.scan.proofs.tokens.gap.Statement.{statement}
 use Rattle.scan.proofs.tokens.gap.Tie as tie
-use Rattle.scan.proofs.tokens.gap.Reads as reads
-use Rattle.scan.proofs.tokens.gap.Lts as lts
 
 abbrev Inv-loop : tie.InvT-loop
 Inv-loop s from i₀ i = Going gap s from i
@@ -15,59 +14,45 @@ Inv-loop s from i₀ i = Going gap s from i
 abbrev μ-loop : tie.MeasureT-loop
 μ-loop s from i₀ i = length s - i
 
--- src/tokens.rt:30:5
 loop-holds : tie.Need-loop-holds Inv-loop μ-loop
 loop-holds c = going-begin (c .pre)
 
--- src/tokens.rt:31:17
 shared-slice-read-b : tie.Need-shared-slice-read-b Inv-loop μ-loop
 shared-slice-read-b c = search needs
 
--- src/tokens.rt:33:13
 add-i : tie.Need-add-i Inv-loop μ-loop
 add-i c = search needs
 
--- src/tokens.rt:30:5
 loop-less : tie.Need-loop-less Inv-loop μ-loop
 loop-less c = search needs
 
--- src/tokens.rt:30:5
 loop-again : tie.Need-loop-again Inv-loop μ-loop
 loop-again c = skip-space (c .before .before .before .loop .inv) (c .before .before .loop-test .taken) (c .if1 .taken)
 
--- src/tokens.rt:36:17
 returns : tie.Need-returns Inv-loop μ-loop
 returns c = skip-other (c .before .before .before .before .loop .inv) (c .before .before .before .loop-test .taken) (c .before .if1 .left) (c .if2 .taken)
 
--- src/tokens.rt:38:24
 add-next : tie.Need-add-next Inv-loop μ-loop
 add-next c = search needs
 
--- src/tokens.rt:40:17
 returns-2 : tie.Need-returns-2 Inv-loop μ-loop
 returns-2 c = skip-last (c .before .before .before .before .before .loop .inv) (c .before .before .before .before .loop-test .taken) (c .before .if2 .left) (c .if3 .taken)
 
--- src/tokens.rt:42:16
 shared-slice-read-if4 : tie.Need-shared-slice-read-if4 Inv-loop μ-loop
 shared-slice-read-if4 c = search needs
 
--- src/tokens.rt:43:17
 returns-3 : tie.Need-returns-3 Inv-loop μ-loop
 returns-3 c = skip-dollar (c .before .before .before .before .before .before .before .loop .inv) (c .before .before .before .before .before .before .loop-test .taken) (c .before .before .before .if2 .left) (c .before .before .if3 .left) (c .if4 .taken)
 
--- src/tokens.rt:45:13
 add-i-2 : tie.Need-add-i-2 Inv-loop μ-loop
 add-i-2 c = search needs
 
--- src/tokens.rt:30:5
 loop-less-2 : tie.Need-loop-less-2 Inv-loop μ-loop
 loop-less-2 c = search needs
 
--- src/tokens.rt:30:5
 loop-again-2 : tie.Need-loop-again-2 Inv-loop μ-loop
 loop-again-2 c = skip-join (c .before .before .before .before .before .before .before .loop .inv) (c .before .before .before .before .before .before .loop-test .taken) (c .before .before .before .if2 .left) (c .before .before .if3 .left) (c .if4 .left)
 
--- src/tokens.rt:25:1
 returns-4 : tie.Need-returns-4 Inv-loop μ-loop
 returns-4 c = skip-end (c .before .loop .inv) (c .loop-test .left)
 

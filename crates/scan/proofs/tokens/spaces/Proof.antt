@@ -1,13 +1,12 @@
+-- `scan::tokens::spaces` meets its contract.
 use Prim.Native.Nat.{_-_}
-use lib.ListN.{length}
 use borrow.Author.Tests.{eq-eqb, ne-eqb}
+use borrow.Author.Needs.{needs}
+use lib.ListN.{length}
 use Rattle.lists.specs.Runs.{Scanning, scan-begin, scan-more, scan-stop, scan-end}
 use Rattle.rules.specs.Lines.{isSpace}
-use borrow.Author.Needs.{needs}
 use Rattle.scan.proofs.tokens.spaces.Statement.{statement}
 use Rattle.scan.proofs.tokens.spaces.Tie as tie
-use Rattle.scan.proofs.tokens.spaces.Reads as reads
-use Rattle.scan.proofs.tokens.spaces.Lts as lts
 
 abbrev Inv-loop : tie.InvT-loop
 Inv-loop s from i₀ i = Scanning isSpace s from i
@@ -15,31 +14,24 @@ Inv-loop s from i₀ i = Scanning isSpace s from i
 abbrev μ-loop : tie.MeasureT-loop
 μ-loop s from i₀ i = length s - i
 
--- src/tokens.rt:15:5
 loop-holds : tie.Need-loop-holds Inv-loop μ-loop
 loop-holds c = scan-begin (c .pre)
 
--- src/tokens.rt:16:12
 shared-slice-read-if1 : tie.Need-shared-slice-read-if1 Inv-loop μ-loop
 shared-slice-read-if1 c = search needs
 
--- src/tokens.rt:17:13
 returns : tie.Need-returns Inv-loop μ-loop
 returns c = scan-stop (c .before .before .before .loop .inv) (c .before .before .loop-test .taken) (ne-eqb _ _ (c .if1 .taken))
 
--- src/tokens.rt:19:9
 add-i : tie.Need-add-i Inv-loop μ-loop
 add-i c = search needs
 
--- src/tokens.rt:15:5
 loop-less : tie.Need-loop-less Inv-loop μ-loop
 loop-less c = search needs
 
--- src/tokens.rt:15:5
 loop-again : tie.Need-loop-again Inv-loop μ-loop
 loop-again c = scan-more (c .before .before .before .loop .inv) (c .before .before .loop-test .taken) (eq-eqb _ _ (c .if1 .left))
 
--- src/tokens.rt:10:1
 returns-2 : tie.Need-returns-2 Inv-loop μ-loop
 returns-2 c = scan-end (c .before .loop .inv) (c .loop-test .left)
 

@@ -1,50 +1,38 @@
-use denote.Ref.{now}
+-- `scan::words::key_word` meets its contract.
 use mathlib.Core.Path.{sym, _∙_}
+use denote.Ref.{now}
+use borrow.Author.Needs.{needs}
 use Rattle.rules.specs.Forms.{keyWord}
 use Rattle.scan.specs.Words.{wordCut}
 use Rattle.scan.proofs.Places.{empty, not-empty}
-use borrow.Author.Needs.{needs}
 use Rattle.scan.proofs.words.key_word.Statement.{statement}
 use Rattle.scan.proofs.words.key_word.Tie as tie
-use Rattle.scan.proofs.words.key_word.Reads as reads
-use Rattle.scan.proofs.words.key_word.Lts as lts
-use Rattle.scan.proofs.words.keyword.Reads as keyword-reads
-use Rattle.scan.proofs.words.later_key.Reads as later-key-reads
-use Rattle.scan.proofs.words.later_keyword.Reads as later-keyword-reads
 
--- src/words.rt:78:9
 returns : tie.Need-returns
 unfolding wordCut keyWord
 returns c = rw (empty (now (c .before .before .args .w)) (c .if1 .taken))
 
--- src/words.rt:80:8
 keyword-requires : tie.Need-keyword-requires
 keyword-requires c κs = search needs
 
--- src/words.rt:81:9
 returns-2 : tie.Need-returns-2
 unfolding wordCut keyWord
 returns-2 c = rw (not-empty (now (c .before .before .before .before .args .w)) (c .before .before .if1 .left), sym (c .before .keyword .ensures) ∙ c .if2 .taken)
 
--- src/words.rt:83:8
 later-keyword-requires : tie.Need-later-keyword-requires
 later-keyword-requires c κs = search needs
 
--- src/words.rt:84:9
 returns-3 : tie.Need-returns-3
 unfolding wordCut keyWord
 returns-3 c = rw (not-empty (now (c .before .before .before .before .before .before .args .w)) (c .before .before .before .before .if1 .left), sym (c .before .before .before .keyword .ensures) ∙ c .before .before .if2 .left, sym (c .before .later-keyword .ensures) ∙ c .if3 .taken)
 
--- src/words.rt:86:8
 later-key-requires : tie.Need-later-key-requires
 later-key-requires c κs = search needs
 
--- src/words.rt:87:9
 returns-4 : tie.Need-returns-4
 unfolding wordCut keyWord
 returns-4 c = rw (not-empty (now (c .before .before .before .before .before .before .before .before .args .w)) (c .before .before .before .before .before .before .if1 .left), sym (c .before .before .before .before .before .keyword .ensures) ∙ c .before .before .before .before .if2 .left, sym (c .before .before .before .later-keyword .ensures) ∙ c .before .before .if3 .left, sym (c .before .later-key .ensures) ∙ c .if4 .taken)
 
--- src/words.rt:74:1
 returns-5 : tie.Need-returns-5
 unfolding wordCut keyWord
 returns-5 c = rw (not-empty (now (c .before .before .before .before .before .before .before .before .args .w)) (c .before .before .before .before .before .before .if1 .left), sym (c .before .before .before .before .before .keyword .ensures) ∙ c .before .before .before .before .if2 .left, sym (c .before .before .before .later-keyword .ensures) ∙ c .before .before .if3 .left, sym (c .before .later-key .ensures) ∙ c .if4 .left)
