@@ -1,5 +1,5 @@
 -- Demand 3, from the definitions: past the checks ahead of 14, a circle is refused exactly when no order of the needed steps exists, and a
--- real one can be shown; otherwise, and if no needed source is missing, the list is the least one that keeps document 01's two rules.
+-- real one can be shown; otherwise, and if no needed source is missing, the list is the least one that keeps the two rules of `KeepsBothRules`.
 use Prim.Native.Nat.{ℕ, _<_, _≤_}
 use native.Mathlib.Omega.{arith}
 use mathlib.Core.Path.{_≡_, refl, sym, _∙_}
@@ -98,7 +98,7 @@ module _ (steps : List Step) (targets : List ℕ) where
         (λ s h. in-needed steps targets .1 (in-stale .0 h .needed))
         (λ s h m k. upstream-sound (before steps) (length steps) s k)))
 
--- A list that holds "every stale needed command step once, each after all stale ones upstream" (and nothing else)
+-- The two rules: a list holds each stale needed command step once and nothing else, and each stands after all stale ones upstream
 abbrev pub KeepsBothRules : List Step → List ℕ → (ℕ → Verdict) → List ℕ → Type 0
 KeepsBothRules steps targets v l = IsOrder (Stale steps targets v) (Upstream steps) l
 

@@ -2,6 +2,8 @@ pub mod Graph
 pub mod Stale
 pub mod Sources
 pub mod Demand3
-pub mod Promises
-pub mod WrongPlanners
 pub mod Checks
+pub mod Promises
+pub mod Marked
+pub mod WrongPlanners
+pub mod Answers

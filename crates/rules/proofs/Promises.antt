@@ -22,6 +22,7 @@ use Rattle.rules.specs.Targets.{badTarget}
 use Rattle.rules.specs.Graph.{before, needed, hasOrder, noRoot, roots}
 use Rattle.rules.specs.PlanAsk.{PlanOutcome, listed, circular, noPlan, targetFiles, missingSource, listedOr15, planFrom, planRoots, planRead, planAsk}
 use Rattle.rules.specs.TextAsk.{TextOutcome, text, noText, textAsk}
+use Rattle.rules.specs.Answers.{Said, planSays, textSays}
 use Rattle.rules.specs.Promises.{filled, leftBy, Is, Shows, PlanMeets, PlanPromise, TextMeets, TextPromise}
 use Rattle.rules.proofs.Demand3.{some-circle}
 
@@ -62,18 +63,18 @@ ask-sound manifest card targets room =
     split (ltb room leastList) (λ (e : ltb room leastList ≡ true). rw e tt)
     (λ (e : ltb room leastList ≡ false). rw e (read-sound card targets (readManifest manifest)))
 
-plan-kept : (o : PlanOutcome) (lent : List ℕ) → Sound o → (answer : PlanAnswer) × (exit : List ℕ) × PlanMeets o lent answer exit
-unfolding PlanMeets
-plan-kept (listed l) lent s = (Listed (length l), filled l lent, record { answers = refl; leaves = refl })
+plan-kept : (o : PlanOutcome) (lent : List ℕ) → Sound o → (answer : PlanAnswer) × (exit : List ℕ) × PlanMeets o lent (planSays answer) exit
+unfolding PlanMeets planSays
+plan-kept (listed l) lent s = (Listed (length l), filled l lent, record { says = refl; leaves = refl })
 plan-kept (circular steps targets) lent s =
     let c = circleOf (needed steps targets) (before steps) in
-    (PlanRefused (Circle (length c)), filled c lent, record { circle = c; real = some-circle steps targets s; shown = record { answers = refl; leaves = refl } })
-plan-kept (noPlan r) lent s = (PlanRefused r, leftBy r lent, record { answers = refl; leaves = refl })
+    (PlanRefused (Circle (length c)), filled c lent, record { circle = c; real = some-circle steps targets s; shown = record { says = refl; leaves = refl } })
+plan-kept (noPlan r) lent s = (PlanRefused r, leftBy r lent, record { says = refl; leaves = refl })
 
-text-kept : (o : TextOutcome) (lent : List ℕ) → (answer : TextAnswer) × (exit : List ℕ) × TextMeets o lent answer exit
-unfolding TextMeets
-text-kept (text t) lent = (Written (length t), filled t lent, record { answers = refl; leaves = refl })
-text-kept (noText r) lent = (TextRefused r, leftBy r lent, record { answers = refl; leaves = refl })
+text-kept : (o : TextOutcome) (lent : List ℕ) → (answer : TextAnswer) × (exit : List ℕ) × TextMeets o lent (textSays answer) exit
+unfolding TextMeets textSays
+text-kept (text t) lent = (Written (length t), filled t lent, record { says = refl; leaves = refl })
+text-kept (noText r) lent = (TextRefused r, leftBy r lent, record { says = refl; leaves = refl })
 
 -- on every input some answer meets the promise
 pub plan-possible : (manifest card targets lent : List ℕ) → (answer : PlanAnswer) × (exit : List ℕ) × PlanPromise manifest card targets lent answer exit
@@ -83,12 +84,34 @@ plan-possible manifest card targets lent =
 pub text-possible : (manifest : List ℕ) (step : ℕ) (wanted : Wanted) (lent : List ℕ) → (answer : TextAnswer) × (exit : List ℕ) × TextPromise manifest step wanted lent answer exit
 text-possible manifest step wanted lent = text-kept (textAsk manifest step wanted (length lent)) lent
 
--- of a text ask the promise leaves nothing open
-text-fixed : (o : TextOutcome) (lent : List ℕ) {a b : TextAnswer} {x y : List ℕ} → TextMeets o lent a x → TextMeets o lent b y → (a ≡ b) × (x ≡ y)
-unfolding TextMeets
-text-fixed (text t) lent p q = (p .answers ∙ sym (q .answers), p .leaves ∙ sym (q .leaves))
-text-fixed (noText r) lent p q = (p .answers ∙ sym (q .answers), p .leaves ∙ sym (q .leaves))
+-- what is said is the same, and the buffer is
+pub record Same (a b : Said) (x y : List ℕ) : Type 0 where
+  pub said : a ≡ b
+  pub buffer : x ≡ y
 
-pub text-unique : (manifest : List ℕ) (step : ℕ) (wanted : Wanted) (lent : List ℕ) {a b : TextAnswer} {x y : List ℕ}
-    → TextPromise manifest step wanted lent a x → TextPromise manifest step wanted lent b y → (a ≡ b) × (x ≡ y)
-text-unique manifest step wanted lent p q = text-fixed (textAsk manifest step wanted (length lent)) lent p q
+is-same : {a b r : Said} {x y l : List ℕ} → Is a x r l → Is b y r l → Same a b x y
+is-same p q = record { said = p .says ∙ sym (q .says); buffer = p .leaves ∙ sym (q .leaves) }
+
+-- a plan that is no circle is fixed, and so is its buffer
+plan-fixed : (o : PlanOutcome) (lent : List ℕ) (a b : Said) (x y : List ℕ) → ((steps : List Step) (targets : List ℕ) → ¬ (o ≡ circular steps targets))
+    → PlanMeets o lent a x → PlanMeets o lent b y → Same a b x y
+unfolding PlanMeets
+plan-fixed (listed l) lent a b x y n p q = is-same p q
+plan-fixed (circular steps targets) lent a b x y n p q = absurd (n steps targets refl)
+plan-fixed (noPlan r) lent a b x y n p q = is-same p q
+
+pub plan-unique : (manifest card targets lent : List ℕ) (a b : PlanAnswer) (x y : List ℕ)
+    → ((steps : List Step) (rs : List ℕ) → ¬ (planAsk manifest card targets (length lent) ≡ circular steps rs))
+    → PlanPromise manifest card targets lent a x → PlanPromise manifest card targets lent b y → Same (planSays a) (planSays b) x y
+plan-unique manifest card targets lent a b x y n p q =
+    plan-fixed (planAsk manifest card targets (length lent)) lent (planSays a) (planSays b) x y n p q
+
+-- every text is fixed
+text-fixed : (o : TextOutcome) (lent : List ℕ) (a b : Said) (x y : List ℕ) → TextMeets o lent a x → TextMeets o lent b y → Same a b x y
+unfolding TextMeets
+text-fixed (text t) lent a b x y p q = is-same p q
+text-fixed (noText r) lent a b x y p q = is-same p q
+
+pub text-unique : (manifest : List ℕ) (step : ℕ) (wanted : Wanted) (lent : List ℕ) (a b : TextAnswer) (x y : List ℕ)
+    → TextPromise manifest step wanted lent a x → TextPromise manifest step wanted lent b y → Same (textSays a) (textSays b) x y
+text-unique manifest step wanted lent a b x y p q = text-fixed (textAsk manifest step wanted (length lent)) lent (textSays a) (textSays b) x y p q

@@ -196,3 +196,7 @@ text-16-broken-by-block = refl
 text-18-phony : shownText (command (bytes "rule r\n  command = x\nbuild a: phony\nbuild b: r\nbuild c: phony b\n  command = x\n  description = y\n") 0) ≡ 18 ∷ 0 ∷ []
 unfolding shownText textAsk
 text-18-phony = refl
+
+text-three-rule-texts-deep : shownText (command (bytes "rule r\n  command = $description\n  description = $generator\n  generator = <$in>\nbuild a: r b\n") 0) ≡ 0 ∷ 60 ∷ 98 ∷ 62 ∷ []
+unfolding shownText textAsk
+text-three-rule-texts-deep = refl

@@ -1,5 +1,5 @@
--- Document 01's words about the graph of steps as statements that need not be computed: maker, needed, upstream, stale. The laws show
--- that the computed definitions meet them.
+-- Document 01's words about the graph of steps as statements that need not be computed: maker, needed, upstream, order, circle, list. The laws
+-- show that the computed definitions meet them.
 use Prim.Native.Nat.{ℕ, _<_}
 use mathlib.Core.List.{List}
 use mathlib.Core.Bool.{true, false}
