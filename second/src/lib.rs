@@ -1,6 +1,8 @@
 //! A second, independent planner, written from the rules (document 01 and its settled readings) alone.
 //! It is what the proved planner is compared with, and the baseline of its speed.
 
+pub mod cases;
+
 /// A refusal: document 01's number, 1 to 18, and its place.
 #[derive(Debug, Clone, Copy, PartialEq, Eq)]
 pub struct Refusal {

@@ -1,0 +1,638 @@
+//! The case files of `/cases`: their reader, and the comparison of the second planner with them.
+//! The format is described in `cases/README.md`.
+
+use crate::{plan, text, PlanAnswer, Refusal, TextAnswer, Wanted};
+use std::collections::HashMap;
+use std::fs;
+use std::panic::{catch_unwind, AssertUnwindSafe};
+use std::path::{Path, PathBuf};
+
+/// What a plan ask has to answer.
+#[derive(Debug, Clone, PartialEq, Eq)]
+pub enum PlanExpected {
+    List(Vec<u32>),
+    /// Refusal 14: any of these circles, begun at any of its steps.
+    Circles(Vec<Vec<u32>>),
+    Refused(Refusal),
+}
+
+/// A text ask and what it has to answer.
+#[derive(Debug, Clone, PartialEq, Eq)]
+pub struct TextExpected {
+    pub step: usize,
+    pub wanted: Wanted,
+    pub answer: TextAnswer,
+}
+
+#[derive(Debug, Clone)]
+pub struct Case {
+    pub name: String,
+    /// File and line at which the case begins.
+    pub origin: String,
+    /// The sentences and readings that the case tests.
+    pub says: Vec<String>,
+    pub manifest: Vec<u8>,
+    pub card: Vec<u8>,
+    pub targets: Vec<u8>,
+    pub list_len: usize,
+    pub buf_len: usize,
+    pub plan: Option<PlanExpected>,
+    pub texts: Vec<TextExpected>,
+}
+
+impl PlanExpected {
+    /// Whether an answer is one of those expected.
+    pub fn allows(&self, answer: &PlanAnswer) -> bool {
+        match (self, answer) {
+            (Self::List(want), PlanAnswer::List(got)) => want == got,
+            (Self::Circles(want), PlanAnswer::Circle(got)) => {
+                want.iter().any(|circle| same_circle(circle, got))
+            }
+            (Self::Refused(want), PlanAnswer::Refused(got)) => want == got,
+            _ => false,
+        }
+    }
+
+    pub fn show(&self) -> String {
+        match self {
+            Self::List(steps) => format!("list{}", show_steps(steps)),
+            Self::Circles(circles) => {
+                let shown: Vec<_> = circles.iter().map(|circle| show_steps(circle)).collect();
+                format!("circle{}", shown.join(" or"))
+            }
+            Self::Refused(refusal) => show_refusal(refusal),
+        }
+    }
+}
+
+/// Whether two circles are the same steps in the same order, begun anywhere.
+fn same_circle(one: &[u32], other: &[u32]) -> bool {
+    let turned = |by: usize| one[by..].iter().chain(&one[..by]);
+    one.len() == other.len() && (0..one.len()).any(|by| turned(by).eq(other))
+}
+
+fn show_steps(steps: &[u32]) -> String {
+    steps.iter().map(|step| format!(" {step}")).collect()
+}
+
+fn show_refusal(refusal: &Refusal) -> String {
+    format!("refused {} at {}", refusal.number, refusal.place)
+}
+
+pub fn show_plan(answer: &PlanAnswer) -> String {
+    match answer {
+        PlanAnswer::List(steps) => format!("list{}", show_steps(steps)),
+        PlanAnswer::Circle(steps) => format!("circle{}", show_steps(steps)),
+        PlanAnswer::Refused(refusal) => show_refusal(refusal),
+    }
+}
+
+pub fn show_text(answer: &TextAnswer) -> String {
+    match answer {
+        TextAnswer::Text(bytes) => format!("text {}", hex(bytes)),
+        TextAnswer::Refused(refusal) => show_refusal(refusal),
+    }
+}
+
+fn show_wanted(wanted: Wanted) -> &'static str {
+    match wanted {
+        Wanted::Command => "command",
+        Wanted::Description => "description",
+    }
+}
+
+fn hex(bytes: &[u8]) -> String {
+    if bytes.is_empty() {
+        return "-".to_string();
+    }
+    bytes.iter().map(|byte| format!("{byte:02x}")).collect()
+}
+
+/// What the second planner answers otherwise than expected; a planner that panics has no answer at all.
+pub fn check(case: &Case) -> Vec<String> {
+    let mut differences = Vec::new();
+    let mut differ = |ask: String, expected: String, answer: String| {
+        differences.push(format!(
+            "{} ({}): {ask}\n  expected {expected}\n  answered {answer}",
+            case.name, case.origin
+        ));
+    };
+    if let Some(expected) = &case.plan {
+        let answer = answer_of(|| plan(&case.manifest, &case.card, &case.targets, case.list_len));
+        if !answer
+            .as_ref()
+            .is_some_and(|answer| expected.allows(answer))
+        {
+            differ(
+                "plan".to_string(),
+                expected.show(),
+                answer.map_or("nothing".to_string(), |answer| show_plan(&answer)),
+            );
+        }
+    }
+    for TextExpected {
+        step,
+        wanted,
+        answer: expected,
+    } in &case.texts
+    {
+        let answer = answer_of(|| text(&case.manifest, *step, *wanted, case.buf_len));
+        if answer.as_ref() != Some(expected) {
+            let answer = answer.map_or("nothing".to_string(), |answer| readable(&answer));
+            differ(
+                format!("text {step} {}", show_wanted(*wanted)),
+                readable(expected),
+                answer,
+            );
+        }
+    }
+    differences
+}
+
+fn answer_of<T>(ask: impl FnOnce() -> T) -> Option<T> {
+    catch_unwind(AssertUnwindSafe(ask)).ok()
+}
+
+fn readable(answer: &TextAnswer) -> String {
+    match answer {
+        TextAnswer::Text(bytes) => format!("= {}", bytes.escape_ascii()),
+        TextAnswer::Refused(refusal) => show_refusal(refusal),
+    }
+}
+
+/// Every ask of a case with its expected answer, one line each, for other tools.
+pub fn packed(case: &Case) -> Vec<String> {
+    let manifest = hex(&case.manifest);
+    let plan = case.plan.iter().map(|expected| {
+        let (card, targets) = (hex(&case.card), hex(&case.targets));
+        format!(
+            "{} plan {manifest} {card} {targets} {} -> {}",
+            case.name,
+            case.list_len,
+            expected.show()
+        )
+    });
+    let texts = case.texts.iter().map(
+        |TextExpected {
+             step,
+             wanted,
+             answer,
+         }| {
+            let wanted = show_wanted(*wanted);
+            format!(
+                "{} text {manifest} {step} {wanted} {} -> {}",
+                case.name,
+                case.buf_len,
+                show_text(answer)
+            )
+        },
+    );
+    plan.chain(texts).collect()
+}
+
+/// The folder of the case files, beside that of the second planner.
+pub fn folder() -> PathBuf {
+    Path::new(env!("CARGO_MANIFEST_DIR")).join("../cases")
+}
+
+/// All case files of a folder, by name.
+pub fn files(folder: &Path) -> Result<Vec<PathBuf>, String> {
+    let entries = fs::read_dir(folder).map_err(|error| format!("{}: {error}", folder.display()))?;
+    let paths = entries.filter_map(|entry| Some(entry.ok()?.path()));
+    let mut files: Vec<_> = paths
+        .filter(|path| path.extension().is_some_and(|ending| ending == "cases"))
+        .collect();
+    files.sort();
+    Ok(files)
+}
+
+/// The cases of several files; no two may share a name.
+pub fn read(files: &[PathBuf]) -> Result<Vec<Case>, String> {
+    let mut cases: Vec<Case> = Vec::new();
+    let mut origins = HashMap::new();
+    for path in files {
+        let content =
+            fs::read_to_string(path).map_err(|error| format!("{}: {error}", path.display()))?;
+        let file = path
+            .file_name()
+            .map_or_else(String::new, |name| name.to_string_lossy().into_owned());
+        for case in parse(&file, &content)? {
+            if let Some(other) = origins.insert(case.name.clone(), case.origin.clone()) {
+                return Err(format!(
+                    "{}: the name {} is taken at {other}",
+                    case.origin, case.name
+                ));
+            }
+            cases.push(case);
+        }
+    }
+    Ok(cases)
+}
+
+/// The cases of one file's text; an error names the file and the line.
+pub fn parse(file: &str, content: &str) -> Result<Vec<Case>, String> {
+    let mut cases = Vec::new();
+    let mut draft: Option<Draft> = None;
+    for (number, line) in content.lines().enumerate() {
+        let origin = format!("{file}:{}", number + 1);
+        let at_line = |error: String| format!("{origin}: {error}");
+        if line.ends_with(' ') {
+            return Err(at_line(
+                "spaces at the end of a line; write \\s".to_string(),
+            ));
+        }
+        let line = line.trim_start();
+        if line.is_empty() || line.starts_with('#') {
+            continue;
+        }
+        let (word, rest) = line.split_once(' ').unwrap_or((line, ""));
+        if word == "case" {
+            if let Some(draft) = draft.take() {
+                cases.push(draft.finish()?);
+            }
+            if rest.is_empty() || rest.contains(' ') {
+                return Err(at_line("a case has a name of one word".to_string()));
+            }
+            draft = Some(Draft::new(rest, origin));
+        } else {
+            let draft = draft
+                .as_mut()
+                .ok_or_else(|| at_line("before the first `case`".to_string()))?;
+            draft.take(word, rest, &cases).map_err(at_line)?;
+        }
+    }
+    if let Some(draft) = draft {
+        cases.push(draft.finish()?);
+    }
+    Ok(cases)
+}
+
+/// A case while its lines are read.
+struct Draft {
+    case: Case,
+    has_manifest: bool,
+    /// Whether pieces of the manifest may follow.
+    open: bool,
+    mark: Option<usize>,
+}
+
+impl Draft {
+    fn new(name: &str, origin: String) -> Self {
+        let case = Case {
+            name: name.to_string(),
+            origin,
+            says: Vec::new(),
+            manifest: Vec::new(),
+            card: card_of(&[]),
+            targets: Vec::new(),
+            list_len: 512,
+            buf_len: 8192,
+            plan: None,
+            texts: Vec::new(),
+        };
+        Self {
+            case,
+            has_manifest: false,
+            open: false,
+            mark: None,
+        }
+    }
+
+    fn take(&mut self, word: &str, rest: &str, earlier: &[Case]) -> Result<(), String> {
+        let is_piece = word == "|" || word == "+";
+        if is_piece && !self.open {
+            return Err("a piece of a manifest outside one".to_string());
+        }
+        self.open = is_piece || (word == "manifest" && rest.is_empty());
+        match word {
+            "says" | "reading" | "manual" if rest.is_empty() => {
+                return Err(format!("an empty `{word}`"))
+            }
+            "says" => self.case.says.push(rest.to_string()),
+            "reading" | "manual" => self.case.says.push(format!("{word} {rest}")),
+            "manifest" if self.has_manifest => return Err("a second manifest".to_string()),
+            "manifest" => {
+                self.has_manifest = true;
+                if !rest.is_empty() {
+                    let name = rest
+                        .strip_prefix("of ")
+                        .ok_or("expected `manifest` or `manifest of NAME`")?;
+                    let of = earlier.iter().find(|case| case.name == name);
+                    self.case.manifest = of
+                        .ok_or(format!("no earlier case {name} in this file"))?
+                        .manifest
+                        .clone();
+                }
+            }
+            "|" | "+" => {
+                let piece = self.expanded(rest, self.case.manifest.len())?;
+                self.case.manifest.extend(piece.bytes);
+                if word == "|" {
+                    self.case.manifest.push(b'\n');
+                }
+            }
+            "card" => self.case.card = self.card(rest)?,
+            "targets" => {
+                self.case.targets = match rest.strip_prefix("raw ") {
+                    Some(raw) => self.expanded(raw, 0)?.bytes,
+                    None => {
+                        let names = self.expanded(rest, 0)?;
+                        let ended = names
+                            .words(b' ')
+                            .into_iter()
+                            .map(|name| [&names.bytes[name], b"\n"].concat());
+                        ended.flatten().collect()
+                    }
+                }
+            }
+            "list-buffer" => self.case.list_len = number(rest)?,
+            "text-buffer" => self.case.buf_len = number(rest)?,
+            "plan" if self.case.plan.is_some() => return Err("a second `plan`".to_string()),
+            "plan" => self.case.plan = Some(self.plan(rest)?),
+            "text" => {
+                let expected = self.text(rest)?;
+                self.case.texts.push(expected);
+            }
+            _ => return Err(format!("unknown word `{word}`")),
+        }
+        Ok(())
+    }
+
+    fn finish(self) -> Result<Case, String> {
+        let case = self.case;
+        let missing = if !self.has_manifest {
+            "manifest"
+        } else if case.says.is_empty() {
+            "`says`, `reading` or `manual`"
+        } else if case.plan.is_none() && case.texts.is_empty() {
+            "expected answer"
+        } else {
+            return Ok(case);
+        };
+        Err(format!(
+            "{}: the case {} has no {missing}",
+            case.origin, case.name
+        ))
+    }
+
+    /// A text with its backslashes read; a mark in it is a place counted from `start`.
+    fn expanded(&mut self, source: &str, start: usize) -> Result<Expanded, String> {
+        let mut expanded = Expanded::default();
+        expand(source.as_bytes(), &mut 0, None, &mut expanded)?;
+        if let Some(mark) = expanded.mark {
+            if self.mark.replace(start + mark).is_some() {
+                return Err("a second `\\@`".to_string());
+            }
+        }
+        Ok(expanded)
+    }
+
+    fn card(&mut self, rest: &str) -> Result<Vec<u8>, String> {
+        let (source, raw) = rest
+            .strip_prefix("raw ")
+            .map_or((rest, false), |raw| (raw, true));
+        let expanded = self.expanded(source, 0)?;
+        let mut records = Vec::new();
+        let mut card = Vec::new();
+        for part in expanded.words(if raw { b' ' } else { b',' }) {
+            let bytes = &expanded.bytes[part];
+            let shown = bytes.escape_ascii();
+            if !raw {
+                // Before the time stands the last space; a name's own spaces may be written plainly.
+                let bytes = bytes.trim_ascii();
+                let cut = bytes
+                    .iter()
+                    .rposition(|&byte| byte == b' ')
+                    .ok_or(format!("expected `NAME TIME`, not `{shown}`"))?;
+                records.push((
+                    &bytes[..cut],
+                    number(&String::from_utf8_lossy(&bytes[cut + 1..]))?,
+                ));
+            } else if let Some(text) = bytes.strip_prefix(b"=") {
+                card.extend(text);
+            } else {
+                let piece = String::from_utf8_lossy(bytes);
+                let (width, value) = piece
+                    .split_once(':')
+                    .ok_or(format!("expected `WIDTH:NUMBER` or `=TEXT`, not `{shown}`"))?;
+                let value: u64 = number(value)?;
+                match width {
+                    "1" => {
+                        card.push(u8::try_from(value).map_err(|_| format!("{value} is no byte"))?)
+                    }
+                    "4" => card.extend(
+                        u32::try_from(value)
+                            .map_err(|_| format!("{value} is over four bytes"))?
+                            .to_le_bytes(),
+                    ),
+                    "8" => card.extend(value.to_le_bytes()),
+                    _ => return Err(format!("{width} is no width; 1, 4 and 8 are")),
+                }
+            }
+        }
+        Ok(if raw { card } else { card_of(&records) })
+    }
+
+    fn plan(&self, rest: &str) -> Result<PlanExpected, String> {
+        let (word, rest) = rest.split_once(' ').unwrap_or((rest, ""));
+        let steps = |words: &str| {
+            words
+                .split_whitespace()
+                .map(number)
+                .collect::<Result<Vec<u32>, _>>()
+        };
+        Ok(match word {
+            "list" => PlanExpected::List(steps(rest)?),
+            "circle" => {
+                let circles = rest
+                    .split(" or ")
+                    .map(steps)
+                    .collect::<Result<Vec<_>, _>>()?;
+                if circles.iter().any(Vec::is_empty) {
+                    return Err("a circle has one step at least".to_string());
+                }
+                PlanExpected::Circles(circles)
+            }
+            "refused" => PlanExpected::Refused(self.refusal(rest)?),
+            _ => {
+                return Err(format!(
+                    "expected `list`, `circle` or `refused`, not `{word}`"
+                ))
+            }
+        })
+    }
+
+    fn text(&mut self, rest: &str) -> Result<TextExpected, String> {
+        let mut words = rest.splitn(4, ' ');
+        let step = number(words.next().unwrap_or(""))?;
+        let wanted = match words.next() {
+            Some("command") => Wanted::Command,
+            Some("description") => Wanted::Description,
+            _ => return Err("expected `command` or `description`".to_string()),
+        };
+        let (kind, rest) = (words.next(), words.next().unwrap_or(""));
+        let answer = match kind {
+            Some("=") => TextAnswer::Text(self.expanded(rest, 0)?.bytes),
+            Some("refused") => TextAnswer::Refused(self.refusal(rest)?),
+            _ => return Err("expected `=` or `refused`".to_string()),
+        };
+        Ok(TextExpected {
+            step,
+            wanted,
+            answer,
+        })
+    }
+
+    fn refusal(&self, rest: &str) -> Result<Refusal, String> {
+        let (refused, place) = rest
+            .split_once(" at ")
+            .ok_or("expected `refused NUMBER at PLACE`")?;
+        let place = match place {
+            "@" => self.mark.ok_or("no `\\@` before this line")?,
+            _ => number(place)?,
+        };
+        Ok(Refusal {
+            number: number(refused)?,
+            place,
+        })
+    }
+}
+
+fn number<T: std::str::FromStr>(word: &str) -> Result<T, String> {
+    word.parse()
+        .map_err(|_| format!("`{word}` is not a number that fits here"))
+}
+
+/// The card with these records, laid out as document 01 says; whether it is sound is up to the records.
+fn card_of(records: &[(&[u8], u64)]) -> Vec<u8> {
+    let four = |number: usize| {
+        u32::try_from(number)
+            .expect("cards of cases are small")
+            .to_le_bytes()
+    };
+    let names: usize = records.iter().map(|(name, _)| name.len()).sum();
+    let start = 16 + 16 * records.len();
+    let mut card: Vec<u8> = [records.len(), 16, start, start + names].map(four).concat();
+    let mut offset = 0;
+    for (name, time) in records {
+        card.extend(four(offset));
+        card.extend(four(name.len()));
+        card.extend(time.to_le_bytes());
+        offset += name.len();
+    }
+    card.extend(records.iter().flat_map(|(name, _)| name.iter()));
+    card
+}
+
+/// A text of a case file with its backslashes read.
+#[derive(Default)]
+struct Expanded {
+    bytes: Vec<u8>,
+    /// For each byte whether it was written without a backslash: only such ones part words.
+    plain: Vec<bool>,
+    mark: Option<usize>,
+}
+
+impl Expanded {
+    fn push(&mut self, byte: u8, plain: bool) {
+        self.bytes.push(byte);
+        self.plain.push(plain);
+    }
+
+    /// The ranges between plain separators that hold more than spaces.
+    fn words(&self, separator: u8) -> Vec<std::ops::Range<usize>> {
+        let mut words = Vec::new();
+        let mut start = 0;
+        for end in 0..=self.bytes.len() {
+            if end == self.bytes.len() || (self.bytes[end] == separator && self.plain[end]) {
+                if (start..end).any(|i| self.bytes[i] != b' ' || !self.plain[i]) {
+                    words.push(start..end);
+                }
+                start = end + 1;
+            }
+        }
+        words
+    }
+}
+
+/// Reads the backslashes of `source` from `at` on; within a repeated text `index` is its number, and its `}` ends it.
+fn expand(
+    source: &[u8],
+    at: &mut usize,
+    index: Option<usize>,
+    out: &mut Expanded,
+) -> Result<(), String> {
+    while let Some(&byte) = source.get(*at) {
+        *at += 1;
+        if byte == b'}' && index.is_some() {
+            return Ok(());
+        }
+        if byte != b'\\' {
+            out.push(byte, true);
+            continue;
+        }
+        let escaped = source.get(*at).copied();
+        *at += 1;
+        match escaped {
+            Some(b'n') => out.push(b'\n', false),
+            Some(b'r') => out.push(b'\r', false),
+            Some(b't') => out.push(b'\t', false),
+            Some(b'0') => out.push(0, false),
+            Some(b's') => out.push(b' ', false),
+            Some(literal @ (b'\\' | b'}' | b',')) => out.push(literal, false),
+            Some(b'x') => {
+                let digits = source
+                    .get(*at..*at + 2)
+                    .and_then(|digits| std::str::from_utf8(digits).ok());
+                let byte = digits.and_then(|digits| u8::from_str_radix(digits, 16).ok());
+                out.push(byte.ok_or("`\\x` without two hex digits")?, false);
+                *at += 2;
+            }
+            Some(b'@') => {
+                if out.mark.replace(out.bytes.len()).is_some() {
+                    return Err("a second `\\@`".to_string());
+                }
+            }
+            Some(form @ (b'i' | b'j')) => {
+                let index = index.ok_or("an index outside a repeated text")?;
+                let shown = if form == b'i' {
+                    index.to_string()
+                } else {
+                    base_36(index)?
+                };
+                shown.bytes().for_each(|byte| out.push(byte, true));
+            }
+            Some(b'{') => {
+                let digits = source[*at..]
+                    .iter()
+                    .take_while(|byte| byte.is_ascii_digit())
+                    .count();
+                let times: usize = number(&String::from_utf8_lossy(&source[*at..*at + digits]))?;
+                if times == 0 || source.get(*at + digits) != Some(&b' ') {
+                    return Err("expected `\\{COUNT TEXT}` with a count from 1".to_string());
+                }
+                let body = *at + digits + 1;
+                for index in 0..times {
+                    *at = body;
+                    expand(source, at, Some(index), out)?;
+                }
+            }
+            _ => return Err("an unknown `\\`".to_string()),
+        }
+    }
+    match index {
+        Some(_) => Err("a `\\{` without its `}`".to_string()),
+        None => Ok(()),
+    }
+}
+
+fn base_36(index: usize) -> Result<String, String> {
+    const DIGITS: &[u8; 36] = b"0123456789abcdefghijklmnopqrstuvwxyz";
+    if index >= 36 * 36 {
+        return Err(format!("`\\j` of {index} has over two digits"));
+    }
+    Ok([index / 36, index % 36]
+        .iter()
+        .map(|&digit| DIGITS[digit] as char)
+        .collect())
+}
