@@ -119,10 +119,7 @@ pub fn check(case: &Case) -> Vec<String> {
     };
     if let Some(expected) = &case.plan {
         let answer = answer_of(|| plan(&case.manifest, &case.card, &case.targets, case.list_len));
-        if !answer
-            .as_ref()
-            .is_some_and(|answer| expected.allows(answer))
-        {
+        if !answer.as_ref().is_some_and(|answer| expected.allows(answer)) {
             differ(
                 "plan".to_string(),
                 expected.show(),
@@ -130,20 +127,11 @@ pub fn check(case: &Case) -> Vec<String> {
             );
         }
     }
-    for TextExpected {
-        step,
-        wanted,
-        answer: expected,
-    } in &case.texts
-    {
+    for TextExpected { step, wanted, answer: expected } in &case.texts {
         let answer = answer_of(|| text(&case.manifest, *step, *wanted, case.buf_len));
         if answer.as_ref() != Some(expected) {
             let answer = answer.map_or("nothing".to_string(), |answer| readable(&answer));
-            differ(
-                format!("text {step} {}", show_wanted(*wanted)),
-                readable(expected),
-                answer,
-            );
+            differ(format!("text {step} {}", show_wanted(*wanted)), readable(expected), answer);
         }
     }
     differences
@@ -172,21 +160,15 @@ pub fn packed(case: &Case) -> Vec<String> {
             expected.show()
         )
     });
-    let texts = case.texts.iter().map(
-        |TextExpected {
-             step,
-             wanted,
-             answer,
-         }| {
-            let wanted = show_wanted(*wanted);
-            format!(
-                "{} text {manifest} {step} {wanted} {} -> {}",
-                case.name,
-                case.buf_len,
-                show_text(answer)
-            )
-        },
-    );
+    let texts = case.texts.iter().map(|TextExpected { step, wanted, answer }| {
+        let wanted = show_wanted(*wanted);
+        format!(
+            "{} text {manifest} {step} {wanted} {} -> {}",
+            case.name,
+            case.buf_len,
+            show_text(answer)
+        )
+    });
     plan.chain(texts).collect()
 }
 
@@ -199,9 +181,8 @@ pub fn folder() -> PathBuf {
 pub fn files(folder: &Path) -> Result<Vec<PathBuf>, String> {
     let entries = fs::read_dir(folder).map_err(|error| format!("{}: {error}", folder.display()))?;
     let paths = entries.filter_map(|entry| Some(entry.ok()?.path()));
-    let mut files: Vec<_> = paths
-        .filter(|path| path.extension().is_some_and(|ending| ending == "cases"))
-        .collect();
+    let mut files: Vec<_> =
+        paths.filter(|path| path.extension().is_some_and(|ending| ending == "cases")).collect();
     files.sort();
     Ok(files)
 }
@@ -213,15 +194,11 @@ pub fn read(files: &[PathBuf]) -> Result<Vec<Case>, String> {
     for path in files {
         let content =
             fs::read_to_string(path).map_err(|error| format!("{}: {error}", path.display()))?;
-        let file = path
-            .file_name()
-            .map_or_else(String::new, |name| name.to_string_lossy().into_owned());
+        let file =
+            path.file_name().map_or_else(String::new, |name| name.to_string_lossy().into_owned());
         for case in parse(&file, &content)? {
             if let Some(other) = origins.insert(case.name.clone(), case.origin.clone()) {
-                return Err(format!(
-                    "{}: the name {} is taken at {other}",
-                    case.origin, case.name
-                ));
+                return Err(format!("{}: the name {} is taken at {other}", case.origin, case.name));
             }
             cases.push(case);
         }
@@ -237,9 +214,7 @@ pub fn parse(file: &str, content: &str) -> Result<Vec<Case>, String> {
         let origin = format!("{file}:{}", number + 1);
         let at_line = |error: String| format!("{origin}: {error}");
         if line.ends_with(' ') {
-            return Err(at_line(
-                "spaces at the end of a line; write \\s".to_string(),
-            ));
+            return Err(at_line("spaces at the end of a line; write \\s".to_string()));
         }
         let line = line.trim_start();
         if line.is_empty() || line.starts_with('#') {
@@ -255,9 +230,8 @@ pub fn parse(file: &str, content: &str) -> Result<Vec<Case>, String> {
             }
             draft = Some(Draft::new(rest, origin));
         } else {
-            let draft = draft
-                .as_mut()
-                .ok_or_else(|| at_line("before the first `case`".to_string()))?;
+            let draft =
+                draft.as_mut().ok_or_else(|| at_line("before the first `case`".to_string()))?;
             draft.take(word, rest, &cases).map_err(at_line)?;
         }
     }
@@ -290,12 +264,7 @@ impl Draft {
             plan: None,
             texts: Vec::new(),
         };
-        Self {
-            case,
-            has_manifest: false,
-            open: false,
-            mark: None,
-        }
+        Self { case, has_manifest: false, open: false, mark: None }
     }
 
     fn take(&mut self, word: &str, rest: &str, earlier: &[Case]) -> Result<(), String> {
@@ -318,10 +287,8 @@ impl Draft {
                         .strip_prefix("of ")
                         .ok_or("expected `manifest` or `manifest of NAME`")?;
                     let of = earlier.iter().find(|case| case.name == name);
-                    self.case.manifest = of
-                        .ok_or(format!("no earlier case {name} in this file"))?
-                        .manifest
-                        .clone();
+                    self.case.manifest =
+                        of.ok_or(format!("no earlier case {name} in this file"))?.manifest.clone();
                 }
             }
             "|" | "+" => {
@@ -369,10 +336,7 @@ impl Draft {
         } else {
             return Ok(case);
         };
-        Err(format!(
-            "{}: the case {} has no {missing}",
-            case.origin, case.name
-        ))
+        Err(format!("{}: the case {} has no {missing}", case.origin, case.name))
     }
 
     /// A text with its backslashes read; a mark in it is a place counted from `start`.
@@ -388,9 +352,7 @@ impl Draft {
     }
 
     fn card(&mut self, rest: &str) -> Result<Vec<u8>, String> {
-        let (source, raw) = rest
-            .strip_prefix("raw ")
-            .map_or((rest, false), |raw| (raw, true));
+        let (source, raw) = rest.strip_prefix("raw ").map_or((rest, false), |raw| (raw, true));
         let expanded = self.expanded(source, 0)?;
         let mut records = Vec::new();
         let mut card = Vec::new();
@@ -404,10 +366,7 @@ impl Draft {
                     .iter()
                     .rposition(|&byte| byte == b' ')
                     .ok_or(format!("expected `NAME TIME`, not `{shown}`"))?;
-                records.push((
-                    &bytes[..cut],
-                    number(&String::from_utf8_lossy(&bytes[cut + 1..]))?,
-                ));
+                records.push((&bytes[..cut], number(&String::from_utf8_lossy(&bytes[cut + 1..]))?));
             } else if let Some(text) = bytes.strip_prefix(b"=") {
                 card.extend(text);
             } else {
@@ -435,30 +394,19 @@ impl Draft {
 
     fn plan(&self, rest: &str) -> Result<PlanExpected, String> {
         let (word, rest) = rest.split_once(' ').unwrap_or((rest, ""));
-        let steps = |words: &str| {
-            words
-                .split_whitespace()
-                .map(number)
-                .collect::<Result<Vec<u32>, _>>()
-        };
+        let steps =
+            |words: &str| words.split_whitespace().map(number).collect::<Result<Vec<u32>, _>>();
         Ok(match word {
             "list" => PlanExpected::List(steps(rest)?),
             "circle" => {
-                let circles = rest
-                    .split(" or ")
-                    .map(steps)
-                    .collect::<Result<Vec<_>, _>>()?;
+                let circles = rest.split(" or ").map(steps).collect::<Result<Vec<_>, _>>()?;
                 if circles.iter().any(Vec::is_empty) {
                     return Err("a circle has one step at least".to_string());
                 }
                 PlanExpected::Circles(circles)
             }
             "refused" => PlanExpected::Refused(self.refusal(rest)?),
-            _ => {
-                return Err(format!(
-                    "expected `list`, `circle` or `refused`, not `{word}`"
-                ))
-            }
+            _ => return Err(format!("expected `list`, `circle` or `refused`, not `{word}`")),
         })
     }
 
@@ -476,40 +424,28 @@ impl Draft {
             Some("refused") => TextAnswer::Refused(self.refusal(rest)?),
             _ => return Err("expected `=` or `refused`".to_string()),
         };
-        Ok(TextExpected {
-            step,
-            wanted,
-            answer,
-        })
+        Ok(TextExpected { step, wanted, answer })
     }
 
     fn refusal(&self, rest: &str) -> Result<Refusal, String> {
-        let (refused, place) = rest
-            .split_once(" at ")
-            .ok_or("expected `refused NUMBER at PLACE`")?;
+        let (refused, place) =
+            rest.split_once(" at ").ok_or("expected `refused NUMBER at PLACE`")?;
         let place = match place {
             "@" => self.mark.ok_or("no `\\@` before this line")?,
             _ => number(place)?,
         };
-        Ok(Refusal {
-            number: number(refused)?,
-            place,
-        })
+        Ok(Refusal { number: number(refused)?, place })
     }
 }
 
 fn number<T: std::str::FromStr>(word: &str) -> Result<T, String> {
-    word.parse()
-        .map_err(|_| format!("`{word}` is not a number that fits here"))
+    word.parse().map_err(|_| format!("`{word}` is not a number that fits here"))
 }
 
 /// The card with these records, laid out as document 01 says; whether it is sound is up to the records.
 fn card_of(records: &[(&[u8], u64)]) -> Vec<u8> {
-    let four = |number: usize| {
-        u32::try_from(number)
-            .expect("cards of cases are small")
-            .to_le_bytes()
-    };
+    let four =
+        |number: usize| u32::try_from(number).expect("cards of cases are small").to_le_bytes();
     let names: usize = records.iter().map(|(name, _)| name.len()).sum();
     let start = 16 + 16 * records.len();
     let mut card: Vec<u8> = [records.len(), 16, start, start + names].map(four).concat();
@@ -581,9 +517,8 @@ fn expand(
             Some(b's') => out.push(b' ', false),
             Some(literal @ (b'\\' | b'}' | b',')) => out.push(literal, false),
             Some(b'x') => {
-                let digits = source
-                    .get(*at..*at + 2)
-                    .and_then(|digits| std::str::from_utf8(digits).ok());
+                let digits =
+                    source.get(*at..*at + 2).and_then(|digits| std::str::from_utf8(digits).ok());
                 let byte = digits.and_then(|digits| u8::from_str_radix(digits, 16).ok());
                 out.push(byte.ok_or("`\\x` without two hex digits")?, false);
                 *at += 2;
@@ -595,18 +530,11 @@ fn expand(
             }
             Some(form @ (b'i' | b'j')) => {
                 let index = index.ok_or("an index outside a repeated text")?;
-                let shown = if form == b'i' {
-                    index.to_string()
-                } else {
-                    base_36(index)?
-                };
+                let shown = if form == b'i' { index.to_string() } else { base_36(index)? };
                 shown.bytes().for_each(|byte| out.push(byte, true));
             }
             Some(b'{') => {
-                let digits = source[*at..]
-                    .iter()
-                    .take_while(|byte| byte.is_ascii_digit())
-                    .count();
+                let digits = source[*at..].iter().take_while(|byte| byte.is_ascii_digit()).count();
                 let times: usize = number(&String::from_utf8_lossy(&source[*at..*at + digits]))?;
                 if times == 0 || source.get(*at + digits) != Some(&b' ') {
                     return Err("expected `\\{COUNT TEXT}` with a count from 1".to_string());
@@ -631,8 +559,5 @@ fn base_36(index: usize) -> Result<String, String> {
     if index >= 36 * 36 {
         return Err(format!("`\\j` of {index} has over two digits"));
     }
-    Ok([index / 36, index % 36]
-        .iter()
-        .map(|&digit| DIGITS[digit] as char)
-        .collect())
+    Ok([index / 36, index % 36].iter().map(|&digit| DIGITS[digit] as char).collect())
 }

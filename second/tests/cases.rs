@@ -67,18 +67,9 @@ fn errors_name_file_and_line() {
         ("says x", "f:1: before the first `case`"),
         ("case a\n\nspeaks", "f:3: unknown word `speaks`"),
         ("case a\nmanifest\n| \\q", "f:3: an unknown `\\`"),
-        (
-            "case a\nmanifest\n| x\nplan refused 4 at @",
-            "f:4: no `\\@` before this line",
-        ),
-        (
-            "case a\nmanifest\nplan list",
-            "f:1: the case a has no `says`, `reading` or `manual`",
-        ),
-        (
-            "case a\nsays x\nmanifest\nplan list \n",
-            "f:4: spaces at the end of a line; write \\s",
-        ),
+        ("case a\nmanifest\n| x\nplan refused 4 at @", "f:4: no `\\@` before this line"),
+        ("case a\nmanifest\nplan list", "f:1: the case a has no `says`, `reading` or `manual`"),
+        ("case a\nsays x\nmanifest\nplan list \n", "f:4: spaces at the end of a line; write \\s"),
     ] {
         assert_eq!(parse("f", content).unwrap_err(), error);
     }

@@ -1,0 +1,3 @@
+//! Seeded random asks.
+
+pub mod graphs;
