@@ -4,6 +4,7 @@
 use crate::{plan, text, PlanAnswer, Refusal, TextAnswer, Wanted};
 use std::collections::HashMap;
 use std::fs;
+use std::ops::Range;
 use std::panic::{catch_unwind, AssertUnwindSafe};
 use std::path::{Path, PathBuf};
 
@@ -315,7 +316,10 @@ impl Draft {
             "list-buffer" => self.case.list_len = number(rest)?,
             "text-buffer" => self.case.buf_len = number(rest)?,
             "plan" if self.case.plan.is_some() => return Err("a second `plan`".to_string()),
-            "plan" => self.case.plan = Some(self.plan(rest)?),
+            "plan" => {
+                let rest = self.expanded(rest, 0)?.bytes;
+                self.case.plan = Some(self.plan(&String::from_utf8_lossy(&rest))?);
+            }
             "text" => {
                 let expected = self.text(rest)?;
                 self.case.texts.push(expected);
@@ -352,44 +356,21 @@ impl Draft {
     }
 
     fn card(&mut self, rest: &str) -> Result<Vec<u8>, String> {
-        let (source, raw) = rest.strip_prefix("raw ").map_or((rest, false), |raw| (raw, true));
-        let expanded = self.expanded(source, 0)?;
-        let mut records = Vec::new();
-        let mut card = Vec::new();
-        for part in expanded.words(if raw { b' ' } else { b',' }) {
-            let bytes = &expanded.bytes[part];
-            let shown = bytes.escape_ascii();
-            if !raw {
-                // Before the time stands the last space; a name's own spaces may be written plainly.
-                let bytes = bytes.trim_ascii();
-                let cut = bytes
-                    .iter()
-                    .rposition(|&byte| byte == b' ')
-                    .ok_or(format!("expected `NAME TIME`, not `{shown}`"))?;
-                records.push((&bytes[..cut], number(&String::from_utf8_lossy(&bytes[cut + 1..]))?));
-            } else if let Some(text) = bytes.strip_prefix(b"=") {
-                card.extend(text);
-            } else {
-                let piece = String::from_utf8_lossy(bytes);
-                let (width, value) = piece
-                    .split_once(':')
-                    .ok_or(format!("expected `WIDTH:NUMBER` or `=TEXT`, not `{shown}`"))?;
-                let value: u64 = number(value)?;
-                match width {
-                    "1" => {
-                        card.push(u8::try_from(value).map_err(|_| format!("{value} is no byte"))?)
-                    }
-                    "4" => card.extend(
-                        u32::try_from(value)
-                            .map_err(|_| format!("{value} is over four bytes"))?
-                            .to_le_bytes(),
-                    ),
-                    "8" => card.extend(value.to_le_bytes()),
-                    _ => return Err(format!("{width} is no width; 1, 4 and 8 are")),
-                }
-            }
+        if let Some(raw) = rest.strip_prefix("raw ") {
+            let pieces = self.expanded(raw, 0)?;
+            let bytes =
+                pieces.words(b' ').into_iter().map(|piece| card_piece(&pieces.bytes[piece]));
+            return Ok(bytes.collect::<Result<Vec<_>, _>>()?.concat());
         }
-        Ok(if raw { card } else { card_of(&records) })
+        let records = self.expanded(rest, 0)?;
+        let records = records.words(b',').into_iter().map(|record| {
+            let record = &records.bytes[record];
+            // The last space parts the name, which may hold some, from the time.
+            let cut = record.iter().rposition(|&byte| byte == b' ');
+            let cut = cut.ok_or("expected `NAME TIME` between commas")?;
+            Ok((&record[..cut], number(&String::from_utf8_lossy(&record[cut + 1..]))?))
+        });
+        Ok(card_of(&records.collect::<Result<Vec<_>, String>>()?))
     }
 
     fn plan(&self, rest: &str) -> Result<PlanExpected, String> {
@@ -442,6 +423,24 @@ fn number<T: std::str::FromStr>(word: &str) -> Result<T, String> {
     word.parse().map_err(|_| format!("`{word}` is not a number that fits here"))
 }
 
+/// A piece of a card: `=TEXT`, or `WIDTH:NUMBER` with the lowest byte first.
+fn card_piece(piece: &[u8]) -> Result<Vec<u8>, String> {
+    if let Some(text) = piece.strip_prefix(b"=") {
+        return Ok(text.to_vec());
+    }
+    let piece = String::from_utf8_lossy(piece);
+    let (width, value) = piece.split_once(':').ok_or("expected `WIDTH:NUMBER` or `=TEXT`")?;
+    let width: usize = number(width)?;
+    if ![1, 4, 8].contains(&width) {
+        return Err("a card's number has 1, 4 or 8 bytes".to_string());
+    }
+    let bytes = number::<u64>(value)?.to_le_bytes();
+    if bytes[width..].iter().any(|&byte| byte != 0) {
+        return Err(format!("{value} does not fit into {width} bytes"));
+    }
+    Ok(bytes[..width].to_vec())
+}
+
 /// The card with these records, laid out as document 01 says; whether it is sound is up to the records.
 fn card_of(records: &[(&[u8], u64)]) -> Vec<u8> {
     let four =
@@ -475,16 +474,22 @@ impl Expanded {
         self.plain.push(plain);
     }
 
-    /// The ranges between plain separators that hold more than spaces.
-    fn words(&self, separator: u8) -> Vec<std::ops::Range<usize>> {
+    fn is_plain(&self, at: usize, byte: u8) -> bool {
+        self.bytes[at] == byte && self.plain[at]
+    }
+
+    /// The ranges between plain separators, without plain spaces around them; empty ones are left out.
+    fn words(&self, separator: u8) -> Vec<Range<usize>> {
         let mut words = Vec::new();
-        let mut start = 0;
-        for end in 0..=self.bytes.len() {
-            if end == self.bytes.len() || (self.bytes[end] == separator && self.plain[end]) {
-                if (start..end).any(|i| self.bytes[i] != b' ' || !self.plain[i]) {
+        let mut from = 0;
+        for to in 0..=self.bytes.len() {
+            if to == self.bytes.len() || self.is_plain(to, separator) {
+                let no_space = |at: &usize| !self.is_plain(*at, b' ');
+                if let Some(start) = (from..to).find(no_space) {
+                    let end = (from..to).rfind(no_space).map_or(to, |last| last + 1);
                     words.push(start..end);
                 }
-                start = end + 1;
+                from = to + 1;
             }
         }
         words
