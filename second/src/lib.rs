@@ -1,6 +1,7 @@
 //! A second, independent planner, written from the rules (document 01 and its settled readings) alone.
 //! It is what the proved planner is compared with, and the baseline of its speed.
 
+pub mod ask;
 pub mod bytes;
 pub mod card;
 pub mod cases;
@@ -15,9 +16,12 @@ pub mod plan;
 pub mod program;
 pub mod rng;
 pub mod scan;
+pub mod shapes;
 pub mod targets;
 pub mod text;
 pub mod version;
+
+use std::fmt::{self, Display, Formatter};
 
 /// A refusal: document 01's number, 1 to 18, and its place.
 #[derive(Debug, Clone, Copy, PartialEq, Eq)]
@@ -38,6 +42,12 @@ impl Refusal {
         } else {
             Ok(())
         }
+    }
+}
+
+impl Display for Refusal {
+    fn fmt(&self, f: &mut Formatter) -> fmt::Result {
+        write!(f, "refused {} at {}", self.number, self.place)
     }
 }
 

@@ -8,7 +8,7 @@ use crate::line::{self, Binding, Build, Opening, Statement};
 use crate::version::Version;
 use crate::Refusal;
 use std::borrow::Cow;
-use std::collections::HashMap;
+use std::collections::hash_map::{Entry, HashMap};
 
 /// The number of the rule `phony`, which is declared from the start.
 const PHONY: usize = 0;
@@ -99,14 +99,14 @@ impl<'a> Files<'a> {
 
     /// The number of a file, which is a new one at its first mention.
     fn mention(&mut self, name: Cow<'a, [u8]>) -> u32 {
-        if let Some(number) = self.number(&name) {
-            return number;
+        match self.numbers.entry(name) {
+            Entry::Occupied(known) => *known.get(),
+            Entry::Vacant(new) => {
+                self.names.push(new.key().clone());
+                self.made.push(false);
+                *new.insert(self.made.len() as u32 - 1)
+            }
         }
-        let number = self.names.len() as u32;
-        self.names.push(name.clone());
-        self.numbers.insert(name, number);
-        self.made.push(false);
-        number
     }
 
     /// Marks a file as made; says whether it was so already.

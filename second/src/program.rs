@@ -7,32 +7,25 @@ use crate::{PlanAnswer, Refusal, Wanted};
 
 /// What the program writes for these files and targets.
 pub fn output(manifest: &[u8], card: &[u8], targets: &[u8]) -> Vec<u8> {
-    answer(manifest, card, targets)
-        .unwrap_or_else(|refusal| refused(refusal.number, refusal.place).into_bytes())
+    let written = lines(manifest, card, targets);
+    written.unwrap_or_else(|refusal| format!("{refusal}\n").into_bytes())
 }
 
-fn answer(manifest: &[u8], card: &[u8], targets: &[u8]) -> Result<Vec<u8>, Refusal> {
+fn lines(manifest: &[u8], card: &[u8], targets: &[u8]) -> Result<Vec<u8>, Refusal> {
     let manifest = manifest::read(manifest)?;
-    match plan(&manifest, card, targets)? {
+    let answer = plan(&manifest, card, targets)?;
+    match &answer {
         PlanAnswer::List(list) if list.is_empty() => Ok(b"no work\n".to_vec()),
-        PlanAnswer::List(list) => commands(&manifest, &list),
+        PlanAnswer::List(list) => commands(&manifest, list),
         PlanAnswer::Circle(circle) => {
-            Ok((refused(14, circle.len()) + &circle_line(&circle)).into_bytes())
+            let refusal = Refusal::new(14, circle.len());
+            Ok(format!("{refusal}\n{answer}\n").into_bytes())
         }
-        PlanAnswer::Refused(refusal) => Err(refusal),
+        PlanAnswer::Refused(refusal) => Err(*refusal),
     }
 }
 
-fn refused(number: u8, place: usize) -> String {
-    format!("refused {number} at {place}\n")
-}
-
-fn circle_line(circle: &[u32]) -> String {
-    let steps: String = circle.iter().map(|step| format!(" {step}")).collect();
-    format!("circle{steps}\n")
-}
-
-/// A line for each listed step. Texts are all checked before anything is written.
+/// A line for each listed step. Texts are all checked, in list order, before any is written.
 fn commands(manifest: &Manifest, list: &[u32]) -> Result<Vec<u8>, Refusal> {
     let mut lines = Vec::new();
     for (place, &step) in (1..).zip(list) {
