@@ -1,6 +1,7 @@
 //! The case files of `/cases`: their reader, and the comparison of the second planner with them.
 //! The format is described in `cases/README.md`.
 
+use crate::program::output;
 use crate::{plan, text, PlanAnswer, Refusal, TextAnswer, Wanted};
 use std::collections::HashMap;
 use std::fs;
@@ -39,6 +40,8 @@ pub struct Case {
     pub buf_len: usize,
     pub plan: Option<PlanExpected>,
     pub texts: Vec<TextExpected>,
+    /// What the program has to write.
+    pub prints: Option<Vec<u8>>,
 }
 
 impl PlanExpected {
@@ -111,29 +114,33 @@ fn hex(bytes: &[u8]) -> String {
 
 /// What the second planner answers otherwise than expected; a planner that panics has no answer at all.
 pub fn check(case: &Case) -> Vec<String> {
+    let Case { manifest, card, targets, .. } = case;
     let mut differences = Vec::new();
-    let mut differ = |ask: String, expected: String, answer: String| {
-        differences.push(format!(
-            "{} ({}): {ask}\n  expected {expected}\n  answered {answer}",
-            case.name, case.origin
-        ));
+    let mut compare = |ask: &str, fits: bool, expected: String, answer: Option<String>| {
+        if !fits {
+            let (name, origin) = (&case.name, &case.origin);
+            let answer = answer.unwrap_or("nothing".to_string());
+            differences.push(format!(
+                "{name} ({origin}): {ask}\n  expected {expected}\n  answered {answer}"
+            ));
+        }
     };
     if let Some(expected) = &case.plan {
-        let answer = answer_of(|| plan(&case.manifest, &case.card, &case.targets, case.list_len));
-        if !answer.as_ref().is_some_and(|answer| expected.allows(answer)) {
-            differ(
-                "plan".to_string(),
-                expected.show(),
-                answer.map_or("nothing".to_string(), |answer| show_plan(&answer)),
-            );
-        }
+        let answer = answer_of(|| plan(manifest, card, targets, case.list_len));
+        let fits = answer.as_ref().is_some_and(|answer| expected.allows(answer));
+        compare("plan", fits, expected.show(), answer.as_ref().map(show_plan));
     }
     for TextExpected { step, wanted, answer: expected } in &case.texts {
-        let answer = answer_of(|| text(&case.manifest, *step, *wanted, case.buf_len));
-        if answer.as_ref() != Some(expected) {
-            let answer = answer.map_or("nothing".to_string(), |answer| readable(&answer));
-            differ(format!("text {step} {}", show_wanted(*wanted)), readable(expected), answer);
-        }
+        let answer = answer_of(|| text(manifest, *step, *wanted, case.buf_len));
+        let ask = format!("text {step} {}", show_wanted(*wanted));
+        let fits = answer.as_ref() == Some(expected);
+        compare(&ask, fits, readable(expected), answer.as_ref().map(readable));
+    }
+    if let Some(expected) = &case.prints {
+        let answer = answer_of(|| output(manifest, card, targets));
+        let show = |bytes: &Vec<u8>| bytes.escape_ascii().to_string();
+        let fits = answer.as_ref() == Some(expected);
+        compare("prints", fits, show(expected), answer.as_ref().map(show));
     }
     differences
 }
@@ -149,28 +156,27 @@ fn readable(answer: &TextAnswer) -> String {
     }
 }
 
-/// Every ask of a case with its expected answer, one line each, for other tools.
+/// Every plan and text ask of a case with its expected answer, one line each, for other tools.
 pub fn packed(case: &Case) -> Vec<String> {
-    let manifest = hex(&case.manifest);
+    let (name, manifest) = (&case.name, hex(&case.manifest));
     let plan = case.plan.iter().map(|expected| {
-        let (card, targets) = (hex(&case.card), hex(&case.targets));
-        format!(
-            "{} plan {manifest} {card} {targets} {} -> {}",
-            case.name,
-            case.list_len,
-            expected.show()
-        )
+        let (card, targets, len) = (hex(&case.card), hex(&case.targets), case.list_len);
+        format!("{name} plan {manifest} {card} {targets} {len} -> {}", expected.show())
     });
     let texts = case.texts.iter().map(|TextExpected { step, wanted, answer }| {
-        let wanted = show_wanted(*wanted);
-        format!(
-            "{} text {manifest} {step} {wanted} {} -> {}",
-            case.name,
-            case.buf_len,
-            show_text(answer)
-        )
+        let (wanted, len, answer) = (show_wanted(*wanted), case.buf_len, show_text(answer));
+        format!("{name} text {manifest} {step} {wanted} {len} -> {answer}")
     });
     plan.chain(texts).collect()
+}
+
+/// What the program has to write in a case, on a line like those of `packed`.
+pub fn packed_program(case: &Case) -> Option<String> {
+    let Case { name, manifest, card, targets, prints, .. } = case;
+    let [manifest, card, targets] = [manifest, card, targets].map(|bytes| hex(bytes));
+    prints
+        .as_ref()
+        .map(|prints| format!("{name} program {manifest} {card} {targets} -> text {}", hex(prints)))
 }
 
 /// The folder of the case files, beside that of the second planner.
@@ -242,12 +248,19 @@ pub fn parse(file: &str, content: &str) -> Result<Vec<Case>, String> {
     Ok(cases)
 }
 
+/// What is written piece by piece.
+#[derive(Clone, Copy)]
+enum Block {
+    Manifest,
+    Prints,
+}
+
 /// A case while its lines are read.
 struct Draft {
     case: Case,
     has_manifest: bool,
-    /// Whether pieces of the manifest may follow.
-    open: bool,
+    /// What the pieces that may follow belong to.
+    open: Option<Block>,
     mark: Option<usize>,
 }
 
@@ -264,16 +277,16 @@ impl Draft {
             buf_len: 8192,
             plan: None,
             texts: Vec::new(),
+            prints: None,
         };
-        Self { case, has_manifest: false, open: false, mark: None }
+        Self { case, has_manifest: false, open: None, mark: None }
     }
 
     fn take(&mut self, word: &str, rest: &str, earlier: &[Case]) -> Result<(), String> {
-        let is_piece = word == "|" || word == "+";
-        if is_piece && !self.open {
-            return Err("a piece of a manifest outside one".to_string());
+        if word == "|" || word == "+" {
+            return self.piece(rest, word == "|");
         }
-        self.open = is_piece || (word == "manifest" && rest.is_empty());
+        self.open = None;
         match word {
             "says" | "reading" | "manual" if rest.is_empty() => {
                 return Err(format!("an empty `{word}`"))
@@ -283,20 +296,15 @@ impl Draft {
             "manifest" if self.has_manifest => return Err("a second manifest".to_string()),
             "manifest" => {
                 self.has_manifest = true;
-                if !rest.is_empty() {
+                if rest.is_empty() {
+                    self.open = Some(Block::Manifest);
+                } else {
                     let name = rest
                         .strip_prefix("of ")
                         .ok_or("expected `manifest` or `manifest of NAME`")?;
                     let of = earlier.iter().find(|case| case.name == name);
                     self.case.manifest =
                         of.ok_or(format!("no earlier case {name} in this file"))?.manifest.clone();
-                }
-            }
-            "|" | "+" => {
-                let piece = self.expanded(rest, self.case.manifest.len())?;
-                self.case.manifest.extend(piece.bytes);
-                if word == "|" {
-                    self.case.manifest.push(b'\n');
                 }
             }
             "card" => self.case.card = self.card(rest)?,
@@ -324,7 +332,26 @@ impl Draft {
                 let expected = self.text(rest)?;
                 self.case.texts.push(expected);
             }
+            "prints" if self.case.prints.is_some() => return Err("a second `prints`".to_string()),
+            "prints" => {
+                self.case.prints = Some(Vec::new());
+                self.open = Some(Block::Prints);
+            }
             _ => return Err(format!("unknown word `{word}`")),
+        }
+        Ok(())
+    }
+
+    fn piece(&mut self, source: &str, is_line: bool) -> Result<(), String> {
+        let block = self.open.ok_or("a piece outside `manifest` and `prints`")?;
+        let piece = self.expanded(source, self.case.manifest.len())?.bytes;
+        let whole = match block {
+            Block::Manifest => &mut self.case.manifest,
+            Block::Prints => self.case.prints.get_or_insert_default(),
+        };
+        whole.extend(piece);
+        if is_line {
+            whole.push(b'\n');
         }
         Ok(())
     }
@@ -335,7 +362,7 @@ impl Draft {
             "manifest"
         } else if case.says.is_empty() {
             "`says`, `reading` or `manual`"
-        } else if case.plan.is_none() && case.texts.is_empty() {
+        } else if case.plan.is_none() && case.texts.is_empty() && case.prints.is_none() {
             "expected answer"
         } else {
             return Ok(case);

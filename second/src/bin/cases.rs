@@ -1,21 +1,27 @@
-//! Compares the second planner with the case files: those named, or else all of `/cases`. With `--packed` it prints
-//! every ask and its expected answer instead, for other tools.
+//! Compares the second planner with the case files: those named, or else all of `/cases`. For other tools it prints
+//! instead, with `--packed`, every plan and text ask and its expected answer, or, with `--programs`, what the program
+//! has to write.
 
-use second::cases::{check, files, folder, packed, read};
+use second::cases::{check, files, folder, packed, packed_program, read};
 use std::path::PathBuf;
 use std::process::ExitCode;
 
 fn run() -> Result<bool, String> {
     let (options, named): (Vec<_>, Vec<_>) =
         std::env::args().skip(1).partition(|word| word.starts_with("--"));
-    if let Some(option) = options.iter().find(|option| *option != "--packed") {
-        return Err(format!("unknown option {option}; the command is: cases [--packed] [FILE ..]"));
-    }
-    let named: Vec<PathBuf> = named.into_iter().map(PathBuf::from).collect();
+    let named: Vec<_> = named.into_iter().map(PathBuf::from).collect();
     let cases = read(&if named.is_empty() { files(&folder())? } else { named })?;
-    if !options.is_empty() {
-        cases.iter().flat_map(packed).for_each(|line| println!("{line}"));
-        return Ok(true);
+    match options.iter().map(String::as_str).collect::<Vec<_>>()[..] {
+        [] => {}
+        ["--packed"] => {
+            cases.iter().flat_map(packed).for_each(|line| println!("{line}"));
+            return Ok(true);
+        }
+        ["--programs"] => {
+            cases.iter().filter_map(packed_program).for_each(|line| println!("{line}"));
+            return Ok(true);
+        }
+        _ => return Err("the command is: cases [--packed | --programs] [FILE ..]".to_string()),
     }
     let mut differing = 0;
     for case in &cases {
