@@ -2,28 +2,20 @@
 //! The format is described in `cases/README.md`.
 
 use crate::program::output;
-use crate::{plan, text, PlanAnswer, Refusal, TextAnswer, Wanted};
+use crate::{plan, text, Refusal, TextAnswer, Wanted};
 use std::collections::HashMap;
 use std::fs;
 use std::ops::Range;
 use std::panic::{catch_unwind, AssertUnwindSafe};
 use std::path::{Path, PathBuf};
 
-/// What a plan ask has to answer.
-#[derive(Debug, Clone, PartialEq, Eq)]
-pub enum PlanExpected {
-    List(Vec<u32>),
-    /// Refusal 14: any of these circles, begun at any of its steps.
-    Circles(Vec<Vec<u32>>),
-    Refused(Refusal),
-}
-
-/// A text ask and what it has to answer.
-#[derive(Debug, Clone, PartialEq, Eq)]
-pub struct TextExpected {
-    pub step: usize,
-    pub wanted: Wanted,
-    pub answer: TextAnswer,
+/// What is asked in a case.
+#[derive(Debug, Clone, Copy, PartialEq, Eq)]
+pub enum Ask {
+    Plan,
+    Text(usize, Wanted),
+    /// What the program writes.
+    Program,
 }
 
 #[derive(Debug, Clone)]
@@ -38,64 +30,84 @@ pub struct Case {
     pub targets: Vec<u8>,
     pub list_len: usize,
     pub buf_len: usize,
-    pub plan: Option<PlanExpected>,
-    pub texts: Vec<TextExpected>,
-    /// What the program has to write.
-    pub prints: Option<Vec<u8>>,
+    /// Each ask with the line of its expected answer.
+    pub asks: Vec<(Ask, String)>,
 }
 
-impl PlanExpected {
-    /// Whether an answer is one of those expected.
-    pub fn allows(&self, answer: &PlanAnswer) -> bool {
-        match (self, answer) {
-            (Self::List(want), PlanAnswer::List(got)) => want == got,
-            (Self::Circles(want), PlanAnswer::Circle(got)) => {
-                want.iter().any(|circle| same_circle(circle, got))
+impl Case {
+    /// An ask with all that it lends, as the line that other tools read.
+    pub fn line(&self, ask: Ask) -> String {
+        let [manifest, card, targets] =
+            [&self.manifest, &self.card, &self.targets].map(|bytes| hex(bytes));
+        match ask {
+            Ask::Plan => format!("plan {manifest} {card} {targets} {}", self.list_len),
+            Ask::Text(step, wanted) => {
+                format!("text {manifest} {step} {} {}", show_wanted(wanted), self.buf_len)
             }
-            (Self::Refused(want), PlanAnswer::Refused(got)) => want == got,
-            _ => false,
+            Ask::Program => format!("program {manifest} {card} {targets}"),
         }
     }
 
-    pub fn show(&self) -> String {
-        match self {
-            Self::List(steps) => format!("list{}", show_steps(steps)),
-            Self::Circles(circles) => {
-                let shown: Vec<_> = circles.iter().map(|circle| show_steps(circle)).collect();
-                format!("circle{}", shown.join(" or"))
-            }
-            Self::Refused(refusal) => show_refusal(refusal),
+    /// The second planner's answer as a line; a planner that panics has none.
+    fn answer(&self, ask: Ask) -> Option<String> {
+        let Case { manifest, card, targets, .. } = self;
+        let answer = || match ask {
+            Ask::Plan => plan(manifest, card, targets, self.list_len).to_string(),
+            Ask::Text(step, wanted) => text(manifest, step, wanted, self.buf_len).to_string(),
+            Ask::Program => TextAnswer::Text(output(manifest, card, targets)).to_string(),
+        };
+        catch_unwind(AssertUnwindSafe(answer)).ok()
+    }
+}
+
+/// Whether an answer is the expected one. For a circle that is any of those expected
+/// (`circle 0 1 or 2`), begun at any of its steps.
+pub fn allows(expected: &str, answer: &str) -> bool {
+    let circle = |line: &str| -> Vec<String> { line.split(' ').map(str::to_string).collect() };
+    match (expected.strip_prefix("circle "), answer.strip_prefix("circle ")) {
+        (Some(expected), Some(answer)) => {
+            let answer = circle(answer);
+            expected.split(" or ").map(circle).any(|mut expected| {
+                (0..expected.len()).any(|_| {
+                    expected.rotate_left(1);
+                    expected == answer
+                })
+            })
+        }
+        _ => expected == answer,
+    }
+}
+
+/// What the second planner answers otherwise than expected.
+pub fn check(case: &Case) -> Vec<String> {
+    let mut differences = Vec::new();
+    for (ask, expected) in &case.asks {
+        let answer = case.answer(*ask).unwrap_or("nothing".to_string());
+        if !allows(expected, &answer) {
+            let Case { name, origin, .. } = case;
+            let [expected, answer] = [expected, &answer].map(|line| readable(line));
+            differences.push(format!(
+                "{name} ({origin}): {ask:?}\n  expected {expected}\n  answered {answer}"
+            ));
         }
     }
+    differences
 }
 
-/// Whether two circles are the same steps in the same order, begun anywhere.
-fn same_circle(one: &[u32], other: &[u32]) -> bool {
-    let turned = |by: usize| one[by..].iter().chain(&one[..by]);
-    one.len() == other.len() && (0..one.len()).any(|by| turned(by).eq(other))
+/// Every plan and text ask of a case with its expected answer, one line each, for other tools; or,
+/// if wanted, those of the program instead.
+pub fn packed(case: &Case, programs: bool) -> Vec<String> {
+    let asks = case.asks.iter().filter(|(ask, _)| (*ask == Ask::Program) == programs);
+    asks.map(|(ask, expected)| format!("{} {} -> {expected}", case.name, case.line(*ask))).collect()
 }
 
-fn show_steps(steps: &[u32]) -> String {
-    steps.iter().map(|step| format!(" {step}")).collect()
-}
-
-fn show_refusal(refusal: &Refusal) -> String {
-    format!("refused {} at {}", refusal.number, refusal.place)
-}
-
-pub fn show_plan(answer: &PlanAnswer) -> String {
-    match answer {
-        PlanAnswer::List(steps) => format!("list{}", show_steps(steps)),
-        PlanAnswer::Circle(steps) => format!("circle{}", show_steps(steps)),
-        PlanAnswer::Refused(refusal) => show_refusal(refusal),
-    }
-}
-
-pub fn show_text(answer: &TextAnswer) -> String {
-    match answer {
-        TextAnswer::Text(bytes) => format!("text {}", hex(bytes)),
-        TextAnswer::Refused(refusal) => show_refusal(refusal),
-    }
+/// An answer's line with its bytes, if it has any, in readable form.
+fn readable(line: &str) -> String {
+    let bytes = line.strip_prefix("text ").map(|hex| {
+        let digits = hex.as_bytes().chunks_exact(2).map(String::from_utf8_lossy);
+        digits.filter_map(|two| u8::from_str_radix(&two, 16).ok()).collect::<Vec<u8>>()
+    });
+    bytes.map_or(line.to_string(), |bytes| format!("text {}", bytes.escape_ascii()))
 }
 
 fn show_wanted(wanted: Wanted) -> &'static str {
@@ -110,73 +122,6 @@ fn hex(bytes: &[u8]) -> String {
         return "-".to_string();
     }
     bytes.iter().map(|byte| format!("{byte:02x}")).collect()
-}
-
-/// What the second planner answers otherwise than expected; a planner that panics has no answer at all.
-pub fn check(case: &Case) -> Vec<String> {
-    let Case { manifest, card, targets, .. } = case;
-    let mut differences = Vec::new();
-    let mut compare = |ask: &str, fits: bool, expected: String, answer: Option<String>| {
-        if !fits {
-            let (name, origin) = (&case.name, &case.origin);
-            let answer = answer.unwrap_or("nothing".to_string());
-            differences.push(format!(
-                "{name} ({origin}): {ask}\n  expected {expected}\n  answered {answer}"
-            ));
-        }
-    };
-    if let Some(expected) = &case.plan {
-        let answer = answer_of(|| plan(manifest, card, targets, case.list_len));
-        let fits = answer.as_ref().is_some_and(|answer| expected.allows(answer));
-        compare("plan", fits, expected.show(), answer.as_ref().map(show_plan));
-    }
-    for TextExpected { step, wanted, answer: expected } in &case.texts {
-        let answer = answer_of(|| text(manifest, *step, *wanted, case.buf_len));
-        let ask = format!("text {step} {}", show_wanted(*wanted));
-        let fits = answer.as_ref() == Some(expected);
-        compare(&ask, fits, readable(expected), answer.as_ref().map(readable));
-    }
-    if let Some(expected) = &case.prints {
-        let answer = answer_of(|| output(manifest, card, targets));
-        let show = |bytes: &Vec<u8>| bytes.escape_ascii().to_string();
-        let fits = answer.as_ref() == Some(expected);
-        compare("prints", fits, show(expected), answer.as_ref().map(show));
-    }
-    differences
-}
-
-fn answer_of<T>(ask: impl FnOnce() -> T) -> Option<T> {
-    catch_unwind(AssertUnwindSafe(ask)).ok()
-}
-
-fn readable(answer: &TextAnswer) -> String {
-    match answer {
-        TextAnswer::Text(bytes) => format!("= {}", bytes.escape_ascii()),
-        TextAnswer::Refused(refusal) => show_refusal(refusal),
-    }
-}
-
-/// Every plan and text ask of a case with its expected answer, one line each, for other tools.
-pub fn packed(case: &Case) -> Vec<String> {
-    let (name, manifest) = (&case.name, hex(&case.manifest));
-    let plan = case.plan.iter().map(|expected| {
-        let (card, targets, len) = (hex(&case.card), hex(&case.targets), case.list_len);
-        format!("{name} plan {manifest} {card} {targets} {len} -> {}", expected.show())
-    });
-    let texts = case.texts.iter().map(|TextExpected { step, wanted, answer }| {
-        let (wanted, len, answer) = (show_wanted(*wanted), case.buf_len, show_text(answer));
-        format!("{name} text {manifest} {step} {wanted} {len} -> {answer}")
-    });
-    plan.chain(texts).collect()
-}
-
-/// What the program has to write in a case, on a line like those of `packed`.
-pub fn packed_program(case: &Case) -> Option<String> {
-    let Case { name, manifest, card, targets, prints, .. } = case;
-    let [manifest, card, targets] = [manifest, card, targets].map(|bytes| hex(bytes));
-    prints
-        .as_ref()
-        .map(|prints| format!("{name} program {manifest} {card} {targets} -> text {}", hex(prints)))
 }
 
 /// The folder of the case files, beside that of the second planner.
@@ -259,6 +204,7 @@ enum Block {
 struct Draft {
     case: Case,
     has_manifest: bool,
+    prints: Option<Vec<u8>>,
     /// What the pieces that may follow belong to.
     open: Option<Block>,
     mark: Option<usize>,
@@ -275,11 +221,9 @@ impl Draft {
             targets: Vec::new(),
             list_len: 512,
             buf_len: 8192,
-            plan: None,
-            texts: Vec::new(),
-            prints: None,
+            asks: Vec::new(),
         };
-        Self { case, has_manifest: false, open: None, mark: None }
+        Self { case, has_manifest: false, prints: None, open: None, mark: None }
     }
 
     fn take(&mut self, word: &str, rest: &str, earlier: &[Case]) -> Result<(), String> {
@@ -293,52 +237,60 @@ impl Draft {
             }
             "says" => self.case.says.push(rest.to_string()),
             "reading" | "manual" => self.case.says.push(format!("{word} {rest}")),
-            "manifest" if self.has_manifest => return Err("a second manifest".to_string()),
-            "manifest" => {
-                self.has_manifest = true;
-                if rest.is_empty() {
-                    self.open = Some(Block::Manifest);
-                } else {
-                    let name = rest
-                        .strip_prefix("of ")
-                        .ok_or("expected `manifest` or `manifest of NAME`")?;
-                    let of = earlier.iter().find(|case| case.name == name);
-                    self.case.manifest =
-                        of.ok_or(format!("no earlier case {name} in this file"))?.manifest.clone();
-                }
-            }
+            "manifest" => self.manifest(rest, earlier)?,
             "card" => self.case.card = self.card(rest)?,
-            "targets" => {
-                self.case.targets = match rest.strip_prefix("raw ") {
-                    Some(raw) => self.expanded(raw, 0)?.bytes,
-                    None => {
-                        let names = self.expanded(rest, 0)?;
-                        let ended = names
-                            .words(b' ')
-                            .into_iter()
-                            .map(|name| [&names.bytes[name], b"\n"].concat());
-                        ended.flatten().collect()
-                    }
-                }
-            }
+            "targets" => self.case.targets = self.targets(rest)?,
             "list-buffer" => self.case.list_len = number(rest)?,
             "text-buffer" => self.case.buf_len = number(rest)?,
-            "plan" if self.case.plan.is_some() => return Err("a second `plan`".to_string()),
+            "plan" if self.case.asks.iter().any(|(ask, _)| *ask == Ask::Plan) => {
+                return Err("a second `plan`".to_string())
+            }
             "plan" => {
-                let rest = self.expanded(rest, 0)?.bytes;
-                self.case.plan = Some(self.plan(&String::from_utf8_lossy(&rest))?);
+                let expected = self.plan(rest)?;
+                self.case.asks.push((Ask::Plan, expected));
             }
             "text" => {
-                let expected = self.text(rest)?;
-                self.case.texts.push(expected);
+                let ask = self.text(rest)?;
+                self.case.asks.push(ask);
             }
-            "prints" if self.case.prints.is_some() => return Err("a second `prints`".to_string()),
             "prints" => {
-                self.case.prints = Some(Vec::new());
+                self.prints.get_or_insert_default();
                 self.open = Some(Block::Prints);
             }
             _ => return Err(format!("unknown word `{word}`")),
         }
+        Ok(())
+    }
+
+    fn finish(mut self) -> Result<Case, String> {
+        if let Some(prints) = self.prints {
+            self.case.asks.push((Ask::Program, TextAnswer::Text(prints).to_string()));
+        }
+        let case = self.case;
+        let missing = if !self.has_manifest {
+            "manifest"
+        } else if case.says.is_empty() {
+            "`says`, `reading` or `manual`"
+        } else if case.asks.is_empty() {
+            "expected answer"
+        } else {
+            return Ok(case);
+        };
+        Err(format!("{}: the case {} has no {missing}", case.origin, case.name))
+    }
+
+    fn manifest(&mut self, rest: &str, earlier: &[Case]) -> Result<(), String> {
+        if std::mem::replace(&mut self.has_manifest, true) {
+            return Err("a second manifest".to_string());
+        }
+        if rest.is_empty() {
+            self.open = Some(Block::Manifest);
+            return Ok(());
+        }
+        let name = rest.strip_prefix("of ").ok_or("expected `manifest` or `manifest of NAME`")?;
+        let of = earlier.iter().find(|case| case.name == name);
+        self.case.manifest =
+            of.ok_or(format!("no earlier case {name} in this file"))?.manifest.clone();
         Ok(())
     }
 
@@ -347,7 +299,7 @@ impl Draft {
         let piece = self.expanded(source, self.case.manifest.len())?.bytes;
         let whole = match block {
             Block::Manifest => &mut self.case.manifest,
-            Block::Prints => self.case.prints.get_or_insert_default(),
+            Block::Prints => self.prints.get_or_insert_default(),
         };
         whole.extend(piece);
         if is_line {
@@ -356,18 +308,13 @@ impl Draft {
         Ok(())
     }
 
-    fn finish(self) -> Result<Case, String> {
-        let case = self.case;
-        let missing = if !self.has_manifest {
-            "manifest"
-        } else if case.says.is_empty() {
-            "`says`, `reading` or `manual`"
-        } else if case.plan.is_none() && case.texts.is_empty() && case.prints.is_none() {
-            "expected answer"
-        } else {
-            return Ok(case);
-        };
-        Err(format!("{}: the case {} has no {missing}", case.origin, case.name))
+    fn targets(&mut self, rest: &str) -> Result<Vec<u8>, String> {
+        if let Some(raw) = rest.strip_prefix("raw ") {
+            return Ok(self.expanded(raw, 0)?.bytes);
+        }
+        let names = self.expanded(rest, 0)?;
+        let ended = names.words(b' ').into_iter().map(|name| [&names.bytes[name], b"\n"].concat());
+        Ok(ended.flatten().collect())
     }
 
     /// A text with its backslashes read; a mark in it is a place counted from `start`.
@@ -400,25 +347,29 @@ impl Draft {
         Ok(card_of(&records.collect::<Result<Vec<_>, String>>()?))
     }
 
-    fn plan(&self, rest: &str) -> Result<PlanExpected, String> {
-        let (word, rest) = rest.split_once(' ').unwrap_or((rest, ""));
-        let steps =
-            |words: &str| words.split_whitespace().map(number).collect::<Result<Vec<u32>, _>>();
-        Ok(match word {
-            "list" => PlanExpected::List(steps(rest)?),
+    /// The line of a plan's expected answer; each number in it is checked.
+    fn plan(&mut self, rest: &str) -> Result<String, String> {
+        let line = String::from_utf8_lossy(&self.expanded(rest, 0)?.bytes).into_owned();
+        let (word, rest) = line.split_once(' ').unwrap_or((&line, ""));
+        let steps = |words: &str| -> Result<String, String> {
+            let steps = words.split_whitespace().map(number::<u32>);
+            steps.map(|step| Ok(format!(" {}", step?))).collect()
+        };
+        match word {
+            "list" => Ok(format!("list{}", steps(rest)?)),
             "circle" => {
                 let circles = rest.split(" or ").map(steps).collect::<Result<Vec<_>, _>>()?;
-                if circles.iter().any(Vec::is_empty) {
+                if circles.iter().any(String::is_empty) {
                     return Err("a circle has one step at least".to_string());
                 }
-                PlanExpected::Circles(circles)
+                Ok(format!("circle{}", circles.join(" or")))
             }
-            "refused" => PlanExpected::Refused(self.refusal(rest)?),
-            _ => return Err(format!("expected `list`, `circle` or `refused`, not `{word}`")),
-        })
+            "refused" => Ok(self.refusal(rest)?.to_string()),
+            _ => Err(format!("expected `list`, `circle` or `refused`, not `{word}`")),
+        }
     }
 
-    fn text(&mut self, rest: &str) -> Result<TextExpected, String> {
+    fn text(&mut self, rest: &str) -> Result<(Ask, String), String> {
         let mut words = rest.splitn(4, ' ');
         let step = number(words.next().unwrap_or(""))?;
         let wanted = match words.next() {
@@ -432,7 +383,7 @@ impl Draft {
             Some("refused") => TextAnswer::Refused(self.refusal(rest)?),
             _ => return Err("expected `=` or `refused`".to_string()),
         };
-        Ok(TextExpected { step, wanted, answer })
+        Ok((Ask::Text(step, wanted), answer.to_string()))
     }
 
     fn refusal(&self, rest: &str) -> Result<Refusal, String> {

@@ -1,7 +1,6 @@
 //! All cases of `/cases`, put to the second planner.
 
-use second::cases::{check, files, folder, packed, parse, read, PlanExpected};
-use second::PlanAnswer;
+use second::cases::{allows, check, files, folder, packed, parse, read};
 
 #[test]
 fn all_cases_pass() {
@@ -26,10 +25,12 @@ case one
 case two
   reading 3
   manifest of one
-  card raw 4:1 1:2 =x
+  card raw 4:1 1:2 =
   targets raw a\n
   plan circle 1 2 or 3
   text 7 description = \{2 x}
+  prints
+    | no work
 ";
     let cases = parse("sample", content).unwrap();
     assert_eq!(cases[0].manifest, b"a = 000,101,202, \n\nb\0");
@@ -40,25 +41,31 @@ case two
     ];
     assert_eq!(cases[0].card, [&header[..], &records, b"ab c"].concat());
     assert_eq!(cases[0].targets, b"a\nb c\n");
-    assert_eq!(cases[0].plan.as_ref().unwrap().show(), "refused 3 at 19");
+    assert_eq!(cases[0].asks[0].1, "refused 3 at 19");
     assert_eq!(cases[1].manifest, cases[0].manifest);
-    assert_eq!(cases[1].card, [1, 0, 0, 0, 2, b'x']);
-    let shown: Vec<_> = packed(&cases[1])
-        .iter()
-        .map(|line| line.split_once(" -> ").unwrap().1.to_string())
-        .collect();
-    assert_eq!(shown, ["circle 1 2 or 3", "text 7878"]);
+    assert_eq!(cases[1].card, [1, 0, 0, 0, 2]);
+    assert_eq!(
+        packed(&cases[1], false),
+        [
+            "two plan 61203d203030302c3130312c3230322c200a0a6200 0100000002 610a 512 -> circle 1 2 or 3",
+            "two text 61203d203030302c3130312c3230322c200a0a6200 7 description 8192 -> text 7878",
+        ]
+    );
+    assert_eq!(
+        packed(&cases[1], true),
+        ["two program 61203d203030302c3130312c3230322c200a0a6200 0100000002 610a -> text 6e6f20776f726b0a"]
+    );
 }
 
 #[test]
 fn a_circle_may_begin_anywhere_but_not_turn_round() {
-    let expected = PlanExpected::Circles(vec![vec![0, 1, 2], vec![3]]);
-    for circle in [vec![0, 1, 2], vec![1, 2, 0], vec![2, 0, 1], vec![3]] {
-        assert!(expected.allows(&PlanAnswer::Circle(circle)));
+    for circle in ["0 1 2", "1 2 0", "2 0 1", "3"] {
+        assert!(allows("circle 0 1 2 or 3", &format!("circle {circle}")));
     }
-    for circle in [vec![2, 1, 0], vec![0, 1], vec![0, 1, 2, 0], vec![]] {
-        assert!(!expected.allows(&PlanAnswer::Circle(circle)));
+    for answer in ["circle 2 1 0", "circle 0 1", "circle 0 1 2 0", "list 3", "refused 14 at 1"] {
+        assert!(!allows("circle 0 1 2 or 3", answer));
     }
+    assert!(allows("list 0 1", "list 0 1") && !allows("list 0 1", "list 1 0"));
 }
 
 #[test]

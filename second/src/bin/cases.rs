@@ -1,8 +1,8 @@
-//! Compares the second planner with the case files: those named, or else all of `/cases`. For other tools it prints
-//! instead, with `--packed`, every plan and text ask and its expected answer, or, with `--programs`, what the program
-//! has to write.
+//! Compares the second planner with the case files: those named, or else all of `/cases`. For other
+//! tools it prints instead, with `--packed`, every plan and text ask and its expected answer, or,
+//! with `--programs`, what the program has to write.
 
-use second::cases::{check, files, folder, packed, packed_program, read};
+use second::cases::{check, files, folder, packed, read};
 use std::path::PathBuf;
 use std::process::ExitCode;
 
@@ -11,17 +11,15 @@ fn run() -> Result<bool, String> {
         std::env::args().skip(1).partition(|word| word.starts_with("--"));
     let named: Vec<_> = named.into_iter().map(PathBuf::from).collect();
     let cases = read(&if named.is_empty() { files(&folder())? } else { named })?;
-    match options.iter().map(String::as_str).collect::<Vec<_>>()[..] {
-        [] => {}
-        ["--packed"] => {
-            cases.iter().flat_map(packed).for_each(|line| println!("{line}"));
-            return Ok(true);
-        }
-        ["--programs"] => {
-            cases.iter().filter_map(packed_program).for_each(|line| println!("{line}"));
-            return Ok(true);
-        }
+    let programs = match options.iter().map(String::as_str).collect::<Vec<_>>()[..] {
+        [] => None,
+        ["--packed"] => Some(false),
+        ["--programs"] => Some(true),
         _ => return Err("the command is: cases [--packed | --programs] [FILE ..]".to_string()),
+    };
+    if let Some(programs) = programs {
+        cases.iter().flat_map(|case| packed(case, programs)).for_each(|line| println!("{line}"));
+        return Ok(true);
     }
     let mut differing = 0;
     for case in &cases {
