@@ -63,3 +63,23 @@ const fn classify(byte: u8) -> Class {
         _ => Class::Other,
     }
 }
+
+#[cfg(test)]
+mod tests {
+    use super::*;
+
+    #[test]
+    fn the_rule_of_the_classes_holds_at_every_entry() {
+        for byte in 0..=255u8 {
+            let in_name = byte.is_ascii_alphanumeric() || b"_.-".contains(&byte);
+            assert_eq!(class(byte).in_name(), in_name);
+            assert_eq!(class(byte) == Class::Short, in_name && byte != b'.');
+            assert_eq!(class(byte) == Class::Forbidden, [0, 9, 13].contains(&byte));
+            let own = b" \n$:|=#{}".iter().position(|&own| own == byte);
+            let classes = [Class::Space, Class::Newline, Class::Dollar, Class::Colon, Class::Pipe];
+            let more = [Class::Equals, Class::Hash, Class::Open, Class::Close];
+            let expected = own.map(|place| [&classes[..], &more[..]].concat()[place]);
+            assert!(expected.is_none_or(|expected| class(byte) == expected));
+        }
+    }
+}

@@ -22,7 +22,7 @@ pub fn ask(seed: u64) -> Ask {
     let mut manifest = match kind {
         Kind::Mixed => Draft::new(rng).mixed(600),
         Kind::Texts => Draft::new(rng).texts(),
-        Kind::Graph => of_graph(rng, 12),
+        Kind::Graph => of_graph(rng, 20),
         Kind::Edge => edges::full(rng),
     };
     if rng.chance(20) {
@@ -71,7 +71,7 @@ impl Kind {
 
 fn of_graph(rng: &mut Rng, most_steps: usize) -> Vec<u8> {
     let ask = graphs::graph_ask(rng, most_steps);
-    Draft::new(rng).graph(&ask.graph, &ask.defaults)
+    graphs::manifest(rng, &ask)
 }
 
 fn drop_last_line(manifest: &mut Vec<u8>) {

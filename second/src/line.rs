@@ -102,14 +102,15 @@ fn rule<'a>(scan: &mut Scanner<'a>) -> Result<&'a [u8], Fault> {
 
 fn build<'a>(scan: &mut Scanner<'a>) -> Result<Build<'a>, Fault> {
     let outputs = paths(scan)?;
-    if outputs.is_empty() || !scan.take(Class::Colon) {
+    if outputs.is_empty() || !scan.take(b":") {
         return Err(Fault::Form);
     }
     let rule = rule_name(scan)?;
     let explicit = paths(scan)?;
-    // `||` is read before `|`; `|` may have nothing after it (reading 10).
-    let implicit = if one_bar(scan) { paths(scan)? } else { Vec::new() };
-    let order_only = if two_bars(scan) { paths(scan)? } else { Vec::new() };
+    // `||` is read before `|`; both may have nothing after them (reading 10).
+    let one_bar = !scan.sees(b"||") && scan.take(b"|");
+    let implicit = if one_bar { paths(scan)? } else { Vec::new() };
+    let order_only = if scan.take(b"||") { paths(scan)? } else { Vec::new() };
     Ok(Build { outputs, rule, explicit, implicit, order_only })
 }
 
@@ -125,7 +126,7 @@ fn default<'a>(scan: &mut Scanner<'a>) -> Result<Vec<&'a [u8]>, Fault> {
 fn binding_of<'a>(name: &'a [u8], scan: &mut Scanner<'a>) -> Result<Binding<'a>, Fault> {
     not_yet(name)?;
     scan.gap();
-    if !scan.take(Class::Equals) {
+    if !scan.take(b"=") {
         return Err(Fault::Form);
     }
     let value = scan.value()?;
@@ -150,14 +151,6 @@ fn paths<'a>(scan: &mut Scanner<'a>) -> Result<Vec<&'a [u8]>, Fault> {
             Some(_) => paths.push(scan.path()?),
         }
     }
-}
-
-fn one_bar(scan: &mut Scanner) -> bool {
-    !scan.sees(b"||") && scan.take(Class::Pipe)
-}
-
-fn two_bars(scan: &mut Scanner) -> bool {
-    scan.sees(b"||") && scan.take(Class::Pipe) && scan.take(Class::Pipe)
 }
 
 /// "The keywords are a 4 where a rule or key is named, the last three a 6."

@@ -1,6 +1,7 @@
 //! The manifest: its lines from the top, applied to what has been read; refusals 7 to 10 of each
 //! line in that order, and a missing `command` where its block closes.
 
+use crate::bytes::{class, Class};
 use crate::expand::expand;
 use crate::graph::{Graph, Step};
 use crate::limits;
@@ -123,7 +124,7 @@ impl<'a> Files<'a> {
 /// Reads a manifest: refusals 2 to 10.
 pub fn read(bytes: &[u8]) -> Result<Manifest<'_>, Refusal> {
     Refusal::when(bytes.len() > limits::MANIFEST, 2, 0)?;
-    if let Some(place) = bytes.iter().position(|b| matches!(b, 0 | b'\t' | b'\r')) {
+    if let Some(place) = bytes.iter().position(|&b| class(b) == Class::Forbidden) {
         return Err(Refusal::new(3, place));
     }
     Refusal::when(bytes.last().is_some_and(|&b| b != b'\n'), 3, bytes.len())?;

@@ -56,8 +56,16 @@ fn roots(graph: &Graph, targets: &[u32], defaults: &[u32]) -> Result<Vec<u32>, R
     Ok(roots)
 }
 
-/// How far the search for an order has come with a step.
-#[derive(Clone, Copy, PartialEq, Eq)]
+/// A depth-first search for an order of the needed steps.
+struct Search {
+    marks: Vec<Mark>,
+    /// Steps under way: each has an input made by the next.
+    path: Vec<u32>,
+    /// Steps done, each after the makers of all its inputs.
+    order: Vec<u32>,
+}
+
+#[derive(Clone, Copy)]
 enum Mark {
     Unseen,
     OnPath,
@@ -84,38 +92,36 @@ impl Planner<'_> {
         self.step(step).inputs().filter_map(|file| self.maker(file))
     }
 
-    /// The needed steps, each after the makers of all its inputs, by depth-first search; or a
-    /// circle, since each step on the path has an input made by the next.
+    /// The needed steps, each after the makers of all its inputs, or a circle.
     fn order(&self, roots: &[u32]) -> Result<Vec<u32>, Vec<u32>> {
-        let mut marks = vec![Mark::Unseen; self.graph.steps.len()];
-        let mut order = Vec::with_capacity(self.graph.steps.len());
-        let mut path = Vec::new();
-        for root in roots.iter().filter_map(|&file| self.maker(file)) {
-            let mut entered = Some(root).filter(|_| marks[root as usize] == Mark::Unseen);
-            loop {
-                if let Some(step) = entered {
-                    marks[step as usize] = Mark::OnPath;
-                    path.push((step, self.upstream(step)));
-                }
-                let Some((step, makers)) = path.last_mut() else {
-                    break;
-                };
-                entered = makers.find(|&maker| marks[maker as usize] != Mark::Done);
-                match entered {
-                    None => {
-                        marks[*step as usize] = Mark::Done;
-                        order.push(*step);
-                        path.pop();
-                    }
-                    Some(maker) if marks[maker as usize] == Mark::OnPath => {
-                        let steps = path.iter().map(|&(step, _)| step);
-                        return Err(steps.skip_while(|&step| step != maker).collect());
-                    }
-                    Some(_) => {}
-                }
-            }
+        let steps = self.graph.steps.len();
+        let marks = vec![Mark::Unseen; steps];
+        let mut search = Search { marks, path: Vec::new(), order: Vec::with_capacity(steps) };
+        for maker in roots.iter().filter_map(|&file| self.maker(file)) {
+            self.visit(maker, &mut search)?;
         }
-        Ok(order)
+        Ok(search.order)
+    }
+
+    /// Visits a step and all upstream of it; gives a circle if the path comes back to itself.
+    fn visit(&self, step: u32, search: &mut Search) -> Result<(), Vec<u32>> {
+        match search.marks[step as usize] {
+            Mark::Done => return Ok(()),
+            Mark::OnPath => {
+                let path = search.path.iter().copied();
+                return Err(path.skip_while(|&other| other != step).collect());
+            }
+            Mark::Unseen => {}
+        }
+        search.marks[step as usize] = Mark::OnPath;
+        search.path.push(step);
+        for maker in self.upstream(step) {
+            self.visit(maker, search)?;
+        }
+        search.path.pop();
+        search.marks[step as usize] = Mark::Done;
+        search.order.push(step);
+        Ok(())
     }
 
     /// The lowest missing file without a maker that is a target or an input of a needed step.

@@ -77,11 +77,13 @@ impl<'a> Scanner<'a> {
         self.bytes[self.at..].starts_with(wanted)
     }
 
-    /// Passes the next byte if it is of that class.
-    pub fn take(&mut self, wanted: Class) -> bool {
-        let fits = self.peek() == Some(wanted);
-        self.at += usize::from(fits);
-        fits
+    /// Passes these bytes if they come next.
+    pub fn take(&mut self, wanted: &[u8]) -> bool {
+        let next = self.sees(wanted);
+        if next {
+            self.at += wanted.len();
+        }
+        next
     }
 
     /// Passes spaces.
@@ -92,8 +94,7 @@ impl<'a> Scanner<'a> {
     /// Passes the spaces and joins between two tokens, or after the last (reading 2).
     pub fn gap(&mut self) {
         self.spaces();
-        while self.sees(b"$\n") {
-            self.at += 2;
+        while self.take(b"$\n") {
             self.spaces();
         }
     }
@@ -135,7 +136,7 @@ impl<'a> Scanner<'a> {
 
     /// Passes the newline that ends the line; anything else, or the manifest's end, fits no form.
     pub fn end(&mut self) -> Result<(), Fault> {
-        if self.take(Class::Newline) {
+        if self.take(b"\n") {
             Ok(())
         } else {
             Err(Fault::Form)

@@ -80,3 +80,21 @@ fn times(files: &[String], sources: u64) -> Vec<u8> {
     let records: Vec<_> = files.iter().map(|file| (file.as_bytes(), time(file))).collect();
     card::write(&records)
 }
+
+#[cfg(test)]
+mod tests {
+    use super::*;
+    use crate::{limits, plan, PlanAnswer};
+
+    #[test]
+    fn all_steps_are_fresh_or_stale() {
+        for steps in [1, 2, 17, limits::STEPS] {
+            for shape in all(steps) {
+                let list = |card: &[u8]| plan(&shape.manifest, card, b"", limits::LIST);
+                assert_eq!(list(&shape.fresh), PlanAnswer::List(vec![]), "{}", shape.name);
+                let stale = PlanAnswer::List((0..steps as u32).collect());
+                assert_eq!(list(&shape.stale), stale, "{}", shape.name);
+            }
+        }
+    }
+}

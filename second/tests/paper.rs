@@ -124,3 +124,70 @@ fn readings_that_look_right() {
     let spaced = b"s = foo bar\nrule r\n  command = $in.\nbuild o: r $s/baz other$ file\n";
     assert_eq!(command(spaced, 0), b"foo bar/baz other file.");
 }
+
+/// The manual's own examples within this edition, with what it says of them.
+#[test]
+fn the_manuals_examples() {
+    let shadowing = b"cflags = -Wall -Werror
+rule cc
+  command = gcc $cflags -c $in -o $out
+
+# If left unspecified, builds get the outer $cflags.
+build foo.o: cc foo.c
+
+# But you can shadow variables like cflags for a particular build.
+build special.o: cc special.c
+  cflags = -Wall
+
+# The variable was only shadowed for the scope of special.o;
+# Subsequent build lines get the outer (original) cflags.
+build bar.o: cc bar.c
+";
+    let sources = card(&[("foo.c", 1), ("special.c", 1), ("bar.c", 1)]);
+    let written = b"[1/3] gcc -Wall -Werror -c foo.c -o foo.o
+[2/3] gcc -Wall -c special.c -o special.o
+[3/3] gcc -Wall -Werror -c bar.c -o bar.o
+";
+    assert_eq!(program::output(shadowing, &sources, b""), written);
+
+    let demo = b"rule demo
+  command = echo \"this is a demo of $foo\"
+build out: demo
+  foo = bar
+";
+    assert_eq!(program::output(demo, &card(&[]), b""), b"[1/1] echo \"this is a demo of bar\"\n");
+
+    let joined = b"two_words_with_one_space = foo $
+    bar
+one_word_with_no_space = foo$
+    bar
+rule r
+  command = [$two_words_with_one_space][$one_word_with_no_space]
+build out: r
+";
+    assert_eq!(command(joined, 0), b"[foo bar][foobar]");
+
+    let spaced = b"spaced = foo bar
+rule r
+  command = $out
+build $spaced/baz other$ file: r
+";
+    assert_eq!(command(spaced, 0), b"foo bar/baz other file");
+    assert_eq!(list(spaced, &[("foo bar/baz", 1)], "other file\n"), [0]);
+
+    let phony = b"build foo: phony some/file/in/a/faraway/subdir/foo\n";
+    let faraway = [("some/file/in/a/faraway/subdir/foo", 1)];
+    assert_eq!(program::output(phony, &card(&faraway), b"foo\n"), b"no work\n");
+
+    let defaults = b"rule r
+  command = r $out
+build foo: r
+build bar: r
+build baz: r
+build other: r
+default foo bar
+default baz
+";
+    assert_eq!(list(defaults, &[], ""), [0, 1, 2]);
+    assert_eq!(refused(b"ninja_required_version = 1.1\n"), None);
+}

@@ -1,6 +1,5 @@
 //! Near-valid manifests, drawn line by line from a small vocabulary.
 
-use crate::graph::Graph;
 use crate::rng::Rng;
 
 const RULES: &[&str] = &["cc", "ld", "r.1", "depfile", "in"];
@@ -100,27 +99,6 @@ impl<'r> Draft<'r> {
         }
         for _ in 0..self.rng.below(3) {
             self.variable();
-        }
-        self.text.into_bytes()
-    }
-
-    /// The build lines of a graph, file `n` being named `fn`, and its defaults.
-    pub fn graph(mut self, graph: &Graph, defaults: &[u32]) -> Vec<u8> {
-        self.text += "rule cc\n  command = cc $in -o $out\n";
-        let paths = |files: &[u32]| -> String { files.iter().map(|f| format!(" f{f}")).collect() };
-        for step in &graph.steps {
-            let rule = if step.phony { "phony" } else { "cc" };
-            self.text += &format!("build{}: {rule}{}", paths(&step.outputs), paths(&step.explicit));
-            if !step.implicit.is_empty() || self.rng.chance(5) {
-                self.text += &format!(" |{}", paths(&step.implicit));
-            }
-            if !step.order_only.is_empty() || self.rng.chance(5) {
-                self.text += &format!(" ||{}", paths(&step.order_only));
-            }
-            self.text.push('\n');
-        }
-        if !defaults.is_empty() {
-            self.text += &format!("default{}\n", paths(defaults));
         }
         self.text.into_bytes()
     }
@@ -282,18 +260,15 @@ impl<'r> Draft<'r> {
 
     /// An output that no step makes yet, as far as names tell.
     fn output(&mut self) {
-        let path = match self.rng.below(3) {
+        let mut path = match self.rng.below(3) {
             0 => self.token(PATHS, WILD_PATHS).to_string(),
             _ => format!("o{}", self.outputs.len()),
         };
-        if !self.outputs.contains(&path) || self.is_wild() {
-            self.push(&path);
-            self.outputs.push(path);
-        } else {
-            let other = format!("{}{}", "p", self.outputs.len());
-            self.push(&other);
-            self.outputs.push(other);
+        if self.outputs.contains(&path) && !self.is_wild() {
+            path = format!("p{}", self.outputs.len());
         }
+        self.push(&path);
+        self.outputs.push(path);
     }
 
     fn inputs(&mut self, most: usize) {

@@ -26,7 +26,7 @@ pub fn small(rng: &mut Rng) -> Vec<u8> {
         3 => format!("{UNITS}build o:phony {}\n", long(limits::PATH + over)),
         4 => long_outputs(rng),
         5 => long_value(rng),
-        6 => together(limits::TOGETHER + over),
+        6 => together(rng, limits::TOGETHER + over),
         _ => long_text(rng, limits::TEXT + over),
     };
     manifest.into_bytes()
@@ -36,15 +36,12 @@ pub fn small(rng: &mut Rng) -> Vec<u8> {
 pub fn full(rng: &mut Rng) -> Vec<u8> {
     let over = rng.below(2);
     let manifest = match rng.below(15) {
-        0 => numbered("build # :phony\n", limits::STEPS + over),
+        0 => steps(rng),
         1 => format!("build o:phony{}\n", numbered(" #", limits::FILES - 1 + over)),
-        2 => numbered("rule #\n command=\n", limits::RULES + over),
+        2 => rules(rng),
         3 => bindings(rng, limits::BINDINGS + over),
         4 => mentions(rng, limits::MENTIONS + over),
-        5 => {
-            let length = limits::MANIFEST + over;
-            format!("build o:phony\n#{}\n", " ".repeat(length - 16))
-        }
+        5 => format!("build o:phony\n#{}\n", " ".repeat(limits::MANIFEST - 16 + over)),
         6 => raw_value(limits::VALUE + over),
         _ => return small(rng),
     };
@@ -75,11 +72,18 @@ fn long_value(rng: &mut Rng) -> String {
     }
 }
 
-/// Values of so many bytes together.
-fn together(total: usize) -> String {
-    let left = total - UNITS_TOGETHER;
+/// Values, and in the last line perhaps paths, of so many bytes together.
+fn together(rng: &mut Rng, total: usize) -> String {
+    let (last, bytes) = match rng.below(4) {
+        0 => (format!("build o:phony {}\n", long(99)), 100),
+        1 => ("build o:phony\ndefault o\n".to_string(), 2),
+        2 => ("rule r\n command= x$\n y \n".to_string(), 6),
+        _ => (String::new(), 0),
+    };
+    let left = total - UNITS_TOGETHER - bytes;
     let lines = "c=$c\n".repeat(left / limits::VALUE - 1);
-    format!("{UNITS}c={}\n{lines}d={}\n", long(limits::VALUE), long(left % limits::VALUE))
+    let rest = long(left % limits::VALUE);
+    format!("{UNITS}c={}\n{lines}d={rest}\n{last}", long(limits::VALUE))
 }
 
 /// A step with a text of so many bytes, which now and then leads back to itself.
@@ -96,11 +100,31 @@ fn raw_value(length: usize) -> String {
     format!("rule r\n command=x$\n{}y\nbuild o:r\n", " ".repeat(length - 4))
 }
 
+/// As many steps as may be, and perhaps a line more, which has faults that come before the limit.
+fn steps(rng: &mut Rng) -> String {
+    let more =
+        ["", "x=\n", "build x:phony\n", "build 0:phony\n", "build x:none\n", "build $u:phony\n"];
+    numbered("build # :phony\n", limits::STEPS) + rng.pick(&more)
+}
+
+/// As many rules as may be, and perhaps one more.
+fn rules(rng: &mut Rng) -> String {
+    let more = ["", "rule x\n command=\n", "rule 5\n", "rule phony\n", "rule pool\n", "rule x y\n"];
+    numbered("rule #\n command=\n", limits::RULES) + rng.pick(&more)
+}
+
 /// So many binding lines, of the file and of both kinds of block.
 fn bindings(rng: &mut Rng, count: usize) -> String {
     let of_file = rng.below(count - 1);
-    let of_block = count - 1 - of_file;
-    format!("{}rule r\n command=\nbuild o:r\n{}", "a=\n".repeat(of_file), " a=\n".repeat(of_block))
+    let of_block = count - 2 - of_file;
+    let file = "a=\n".repeat(of_file);
+    let block = format!("build o:phony\n{}", " a=\n".repeat(of_block));
+    let rule = "rule r\n command=\n generator=\n";
+    match rng.below(3) {
+        0 => file + &block + rule,
+        1 => block + rule + &file,
+        _ => file + rule + &block,
+    }
 }
 
 /// So many path mentions, of build and default lines.

@@ -34,6 +34,28 @@ pub fn graph_ask(rng: &mut Rng, most_steps: usize) -> GraphAsk {
     GraphAsk { graph, times, targets, defaults }
 }
 
+/// The manifest of a graph, file `n` being named `fn`.
+pub fn manifest(rng: &mut Rng, ask: &GraphAsk) -> Vec<u8> {
+    let paths =
+        |files: &[u32]| -> String { files.iter().map(|file| format!(" f{file}")).collect() };
+    let mut text = String::from("rule cc\n  command = cc $in -o $out\n");
+    for step in &ask.graph.steps {
+        let rule = if step.phony { "phony" } else { "cc" };
+        text += &format!("build{}: {rule}{}", paths(&step.outputs), paths(&step.explicit));
+        for (bar, inputs) in [(" |", &step.implicit), (" ||", &step.order_only)] {
+            if !inputs.is_empty() || rng.chance(5) {
+                text += bar;
+                text += &paths(inputs);
+            }
+        }
+        text.push('\n');
+    }
+    if !ask.defaults.is_empty() {
+        text += &format!("default{}\n", paths(&ask.defaults));
+    }
+    text.into_bytes()
+}
+
 /// Outputs for each step and a few sources, then inputs at random. The maker of an input ranks
 /// before its step, unless circles are wanted.
 fn graph(rng: &mut Rng, most_steps: usize) -> Graph {
