@@ -56,15 +56,18 @@ impl Fault {
     }
 
     /// Plants the fault; an old text must stand in its file exactly once.
-    fn plant(&self, mut source: Source) -> Source {
+    fn plant(&self, source: &Source) -> Result<Source, String> {
+        let mut source = source.clone();
         for Edit { file, old, new } in &self.edits {
-            let content = source.get_mut(Path::new(file)).expect("a file of the planner");
+            let content = source.get_mut(Path::new(file)).ok_or(format!("no file {file}"))?;
             let old = old.join("\n");
             let times = content.matches(&old).count();
-            assert_eq!(times, 1, "{}: {file} has the old text {times} times:\n{old}", self.name);
+            if times != 1 {
+                return Err(format!("{}: {file} has {times} times:\n{old}", self.name));
+            }
             *content = content.replace(&old, &new.join("\n"));
         }
-        source
+        Ok(source)
     }
 }
 
@@ -135,13 +138,13 @@ fn main() {
 }
 ";
 
-/// Compiles a copy of the planner for each fault, all in one program; gives the answers of each to
-/// the asks of a file, one a line.
-fn answers(batch: &[Fault], source: &Source, asks: &Path, folder: &Path) -> Vec<Vec<String>> {
+/// Compiles copies of the planner, all in one program; gives the answers of each to the asks of a
+/// file, one a line.
+fn answers(batch: &[Source], asks: &Path, folder: &Path) -> Vec<Vec<String>> {
     let (mut modules, mut planners) = (String::new(), String::new());
-    for (number, fault) in batch.iter().enumerate() {
+    for (number, source) in batch.iter().enumerate() {
         let module = format!("fault_{number}");
-        write_module(&module, &fault.plant(source.clone()), folder);
+        write_module(&module, source, folder);
         modules += &format!("mod {module};\n");
         planners += &format!("{module}::answer, ");
     }
@@ -203,25 +206,31 @@ fn every_planted_fault_is_noticed() {
     assert!(faults.len() >= 15, "only {} faults", faults.len());
     // The copy without a fault: no case may differ.
     faults.push(Fault::default());
+    let source = source();
+    let (planted, misfits): (Vec<_>, Vec<_>) =
+        faults.iter().map(|fault| fault.plant(&source)).partition(Result::is_ok);
+    let misfits: Vec<_> = misfits.into_iter().filter_map(Result::err).collect();
+    assert!(misfits.is_empty(), "old texts must stand once:\n{}", misfits.join("\n"));
+    let planted: Vec<_> = planted.into_iter().filter_map(Result::ok).collect();
 
     let place = Path::new(env!("CARGO_TARGET_TMPDIR")).join("faults");
     let _ = fs::remove_dir_all(&place);
     fs::create_dir_all(&place).unwrap();
     let (asked, asks) = (asked(), place.join("asks"));
-    fs::write(&asks, asked.iter().map(|asked| format!("{}\n", asked.line)).collect::<String>())
-        .unwrap();
+    let lines: String = asked.iter().map(|asked| format!("{}\n", asked.line)).collect();
+    fs::write(&asks, lines).unwrap();
 
-    let (source, next) = (source(), AtomicUsize::new(0));
-    let batches: Vec<_> = faults.chunks(BATCH).collect();
+    let next = AtomicUsize::new(0);
+    let batches: Vec<_> = planted.chunks(BATCH).zip(faults.chunks(BATCH)).collect();
     let work = || {
         let mut failures = Vec::new();
         loop {
             let number = next.fetch_add(1, Ordering::Relaxed);
-            let Some(batch) = batches.get(number) else {
+            let Some((batch, faults)) = batches.get(number) else {
                 return failures;
             };
-            let answers = answers(batch, &source, &asks, &place.join(number.to_string()));
-            let pairs = batch.iter().zip(&answers);
+            let answers = answers(batch, &asks, &place.join(number.to_string()));
+            let pairs = faults.iter().zip(&answers);
             failures.extend(pairs.filter_map(|(fault, answers)| failure(fault, &asked, answers)));
         }
     };
