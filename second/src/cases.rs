@@ -2,7 +2,7 @@
 //! The format is described in `cases/README.md`.
 
 use crate::program::output;
-use crate::{plan, text, Refusal, TextAnswer, Wanted};
+use crate::{card, plan, text, Refusal, TextAnswer, Wanted};
 use std::collections::HashMap;
 use std::fs;
 use std::ops::Range;
@@ -217,7 +217,7 @@ impl Draft {
             origin,
             says: Vec::new(),
             manifest: Vec::new(),
-            card: card_of(&[]),
+            card: card::write(&[]),
             targets: Vec::new(),
             list_len: 512,
             buf_len: 8192,
@@ -344,7 +344,7 @@ impl Draft {
             let cut = cut.ok_or("expected `NAME TIME` between commas")?;
             Ok((&record[..cut], number(&String::from_utf8_lossy(&record[cut + 1..]))?))
         });
-        Ok(card_of(&records.collect::<Result<Vec<_>, String>>()?))
+        Ok(card::write(&records.collect::<Result<Vec<_>, String>>()?))
     }
 
     /// The line of a plan's expected answer; each number in it is checked.
@@ -419,24 +419,6 @@ fn card_piece(piece: &[u8]) -> Result<Vec<u8>, String> {
     Ok(bytes[..width].to_vec())
 }
 
-/// The card with these records, laid out as document 01 says; whether it is sound is up to the records.
-fn card_of(records: &[(&[u8], u64)]) -> Vec<u8> {
-    let four =
-        |number: usize| u32::try_from(number).expect("cards of cases are small").to_le_bytes();
-    let names: usize = records.iter().map(|(name, _)| name.len()).sum();
-    let start = 16 + 16 * records.len();
-    let mut card: Vec<u8> = [records.len(), 16, start, start + names].map(four).concat();
-    let mut offset = 0;
-    for (name, time) in records {
-        card.extend(four(offset));
-        card.extend(four(name.len()));
-        card.extend(time.to_le_bytes());
-        offset += name.len();
-    }
-    card.extend(records.iter().flat_map(|(name, _)| name.iter()));
-    card
-}
-
 /// A text of a case file with its backslashes read.
 #[derive(Default)]
 struct Expanded {
@@ -456,7 +438,7 @@ impl Expanded {
         self.bytes[at] == byte && self.plain[at]
     }
 
-    /// The ranges between plain separators, without plain spaces around them; empty ones are left out.
+    /// The ranges between plain separators, without plain spaces around them; no empty ones.
     fn words(&self, separator: u8) -> Vec<Range<usize>> {
         let mut words = Vec::new();
         let mut from = 0;
@@ -474,7 +456,8 @@ impl Expanded {
     }
 }
 
-/// Reads the backslashes of `source` from `at` on; within a repeated text `index` is its number, and its `}` ends it.
+/// Reads the backslashes of `source` from `at` on; within a repeated text `index` is its number
+/// and its `}` ends it.
 fn expand(
     source: &[u8],
     at: &mut usize,

@@ -44,17 +44,16 @@ case two
     assert_eq!(cases[0].asks[0].1, "refused 3 at 19");
     assert_eq!(cases[1].manifest, cases[0].manifest);
     assert_eq!(cases[1].card, [1, 0, 0, 0, 2]);
+    let (manifest, lent) = ("61203d203030302c3130312c3230322c200a0a6200", "0100000002 610a");
     assert_eq!(
         packed(&cases[1], false),
         [
-            "two plan 61203d203030302c3130312c3230322c200a0a6200 0100000002 610a 512 -> circle 1 2 or 3",
-            "two text 61203d203030302c3130312c3230322c200a0a6200 7 description 8192 -> text 7878",
+            format!("two plan {manifest} {lent} 512 -> circle 1 2 or 3"),
+            format!("two text {manifest} 7 description 8192 -> text 7878"),
         ]
     );
-    assert_eq!(
-        packed(&cases[1], true),
-        ["two program 61203d203030302c3130312c3230322c200a0a6200 0100000002 610a -> text 6e6f20776f726b0a"]
-    );
+    let program = format!("two program {manifest} {lent} -> text 6e6f20776f726b0a");
+    assert_eq!(packed(&cases[1], true), [program]);
 }
 
 #[test]
