@@ -4,6 +4,7 @@
 pub mod ask;
 pub mod bytes;
 pub mod card;
+pub mod cases;
 pub mod expand;
 pub mod generate;
 pub mod graph;
