@@ -1,0 +1,3 @@
+pub mod Scanners
+pub mod Targets
+pub mod Names
