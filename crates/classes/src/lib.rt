@@ -3,6 +3,25 @@ ghost use mathlib.Core.Path.{_≡_};
 ghost use Rattle.rules.specs.Bytes.{classOf};
 ghost use Rattle.classes.specs.Table.{classes};
 
+// The numbers of the classes that are asked for by name. Up to SHORT lie the short-name bytes, up to DOT the name bytes.
+pub const SHORT: u8 = 1;
+
+pub const DOT: u8 = 2;
+
+pub const SPACE: u8 = 3;
+
+pub const NEWLINE: u8 = 4;
+
+pub const DOLLAR: u8 = 5;
+
+pub const COLON: u8 = 6;
+
+pub const BAR: u8 = 7;
+
+pub const OPEN_BRACE: u8 = 10;
+
+pub const FORBIDDEN: u8 = 12;
+
 // The table, made once and lent to whoever sorts bytes: a constant is built anew at every use.
 pub fn table() -> [u8; 256]
     ensures { λ r. ⌜ r ≡ classes ⌝ }

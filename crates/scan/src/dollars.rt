@@ -38,24 +38,24 @@ pub fn dollar(t: &[u8; 256], s: &[u8], at: usize) -> Dollar
     let b = s[at];
     let next = at + 1;
     let k = classes::class_in(t, b);
-    if k == 1 {
+    if k == classes::SHORT {
         let end = tokens::short_name(t, s, at);
         return Dollar::Name(at, end, end);
     }
-    if k == 10 {
+    if k == classes::OPEN_BRACE {
         return braced(t, s, next);
     }
-    if k == 4 {
+    if k == classes::NEWLINE {
         let end = tokens::spaces(s, next);
         return Dollar::Join(end);
     }
-    if k == 5 {
+    if k == classes::DOLLAR {
         return Dollar::Byte(b, next);
     }
-    if k == 3 {
+    if k == classes::SPACE {
         return Dollar::Byte(b, next);
     }
-    if k == 6 {
+    if k == classes::COLON {
         return Dollar::Byte(b, next);
     }
     Dollar::Bad

@@ -14,7 +14,7 @@ fn bad_byte_in(t: &[u8; 256], m: &[u8]) -> FirstBad
     let mut i = 0;
     while i < m.len() {
         last = m[i];
-        if classes::class_in(t, last) == 12 {
+        if classes::class_in(t, last) == classes::FORBIDDEN {
             return FirstBad::At(i);
         }
         i += 1;

@@ -21,7 +21,7 @@ pub fn path(t: &[u8; 256], s: &[u8], from: usize) -> PathEnd
     let mut i = from;
     while i < s.len() {
         let k = classes::class_in(t, s[i]);
-        if k == 5 {
+        if k == classes::DOLLAR {
             match past(t, s, i + 1) {
                 Past::To(next) => {
                     i = next;
@@ -31,13 +31,13 @@ pub fn path(t: &[u8; 256], s: &[u8], from: usize) -> PathEnd
                 }
             }
         } else {
-            if k == 3 {
+            if k == classes::SPACE {
                 return PathEnd::Ends(i);
             }
-            if k == 6 {
+            if k == classes::COLON {
                 return PathEnd::Ends(i);
             }
-            if k == 7 {
+            if k == classes::BAR {
                 return PathEnd::Ends(i);
             }
             i += 1;

@@ -49,7 +49,7 @@ pub fn gap(s: &[u8], from: usize) -> usize
     i
 }
 
-// The longest run of bytes of the classes from 1 to `last`.
+// The longest run of bytes of the classes from SHORT to `last`.
 fn class_run(t: &[u8; 256], s: &[u8], from: usize, last: u8) -> usize
     requires { ⌜ (now t ≡ classes) × (from ≤ length (now s)) ⌝ }
     ensures { λ r. ⌜ Reads (afterRun (λ b. upTo last (classOf b))) (now (s .entry)) from r ⌝ }
@@ -57,7 +57,7 @@ fn class_run(t: &[u8; 256], s: &[u8], from: usize, last: u8) -> usize
     let mut i = from;
     while i < s.len() {
         let k = classes::class_in(t, s[i]);
-        if k < 1 {
+        if k < classes::SHORT {
             return i;
         }
         if last < k {
@@ -73,7 +73,7 @@ pub fn name(t: &[u8; 256], s: &[u8], from: usize) -> usize
     requires { ⌜ (now t ≡ classes) × (from ≤ length (now s)) ⌝ }
     ensures { λ r. ⌜ Reads afterName (now (s .entry)) from r ⌝ }
 {
-    class_run(t, s, from, 2)
+    class_run(t, s, from, classes::DOT)
 }
 
 // The name behind a `$`, which takes no dot.
@@ -81,5 +81,5 @@ pub fn short_name(t: &[u8; 256], s: &[u8], from: usize) -> usize
     requires { ⌜ (now t ≡ classes) × (from ≤ length (now s)) ⌝ }
     ensures { λ r. ⌜ Reads (afterRun shortByte) (now (s .entry)) from r ⌝ }
 {
-    class_run(t, s, from, 1)
+    class_run(t, s, from, classes::SHORT)
 }
