@@ -1,19 +1,18 @@
 -- The computed graph (makers, before, needed, upstream) says what document 01's words say.
-use Prim.Native.Nat.{ℕ, zero, suc, _+_, _<_, _≤_}
+use Prim.Native.Nat.{ℕ, zero, suc, _+_, _<_}
 use native.Mathlib.Omega.{arith}
-use mathlib.Core.Path.{_≡_, refl, sym, ap, _∙_}
-use mathlib.Core.Logic.{_⊎_, inl, inr, _↔_}
-use mathlib.Core.Bool.{Bool, true, false}
-use mathlib.Core.List.{List, [], _∷_, _++_, map}
+use mathlib.Core.Path.{_≡_, refl}
+use mathlib.Core.Logic.{inl, inr, _↔_}
+use mathlib.Core.Bool.{true, false}
+use mathlib.Core.List.{List, [], _∷_, map}
 use lib.ListN.{length, getD}
-use Rattle.lists.specs.Tests.{ifB, split}
-use Rattle.lists.specs.Members.{_∈_, _∉_, here, there, has, has-true, in-has, in-cons, not-in-nil, in-left, in-right, in-append}
-use Rattle.orders.specs.Greedy.{In}
+use Rattle.lists.specs.Tests.{split}
+use Rattle.lists.specs.Members.{_∈_, here, there, has, has-true, in-has, in-cons, not-in-nil, in-left, in-right, in-append}
 use Rattle.orders.specs.Reach as reaching
-use Rattle.orders.specs.Reach.{Closed, reach-least, reach-start, reach-closed, reach-low, rising-reach}
+use Rattle.orders.specs.Reach.{Closed, reach-least, reach-start, reach-closed}
 use Rattle.rules.specs.Basics.{concat}
 use Rattle.rules.specs.Reading.{Step}
-use Rattle.rules.specs.Graph.{inputs, counted, noStep, stepAt, makersFrom, makers, makersOf, before, needed}
+use Rattle.rules.specs.Graph.{inputs, noStep, stepAt, makersFrom, makers, makersOf, before, needed}
 use Rattle.rules.specs.Words.{Makes, Feeds, Needed, target, input, Upstream, maker, further}
 
 in-makersFrom : (k : ℕ) (l : List Step) (f : ℕ) {m : ℕ} → m ∈ makersFrom k l f → (i : ℕ) × (i < length l) × (m ≡ k + i) × (f ∈ getD l i noStep .outs)
