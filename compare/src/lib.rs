@@ -3,3 +3,6 @@
 
 pub mod card;
 pub mod measure;
+pub mod names;
+pub mod scan;
+pub mod targets;

@@ -31,15 +31,17 @@ pub fn both<A, B>(mut ours: impl FnMut() -> A, mut theirs: impl FnMut() -> B) ->
     (sorted(a), sorted(b))
 }
 
-/// Prints a row: ours, the second planner's, and the ratio of the minima.
+/// Prints a row: ours, the second planner's, and the ratios of the medians and of the minima.
 pub fn row(name: &str, ours: Times, theirs: Times) {
     let micros = |d: Duration| d.as_nanos() as f64 / 1_000.0;
+    let ratio = |a: Duration, b: Duration| a.as_secs_f64() / b.as_secs_f64();
     println!(
-        "{name:34} ours {:9.2} / {:9.2} us   second {:9.2} / {:9.2} us   ratio {:5.2}",
+        "{name:40} ours {:9.2} / {:9.2} us   second {:9.2} / {:9.2} us   ratio {:6.2} / {:6.2}",
         micros(ours.median),
         micros(ours.least),
         micros(theirs.median),
         micros(theirs.least),
-        ours.least.as_secs_f64() / theirs.least.as_secs_f64()
+        ratio(ours.median, theirs.median),
+        ratio(ours.least, theirs.least)
     );
 }

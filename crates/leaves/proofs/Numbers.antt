@@ -20,6 +20,7 @@ use Rattle.scan.specs.declared.FirstBad.{FirstBad}
 use Rattle.scan.specs.declared.FirstBad.the-variants.{Nowhere, At}
 use Rattle.scan.specs.declared.LineKind.{LineKind}
 use Rattle.scan.specs.declared.LineKind.the-variants.{Comment, Blank, Indented, Statement}
+use Rattle.scan.specs.Element.{element, restOf, Passed}
 use Rattle.scan.specs.Texts.{PathEnds, PathBad, PathsStop, PathNext, PathsBad, placeOf}
 use Rattle.scan.specs.Endings.{LineEnded, LineOpen, kindOf}
 use Rattle.targets.specs.declared.Next.{Next}
@@ -28,7 +29,7 @@ use Rattle.targets.specs.Next.{nextIn}
 use Rattle.names.specs.declared.Found.{Found}
 use Rattle.names.specs.declared.Added.{Added}
 use Rattle.names.specs.Table.{Finds, Adds}
-use Rattle.leaves.specs.Scanners.{orNone, placeAfter, pathCut, pathNumber, pathsNumber, endNumber, kindNumber}
+use Rattle.leaves.specs.Scanners.{orNone, placeAfter, restNumber, dollarNumber, pathCut, pathNumber, pathsNumber, endNumber, kindNumber}
 use Rattle.leaves.specs.Targets.{targetNumber}
 use Rattle.leaves.specs.Names.{foundNumber, addedNumber, FindsNumber, AddsNumber}
 
@@ -46,6 +47,17 @@ module _ (s : List ℕ) (i : ℕ) {k : ℕ} (e : k ≡ min i (length s)) where
   pub token : {f : List ℕ → List ℕ} {r : ℕ} → Reads f s k r → r ≡ placeAfter f s i
   unfolding placeAfter
   token {f} a = reads-place a ∙ ap (λ (l : List ℕ). length s - length (f l)) drop-start
+
+  -- a dollar
+  pub dollar-past : {n : ℕ} → Passed s k n → n + 1 ≡ dollarNumber s i
+  unfolding dollarNumber restNumber
+  dollar-past {n} p =
+      let z : length s - length (drop n s) ≡ n = omega (arith, length-drop n s, p .within) in
+      rw (← drop-start, p .rest, z)
+
+  pub dollar-bad : restOf (element (drop k s)) ≡ none → 0 ≡ dollarNumber s i
+  unfolding dollarNumber restNumber
+  dollar-bad b = rw (← drop-start, b)
 
   -- a path
   pub path-ends : {r : ℕ} → PathEnds s k r → 2 * r ≡ pathNumber s i

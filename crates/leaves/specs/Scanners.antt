@@ -7,6 +7,7 @@ use Rattle.lists.specs.Tests.{ifB}
 use Rattle.rules.specs.Dollars.{plain, badDollar}
 use Rattle.rules.specs.Lines.{indent, lineFrom, endedFrom, isComment, isBlank, isIndented}
 use Rattle.rules.specs.Forms.{Fault, noForm, wrongDollar, notYet, Cut, fits, fails, pathFrom, afterPath, Paths}
+use Rattle.scan.specs.Element.{restOf, element}
 
 -- 0 for none, p + 1 for place p
 unfoldable pub orNone : Option ℕ → ℕ
@@ -18,6 +19,17 @@ orNone (some p) = p + 1
 -- the place where what f leaves of s, read from place i on, begins
 unfoldable pub placeAfter : (List ℕ → List ℕ) → List ℕ → ℕ → ℕ
 placeAfter f s i = length s - length (f (drop i s))
+
+-- ---- dollars
+
+unfoldable pub restNumber : List ℕ → Option (List ℕ) → ℕ
+restNumber s none = 0
+restNumber s (some rest) = length s - length rest + 1
+
+-- 0 for a bad `$` in front of place i, e + 1 where the bytes after what it begins start at place e
+unfoldable pub dollarNumber : List ℕ → ℕ → ℕ
+unfolding restNumber restOf element
+dollarNumber s i = restNumber s (restOf (element (drop i s)))
 
 -- ---- paths: 2e for an end at place e, 2p + 1 for a first bad `$` at place p
 

@@ -9,11 +9,12 @@ ghost use Rattle.rules.specs.Lines.{isSpace};
 ghost use Rattle.rules.specs.Forms.{gap, afterName, ruleWord, keyWord, paths};
 ghost use Rattle.rules.specs.Manifest.{badByte};
 ghost use Rattle.classes.specs.Table.{classes};
-ghost use Rattle.leaves.specs.Scanners.{orNone, placeAfter, pathNumber, pathsNumber, wordNumber, endNumber, kindNumber};
+ghost use Rattle.leaves.specs.Scanners.{orNone, placeAfter, dollarNumber, pathNumber, pathsNumber, wordNumber, endNumber, kindNumber};
 use scan::FirstBad;
 use scan::LineEnd;
 use scan::LineKind;
 use scan::NextPath;
+use scan::Past;
 use scan::PathEnd;
 use scan::Word;
 
@@ -61,6 +62,19 @@ pub extern "C" fn kestrenyo_name(s: &[u8], from: usize) -> usize
     let t = classes::table();
     let i = start_in(s, from);
     scan::tokens::name(&t, s, i)
+}
+
+// What the `$` in front of `from` begins, passed.
+#[no_mangle]
+pub extern "C" fn kestrenyo_dollar(s: &[u8], from: usize) -> usize
+    ensures { λ r. ⌜ r ≡ dollarNumber (now (s .entry)) from ⌝ }
+{
+    let t = classes::table();
+    let i = start_in(s, from);
+    match scan::dollars::past(&t, s, i) {
+        Past::To(next) => next + 1,
+        Past::Bad => 0,
+    }
 }
 
 // One path.
