@@ -43,7 +43,7 @@ same-length-4 c = search needs
 
 -- src/lib.rt:51:9
 returns-2 : tie.Need-returns-2
-returns-2 c = full-files (c .before .before .before .find .ensures) (c .before .enum-told .given .1) (c .if1 .taken)
+returns-2 c = full-files (c .before .before .before .find .ensures) (c .before .enum-told .given .1) (omega arith)
 
 -- src/lib.rt:54:9
 same-length-5 : tie.Need-same-length-5
@@ -75,7 +75,7 @@ same-length-8 c = search needs
 
 -- src/lib.rt:58:9
 returns-4 : tie.Need-returns-4
-returns-4 c = full-bytes (c .before .before .before .before .before .before .before .find .ensures) (c .before .before .before .before .before .enum-told .given .1) (c .before .before .before .before .if1 .left) (c .before .before .before .if2 .left) (c .before .start .ensures) (c .if3 .taken)
+returns-4 c = full-bytes (c .before .before .before .before .before .before .before .find .ensures) (c .before .before .before .before .before .enum-told .given .1) (omega (arith, c .before .before .before .before .if1 .left)) (c .before .before .before .if2 .left) (c .before .start .ensures) (c .if3 .taken)
 
 -- src/lib.rt:60:5
 copy-at-requires : tie.Need-copy-at-requires
@@ -107,7 +107,7 @@ same-length-10 c = search needs
 
 -- src/lib.rt:42:1
 returns-5 : tie.Need-returns-5
-returns-5 c = rw (c .before .before .copy-at .ensures) (add-new (c .before .before .before .before .before .before .before .before .before .before .before .find .ensures) (c .before .before .before .before .before .before .before .before .before .enum-told .given .1) (c .before .before .before .before .before .before .before .before .if1 .left) (c .before .before .before .before .before .before .before .if2 .left) (c .before .before .before .before .before .start .ensures) (c .before .before .before .before .if3 .left))
+returns-5 c = rw (c .before .before .copy-at .ensures) (add-new (c .before .before .before .before .before .before .before .before .before .before .before .find .ensures) (c .before .before .before .before .before .before .before .before .before .enum-told .given .1) (omega (arith, c .before .before .before .before .before .before .before .before .if1 .left)) (c .before .before .before .before .before .before .before .if2 .left) (c .before .before .before .before .before .start .ensures) (c .before .before .before .before .if3 .left))
 
 pub add-spec : {M : Type 1} → statement M
 add-spec =

@@ -1,3 +1,4 @@
+use native.Mathlib.Omega.{arith}
 use Rattle.targets.proofs.Walk.{past-end, at-end, at-empty, at-long, at-name}
 use borrow.Author.Needs.{needs}
 use Rattle.targets.proofs.name_at.Statement.{statement}
@@ -24,7 +25,7 @@ sub-if3 c = search needs
 
 -- src/lib.rt:45:9
 returns-3 : tie.Need-returns-3
-returns-3 c = at-empty (c .before .before .line-end .ensures) (c .before .if2 .left) (c .if3 .taken)
+returns-3 c = at-empty (c .before .before .line-end .ensures) (c .before .if2 .left) (omega arith)
 
 -- src/lib.rt:47:14
 sub-if4 : tie.Need-sub-if4
@@ -32,11 +33,11 @@ sub-if4 c = search needs
 
 -- src/lib.rt:48:9
 returns-4 : tie.Need-returns-4
-returns-4 c = at-long (c .before .before .before .line-end .ensures) (c .before .before .if2 .left) (c .if4 .taken)
+returns-4 c = at-long (c .before .before .before .line-end .ensures) (c .before .before .if2 .left) (omega arith)
 
 -- src/lib.rt:34:1
 returns-5 : tie.Need-returns-5
-returns-5 c = at-name (c .before .before .before .line-end .ensures) (c .before .before .if2 .left) (c .before .if3 .left) (c .if4 .left)
+returns-5 c = at-name (c .before .before .before .line-end .ensures) (c .before .before .if2 .left) (omega arith) (omega arith)
 
 pub name-at-spec : {M : Type 1} → statement M
 name-at-spec =
