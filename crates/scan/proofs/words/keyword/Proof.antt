@@ -1,7 +1,8 @@
 -- `scan::words::keyword` meets its contract.
 use mathlib.Core.Bool.{or-false}
 use mathlib.Core.Path.{refl, sym, _∙_}
-use Rattle.rules.specs.Basics.{any, among}
+use Rattle.lists.specs.Members.{any}
+use Rattle.rules.specs.Basics.{among}
 use Rattle.rules.specs.Forms.{keyword}
 use Rattle.scan.proofs.words.keyword.Statement.{statement}
 use Rattle.scan.proofs.words.keyword.Tie as tie
