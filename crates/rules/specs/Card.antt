@@ -24,6 +24,7 @@ pub record CardRecord : Type 0 where
   pub size : ℕ
   pub time : ℕ
 
+-- the record at an offset
 unfoldable pub recordAt : ℕ → List ℕ → CardRecord
 unfolding numberAt
 recordAt at s = record { offset = numberAt at 4 s; size = numberAt (at + 4) 4 s; time = numberAt (at + 8) 8 s }
