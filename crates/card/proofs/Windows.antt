@@ -1,7 +1,7 @@
 -- Two lists of bytes compared eight at a time: a number with the first byte highest orders as its bytes do.
 use Prim.Native.Nat.{ℕ, zero, suc, _+_, _-_, _*_, _^_, _≤_, _<_, min}
-use mathlib.Core.Bool.{true, false}
-use mathlib.Core.List.{List, [], _∷_, _++_}
+use mathlib.Core.Bool.{true}
+use mathlib.Core.List.{List, [], _∷_}
 use mathlib.Core.Path.{_≡_, refl, sym, _∙_, ap, ap₂}
 use native.Mathlib.Decide.{decLt}
 use native.Mathlib.Nat.{not-suc-le-zero, le-of-suc-le-suc, mul-comm, pow-suc}
@@ -14,7 +14,6 @@ use mir.Val.{Fits}
 use lib.Seq.{drop-cons, take-add, take-take, take-all}
 use Rattle.lists.specs.Bytes.{lessBytes, less-same, less-lower, less-prefix}
 use Rattle.lists.specs.Order.{orderBytes, less-order, greater-order, equal-order}
-use Rattle.lists.specs.declared.Order.{Order}
 use Rattle.lists.specs.declared.Order.the-variants.{Less, Equal, Greater}
 use Rattle.card.specs.Fields.{Byte, highAt, High, Alike, AlikeToEnd}
 

@@ -9,7 +9,6 @@ ghost use Rattle.rules.specs.Card.{recordAt, soundHeader, soundRecord, soundNam
 ghost use Rattle.card.specs.Fields.{Byte, Number, High, Headed, Listed, AlikeToEnd, entryAt};
 use lists::Order;
 use lists::bytes::compare;
-use lists::bytes::less;
 
 // Whether a card breaks no rule.
 pub fn sound(card: &[u8]) -> bool

@@ -1,38 +1,29 @@
+-- `card::comes_before` meets its contract.
 use mathlib.Core.Path.{sym, _∙_}
+use borrow.Author.Needs.{needs}
 use Rattle.lists.specs.Bytes.{eq-less, less-asym}
 use Rattle.lists.specs.Order.{order-less, order-equal, order-greater}
-use borrow.Author.Needs.{needs}
 use Rattle.card.proofs.comes_before.Statement.{statement}
 use Rattle.card.proofs.comes_before.Tie as tie
-use Rattle.card.proofs.comes_before.Reads as reads
-use Rattle.card.proofs.comes_before.Lts as lts
-use Rattle.card.proofs.order.Reads as order-reads
 
--- src/lib.rt:134:11
 order-requires : tie.Need-order-requires
 order-requires c κs = search needs
 
--- src/lib.rt:135:24
 enum-told : tie.Need-enum-told
 enum-told c = search needs
 
--- src/lib.rt:136:25
 enum-told-2 : tie.Need-enum-told-2
 enum-told-2 c = search needs
 
--- src/lib.rt:137:27
 enum-told-3 : tie.Need-enum-told-3
 enum-told-3 c = search needs
 
--- src/lib.rt:131:1
 returns : tie.Need-returns
 returns c = sym (order-less _ _ (sym (c .before .before .order .ensures) ∙ c .enum-told .given .1))
 
--- src/lib.rt:131:1
 returns-2 : tie.Need-returns-2
 returns-2 c = sym (eq-less (order-equal _ _ (sym (c .before .before .order .ensures) ∙ c .enum-told2 .given .1)))
 
--- src/lib.rt:131:1
 returns-3 : tie.Need-returns-3
 returns-3 c = sym (less-asym _ _ (order-greater _ _ (sym (c .before .before .order .ensures) ∙ c .enum-told3 .given .1)))
 
