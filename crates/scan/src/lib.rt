@@ -3,6 +3,8 @@ pub mod tokens;
 pub mod words;
 pub mod dollars;
 pub mod texts;
+pub mod lines;
+pub mod manifest;
 
 // What a word is: a name, or one of those that fit no form (4) or are not yet in this edition (6).
 pub enum Word {
@@ -38,4 +40,17 @@ pub enum PathEnd {
 pub enum FirstBad {
     Nowhere,
     At(usize),
+}
+
+// Where the newline that ends a line stands, if the manifest does not end inside that line.
+pub enum LineEnd {
+    Ended(usize),
+    Open,
+}
+
+pub enum LineKind {
+    Comment,
+    Blank,
+    Indented,
+    Statement,
 }
