@@ -1,0 +1,4 @@
+pub mod Turns
+pub mod Faults
+pub mod Items
+pub mod Walks
