@@ -16,8 +16,10 @@ use Rattle.rules.specs.Dollars.{plain, badDollar}
 use Rattle.rules.specs.Forms.{fails, wrongDollar, gap, pathFrom, afterPath, checked, pathBegins, paths}
 use Rattle.scan.specs.Texts.{PathEnds, PathBad}
 use Rattle.scan.proofs.Places.{at-cons, at-end}
-use Rattle.forms.specs.Faults.{FailsAt}
+use Rattle.forms.specs.declared.Fault.the-variants.{BadDollar}
+use Rattle.forms.specs.Faults.{Fails}
 use Rattle.forms.specs.Paths.{PathAt, EndsAt}
+use Rattle.forms.proofs.Faults.{bad-dollar}
 use Rattle.forms.proofs.Turns.{path-append, begins-shorter, paths-stop, paths-begin}
 
 -- The bytes that the scan of a path passes are the path.
@@ -71,11 +73,8 @@ module _ {l : List ℕ} {at from : ℕ} (g : Reads gap l at from) where
             first = rw (paths-begin (drop at l) begins, ← (g .rest), a .sound, ← (a .reads .rest), p);
           }
 
-      pub item-bad : {p : ℕ} → PathBad l from p → FailsAt l (paths (drop at l)) p
+      pub item-bad : {p : ℕ} → PathBad l from p → Fails l (paths (drop at l)) (BadDollar p)
       unfolding checked
       item-bad {p} a =
           let n : length (drop from l) - (p - from) ≡ length l - p = omega (arith, length-drop from l, a .forward, a .within) in
-          record {
-            within = a .within;
-            cut = rw (paths-begin (drop at l) begins, ← (g .rest), a .bad, n);
-          }
+          bad-dollar (a .within) (rw (paths-begin (drop at l) begins, ← (g .rest), a .bad, n))

@@ -12,7 +12,7 @@ use Rattle.rules.specs.Forms.{Cut, fits, fails, then, Paths, withPath, paths}
 use Rattle.forms.specs.declared.Fault.{Fault}
 use Rattle.forms.specs.Faults.{Fails}
 use Rattle.forms.specs.Paths.{PathsAt, PathAt, EndsAt, ListEnds}
-use Rattle.forms.proofs.Faults.{fails-then, fails-not-fits}
+use Rattle.forms.proofs.Faults.{fails-then, fails-not}
 
 abbrev rawOf : Cut Paths → List (List ℕ)
 rawOf (fits p) = p .raw
@@ -40,8 +40,8 @@ walk-on {l} {at} {from} {to} a w =
 pub walk-ends : {l : List ℕ} {at e : ℕ} {ps : List (List ℕ)} → EndsAt l at e [] → PathsAt l at ps → ps ≡ []
 walk-ends a w = ap rawOf (sym (w .cut) ∙ a .cut)
 
-pub walk-wrong : {l : List ℕ} {at : ℕ} {ps : List (List ℕ)} (f : Fault) → Fails l (paths (drop at l)) f → PathsAt l at ps → ps ≡ []
-walk-wrong f a w = absurd (fails-not-fits _ _ _ f a (w .cut))
+pub walk-wrong : {l : List ℕ} {at : ℕ} {ps : List (List ℕ)} {f : Fault} → Fails l (paths (drop at l)) f → PathsAt l at ps → ps ≡ []
+walk-wrong a w = absurd (fails-not a (w .cut))
 
 -- ---- a list that is being read
 
@@ -93,5 +93,5 @@ module _ {l : List ℕ} {at i : ℕ} {any : Bool} (w : Listing l at i any) where
         some = w .some;
       }
 
-  pub list-wrong : (f : Fault) → Fails l (paths (drop i l)) f → Fails l (paths (drop at l)) f
-  list-wrong f a = rw (w .same) (fails-then l (paths (drop i l)) (withPaths (w .passed)) f a)
+  pub list-wrong : {f : Fault} → Fails l (paths (drop i l)) f → Fails l (paths (drop at l)) f
+  list-wrong a = rw (w .same) (fails-then a (withPaths (w .passed)))
