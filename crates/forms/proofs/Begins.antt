@@ -2,13 +2,12 @@
 use Prim.Native.Nat.{ℕ}
 use mathlib.Core.Bool.{true, false}
 use mathlib.Core.List.{List}
-use mathlib.Core.Path.{_≡_, refl, sym, _∙_, ap}
+use mathlib.Core.Path.{_≡_, sym, _∙_}
 use lib.ListN.{take, drop}
 use Rattle.lists.specs.Bytes.{eqBytes}
 use Rattle.lists.specs.Parts.{part-from-start}
 use Rattle.lists.specs.Runs.{Reads, afterRun}
 use Rattle.lists.specs.Text.{bytes}
-use Rattle.lists.specs.Tests.{ifB}
 use Rattle.rules.specs.Lines.{isSpace}
 use Rattle.rules.specs.Forms.{nameOf, afterName, cutRule, cutBuild, cutDefault, cutBinding, cutStatement, cutIndented}
 use Rattle.scan.proofs.Gaps.{part-name}

@@ -1,26 +1,24 @@
 -- `build OUTS: RULE INS | IMPLICIT || ORDERONLY` at places of a line.
 use Prim.Native.Nat.{ℕ, _+_, _≤_, _<_}
-use mathlib.Core.Bool.{Bool, true, false, not, _&&_}
+use mathlib.Core.Bool.{Bool, true, false, not}
 use mathlib.Core.List.{List, [], _∷_}
-use mathlib.Core.Path.{_≡_, refl, sym, _∙_, ap}
+use mathlib.Core.Path.{_≡_, refl, sym, _∙_}
 use native.Mathlib.Nat.{le-refl, le-trans}
 use native.Mathlib.Omega.{arith}
-use borrow.Author.Tests.{eq-eqb, ne-eqb, not-true, not-false}
+use borrow.Author.Tests.{ne-eqb, not-true, not-false}
 use lib.Dec.{eqb}
 use lib.ListN.{length, drop, getD}
-use Rattle.lists.specs.Tests.{ifB}
 use Rattle.lists.specs.Parts.{part}
 use Rattle.lists.specs.Runs.{Reads}
 use Rattle.rules.specs.Basics.{isEmpty}
 use Rattle.rules.specs.Bytes.{colon, bar}
-use Rattle.rules.specs.Forms.{Cut, fits, fails, noForm, then, gap, nameOf, afterName, ruleWord, pathsUp, paths, Form, buildForm, BuildLine, Bars, lineEnd, oneBar, twoBars, otherByte, barsAt, inputsOf, cutOrderOnly, afterImplicit, afterInputs, cutInputs, afterOutputs, cutBuild}
+use Rattle.rules.specs.Forms.{Cut, fails, noForm, then, gap, nameOf, ruleWord, pathsUp, paths, Form, BuildLine, lineEnd, oneBar, twoBars, otherByte, barsAt, inputsOf, cutOrderOnly, afterImplicit, afterInputs, cutInputs, afterOutputs, cutBuild}
 use Rattle.scan.proofs.Places.{at-cons, at-end}
 use Rattle.forms.specs.declared.Fault.{Fault}
 use Rattle.forms.specs.declared.Head.{Head}
-use Rattle.forms.specs.declared.Statement.{Statement}
 use Rattle.forms.specs.Faults.{Fails}
 use Rattle.forms.specs.Paths.{PathsAt, ListEnds}
-use Rattle.forms.specs.Statements.{NameEnds, BarEnds, HeadAt, Stands, BuildAt, StatementAt}
+use Rattle.forms.specs.Statements.{NameEnds, BarEnds, HeadAt, BuildAt}
 use Rattle.forms.proofs.Faults.{fails-then}
 
 -- ---- bars

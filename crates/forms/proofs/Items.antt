@@ -1,19 +1,18 @@
 -- What stands next in a list of paths, at places of a line.
 use Prim.Native.Nat.{ℕ, _-_, _≤_, _<_}
 use mathlib.Core.Bool.{true, false, _||_}
-use mathlib.Core.List.{List, [], _∷_, _++_}
-use mathlib.Core.Option.{none, some}
+use mathlib.Core.List.{List, []}
 use mathlib.Core.Path.{_≡_, refl, sym, _∙_, ap}
 use native.Mathlib.Omega.{arith}
-use borrow.Author.Tests.{eq-eqb, ne-eqb}
+use borrow.Author.Tests.{ne-eqb}
 use lib.Dec.{eqb}
 use lib.ListN.{length, take, drop, getD, length-append, length-drop}
 use lib.Seq.{take-append-seam}
 use Rattle.lists.specs.Parts.{part}
 use Rattle.lists.specs.Runs.{Reads}
 use Rattle.rules.specs.Bytes.{colon, bar}
-use Rattle.rules.specs.Dollars.{plain, badDollar}
-use Rattle.rules.specs.Forms.{fails, wrongDollar, gap, pathFrom, afterPath, checked, pathBegins, paths}
+use Rattle.rules.specs.Dollars.{plain}
+use Rattle.rules.specs.Forms.{gap, pathFrom, afterPath, checked, pathBegins, paths}
 use Rattle.scan.specs.Texts.{PathEnds, PathBad}
 use Rattle.scan.proofs.Places.{at-cons, at-end}
 use Rattle.forms.specs.declared.Fault.the-variants.{BadDollar}

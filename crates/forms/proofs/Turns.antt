@@ -1,17 +1,17 @@
 -- The paths of a list, one turn at a time: a gap, then the list's end, or one path and the rest.
 use Prim.Native.Nat.{ℕ, zero, suc, _≤_, _<_}
-use mathlib.Core.Bool.{Bool, true, false, not, _&&_, _||_}
+use mathlib.Core.Bool.{true, false, _&&_, _||_}
 use mathlib.Core.List.{List, [], _∷_, _++_}
-use mathlib.Core.Path.{_≡_, refl, sym, _∙_, ap}
-use native.Mathlib.Nat.{le-refl, le-trans, not-suc-le-zero}
+use mathlib.Core.Path.{_≡_, refl, _∙_, ap}
+use native.Mathlib.Nat.{le-refl, not-suc-le-zero}
 use native.Mathlib.Omega.{arith}
-use borrow.Author.Tests.{not-true, not-false}
+use borrow.Author.Tests.{not-true}
 use lib.Dec.{eqb}
 use lib.ListN.{length}
-use Rattle.lists.specs.Tests.{ifB, split, differ, or-left, or-right}
+use Rattle.lists.specs.Tests.{split, differ, or-left, or-right}
 use Rattle.rules.specs.Bytes.{newline, space, dollar, colon, bar}
 use Rattle.rules.specs.Dollars.{Scan, plain, turn, badDollar}
-use Rattle.rules.specs.Forms.{Cut, fits, then, gap, pathStop, endsPath, pathFrom, afterPath, Paths, withPath, checked, pathBegins, pathsUp, paths}
+use Rattle.rules.specs.Forms.{fits, then, gap, pathStop, endsPath, pathFrom, afterPath, withPath, checked, pathBegins, pathsUp, paths}
 
 -- ---- a gap and a path leave no more bytes than there were
 

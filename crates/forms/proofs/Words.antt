@@ -1,23 +1,21 @@
 -- `rule NAME`, `default PATHS` and `NAME = value` at places of a line.
-use Prim.Native.Nat.{ℕ, suc, _+_, _-_, _≤_, _<_}
-use mathlib.Core.Bool.{Bool, true, false, not, _||_}
-use mathlib.Core.List.{List, [], _∷_, _++_}
+use Prim.Native.Nat.{ℕ, _+_, _-_, _≤_, _<_}
+use mathlib.Core.Bool.{Bool, true, false}
+use mathlib.Core.List.{List}
 use mathlib.Core.Option.{none, some}
-use mathlib.Core.Path.{_≡_, refl, sym, _∙_, ap}
-use native.Mathlib.Nat.{le-refl, le-trans}
+use mathlib.Core.Path.{_≡_, sym, _∙_, ap}
+use native.Mathlib.Nat.{le-trans}
 use native.Mathlib.Omega.{arith}
-use borrow.Author.Tests.{eq-eqb, ne-eqb, not-true, not-false}
-use lib.Dec.{eqb}
+use borrow.Author.Tests.{ne-eqb, not-true, not-false}
 use lib.ListN.{length, drop, getD, length-append, length-drop}
 use lib.Seq.{drop-drop, drop-append-seam}
-use Rattle.lists.specs.Tests.{ifB}
 use Rattle.lists.specs.Parts.{part}
-use Rattle.lists.specs.Runs.{Reads, run, afterRun, run-append}
+use Rattle.lists.specs.Runs.{Reads, run, run-append}
 use Rattle.rules.specs.Basics.{isEmpty}
 use Rattle.rules.specs.Bytes.{equals}
 use Rattle.rules.specs.Dollars.{badDollar}
 use Rattle.rules.specs.Lines.{isSpace}
-use Rattle.rules.specs.Forms.{Fault as Rules·Fault, noForm, wrongDollar, Cut, fits, fails, then, gap, nameOf, afterName, ruleWord, keyWord, paths, checked, bindingForm, cutRule, cutDefault, rawValue, cutValue, cutBinding}
+use Rattle.rules.specs.Forms.{Fault as Rules·Fault, noForm, Cut, fits, fails, gap, nameOf, afterName, ruleWord, keyWord, paths, checked, bindingForm, cutRule, cutDefault, rawValue, cutValue, cutBinding}
 use Rattle.scan.specs.declared.Word.{Word}
 use Rattle.scan.specs.Words.{wordCut}
 use Rattle.scan.proofs.Places.{at-cons, at-end}
@@ -25,7 +23,7 @@ use Rattle.scan.proofs.Gaps.{part-name}
 use Rattle.forms.specs.declared.Fault.{Fault}
 use Rattle.forms.specs.declared.Fault.the-variants.{BadDollar}
 use Rattle.forms.specs.Faults.{Fails}
-use Rattle.forms.specs.Paths.{PathsAt, ListEnds}
+use Rattle.forms.specs.Paths.{ListEnds}
 use Rattle.forms.specs.Statements.{NameEnds, RuleAt, DefaultAt, BindingAt}
 use Rattle.forms.proofs.Faults.{bad-dollar, fails-then}
 use Rattle.forms.proofs.Dollars.{bad-within}

@@ -8,7 +8,7 @@ use lib.ListN.{length, drop}
 use Rattle.lists.specs.Parts.{part}
 use Rattle.rules.specs.Basics.{isEmpty}
 use Rattle.rules.specs.Dollars.{badDollar}
-use Rattle.rules.specs.Forms.{Cut, fits, then, paths, withPath}
+use Rattle.rules.specs.Forms.{fits, then, paths, withPath}
 use Rattle.forms.specs.declared.Next.{Next}
 use Rattle.forms.specs.declared.Next.the-variants.{Path, Stop}
 use Rattle.forms.specs.declared.Item.{Item}

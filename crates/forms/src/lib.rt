@@ -1,6 +1,5 @@
-// A line cut into its form by its bytes alone: refusals 4, 5 and 6.
+// A line cut into its form by its bytes alone: refusals 4, 5 and 6. A line is lent without the newline that ends it.
 ghost use mathlib.Core.Path.{_≡_};
-ghost use lib.ListN.{drop};
 ghost use Rattle.rules.specs.Forms.{cutStatement, cutIndented};
 ghost use Rattle.classes.specs.Table.{classes};
 ghost use Rattle.forms.specs.Statements.{StatementAt, AssignmentAt};
@@ -11,26 +10,18 @@ pub mod paths;
 
 use crate::build::cut_build;
 use crate::names::cut_binding;
-use crate::names::cut_default;
 use crate::names::cut_rule;
+use crate::paths::cut_default;
 use lists::bytes::equal;
 use scan::tokens::name;
 use scan::tokens::spaces;
 
-// What is wrong with a line's bytes.
-pub enum Fault {
-    NoForm,
-    // where the bad `$` stands
-    BadDollar(usize),
-    NotYet,
-}
-
 // What a line without indent is.
 pub enum Statement {
-    // where the rule's name starts and ends
+    // where the name starts and ends
     Rule(usize, usize),
     Build(BuildPlaces),
-    // where its paths start
+    // where the paths start
     Default(usize),
     // where the name starts and ends, and where the raw value starts
     Binding(usize, usize, usize),
@@ -43,8 +34,15 @@ pub enum Assignment {
     Wrong(Fault),
 }
 
-// Where the parts of a build line stand: where its lists of paths start, and where its rule's name starts, which ends where the explicit
-// inputs start. A list of inputs that is not there starts at the line's end, where no path is.
+// What is wrong with a line's bytes: 4, 5 with the place of the `$`, or 6.
+pub enum Fault {
+    NoForm,
+    BadDollar(usize),
+    NotYet,
+}
+
+// Where the parts of a build line start. The rule's name ends where the explicit inputs start. Implicit or order-only inputs that are not
+// there start at the line's end, where no path is.
 pub struct BuildPlaces {
     pub outs: usize,
     pub rule: usize,
@@ -53,44 +51,10 @@ pub struct BuildPlaces {
     pub order: usize,
 }
 
-// Where a build line's outputs, its rule's name and its explicit inputs start.
-pub struct Head {
-    pub outs: usize,
-    pub rule: usize,
-    pub ins: usize,
-}
-
-// The next path of a list: from where to where.
+// The next path of a list: where it starts and ends.
 pub enum Next {
     Path(usize, usize),
     Stop,
-}
-
-// What stands next in a list of paths.
-pub enum Item {
-    Path(usize, usize),
-    End(usize),
-    Wrong(Fault),
-}
-
-// A list of paths: whether it has any, and where it ends.
-pub enum Listed {
-    Ends(bool, usize),
-    Wrong(Fault),
-}
-
-// Where a name ends.
-pub enum Named {
-    To(usize),
-    Wrong(Fault),
-}
-
-// What stands after a list of inputs: nothing, `|` or `||` and what follows it, or a byte that does not fit.
-pub enum Bars {
-    LineEnd,
-    One(usize),
-    Two(usize),
-    Other,
 }
 
 // A line without indent; a keyword at its start always begins its statement.
@@ -123,4 +87,38 @@ pub fn cut_indented(t: &[u8; 256], l: &[u8]) -> Assignment
     let from = spaces(l, 0);
     let to = name(t, l, from);
     cut_binding(t, l, from, to)
+}
+
+// What stands next in a list of paths.
+pub enum Item {
+    Path(usize, usize),
+    End(usize),
+    Wrong(Fault),
+}
+
+// A list of paths: whether it has any, and where it ends.
+pub enum Listed {
+    Ends(bool, usize),
+    Wrong(Fault),
+}
+
+// Where a name ends.
+pub enum Named {
+    To(usize),
+    Wrong(Fault),
+}
+
+// What stands after a list of inputs: nothing, `|` or `||` with the place behind it, or a byte that does not fit.
+pub enum Bars {
+    LineEnd,
+    One(usize),
+    Two(usize),
+    Other,
+}
+
+// Where a build line's outputs, rule and explicit inputs start.
+pub struct Head {
+    pub outs: usize,
+    pub rule: usize,
+    pub ins: usize,
 }

@@ -1,18 +1,16 @@
-// Lines that name one thing: `rule NAME`, `NAME = value`; and `default PATHS`.
+// `rule NAME` and `NAME = value`.
 ghost use mathlib.Core.Path.{_≡_};
 ghost use Prim.Native.Nat.{_≤_};
 ghost use lib.ListN.{length, drop};
 ghost use Rattle.lists.specs.Parts.{part};
 ghost use Rattle.lists.specs.Runs.{Reads};
-ghost use Rattle.rules.specs.Forms.{gap, nameOf, afterName, ruleWord, cutRule, cutDefault, cutValue, cutBinding};
+ghost use Rattle.rules.specs.Forms.{gap, nameOf, afterName, ruleWord, cutRule, cutValue, cutBinding};
 ghost use Rattle.classes.specs.Table.{classes};
 ghost use Rattle.forms.specs.Statements.{NamedAt, StatementAt, AssignmentAt};
 use crate::Assignment;
 use crate::Fault;
-use crate::Listed;
 use crate::Named;
 use crate::Statement;
-use crate::paths::listed;
 use scan::FirstBad;
 use scan::Word;
 use scan::texts::bad_dollar;
@@ -50,25 +48,6 @@ pub fn cut_rule(t: &[u8; 256], l: &[u8], at: usize) -> Statement
             Statement::Rule(from, to)
         }
         Named::Wrong(f) => Statement::Wrong(f),
-    }
-}
-
-// `default PATHS`, from behind the keyword on.
-pub fn cut_default(t: &[u8; 256], l: &[u8], at: usize) -> Statement
-    requires { ⌜ (now t ≡ classes) × (at ≤ length (now l)) ⌝ }
-    ensures { λ r. ⌜ StatementAt (now (l .entry)) (cutDefault (drop at (now (l .entry)))) r ⌝ }
-{
-    match listed(t, l, at) {
-        Listed::Ends(any, end) => {
-            if !any {
-                return Statement::Wrong(Fault::NoForm);
-            }
-            if end < l.len() {
-                return Statement::Wrong(Fault::NoForm);
-            }
-            Statement::Default(at)
-        }
-        Listed::Wrong(f) => Statement::Wrong(f),
     }
 }
 

@@ -1,13 +1,16 @@
-// The paths of a list.
+// The paths of a list, and `default PATHS`.
 ghost use mathlib.Core.Path.{_≡_};
 ghost use Prim.Native.Nat.{_≤_};
-ghost use lib.ListN.{length};
+ghost use lib.ListN.{length, drop};
+ghost use Rattle.rules.specs.Forms.{cutDefault};
 ghost use Rattle.classes.specs.Table.{classes};
 ghost use Rattle.forms.specs.Paths.{ItemAt, ListedAt, NextAt};
+ghost use Rattle.forms.specs.Statements.{StatementAt};
 use crate::Fault;
 use crate::Item;
 use crate::Listed;
 use crate::Next;
+use crate::Statement;
 use scan::PathEnd;
 use scan::texts::path;
 use scan::tokens::gap;
@@ -66,5 +69,24 @@ pub fn next_path(t: &[u8; 256], l: &[u8], at: usize) -> Next
         Item::Path(from, to) => Next::Path(from, to),
         Item::End(_) => Next::Stop,
         Item::Wrong(_) => Next::Stop,
+    }
+}
+
+// `default PATHS`, from behind the keyword on.
+pub fn cut_default(t: &[u8; 256], l: &[u8], at: usize) -> Statement
+    requires { ⌜ (now t ≡ classes) × (at ≤ length (now l)) ⌝ }
+    ensures { λ r. ⌜ StatementAt (now (l .entry)) (cutDefault (drop at (now (l .entry)))) r ⌝ }
+{
+    match listed(t, l, at) {
+        Listed::Ends(any, end) => {
+            if !any {
+                return Statement::Wrong(Fault::NoForm);
+            }
+            if end < l.len() {
+                return Statement::Wrong(Fault::NoForm);
+            }
+            Statement::Default(at)
+        }
+        Listed::Wrong(f) => Statement::Wrong(f),
     }
 }

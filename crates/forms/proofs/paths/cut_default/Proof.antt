@@ -1,4 +1,4 @@
--- `forms::names::cut_default` meets its contract.
+-- `forms::paths::cut_default` meets its contract.
 use mathlib.Core.Path.{subst}
 use borrow.Author.Tests.{not-true, not-false}
 use borrow.Author.Needs.{needs}
@@ -6,8 +6,8 @@ use Rattle.forms.specs.Paths.{ListedAt}
 use Rattle.forms.specs.Statements.{StatementAt}
 use Rattle.forms.proofs.Faults.{no-form}
 use Rattle.forms.proofs.Words.{default-wrong, default-none, default-more, default-ends}
-use Rattle.forms.proofs.names.cut_default.Statement.{statement}
-use Rattle.forms.proofs.names.cut_default.Tie as tie
+use Rattle.forms.proofs.paths.cut_default.Statement.{statement}
+use Rattle.forms.proofs.paths.cut_default.Tie as tie
 
 listed-requires : tie.Need-listed-requires
 listed-requires c κs = search needs
