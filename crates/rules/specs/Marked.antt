@@ -3,11 +3,12 @@ use Prim.Native.Nat.{ℕ, suc, _+_, _*_, _/_, _%_, zero}
 use Prim.Native.String.{String}
 use mathlib.Core.List.{List, [], _∷_, _++_, map}
 use mathlib.Core.Path.{_≡_, refl}
+use mathlib.Core.Bool.{true}
 use lib.ListN.{length}
 use Rattle.lists.specs.Text.{bytes}
 use Rattle.rules.specs.declared.Wanted.the-variants.{Command, Description}
 use Rattle.rules.specs.Reading.{Step}
-use Rattle.rules.specs.Card.{Entry, soundCard, cardEntries}
+use Rattle.rules.specs.Card.{Entry, soundCard, cardEntries, timeIn}
 use Rattle.rules.specs.PlanAsk.{PlanOutcome, planAsk, listed, circular}
 use Rattle.rules.specs.TextAsk.{TextOutcome, textAsk, text}
 
@@ -32,20 +33,25 @@ abbrev pub cardOf : List Entry → List ℕ
 cardOf l =
     inBytes 4 (length l) ++ (inBytes 4 16 ++ (inBytes 4 (16 + 16 * length l) ++ (inBytes 4 (16 + 16 * length l + length (nameBytes l)) ++ (recordBytes 0 l ++ nameBytes l))))
 
-abbrev bench : List ℕ
+abbrev pub bench : List ℕ
 bench =
     bytes
     "cflags = -O1\nrule cc\n  command = cc $cflags -c $in -o $out\nbuild b.o: cc b.c\nbuild a.o: cc a.c | t.h\n  cflags = -O2\nbuild axis: phony a.o b.o\ndefault axis\n"
 
-abbrev plan : List ℕ → List Entry → String → PlanOutcome
+abbrev pub plan : List ℕ → List Entry → String → PlanOutcome
 plan manifest card targets = planAsk manifest (cardOf card) (bytes targets) 512
 
-abbrev command : List ℕ → ℕ → TextOutcome
+abbrev pub command : List ℕ → ℕ → TextOutcome
 command manifest s = textAsk manifest s Command 8192
 
 -- the phony step that makes file f of these explicit inputs
-abbrev phonyStepOf : ℕ → List ℕ → Step
+abbrev pub phonyStepOf : ℕ → List ℕ → Step
 phonyStepOf f ins = record { outs = f ∷ []; ins = ins; implicit = []; orderOnly = []; rule = bytes "phony"; block = [] }
+
+-- count 1, records at 16, names at 32, 33 bytes in all; the record (offset 0, length 1, time 5); the name
+abbrev pub cardOfA : List ℕ
+cardOfA =
+    (1 ∷ 0 ∷ 0 ∷ 0 ∷ 16 ∷ 0 ∷ 0 ∷ 0 ∷ 32 ∷ 0 ∷ 0 ∷ 0 ∷ 33 ∷ 0 ∷ 0 ∷ 0 ∷ []) ++ ((0 ∷ 0 ∷ 0 ∷ 0 ∷ 1 ∷ 0 ∷ 0 ∷ 0 ∷ 5 ∷ 0 ∷ 0 ∷ 0 ∷ 0 ∷ 0 ∷ 0 ∷ 0 ∷ []) ++ (97 ∷ []))
 
 pub record Marked : Type 0 where
   -- the bench as it stands: steps 0 and 1, with their texts
@@ -71,9 +77,11 @@ pub record Marked : Type 0 where
   -- (M9) order-only input newer: fresh
   pub m9 : plan (bytes "rule r\n  command = x\nbuild a: r b || c\n") (on "a" 5 ∷ on "b" 5 ∷ on "c" 9 ∷ []) "" ≡ listed []
   -- (M10) card of one file a, time 5: 33 bytes
-  pub m10-length : length (cardOf (on "a" 5 ∷ [])) ≡ 33
-  pub m10 : cardEntries (1 ∷ 0 ∷ 0 ∷ 0 ∷ 16 ∷ 0 ∷ 0 ∷ 0 ∷ 32 ∷ 0 ∷ 0 ∷ 0 ∷ 33 ∷ 0 ∷ 0 ∷ 0 ∷ 0 ∷ 0 ∷ 0 ∷ 0 ∷ 1 ∷ 0 ∷ 0 ∷ 0 ∷ 5 ∷ 0 ∷ 0 ∷ 0 ∷ 0 ∷ 0 ∷ 0 ∷ 0 ∷ 97 ∷ []) ≡ on "a" 5 ∷ []
+  pub m10-length : length cardOfA ≡ 33
+  pub m10-bytes : cardOf (on "a" 5 ∷ []) ≡ cardOfA
+  pub m10-sound : soundCard cardOfA ≡ true
+  pub m10-time : timeIn (cardEntries cardOfA) (bytes "a") ≡ 5
 
 pub marked : Marked
-unfolding planAsk textAsk cardEntries
-marked = record { m0 = refl; m0-first = refl; m0-second = refl; m1 = refl; m2 = refl; m3 = refl; m4 = refl; m5 = refl; m6 = refl; m7 = refl; m8 = refl; m9 = refl; m10-length = refl; m10 = refl }
+unfolding planAsk textAsk soundCard cardEntries timeIn
+marked = record { m0 = refl; m0-first = refl; m0-second = refl; m1 = refl; m2 = refl; m3 = refl; m4 = refl; m5 = refl; m6 = refl; m7 = refl; m8 = refl; m9 = refl; m10-length = refl; m10-bytes = refl; m10-sound = refl; m10-time = refl }
