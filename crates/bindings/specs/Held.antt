@@ -5,7 +5,8 @@ use mathlib.Core.Path.{_≡_}
 use lib.ListN.{length, take, getD}
 use Rattle.lists.specs.Parts.{part}
 use Rattle.rules.specs.Limits.{maxRules, maxBindings, maxName, maxWritten}
-use Rattle.bindings.specs.Log.{Logged}
+use Rattle.bindings.specs.declared.Place.{Place}
+use Rattle.bindings.specs.Log.{Logged, entryAt}
 
 -- "128 rules, 1,024 bindings .. declared names 64 bytes .. all paths and values read so far .. 60,000 bytes together"
 abbrev pub maxEntries : ℕ
@@ -89,7 +90,15 @@ pub record Row (e : Logged) (texts bind : List ℕ) (k : ℕ) : Type 0 where
   pub within : 3 * k + 2 < length bind
   pub named : startIn bind k ≤ getD bind (3 * k) 0
   pub valued : getD bind (3 * k) 0 ≤ getD bind (3 * k + 1) 0
-  pub ends : getD bind (3 * k + 1) 0 ≤ length texts
+  pub ends : getD bind (3 * k + 1) 0 ≤ maxTexts
+  pub texts-long : maxTexts ≤ length texts
   pub owner : getD bind (3 * k + 2) 0 ≡ e .owner
   pub name : part texts (startIn bind k) (getD bind (3 * k) 0) ≡ e .name
   pub value : part texts (getD bind (3 * k) 0) (getD bind (3 * k + 1) 0) ≡ e .value
+
+-- The value of entry k lies there.
+pub record ValueAt (texts bind : List ℕ) (k : ℕ) (p : Place) : Type 0 where
+  pub ordered : p .from ≤ p .to
+  pub ends : p .to ≤ maxTexts
+  pub texts-long : maxTexts ≤ length texts
+  pub value : (log : List Logged) (count : ℕ) → Holds log texts bind count → k < count → part texts (p .from) (p .to) ≡ entryAt k log .value

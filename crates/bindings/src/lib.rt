@@ -4,7 +4,7 @@ ghost use mathlib.Core.List.{List, _∷_};
 ghost use Prim.Native.Nat.{ℕ, _+_, _*_, _^_, _≤_, _<_};
 ghost use lib.ListN.{length, set};
 ghost use Rattle.bindings.specs.Log.{Logged, logged, entryAt, isNamed, newest};
-ghost use Rattle.bindings.specs.Held.{Holds, Sound, HasEntry, HasRoom, Room, startIn};
+ghost use Rattle.bindings.specs.Held.{Holds, Sound, HasEntry, HasRoom, Room, startIn, ValueAt};
 use lists::bytes::copy_at;
 use lists::bytes::equal;
 use lists::words::at;
@@ -13,6 +13,12 @@ use lists::words::at;
 pub enum Found {
     At(usize),
     Missing,
+}
+
+// A part of the texts.
+pub struct Place {
+    pub from: usize,
+    pub to: usize,
 }
 
 // Where the name of entry k starts.
@@ -35,12 +41,23 @@ pub fn name<'a, 'b>(texts: &'a [u8], bind: &'b [u32], k: usize) -> &'a [u8]
     &texts[from..to]
 }
 
+// Where the value of entry k lies in the texts.
+pub fn value_place(texts: &[u8], bind: &[u32], k: usize) -> Place
+    requires { ⌜ HasEntry (now texts) (now bind) k ⌝ }
+    ensures { λ r. ⌜ ValueAt (now (texts .entry)) (now (bind .entry)) k r ⌝ }
+{
+    let from = at(bind, 3 * k);
+    let to = at(bind, 3 * k + 1);
+    Place { from, to }
+}
+
 pub fn value<'a, 'b>(texts: &'a [u8], bind: &'b [u32], k: usize) -> &'a [u8]
     requires { ⌜ HasEntry (now texts) (now bind) k ⌝ }
     ensures { λ r. ⌜ ((log : List Logged) (count : ℕ) → Holds log (now (texts .entry)) (now (bind .entry)) count → k < count → now r ≡ entryAt k log .value) ⌝ }
 {
-    let from = at(bind, 3 * k);
-    let to = at(bind, 3 * k + 1);
+    let p = value_place(texts, bind, k);
+    let from = p.from;
+    let to = p.to;
     &texts[from..to]
 }
 

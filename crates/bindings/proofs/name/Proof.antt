@@ -21,7 +21,7 @@ part-result-start : tie.Need-part-result-start
 part-result-start c = omega (arith, row-of (c .before .before .before .before .pre) .named)
 
 part-result-end : tie.Need-part-result-end
-part-result-end c = omega (arith, row-of (c .before .before .before .before .pre) .valued, row-of (c .before .before .before .before .pre) .ends)
+part-result-end c = omega (arith, row-of (c .before .before .before .before .pre) .valued, row-of (c .before .before .before .before .pre) .ends, row-of (c .before .before .before .before .pre) .texts-long)
 
 returns : tie.Need-returns
 returns c = λ log count h b. rw (c .before .before .start .ensures, c .before .at .ensures) (row-at log (c .before .before .before .before .before .args .k) h b .name)

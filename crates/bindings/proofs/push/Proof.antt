@@ -6,7 +6,7 @@ use borrow.Author.Needs.{needs}
 use denote.Ref.{now}
 use lib.ListN.{length}
 use Rattle.bindings.proofs.Entries.{room-fits, pushed}
-use Rattle.bindings.specs.Held.{maxTexts, startIn}
+use Rattle.bindings.specs.Held.{maxTexts}
 use Rattle.bindings.proofs.push.Statement.{statement}
 use Rattle.bindings.proofs.push.Tie as tie
 
