@@ -2,6 +2,7 @@
 use Prim.Native.Nat.{ℕ, _+_, _≤_, _<_}
 use mathlib.Core.Bool.{true, false, not, _&&_, _||_}
 use mathlib.Core.List.{List, [], _∷_}
+use mathlib.Core.Option.{none}
 use mathlib.Core.Path.{_≡_, refl, sym, _∙_, ap}
 use native.Mathlib.Omega.{arith}
 use native.Mathlib.Nat.{le-antisymm, le-refl, le-trans}
@@ -19,7 +20,7 @@ use Rattle.rules.specs.Forms.{nameOf, afterName}
 use Rattle.classes.proofs.Sorted.{sorted}
 use Rattle.scan.specs.declared.Dollar.{Dollar}
 use Rattle.scan.specs.declared.Dollar.the-variants.{Byte, Join, Name, Bad}
-use Rattle.scan.specs.Element.{Element, literal, joins, names, wrong, braced, element, Found, FoundName, Tells}
+use Rattle.scan.specs.Element.{Element, literal, joins, names, wrong, braced, element, restOf, Found, FoundName, Tells, Passed}
 use Rattle.scan.proofs.Places.{at-cons, at-end, not-empty}
 use Rattle.scan.proofs.Gaps.{part-name}
 
@@ -120,3 +121,21 @@ module _ (s : List ℕ) {at k : ℕ} (h : at < length s) (c : k ≡ classOf (get
   pub other-begins : (k ≡ 1 → ⊥) → (k ≡ 10 → ⊥) → (k ≡ 4 → ⊥) → (k ≡ 5 → ⊥) → (k ≡ 3 → ⊥) → (k ≡ 6 → ⊥) → element (drop at s) ≡ wrong
   unfolding byClass
   other-begins a b c d e f = here ∙ rw (ne-eqb k 5 d, ne-eqb k 3 e, ne-eqb k 6 f, ne-eqb k 4 c, ne-eqb k 10 b, ne-eqb k 1 a)
+
+-- ---- what follows, whatever it is
+
+pub passed-byte : {s : List ℕ} {at b n : ℕ} → Found s at n (element (drop at s)) (literal b (drop n s)) → Passed s at n
+unfolding restOf
+passed-byte f = record { forward = f .forward; within = f .within; rest = ap restOf (f .is) }
+
+pub passed-join : {s : List ℕ} {at n : ℕ} → Found s at n (element (drop at s)) (joins (drop n s)) → Passed s at n
+unfolding restOf
+passed-join f = record { forward = f .forward; within = f .within; rest = ap restOf (f .is) }
+
+pub passed-name : {s : List ℕ} {at a b n : ℕ} → FoundName s at a b n (element (drop at s)) → Passed s at n
+unfolding restOf
+passed-name f = record { forward = f .found .forward; within = f .found .within; rest = ap restOf (f .found .is) }
+
+pub passed-bad : {x : Element} → x ≡ wrong → restOf x ≡ none
+unfolding restOf
+passed-bad e = ap restOf e

@@ -1,13 +1,14 @@
 -- Reading a slice from place to place.
-use Prim.Native.Nat.{ℕ, _+_, suc, _≤_, _<_}
+use Prim.Native.Nat.{ℕ, suc, _+_, _-_, _≤_, _<_}
 use mathlib.Core.Bool.{true, false}
-use mathlib.Core.List.{List, [], _∷_}
-use mathlib.Core.Path.{_≡_, refl, sym, _∙_}
+use mathlib.Core.List.{List, [], _∷_, _++_}
+use mathlib.Core.Path.{_≡_, refl, sym, _∙_, ap}
 use native.Mathlib.Nat.{le-refl, le-trans}
 use native.Mathlib.Numerals.{add-one}
 use native.Mathlib.Omega.{arith}
-use lib.ListN.{length, drop, getD, drop-of-length-le}
-use lib.Seq.{drop-cons}
+use lib.ListN.{length, take, drop, getD, drop-of-length-le, length-drop, length-append}
+use lib.Seq.{drop-cons, take-at}
+use Rattle.lists.specs.Parts.{part}
 use Rattle.lists.specs.Runs.{Reads}
 use Rattle.rules.specs.Basics.{isEmpty}
 
@@ -33,6 +34,13 @@ going-on a h w e = record { forward = le-trans (a .forward) h; within = w; same 
 -- Where f leaves the rest as it is, the reader stops.
 pub going-stop : {f : List ℕ → List ℕ} {s : List ℕ} {i k : ℕ} → Going f s i k → f (drop k s) ≡ drop k s → Reads f s i k
 going-stop a e = record { forward = a .forward; within = a .within; rest = sym (a .same ∙ e) }
+
+-- What lies between two places is what stands in front of the rest.
+pub part-passed : (s : List ℕ) {i r : ℕ} (front : List ℕ) → i ≤ r → r ≤ length s → front ++ drop r s ≡ drop i s → part s i r ≡ front
+part-passed s {i} {r} front h w e =
+    let n : length front ≡ r - i =
+    omega (arith, length-drop i s, length-drop r s, simp length-append at (ap length e)) in
+    ap (take (r - i)) (sym e) ∙ take-at front (drop r s) (r - i) n
 
 -- ---- the test for an empty list
 

@@ -2,6 +2,7 @@
 use Prim.Native.Nat.{ℕ, _≤_}
 use mathlib.Core.Bool.{Bool, not, _&&_}
 use mathlib.Core.List.{List, [], _∷_}
+use mathlib.Core.Option.{Option, none, some}
 use mathlib.Core.Path.{_≡_}
 use lib.Dec.{eqb}
 use lib.ListN.{length, drop}
@@ -15,6 +16,8 @@ use Rattle.rules.specs.Lines.{isSpace}
 use Rattle.rules.specs.Forms.{nameOf, afterName}
 use Rattle.scan.specs.declared.Dollar.{Dollar}
 use Rattle.scan.specs.declared.Dollar.the-variants.{Byte, Join, Name, Bad}
+use Rattle.scan.specs.declared.Past.{Past}
+use Rattle.scan.specs.declared.Past.the-variants.{To, Bad as Unsound}
 
 -- each with what follows it
 pub data Element : Type 0 where
@@ -40,6 +43,13 @@ element (b ∷ s) =
     ifB (eqb b openBrace) (λ _. braced (nameOf s) (afterName s)) λ _.
     ifB (shortByte b) (λ _. names (run shortByte (b ∷ s)) (afterRun shortByte (b ∷ s))) λ _. wrong
 
+-- what follows it, if it is sound
+unfoldable pub restOf : Element → Option (List ℕ)
+restOf (literal b s) = some s
+restOf (joins s) = some s
+restOf (names n s) = some s
+restOf wrong = none
+
 -- What an answer tells of x, which begins at place `at`: what it is, and where the bytes after it start.
 pub record Found (s : List ℕ) (at next : ℕ) (x y : Element) : Type 0 where
   pub forward : at ≤ next
@@ -56,3 +66,13 @@ Tells s at x (Byte b next) = Found s at next x (literal b (drop next s))
 Tells s at x (Join next) = Found s at next x (joins (drop next s))
 Tells s at x (Name from to next) = FoundName s at from to next x
 Tells s at x Bad = x ≡ wrong
+
+-- where what follows it starts, if it is sound
+pub record Passed (s : List ℕ) (at next : ℕ) : Type 0 where
+  pub forward : at ≤ next
+  pub within : next ≤ length s
+  pub rest : restOf (element (drop at s)) ≡ some (drop next s)
+
+unfoldable pub PastAt : List ℕ → ℕ → Past → Type 0
+PastAt s at (To next) = Passed s at next
+PastAt s at Unsound = restOf (element (drop at s)) ≡ none

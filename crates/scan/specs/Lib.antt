@@ -1,2 +1,4 @@
 pub mod Words
 pub mod Element
+pub mod Texts
+pub mod Endings

@@ -6,8 +6,9 @@ ghost use Rattle.lists.specs.Runs.{afterRun, Reads};
 ghost use Rattle.rules.specs.Bytes.{shortByte};
 ghost use Rattle.rules.specs.Forms.{nameOf, afterName};
 ghost use Rattle.classes.specs.Table.{classes};
-ghost use Rattle.scan.specs.Element.{element, braced, Tells};
+ghost use Rattle.scan.specs.Element.{element, braced, Tells, PastAt};
 use crate::Dollar;
+use crate::Past;
 use crate::tokens;
 
 // The longest run of short-name bytes.
@@ -74,4 +75,17 @@ pub fn dollar(t: &[u8; 256], s: &[u8], at: usize) -> Dollar
         return Dollar::Byte(b, at + 1);
     }
     Dollar::Bad
+}
+
+// Where the bytes after what the `$` before `at` begins start.
+pub fn past(t: &[u8; 256], s: &[u8], at: usize) -> Past
+    requires { ⌜ (now t ≡ classes) × (at ≤ length (now s)) ⌝ }
+    ensures { λ r. ⌜ PastAt (now (s .entry)) at r ⌝ }
+{
+    match dollar(t, s, at) {
+        Dollar::Byte(_, next) => Past::To(next),
+        Dollar::Join(next) => Past::To(next),
+        Dollar::Name(_, _, next) => Past::To(next),
+        Dollar::Bad => Past::Bad,
+    }
 }
