@@ -1,6 +1,7 @@
 use mathlib.Core.Bool.{or-false}
 use mathlib.Core.Path.{sym, _∙_}
-use Rattle.rules.specs.Basics.{any, among}
+use Rattle.lists.specs.Members.{any}
+use Rattle.rules.specs.Basics.{among}
 use Rattle.rules.specs.Forms.{laterKey}
 use borrow.Author.Needs.{needs}
 use Rattle.scan.proofs.words.later_key.Statement.{statement}
