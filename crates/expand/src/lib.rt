@@ -1,0 +1,46 @@
+// Raw paths and values expanded with the file's variables.
+ghost use mathlib.Core.Path.{_≡_};
+ghost use mathlib.Core.List.{List};
+ghost use Prim.Native.Nat.{ℕ, _+_, _-_, _≤_, _<_, min};
+ghost use lib.ListN.{length};
+ghost use lib.Seq.{paste};
+ghost use Rattle.rules.specs.Dollars.{badDollar};
+ghost use Rattle.bindings.specs.Log.{Logged};
+ghost use Rattle.bindings.specs.Held.{Holds, Sound};
+ghost use Rattle.expand.specs.Runs.{expanded, bytesOf, Placed, Begins, Variable, Ready, Written};
+use bindings::{Found, newest, value_place};
+use lists::bytes::{copy_at, find};
+use scan::Dollar;
+use scan::dollars::dollar;
+
+// A run of bytes of an expansion: a part of the raw text, or of the bound texts, and where the raw text goes on behind it.
+pub struct Run {
+    pub bound: bool,
+    pub from: usize,
+    pub to: usize,
+    pub next: usize,
+}
+
+// The value of a name, as a run.
+fn variable(wanted: &[u8], texts: &[u8], bind: &[u32], count: usize, next: usize) -> Run
+    requires { ⌜ Sound (now texts) (now bind) count ⌝ }
+    ensures { λ r. ⌜ ((raw : List ℕ) → Variable (now (wanted .entry)) raw (now (texts .entry)) (now (bind .entry)) count next r) ⌝ }
+{
+    match newest(texts, bind, count, 0, wanted) {
+        Found::At(k) => {
+            let p = value_place(texts, bind, k);
+            Run {
+                bound: true,
+                from: p.from,
+                to: p.to,
+                next,
+            }
+        }
+        Found::Missing => Run {
+            bound: false,
+            from: next,
+            to: next,
+            next,
+        },
+    }
+}
