@@ -1,1 +1,3 @@
 pub mod Variables
+pub mod Pieces
+pub mod Begin

@@ -44,3 +44,40 @@ fn variable(wanted: &[u8], texts: &[u8], bind: &[u32], count: usize, next: usize
         },
     }
 }
+
+// The run that begins at place i of the raw text.
+fn run_at(t: &[u8; 256], raw: &[u8], i: usize, texts: &[u8], bind: &[u32], count: usize) -> Run
+    requires { ⌜ (i < length (now raw)) × Ready (now t) (now raw) (now texts) (now bind) count i ⌝ }
+    ensures { λ r. ⌜ Begins (now (raw .entry)) (now (texts .entry)) (now (bind .entry)) count i r ⌝ }
+{
+    if raw[i] != b'$' {
+        let end = find(raw, i, b'$');
+        return Run {
+            bound: false,
+            from: i,
+            to: end,
+            next: end,
+        };
+    }
+    match dollar(t, raw, i + 1) {
+        Dollar::Byte(_, next) => Run {
+            bound: false,
+            from: i + 1,
+            to: i + 2,
+            next,
+        },
+        Dollar::Join(next) => Run {
+            bound: false,
+            from: next,
+            to: next,
+            next,
+        },
+        Dollar::Name(from, to, next) => variable(&raw[from..to], texts, bind, count, next),
+        Dollar::Bad => Run {
+            bound: false,
+            from: i,
+            to: i,
+            next: raw.len(),
+        },
+    }
+}
