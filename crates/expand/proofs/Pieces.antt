@@ -18,10 +18,6 @@ use Rattle.scan.specs.Element.{Element, literal, joins, names, wrong, braced, e
 use Rattle.scan.proofs.Pieces.{pieces-byte, pieces-literal, pieces-join, pieces-name, sound-byte}
 
 module _ (look : List ℕ → List ℕ) where
-  pub expand-end : expand look [] ≡ []
-  unfolding expand fill
-  expand-end = refl
-
   expand-byte : (b : ℕ) (s : List ℕ) → (b ≡ dollar → ⊥) → expand look (b ∷ s) ≡ b ∷ expand look s
   unfolding expand fill
   expand-byte b s h = rw (pieces-byte b s h)

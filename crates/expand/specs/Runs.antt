@@ -66,6 +66,11 @@ pub record Ready (t raw texts bind : List ℕ) (count i : ℕ) : Type 0 where
 unfoldable pub laidOver : List ℕ → List ℕ → List ℕ
 laidOver d s = take (length d) s ++ drop (length s) d
 
+-- the same from place `at` on
+unfoldable pub laidAt : List ℕ → ℕ → List ℕ → List ℕ
+laidAt d at s = take at d ++ take (length d - at) s ++ drop (at + length s) d
+
+-- The buffer holds the bytes s, as far as they fit, over what it held before, and n is their number.
 pub record Written (before s after : List ℕ) (n : ℕ) : Type 0 where
   pub count : n ≡ length s
   pub bytes : after ≡ laidOver before s

@@ -7,7 +7,7 @@ ghost use lib.Seq.{paste};
 ghost use Rattle.rules.specs.Dollars.{badDollar};
 ghost use Rattle.bindings.specs.Log.{Logged};
 ghost use Rattle.bindings.specs.Held.{Holds, Sound};
-ghost use Rattle.expand.specs.Runs.{expanded, bytesOf, Placed, Begins, Variable, Ready, Written};
+ghost use Rattle.expand.specs.Runs.{expanded, bytesOf, Placed, Begins, Variable, Ready, laidAt, Written};
 use bindings::{Found, newest, value_place};
 use lists::bytes::{copy_at, find};
 use scan::Dollar;
@@ -80,4 +80,49 @@ fn run_at(t: &[u8; 256], raw: &[u8], i: usize, texts: &[u8], bind: &[u32], count
             next: raw.len(),
         },
     }
+}
+
+// Writes s into the buffer from place `at` on, as far as it fits.
+fn put(word: &mut [u8], at: usize, s: &[u8])
+    ensures { λ _. ⌜ now (word .exit) ≡ laidAt (now (word .entry)) at (now (s .entry)) ⌝ }
+{
+    if word.len() <= at {
+        return;
+    }
+    let room = word.len() - at;
+    if s.len() <= room {
+        copy_at(word, at, s);
+    } else {
+        copy_at(word, at, &s[..room]);
+    }
+}
+
+// Writes a run into the buffer from place `at` on, as far as it fits.
+fn put_run(word: &mut [u8], at: usize, raw: &[u8], texts: &[u8], r: Run)
+    requires { ⌜ Placed (now raw) (now texts) r ⌝ }
+    ensures { λ _. ⌜ now (word .exit) ≡ laidAt (now (word .entry)) at (bytesOf (now (raw .entry)) (now (texts .entry)) r) ⌝ }
+{
+    let from = r.from;
+    let to = r.to;
+    if r.bound {
+        put(word, at, &texts[from..to]);
+    } else {
+        put(word, at, &raw[from..to]);
+    }
+}
+
+// Writes the expansion of a raw text into the buffer as far as it fits, and gives the length of the whole.
+pub fn expand(t: &[u8; 256], raw: &[u8], texts: &[u8], bind: &[u32], count: usize, word: &mut [u8]) -> usize
+    requires { ⌜ Ready (now t) (now raw) (now texts) (now bind) count 0 ⌝ }
+    ensures { λ r. ⌜ ((log : List Logged) → Holds log (now (texts .entry)) (now (bind .entry)) count → Written (now (word .entry)) (expanded log (now (raw .entry))) (now (word .exit)) r) ⌝ }
+{
+    let mut i = 0;
+    let mut n = 0;
+    while i < raw.len() {
+        let r = run_at(t, raw, i, texts, bind, count);
+        put_run(word, n, raw, texts, r);
+        n += r.to - r.from;
+        i = r.next;
+    }
+    n
 }
