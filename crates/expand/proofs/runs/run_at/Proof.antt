@@ -1,11 +1,11 @@
--- `expand::run_at` meets its contract.
+-- `expand::runs::run_at` meets its contract.
 use native.Mathlib.Omega.{arith}
 use borrow.Author.Needs.{needs}
 use denote.Ref.{now}
 use Rattle.scan.proofs.Answers.{tells-byte, tells-join, tells-name, tells-bad}
 use Rattle.expand.proofs.Begin.{plain-begins, literal-begins, join-begins, name-begins, none-begins}
-use Rattle.expand.proofs.run_at.Statement.{statement}
-use Rattle.expand.proofs.run_at.Tie as tie
+use Rattle.expand.proofs.runs.run_at.Statement.{statement}
+use Rattle.expand.proofs.runs.run_at.Tie as tie
 
 shared-slice-read-if1 : tie.Need-shared-slice-read-if1
 shared-slice-read-if1 c = search needs

@@ -1,9 +1,9 @@
--- `expand::variable` meets its contract.
+-- `expand::runs::variable` meets its contract.
 use borrow.Author.Needs.{needs}
 use denote.Ref.{now}
 use Rattle.expand.proofs.Variables.{found-entry, found-value, unset-value}
-use Rattle.expand.proofs.variable.Statement.{statement}
-use Rattle.expand.proofs.variable.Tie as tie
+use Rattle.expand.proofs.runs.variable.Statement.{statement}
+use Rattle.expand.proofs.runs.variable.Tie as tie
 
 newest-requires : tie.Need-newest-requires
 newest-requires c κs = search needs
