@@ -96,13 +96,13 @@ module _ (raw texts bind : List ℕ) (count i : ℕ) (h : i < length raw) (s : b
     name-begins {a} {e} {n} {r} f v =
         record {
           placed =
-            record {
-              ordered = v .ordered;
-              in-raw = λ b. let m = v .in-raw b in omega (arith, f .found .within);
-              in-texts = v .in-texts;
-              within = rw (v .next) (f .found .within);
-              sound = rw (v .next) (sound-next n (f .found .is) refl);
-            };
+              record {
+                ordered = v .ordered;
+                in-raw = λ b. let m = v .in-raw b in omega (arith, f .found .within);
+                in-texts = v .in-texts;
+                within = rw (v .next) (f .found .within);
+                sound = rw (v .next) (sound-next n (f .found .is) refl);
+              };
           forward = omega (arith, f .found .forward, v .next);
           bounded = omega (arith, f .found .forward, v .next, v .bounded);
           gives = λ log q. ap (expanded log) here ∙ expand-name _ (drop (i + 1) raw) (f .found .is) ∙ rw (v .next, v .value log q);

@@ -53,26 +53,26 @@ module _ {t raw texts bind : List ℕ} {count : ℕ} {before word : List ℕ} {i
         let k = length-bytes (b .placed) in
         record {
           ready =
-            record {
-              table = x .ready .table;
-              short = x .ready .short;
-              within = b .placed .within;
-              sound = b .placed .sound;
-              held = x .ready .held;
-            };
+              record {
+                table = x .ready .table;
+                short = x .ready .short;
+                within = b .placed .within;
+                sound = b .placed .sound;
+                held = x .ready .held;
+              };
           bounded = omega (arith, x .bounded, b .bounded, b .forward);
           long = ap length e ∙ length-laid-at word n (bytesOf raw texts r) ∙ x .long;
           done = λ log h.
-            let d = x .done log h in
-            record {
-              part = d .part ++ bytesOf raw texts r;
-              whole = rw append-assoc (rw (← (b .gives log h)) (d .whole));
-              written =
-                record {
-                  count = rw length-append (omega (arith, d .written .count));
-                  bytes = e ∙ rw (d .written .bytes, d .written .count) (laid-on before (d .part) (bytesOf raw texts r));
-                };
-            };
+              let d = x .done log h in
+              record {
+                part = d .part ++ bytesOf raw texts r;
+                whole = rw append-assoc (rw (← (b .gives log h)) (d .whole));
+                written =
+                    record {
+                      count = rw length-append (omega (arith, d .written .count));
+                      bytes = e ∙ rw (d .written .bytes, d .written .count) (laid-on before (d .part) (bytesOf raw texts r));
+                    };
+              };
         }
 
   pub expand-done : length raw ≤ i → (log : List Logged) → Holds log texts bind count → Written before (expanded log raw) word n

@@ -3,3 +3,6 @@ pub mod Pieces
 pub mod Begin
 pub mod Laid
 pub mod Expanding
+pub mod Agreeing
+pub mod Filling
+pub mod Matching

@@ -36,9 +36,9 @@ module _ (name : List ℕ) {texts bind : List ℕ} {count : ℕ} {f : Found} (q 
         in-texts = λ b. omega (arith, v .ends, v .texts-long);
         bounded = omega (arith, v .ends);
         value = λ log h.
-          let n : newest ofFile name log ≡ At k = sym (q log h) ∙ e in
-          let b : k < count = omega (arith, h .counted, newest-below ofFile name log k n) in
-          v .value log count h b ∙ sym (var-newest name log ∙ rw n);
+            let n : newest ofFile name log ≡ At k = sym (q log h) ∙ e in
+            let b : k < count = omega (arith, h .counted, newest-below ofFile name log k n) in
+            v .value log count h b ∙ sym (var-newest name log ∙ rw n);
       }
 
   pub unset-value : (raw : List ℕ) (next : ℕ) → f ≡ Missing → Variable name raw texts bind count next (record { bound = false; from = next; to = next; next = next })

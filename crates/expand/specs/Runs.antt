@@ -60,6 +60,24 @@ pub record Ready (t raw texts bind : List ℕ) (count i : ℕ) : Type 0 where
   pub sound : badDollar (drop i raw) ≡ none
   pub held : Sound texts bind count
 
+-- What going on from a run asks.
+pub record Going (t raw texts bind : List ℕ) (count : ℕ) (r : Run) : Type 0 where
+  pub table : t ≡ classes
+  pub short : length raw ≤ maxManifest
+  pub placed : Placed raw texts r
+  pub held : Sound texts bind count
+
+-- how many bytes there can be from a run on
+abbrev pub most : List ℕ → Run → ℕ
+most raw r = maxTexts * (length raw - r .next) + (r .to - r .from)
+
+-- The same is left from x on as from r on, and x has a byte or nothing follows it.
+pub record Filled (raw texts bind : List ℕ) (count : ℕ) (r x : Run) : Type 0 where
+  pub placed : Placed raw texts x
+  pub most : most raw x ≤ most raw r
+  pub last : x .to ≤ x .from → length raw ≤ x .next
+  pub left : (log : List Logged) → Holds log texts bind count → leftOf log raw texts r ≡ leftOf log raw texts x
+
 -- ------------------------------------------------------------------ what is written of an expansion
 
 -- the bytes of s over those of a buffer, as far as they fit

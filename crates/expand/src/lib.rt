@@ -3,9 +3,15 @@ ghost use mathlib.Core.Path.{_≡_};
 ghost use mathlib.Core.List.{List};
 ghost use Rattle.bindings.specs.Log.{Logged};
 ghost use Rattle.bindings.specs.Held.{Holds};
+ghost use Rattle.lists.specs.Bytes.{eqBytes};
 ghost use Rattle.expand.specs.Runs.{expanded, bytesOf, Placed, Ready, laidAt, Written};
+
+mod fronts;
 mod runs;
+
+use fronts::runs_ahead;
 use lists::bytes::copy_at;
+use runs::filled;
 use runs::run_at;
 
 // A run of bytes of an expansion: a part of the raw text, or of the bound texts, and where the raw text goes on behind it.
@@ -14,6 +20,12 @@ pub struct Run {
     pub from: usize,
     pub to: usize,
     pub next: usize,
+}
+
+// What the front of two runs says: they differ, or the first n bytes are the same, and one of the two has no more.
+pub enum Ahead {
+    Differ,
+    Both(usize),
 }
 
 // Writes s into the buffer from place `at` on, as far as it fits.
@@ -46,7 +58,14 @@ fn put_run(word: &mut [u8], at: usize, raw: &[u8], texts: &[u8], r: Run)
 }
 
 // Writes the expansion of a raw text into the buffer as far as it fits, and gives the length of the whole.
-pub fn expand(t: &[u8; 256], raw: &[u8], texts: &[u8], bind: &[u32], count: usize, word: &mut [u8]) -> usize
+pub fn expand(
+    t: &[u8; 256],
+    raw: &[u8],
+    texts: &[u8],
+    bind: &[u32],
+    count: usize,
+    word: &mut [u8],
+) -> usize
     requires { ⌜ Ready (now t) (now raw) (now texts) (now bind) count 0 ⌝ }
     ensures { λ r. ⌜ ((log : List Logged) → Holds log (now (texts .entry)) (now (bind .entry)) count → Written (now (word .entry)) (expanded log (now (raw .entry))) (now (word .exit)) r) ⌝ }
 {
@@ -59,4 +78,39 @@ pub fn expand(t: &[u8; 256], raw: &[u8], texts: &[u8], bind: &[u32], count: usiz
         i = r.next;
     }
     n
+}
+
+// Whether two raw texts expand to the same bytes.
+pub fn same(t: &[u8; 256], a: &[u8], b: &[u8], texts: &[u8], bind: &[u32], count: usize) -> bool
+    requires { ⌜ Ready (now t) (now a) (now texts) (now bind) count 0 × Ready (now t) (now b) (now texts) (now bind) count 0 ⌝ }
+    ensures { λ r. ⌜ ((log : List Logged) → Holds log (now (texts .entry)) (now (bind .entry)) count → r ≡ eqBytes (expanded log (now (a .entry))) (expanded log (now (b .entry)))) ⌝ }
+{
+    let mut x = Run {
+        bound: false,
+        from: 0,
+        to: 0,
+        next: 0,
+    };
+    let mut y = Run {
+        bound: false,
+        from: 0,
+        to: 0,
+        next: 0,
+    };
+    loop {
+        x = filled(t, a, texts, bind, count, x);
+        y = filled(t, b, texts, bind, count, y);
+        match runs_ahead(a, b, texts, x, y) {
+            Ahead::Differ => {
+                return false;
+            }
+            Ahead::Both(n) => {
+                if n == 0 {
+                    return x.to - x.from == y.to - y.from;
+                }
+                x.from += n;
+                y.from += n;
+            }
+        }
+    }
 }

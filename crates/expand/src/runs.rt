@@ -3,7 +3,7 @@ ghost use mathlib.Core.List.{List};
 ghost use Prim.Native.Nat.{ℕ, _<_};
 ghost use lib.ListN.{length};
 ghost use Rattle.bindings.specs.Held.{Sound};
-ghost use Rattle.expand.specs.Runs.{Begins, Variable, Ready};
+ghost use Rattle.expand.specs.Runs.{Begins, Variable, Ready, Going, Filled};
 use crate::Run;
 use bindings::Found;
 use bindings::newest;
@@ -71,4 +71,20 @@ pub fn run_at(t: &[u8; 256], raw: &[u8], i: usize, texts: &[u8], bind: &[u32], c
             next: raw.len(),
         },
     }
+}
+
+// The first run from r on that has a byte, or one at the end of the raw text.
+pub fn filled(t: &[u8; 256], raw: &[u8], texts: &[u8], bind: &[u32], count: usize, r: Run) -> Run
+    requires { ⌜ Going (now t) (now raw) (now texts) (now bind) count r ⌝ }
+    ensures { λ x. ⌜ Filled (now (raw .entry)) (now (texts .entry)) (now (bind .entry)) count r x ⌝ }
+{
+    let mut x = r;
+    while x.to <= x.from {
+        let next = x.next;
+        if raw.len() <= next {
+            return x;
+        }
+        x = run_at(t, raw, next, texts, bind, count);
+    }
+    x
 }
