@@ -38,7 +38,7 @@ pub laid-none : (d : List ℕ) → d ≡ laidOver d []
 unfolding laidOver
 laid-none d = rw (take-nil {A = ℕ} (length d))
 
-length-laid : (d s : List ℕ) → length (laidOver d s) ≡ length d
+pub length-laid : (d s : List ℕ) → length (laidOver d s) ≡ length d
 unfolding laidOver
 length-laid d s = simp (length-append, length-take, length-drop) (omega arith)
 
