@@ -19,7 +19,7 @@ use Rattle.rules.specs.Forms.{Fault as Rules·Fault, noForm, Cut, fits, fails, 
 use Rattle.scan.specs.declared.Word.{Word}
 use Rattle.scan.specs.Words.{wordCut}
 use Rattle.scan.proofs.Places.{at-cons, at-end}
-use Rattle.scan.proofs.Gaps.{part-name}
+use Rattle.scan.proofs.Names.{part-name}
 use Rattle.forms.specs.declared.Fault.{Fault}
 use Rattle.forms.specs.declared.Fault.the-variants.{BadDollar}
 use Rattle.forms.specs.Faults.{Fails}

@@ -1,11 +1,10 @@
 -- `forms::names::cut_value` meets its contract.
-use mathlib.Core.Path.{sym, _∙_, ap}
+use mathlib.Core.Path.{sym}
 use native.Mathlib.Omega.{arith}
 use borrow.Author.Needs.{needs}
-use Rattle.scan.specs.Texts.{placeOf}
+use Rattle.scan.proofs.Answers.{value-sound as sound-value, value-bad as bad-value}
 use Rattle.forms.specs.Statements.{AssignmentAt}
 use Rattle.forms.proofs.Faults.{no-form}
-use Rattle.forms.proofs.Dollars.{bad-within}
 use Rattle.forms.proofs.Words.{value-none, value-other, value-short, value-sound, value-bad}
 use Rattle.forms.proofs.names.cut_value.Statement.{statement}
 use Rattle.forms.proofs.names.cut_value.Tie as tie
@@ -43,21 +42,20 @@ enum-known-p : tie.Need-enum-known-p
 enum-known-p c = search needs
 
 add-t18 : tie.Need-add-t18
-unfolding placeOf
 add-t18 c =
     omega (
       arith,
       value-short (c .before .before .before .before .before .before .before .before .gap .ensures) (c .before .before .before .before .before .before .before .if1 .left) (c .before .before .before .before .before .if2 .left) (c .before .before .before .before .raw-value .ensures),
-      bad-within _ (sym (sym (ap placeOf (c .before .p .given .1)) ∙ c .before .before .before .bad-dollar .ensures)),
+      bad-value _ _ (c .before .before .before .bad-dollar .ensures) (c .before .p .given .1) .within,
     )
 
 returns-3 : tie.Need-returns-3
-unfolding AssignmentAt placeOf
-returns-3 c = value-sound (c .before .before .before .before .before .before .before .gap .ensures) (c .before .before .before .before .before .before .if1 .left) (c .before .before .before .before .if2 .left) (c .before .before .before .raw-value .ensures) (c .before .before .before .before .before .before .before .before .before .pre .1) (sym (ap placeOf (c .enum-told .given .1)) ∙ c .before .before .bad-dollar .ensures)
+unfolding AssignmentAt
+returns-3 c = value-sound (c .before .before .before .before .before .before .before .gap .ensures) (c .before .before .before .before .before .before .if1 .left) (c .before .before .before .before .if2 .left) (c .before .before .before .raw-value .ensures) (c .before .before .before .before .before .before .before .before .before .pre .1) (sym (sound-value _ _ (c .before .before .bad-dollar .ensures) (c .enum-told .given .1)))
 
 returns-4 : tie.Need-returns-4
-unfolding AssignmentAt placeOf
-returns-4 c = value-bad (c .before .before .before .before .before .before .before .before .gap .ensures) (c .before .before .before .before .before .before .before .if1 .left) (c .before .before .before .before .before .if2 .left) (c .before .before .before .before .raw-value .ensures) _ (sym (ap placeOf (c .before .p .given .1)) ∙ c .before .before .before .bad-dollar .ensures)
+unfolding AssignmentAt
+returns-4 c = value-bad (c .before .before .before .before .before .before .before .before .gap .ensures) (c .before .before .before .before .before .before .before .if1 .left) (c .before .before .before .before .before .if2 .left) (c .before .before .before .before .raw-value .ensures) _ (sym (bad-value _ _ (c .before .before .before .bad-dollar .ensures) (c .before .p .given .1) .bad))
 
 pub cut-value-spec : {M : Type 1} → statement M
 cut-value-spec =
