@@ -3,3 +3,4 @@ pub mod Rules
 pub mod Places
 pub mod Search
 pub mod Naming
+pub mod Windows

@@ -9,12 +9,12 @@ use borrow.Author.Tests.{eq-eqb, ne-eqb, eqb-true, eqb-false}
 use lib.Dec.{eqb}
 use lib.ListN.{length, take, drop, length-drop}
 use lib.Seq.{drop-drop}
-use Rattle.lists.specs.Tests.{split, differ, and-left, and-right}
-use Rattle.lists.specs.Parts.{part, part-none}
+use Rattle.lists.specs.Tests.{split, and-left, and-right}
+use Rattle.lists.specs.Parts.{part}
 use Rattle.lists.specs.Bytes.{lessBytes}
-use Rattle.rules.specs.Card.{CardRecord, numberAt, recordAt, recordsOf, soundRecord, soundRecords, Entry, entriesOf, rising, cardRecords, cardNames, cardEntries, soundNames}
+use Rattle.rules.specs.Card.{CardRecord, recordAt, recordsOf, soundRecord, soundRecords, Entry, entriesOf, rising, cardRecords, cardNames, cardEntries, soundNames}
 use Rattle.card.specs.Fields.{Headed}
-use Rattle.card.proofs.Rules.{refuted, Fair, fair}
+use Rattle.card.proofs.Rules.{Fair, fair}
 use Rattle.card.proofs.Places.{records-cons, names-within}
 
 -- the records from k on

@@ -1,14 +1,13 @@
 -- Little-endian numbers in a list of bytes: by their first byte, in two halves, and at a place of what is left.
-use Prim.Native.Nat.{ℕ, zero, suc, _+_, _*_, _^_, _≤_, _<_}
-use mathlib.Core.List.{List, [], _∷_}
-use mathlib.Core.Path.{_≡_, refl, sym, _∙_, ap}
+use Prim.Native.Nat.{ℕ, suc, _+_, _*_, _≤_, _<_}
+use mathlib.Core.List.{List}
+use mathlib.Core.Path.{_≡_, refl}
 use native.Mathlib.Numerals.{add-one}
 use native.Mathlib.Omega.{arith}
-use lib.ListN.{length, take, drop, getD}
+use lib.ListN.{length, drop, getD}
 use lib.Seq.{drop-cons, drop-drop}
-use Rattle.lists.specs.Bytes.{lessBytes, less-same}
 use Rattle.rules.specs.Card.{littleEndian, numberAt}
-use Rattle.card.specs.Fields.{Byte, Number, Alike}
+use Rattle.card.specs.Fields.{Byte, Number}
 
 pub number-cons : (s : List ℕ) (at size : ℕ) → at < length s → numberAt at (suc size) s ≡ getD s at 0 + 256 * numberAt (at + 1) size s
 unfolding numberAt littleEndian
@@ -47,26 +46,3 @@ long-is s at {l} {h} b p q =
       is = omega (arith, four-bytes s at (omega arith) 0, number-none s (at + 4), four-bytes s at (omega arith) 4, p .is, q .is);
       small = omega (arith, p .small, q .small);
     }
-
--- ---- bytes that make the same number are the same
-
-module _ (a b : List ℕ) (fa : (i : ℕ) → getD a i 0 < 256) (fb : (i : ℕ) → getD b i 0 < 256) where
-  same-run : (size i : ℕ) → i + size ≤ length a → i + size ≤ length b → numberAt i size a ≡ numberAt i size b → lessBytes (drop i a) (drop i b) ≡ lessBytes (drop (i + size) a) (drop (i + size) b)
-  same-run zero i ha hb e = let z : i + 0 ≡ i = omega arith in rw z
-  same-run (suc size) i ha hb e =
-      let la : i < length a = omega arith in
-      let lb : i < length b = omega arith in
-      let p = number-cons a i size la in
-      let q = number-cons b i size lb in
-      let x : getD a i 0 ≡ getD b i 0 = omega (arith, fa i, fb i) in
-      let y : numberAt (i + 1) size a ≡ numberAt (i + 1) size b = omega (arith, fa i, fb i) in
-      let z : i + suc size ≡ i + 1 + size = omega arith in
-      rw (z, ← same-run size (i + 1) (omega arith) (omega arith) y, drop-cons a i 0 la, drop-cons b i 0 lb, add-one i)
-      (less-same (getD a i 0) (getD b i 0) (drop (suc i) a) (drop (suc i) b) x)
-
-  pub alike-more : {i x y : ℕ} → Alike a b i → i + 8 ≤ length a → i + 8 ≤ length b → Number a i 8 x → Number b i 8 y → x ≡ y → Alike a b (i + 8)
-  alike-more {i} r ha hb p q e =
-      record { in-first = ha; in-second = hb; rest = r .rest ∙ same-run 8 i ha hb (sym (p .is) ∙ e ∙ q .is) }
-
-pub alike-none : (a b : List ℕ) → Alike a b 0
-alike-none a b = record { in-first = omega arith; in-second = omega arith; rest = refl }

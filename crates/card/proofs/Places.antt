@@ -2,16 +2,16 @@
 use Prim.Native.Nat.{ℕ, zero, suc, _+_, _-_, _*_, _≤_, _<_}
 use mathlib.Core.Bool.{Bool, true, false, _&&_}
 use mathlib.Core.List.{List, [], _∷_}
-use mathlib.Core.Path.{_≡_, refl, sym, _∙_, ap}
+use mathlib.Core.Path.{_≡_, refl, _∙_, ap}
 use native.Mathlib.Nat.{not-suc-le-zero}
 use native.Mathlib.Omega.{arith}
 use borrow.Author.Tests.{eqb-true}
 use lib.ListN.{length, take, drop, getD, length-drop}
 use lib.Seq.{drop-drop}
-use Rattle.lists.specs.Tests.{ifB, split, differ, and-left, and-right}
+use Rattle.lists.specs.Tests.{split, differ, and-left, and-right}
 use Rattle.rules.specs.Card.{CardRecord, numberAt, recordAt, recordsOf, soundRecord, soundRecords, Entry, entriesOf, rising, soundHeader, cardRecords, cardNames, cardEntries, soundNames, soundCard}
 use Rattle.card.specs.Fields.{Headed, unlisted, entryAt, Listed}
-use Rattle.card.proofs.Rules.{Header, header, Fair, fair}
+use Rattle.card.proofs.Rules.{header, Fair, fair}
 
 -- ---- records
 

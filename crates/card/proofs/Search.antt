@@ -1,14 +1,14 @@
 -- Rising names, and the time of a name among them found by halving.
 use Prim.Native.Nat.{ℕ, zero, suc, _+_, _≤_, _<_}
-use mathlib.Core.Bool.{Bool, true, false, _&&_}
+use mathlib.Core.Bool.{true}
 use mathlib.Core.List.{List, [], _∷_}
-use mathlib.Core.Path.{_≡_, refl, sym, _∙_, ap}
+use mathlib.Core.Path.{_≡_, refl, sym, _∙_}
 use native.Mathlib.Decide.{decLt}
 use native.Mathlib.Nat.{not-suc-le-zero, le-of-suc-le-suc}
 use native.Mathlib.Omega.{arith}
 use lib.ListN.{length, getD}
-use Rattle.lists.specs.Tests.{ifB, differ, and-left, and-right}
-use Rattle.lists.specs.Bytes.{eqBytes, lessBytes, eq-eqBytes, ne-eqBytes, less-trans, less-ne}
+use Rattle.lists.specs.Tests.{and-left, and-right}
+use Rattle.lists.specs.Bytes.{lessBytes, eq-eqBytes, ne-eqBytes, less-trans, less-ne}
 use Rattle.rules.specs.Limits.{maxRecords}
 use Rattle.rules.specs.Card.{Entry, rising, timeIn}
 use Rattle.card.specs.Fields.{unlisted}

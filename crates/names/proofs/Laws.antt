@@ -1,13 +1,13 @@
 -- What a caller learns from each answer, said of the list of names alone.
-use Prim.Native.Nat.{ℕ, suc, _+_, _≤_, _<_, min}
-use mathlib.Core.Bool.{Bool, true, false}
+use Prim.Native.Nat.{ℕ, _+_, _≤_, _<_, min}
+use mathlib.Core.Bool.{true, false}
 use mathlib.Core.List.{List, [], _∷_, _++_}
-use mathlib.Core.Path.{_≡_, sym, _∙_, ap}
+use mathlib.Core.Path.{_≡_, sym, _∙_}
 use native.Mathlib.Decide.{decLt}
 use native.Mathlib.Omega.{arith}
 use borrow.Author.Tests.{lt-ltb, le-leb}
 use lib.ListN.{length}
-use Rattle.lists.specs.Tests.{ifB, split, differ}
+use Rattle.lists.specs.Tests.{split, differ}
 use Rattle.rules.specs.Limits.{maxFiles}
 use Rattle.rules.specs.Basics.{among, concat}
 use Rattle.rules.specs.Reading.{numberOf, mention}
@@ -15,7 +15,7 @@ use Rattle.names.specs.declared.Found.{Found}
 use Rattle.names.specs.declared.Found.the-variants.{At, Missing}
 use Rattle.names.specs.declared.Added.{Added}
 use Rattle.names.specs.declared.Added.the-variants.{Old, New, Full}
-use Rattle.names.specs.Table.{Holds, found, entriesFor, fits, added, filesAfter, countAfter, Finds, Adds}
+use Rattle.names.specs.Table.{Holds, fits, added, filesAfter, countAfter, Finds, Adds}
 use Rattle.names.proofs.Numbers.{number-below, number-new, mention-old, mention-new, mention-none}
 use Rattle.names.proofs.Steps.{clash, found-at, found-missing}
 

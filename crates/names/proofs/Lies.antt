@@ -4,7 +4,7 @@ use mathlib.Core.List.{List, [], _∷_, _++_, append-nil, append-assoc}
 use mathlib.Core.Path.{_≡_, refl, sym, _∙_, ap}
 use native.Mathlib.Nat.{not-suc-le-zero, le-of-suc-le-suc}
 use native.Mathlib.Omega.{arith}
-use lib.ListN.{length, take, drop, getD, set, length-append, length-take, length-set}
+use lib.ListN.{length, take, drop, getD, set, length-append, length-set}
 use native.Mathlib.Numerals.{add-one}
 use lib.Seq.{take-append-seam, drop-append-add, take-take, take-all, getD-take, ext-getD, paste, take-suc-set, length-paste, take-paste, take-length}
 use Rattle.lists.specs.Fill.{zeros}

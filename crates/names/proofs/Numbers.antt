@@ -1,11 +1,10 @@
 -- The number of a path among the names mentioned so far, and the names after one mention more.
-use Prim.Native.Nat.{ℕ, zero, suc, _+_, _≤_, _<_}
-use mathlib.Core.Bool.{Bool, true, false, _||_}
+use Prim.Native.Nat.{ℕ, suc, _<_}
+use mathlib.Core.Bool.{true, false, _||_}
 use mathlib.Core.List.{List, [], _∷_, _++_}
 use mathlib.Core.Path.{_≡_, refl, sym, _∙_, ap}
-use native.Mathlib.Nat.{not-suc-le-zero, le-of-suc-le-suc}
 use native.Mathlib.Omega.{arith}
-use lib.ListN.{length, getD}
+use lib.ListN.{length, getD, length-append, List·getD-append}
 use Rattle.lists.specs.Tests.{ifB, split, differ, or-left, or-right}
 use Rattle.lists.specs.Bytes.{eqBytes, eqBytes-refl, eqBytes-true}
 use Rattle.rules.specs.Basics.{among}
@@ -93,3 +92,40 @@ mention-new files p ps h = rw h
 pub mention-none : (files : List (List ℕ)) → mention files [] ≡ files
 unfolding mention
 mention-none files = refl
+
+-- ---- several mentions
+
+pub mention-append : (files ps qs : List (List ℕ)) → mention files (ps ++ qs) ≡ mention (mention files ps) qs
+mention-append files [] qs = ap (λ (l : List (List ℕ)). mention l qs) (sym (mention-none files))
+mention-append files (p ∷ ps) qs =
+    split (among p files)
+    (λ (h : among p files ≡ true). rw (mention-old files p (ps ++ qs) h, mention-old files p ps h) (mention-append files ps qs))
+    (λ (h : among p files ≡ false).
+    rw (mention-new files p (ps ++ qs) h, mention-new files p ps h) (mention-append (files ++ (p ∷ [])) ps qs))
+
+-- What was there stays, with its number.
+pub among-mention : (q : List ℕ) (files ps : List (List ℕ)) → among q files ≡ true → among q (mention files ps) ≡ true
+among-mention q files [] h = rw (mention-none files) h
+among-mention q files (p ∷ ps) h =
+    split (among p files)
+    (λ (e : among p files ≡ true). rw (mention-old files p ps e) (among-mention q files ps h))
+    (λ (e : among p files ≡ false).
+    rw (mention-new files p ps e) (among-mention q (files ++ (p ∷ [])) ps (among-stays q files (p ∷ []) h)))
+
+pub number-mention : (q : List ℕ) (files ps : List (List ℕ)) → among q files ≡ true → numberOf q (mention files ps) ≡ numberOf q files
+number-mention q files [] h = rw (mention-none files)
+number-mention q files (p ∷ ps) h =
+    split (among p files)
+    (λ (e : among p files ≡ true). rw (mention-old files p ps e) (number-mention q files ps h))
+    (λ (e : among p files ≡ false).
+    rw (mention-new files p ps e)
+    (number-mention q (files ++ (p ∷ [])) ps (among-stays q files (p ∷ []) h) ∙ number-stays q files (p ∷ []) h))
+
+pub name-mention : (files ps : List (List ℕ)) (k : ℕ) → k < length files → getD (mention files ps) k [] ≡ getD files k []
+name-mention files [] k h = rw (mention-none files)
+name-mention files (p ∷ ps) k h =
+    split (among p files)
+    (λ (e : among p files ≡ true). rw (mention-old files p ps e) (name-mention files ps k h))
+    (λ (e : among p files ≡ false).
+    rw (mention-new files p ps e)
+    (name-mention (files ++ (p ∷ [])) ps k (omega (arith, length-append files (p ∷ []))) ∙ List·getD-append files (p ∷ []) [] k h))

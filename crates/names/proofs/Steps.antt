@@ -1,8 +1,8 @@
 -- A turn of the search through the names, and what each way out of a function gives.
-use Prim.Native.Nat.{ℕ, zero, suc, _+_, _-_, _≤_, _<_, min}
-use mathlib.Core.Bool.{Bool, true, false, _&&_}
-use mathlib.Core.List.{List, [], _∷_, _++_}
-use mathlib.Core.Path.{_≡_, refl, sym, _∙_, ap}
+use Prim.Native.Nat.{ℕ, suc, _+_, _-_, _≤_, _<_, min}
+use mathlib.Core.Bool.{true, false}
+use mathlib.Core.List.{List, [], _∷_}
+use mathlib.Core.Path.{_≡_, refl, sym, _∙_}
 use native.Mathlib.Numerals.{add-one}
 use native.Mathlib.Omega.{arith}
 use borrow.Author.Tests.{lt-ltb, le-ltb, le-leb, lt-leb}
@@ -16,9 +16,8 @@ use Rattle.rules.specs.Basics.{among, concat}
 use Rattle.rules.specs.Reading.{numberOf}
 use Rattle.names.specs.declared.Found.{Found}
 use Rattle.names.specs.declared.Found.the-variants.{At, Missing}
-use Rattle.names.specs.declared.Added.{Added}
 use Rattle.names.specs.declared.Added.the-variants.{Old, New, Full}
-use Rattle.names.specs.Table.{Holds, Sound, found, entriesFor, fits, added, filesAfter, countAfter, Finds, Adds, startIn}
+use Rattle.names.specs.Table.{Holds, Sound, found, fits, added, filesAfter, countAfter, Finds, Adds, startIn}
 use Rattle.names.proofs.Numbers.{among-none, among-here, among-there, number-here, number-there}
 use Rattle.names.proofs.Lies.{holds-one, holds-more, name-held, used-held}
 

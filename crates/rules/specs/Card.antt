@@ -1,9 +1,8 @@
 -- The time card: which bytes are a sound one, and the time of each file on it.
 use Prim.Native.Nat.{ℕ, zero, suc, _+_, _*_}
-use mathlib.Core.List.{List, [], _∷_, map}
-use mathlib.Core.Option.{Option, none, some}
-use mathlib.Core.Bool.{Bool, true, false, _&&_, _||_}
-use lib.Dec.{eqb, leb, ltb}
+use mathlib.Core.List.{List, [], _∷_}
+use mathlib.Core.Bool.{Bool, true, false, _&&_}
+use lib.Dec.{eqb, leb}
 use lib.ListN.{length, take, drop}
 use Rattle.lists.specs.Tests.{ifB}
 use Rattle.lists.specs.Bytes.{eqBytes, lessBytes}
@@ -25,6 +24,7 @@ pub record CardRecord : Type 0 where
   pub size : ℕ
   pub time : ℕ
 
+-- the record at an offset
 unfoldable pub recordAt : ℕ → List ℕ → CardRecord
 unfolding numberAt
 recordAt at s = record { offset = numberAt at 4 s; size = numberAt (at + 4) 4 s; time = numberAt (at + 8) 8 s }

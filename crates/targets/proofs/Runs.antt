@@ -1,7 +1,7 @@
 -- The target list cut at its newlines: its first name is the run of other bytes, and its last byte decides its form.
-use Prim.Native.Nat.{ℕ, zero, suc, _+_, _-_, _≤_, _<_}
-use mathlib.Core.Bool.{Bool, true, false, not, _||_}
-use mathlib.Core.List.{List, [], _∷_, _++_, append-nil, append-assoc}
+use Prim.Native.Nat.{ℕ, suc, _+_, _-_, _≤_, _<_}
+use mathlib.Core.Bool.{true, false, not}
+use mathlib.Core.List.{List, [], _∷_, _++_, append-nil}
 use mathlib.Core.Path.{_≡_, refl, sym, _∙_, ap}
 use native.Mathlib.Decide.{decLt}
 use native.Mathlib.Numerals.{add-one}
@@ -10,13 +10,13 @@ use borrow.Author.Tests.{lt-ltb, le-ltb, eq-eqb, ne-eqb}
 use lib.Dec.{eqb, ltb}
 use lib.ListN.{length, drop, getD, length-append, length-drop, drop-of-length-le}
 use lib.Seq.{drop-cons, drop-drop, drop-append-seam, append-snoc}
-use Rattle.lists.specs.Tests.{ifB, split, differ}
+use Rattle.lists.specs.Tests.{split, differ}
 use Rattle.lists.specs.Parts.{part, length-part}
 use Rattle.lists.specs.Runs.{run, afterRun, run-append, Reads, part-run}
 use Rattle.rules.specs.Basics.{isEmpty}
 use Rattle.rules.specs.Limits.{maxTargets, maxPath}
 use Rattle.rules.specs.Bytes.{newline}
-use Rattle.rules.specs.Targets.{Target, targetsFrom, unended, malformed, badLength}
+use Rattle.rules.specs.Targets.{targetsFrom, unended, malformed, badLength}
 use Rattle.targets.specs.Next.{other}
 
 -- Two answers that differ are never equal.

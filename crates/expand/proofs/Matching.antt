@@ -1,0 +1,137 @@
+-- The loop that compares two expansions run by run.
+use Prim.Native.Nat.{ℕ, min, _+_, _*_, _-_, _≤_, _<_}
+use mathlib.Core.Bool.{Bool, true, false}
+use mathlib.Core.List.{List, [], _∷_, _++_}
+use mathlib.Core.Path.{_≡_, refl, sym, _∙_, ap}
+use native.Mathlib.Decide.{ℕ-discrete}
+use native.Mathlib.Nat.{le-refl, lt-of-lt-of-le}
+use native.Mathlib.Omega.{arith}
+use borrow.Author.Tests.{eq-eqb, ne-eqb}
+use lib.Dec.{eqb}
+use lib.ListN.{length, drop, length-append, drop-of-length-le}
+use Rattle.lists.specs.Tests.{ifB, split}
+use Rattle.lists.specs.Bytes.{eqBytes, ne-eqBytes, eq-eqBytes}
+use Rattle.lists.specs.Parts.{drop-part}
+use Rattle.bindings.specs.Log.{Logged}
+use Rattle.bindings.specs.Held.{maxTexts, Holds}
+use Rattle.expand.specs.declared.Run.{Run}
+use Rattle.expand.specs.declared.Ahead.{Ahead}
+use Rattle.expand.specs.declared.Ahead.the-variants.{Differ, Both}
+use Rattle.expand.specs.Runs.{expanded, bytesOf, Placed, leftOf, Ready, Going, most, Filled}
+use Rattle.expand.specs.Ahead.{Agree, Compared}
+use Rattle.expand.proofs.Agreeing.{eq-fronts}
+use Rattle.expand.proofs.Begin.{own, own-placed}
+use Rattle.expand.proofs.Expanding.{length-bytes, expanded-none}
+use Rattle.expand.proofs.Filling.{left-none}
+
+pub record Matching (t a b texts bind : List ℕ) (count : ℕ) (x y : Run) : Type 0 where
+  pub first : Going t a texts bind count x
+  pub second : Going t b texts bind count y
+  pub left : (log : List Logged) → Holds log texts bind count → eqBytes (expanded log a) (expanded log b) ≡ eqBytes (leftOf log a texts x) (leftOf log b texts y)
+
+-- ---- the start
+
+ready-going : {t raw texts bind : List ℕ} {count : ℕ} → Ready t raw texts bind count 0 → Going t raw texts bind count (own 0 0 0)
+ready-going {raw = raw} {texts = texts} r =
+    record {
+      table = r .table;
+      short = r .short;
+      placed = own-placed raw texts 0 0 0 (omega arith) (omega arith) (omega arith) (r .sound);
+      held = r .held;
+    }
+
+pub match-begin : {t a b texts bind : List ℕ} {count : ℕ} → Ready t a texts bind count 0 → Ready t b texts bind count 0 → Matching t a b texts bind count (own 0 0 0) (own 0 0 0)
+match-begin {a = a} {b = b} {texts = texts} r s =
+    record {
+      first = ready-going r;
+      second = ready-going s;
+      left = λ log h. rw (left-none log a texts (own 0 0 0) (le-refl 0), left-none log b texts (own 0 0 0) (le-refl 0));
+    }
+
+-- ---- a run without its first n bytes
+
+abbrev pub behind : Run → ℕ → Run
+behind r n = record { bound = r .bound; from = r .from + n; to = r .to; next = r .next }
+
+behind-placed : {raw texts : List ℕ} {r : Run} {n : ℕ} → Placed raw texts r → n ≤ r .to - r .from → Placed raw texts (behind r n)
+behind-placed p h =
+    record { ordered = omega (arith, p .ordered); in-raw = p .in-raw; in-texts = p .in-texts; within = p .within; sound = p .sound }
+
+behind-bytes : (raw texts : List ℕ) (r : Run) (n : ℕ) → bytesOf raw texts (behind r n) ≡ drop n (bytesOf raw texts r)
+unfolding bytesOf
+behind-bytes raw texts r n =
+    split (r .bound)
+    (λ (e : r .bound ≡ true). rw e (sym (drop-part texts (r .from) (r .to) n)))
+    (λ (e : r .bound ≡ false). rw e (sym (drop-part raw (r .from) (r .to) n)))
+
+-- ---- a turn, from x and y to the runs p and q that have a byte or are the last
+
+left-last : {raw texts bind : List ℕ} {count : ℕ} {r x : Run} → Filled raw texts bind count r x → x .to - x .from ≡ 0 → (log : List Logged) → leftOf log raw texts x ≡ []
+left-last {raw} {texts} {bind} {count} {r} {x} f e log =
+    left-none log raw texts x (omega arith)
+    ∙ ap (expanded log) (drop-of-length-le raw {i = x .next} (f .last (omega arith)))
+    ∙ expanded-none log
+
+left-is : (log : List Logged) (raw texts : List ℕ) (r : Run) → leftOf log raw texts r ≡ bytesOf raw texts r ++ expanded log (drop (r .next) raw)
+unfolding leftOf
+left-is log raw texts r = refl
+
+left-longer : {raw texts : List ℕ} {x : Run} → Placed raw texts x → (log : List Logged) → x .to - x .from ≤ length (leftOf log raw texts x)
+unfolding leftOf
+left-longer {raw} {texts} {x} p log = rw length-append (omega (arith, length-bytes p))
+
+-- the two are compared where one of them has no byte left
+ends : (i j : ℕ) (s t : List ℕ) → min i j ≡ 0 → (i ≡ 0 → s ≡ []) → (j ≡ 0 → t ≡ []) → i ≤ length s → j ≤ length t → eqb i j ≡ eqBytes s t
+ends i j s t z p q k l = elim (ℕ-discrete i j) [
+  | yes e ↦ (eq-eqb i j e ∙ sym (eq-eqBytes (p (omega arith) ∙ sym (q (omega arith)))))
+  | no e ↦ (ne-eqb i j e
+      ∙ sym
+      (ne-eqBytes s t
+      (λ (d : s ≡ t). elim (ℕ-discrete i 0) [ yes o ↦ omega (arith, ap length (p o), ap length d) | no o ↦ omega (arith, ap length (q (omega arith)), ap length d) ])))
+]
+
+less-behind : (k f e n : ℕ) → n ≤ e - f → (n ≡ 0 → ⊥) → k + (e - (f + n)) < k + (e - f)
+less-behind k f e n h z = omega arith
+
+module _ {t a b texts bind : List ℕ} {count : ℕ} {x y p q : Run} (m : Matching t a b texts bind count x y)
+    (f : Filled a texts bind count x p) (g : Filled b texts bind count y q) where
+  now-left : (log : List Logged) → Holds log texts bind count → eqBytes (expanded log a) (expanded log b) ≡ eqBytes (leftOf log a texts p) (leftOf log b texts q)
+  now-left log h = m .left log h ∙ rw (f .left log h, g .left log h)
+
+  module _ {r : Ahead} (c : Compared (bytesOf a texts p) (bytesOf b texts q) r) where
+    pub match-differ : r ≡ Differ → (log : List Logged) → Holds log texts bind count → false ≡ eqBytes (expanded log a) (expanded log b)
+    unfolding Compared
+    match-differ e log h =
+        let d : (s t : List ℕ) → eqBytes (bytesOf a texts p ++ s) (bytesOf b texts q ++ t) ≡ false = rw e at c in
+        sym (now-left log h ∙ rw (left-is log a texts p, left-is log b texts q) (d _ _))
+
+    module _ {n : ℕ} (e : r ≡ Both n) where
+      agreed : Agree (bytesOf a texts p) (bytesOf b texts q) n
+      unfolding Compared
+      agreed = rw e at c
+
+      -- one of the two has no more bytes than n
+      pub shorter : n ≡ min (p .to - p .from) (q .to - q .from)
+      shorter = agreed .count ∙ rw (length-bytes (f .placed), length-bytes (g .placed))
+
+      pub match-end : n ≡ 0 → (log : List Logged) → Holds log texts bind count → eqb (p .to - p .from) (q .to - q .from) ≡ eqBytes (expanded log a) (expanded log b)
+      match-end z log h =
+          ends (p .to - p .from) (q .to - q .from) (leftOf log a texts p) (leftOf log b texts q) (sym shorter ∙ z) (λ o. left-last f o log) (λ o. left-last g o log)
+          (left-longer (f .placed) log) (left-longer (g .placed) log)
+          ∙ sym (now-left log h)
+
+      pub match-on : Matching t a b texts bind count (behind p n) (behind q n)
+      match-on =
+          let k = shorter in
+          record {
+            first = record { table = m .first .table; short = m .first .short; placed = behind-placed (f .placed) (omega arith); held = m .first .held };
+            second = record { table = m .second .table; short = m .second .short; placed = behind-placed (g .placed) (omega arith); held = m .second .held };
+            left = λ log h.
+                now-left log h
+                ∙ rw
+                (left-is log a texts p, left-is log b texts q, left-is log a texts (behind p n), left-is log b texts (behind q n), behind-bytes a texts p n, behind-bytes b texts q n)
+                (eq-fronts agreed _ _);
+          }
+
+      pub match-less : (n ≡ 0 → ⊥) → most a (behind p n) < most a x
+      match-less z = let k = shorter in lt-of-lt-of-le (less-behind _ (p .from) (p .to) n (omega arith) z) (f .most)
