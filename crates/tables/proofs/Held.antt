@@ -1,0 +1,100 @@
+-- What the tables give for the steps that they hold.
+use Prim.Native.Nat.{ℕ, zero, suc, _+_, _≤_, _<_}
+use native.Mathlib.Decide.{decLt}
+use native.Mathlib.Omega.{arith}
+use mathlib.Core.Path.{_≡_, refl, sym, ap, _∙_, fun-ext}
+use mathlib.Core.Bool.{Bool, true, false}
+use mathlib.Core.List.{List, [], _∷_, _++_, map}
+use lib.ListN.{length, getD, length-map, List·getD-map, List·getD-eq-default}
+use Rattle.lists.specs.Members.{_∈_, here, in-left, in-right, not-in-nil}
+use Rattle.rules.specs.Basics.{concat}
+use Rattle.rules.specs.Reading.{Step, isPhony}
+use Rattle.rules.specs.Graph.{inputs, counted, noStep, stepAt, makers, makersOf, before}
+use Rattle.rules.specs.Stale.{phonyStep}
+use Rattle.rules.specs.Words.{Makes}
+use Rattle.rules.proofs.Graph.{in-makers}
+use Rattle.tables.specs.Tables.{bit, mentionsOf, endsFrom, madeBy, Holds, outsIn, countedIn, inputsIn, makerIn, makersIn, beforeIn, Placed, Sound}
+use Rattle.tables.proofs.Places.{read-inputs, read-counted, read-outs, read-placed}
+
+-- tables that hold nothing
+pub holds-nothing : Holds [] 0 [] [] [] []
+unfolding endsFrom concat
+holds-nothing = record {
+  mentioned = refl;
+  ended = refl;
+  phonies = refl;
+  counted = refl;
+  makes = λ f b. absurd (omega arith);
+  low = λ f h. absurd (not-in-nil h);
+  few-steps = omega arith;
+  few-files = omega arith;
+  few-mentions = omega arith;
+}
+
+-- an output of a step is among the mentions
+mentioned-out : (steps : List Step) (m f : ℕ) → m < length steps → f ∈ stepAt steps m .outs → f ∈ concat (map mentionsOf steps)
+unfolding concat mentionsOf
+mentioned-out [] m f b h = absurd (not-in-nil h)
+mentioned-out (x ∷ l) zero f b h = in-left (concat (map mentionsOf l)) (in-left (inputs x) h)
+mentioned-out (x ∷ l) (suc m) f b h = in-right (mentionsOf x) (mentioned-out l m f (omega arith) h)
+
+-- a list that holds nothing
+none-in : (l : List ℕ) → ((x : ℕ) → x ∈ l → ⊥) → l ≡ []
+none-in [] f = refl
+none-in (y ∷ l) f = absurd (f y (here refl))
+
+-- an entry of the makers' table names a step
+entry-low : (n k : ℕ) → ((m : ℕ) → m ∈ madeBy k → m < n) → k ≤ n
+unfolding madeBy
+entry-low n zero g = omega arith
+entry-low n (suc m) g = g m (here refl)
+
+module _ {steps : List Step} {files : ℕ} {mentions ends phony made : List ℕ} (h : Holds steps files mentions ends phony made) where
+  pub held-inputs : (s : ℕ) → inputsIn mentions ends s ≡ inputs (stepAt steps s)
+  held-inputs s = rw (h .mentioned, h .ended) (read-inputs steps s)
+
+  pub held-counted : (s : ℕ) → countedIn mentions ends s ≡ counted (stepAt steps s)
+  held-counted s = rw (h .mentioned, h .ended) (read-counted steps s)
+
+  pub held-outs : (s : ℕ) → outsIn mentions ends s ≡ stepAt steps s .outs
+  held-outs s = rw (h .mentioned, h .ended) (read-outs steps s)
+
+  pub held-steps : length phony ≡ length steps
+  held-steps = rw (h .phonies) (length-map steps (λ (s : Step). bit (isPhony (s .rule))))
+
+  pub held-phony : (s : ℕ) → getD phony s 0 ≡ bit (phonyStep steps s)
+  unfolding phonyStep isPhony
+  held-phony s = rw (h .phonies) (List·getD-map (λ (s : Step). bit (isPhony (s .rule))) steps s noStep)
+
+  held-maker : (f : ℕ) → makerIn made f ≡ makers steps f
+  unfolding makerIn madeBy
+  held-maker f = elim (decLt f files) [
+    | yes b ↦ sym (h .makes f b)
+    | no b ↦
+        rw (List·getD-eq-default made 0 {n = f} (omega (arith, h .counted)))
+        (sym (none-in (makers steps f) (λ m k. let w = in-makers steps f .0 k in b (h .low f (rw (h .mentioned) (mentioned-out steps m f (w .step) (w .output)))))))
+  ]
+
+  pub held-makers : makerIn made ≡ makers steps
+  held-makers = fun-ext held-maker
+
+  pub held-makersOf : (fs : List ℕ) → makersIn made fs ≡ makersOf steps fs
+  unfolding makersIn makersOf
+  held-makersOf fs = ap (λ (g : ℕ → List ℕ). concat (map g fs)) held-makers
+
+  pub held-before : beforeIn mentions ends made ≡ before steps
+  unfolding beforeIn before
+  held-before = fun-ext (λ s. ap (makersIn made) (held-inputs s) ∙ held-makersOf (inputs (stepAt steps s)))
+
+  pub held-sound : Sound (length steps) mentions ends made
+  held-sound = record {
+    placed = λ s b. rw (h .mentioned, h .ended) (read-placed steps s b);
+    low = λ f k. rw (h .counted) (h .low f k);
+    makers = λ f b. maker-low f (rw (h .counted) at b);
+    few-steps = h .few-steps;
+    few-files = rw (h .counted) (h .few-files);
+    few-mentions = h .few-mentions;
+  }
+    where
+      maker-low : (f : ℕ) → f < files → getD made f 0 ≤ length steps
+      maker-low f b = entry-low (length steps) (getD made f 0) (λ m k. in-makers steps f .0 (rw (h .makes f b) k) .step)
