@@ -1,19 +1,21 @@
 -- What the tables give for the steps that they hold.
-use Prim.Native.Nat.{ℕ, zero, suc, _+_, _≤_, _<_}
+use Prim.Native.Nat.{ℕ, zero, suc, _+_, _-_, _≤_, _<_}
 use native.Mathlib.Decide.{decLt}
 use native.Mathlib.Omega.{arith}
 use mathlib.Core.Path.{_≡_, refl, sym, ap, _∙_, fun-ext}
 use mathlib.Core.Bool.{Bool, true, false}
 use mathlib.Core.List.{List, [], _∷_, _++_, map}
-use lib.ListN.{length, getD, length-map, List·getD-map, List·getD-eq-default}
-use Rattle.lists.specs.Members.{_∈_, here, in-left, in-right, not-in-nil}
+use lib.ListN.{length, getD, drop, length-take, length-drop, length-map, List·getD-map, List·getD-eq-default}
+use Rattle.lists.specs.Members.{_∈_, here, in-at, in-take, in-drop, in-left, in-right, not-in-nil}
+use Rattle.lists.specs.Parts.{part}
 use Rattle.rules.specs.Basics.{concat}
+use Rattle.rules.specs.Limits.{maxMentions}
 use Rattle.rules.specs.Reading.{Step, isPhony}
 use Rattle.rules.specs.Graph.{inputs, counted, noStep, stepAt, makers, makersOf, before}
 use Rattle.rules.specs.Stale.{phonyStep}
 use Rattle.rules.specs.Words.{Makes}
 use Rattle.rules.proofs.Graph.{in-makers}
-use Rattle.tables.specs.Tables.{bit, mentionsOf, endsFrom, madeBy, Holds, outsIn, countedIn, inputsIn, makerIn, makersIn, beforeIn, Placed, Sound}
+use Rattle.tables.specs.Tables.{bit, mentionsOf, endsFrom, madeBy, Holds, outsIn, countedIn, inputsIn, makerIn, makersIn, beforeIn, Placed, Sound, Files}
 use Rattle.tables.proofs.Places.{read-inputs, read-counted, read-outs, read-placed}
 
 -- tables that hold nothing
@@ -30,6 +32,16 @@ holds-nothing = record {
   few-files = omega arith;
   few-mentions = omega arith;
 }
+
+in-part : (l : List ℕ) (f e : ℕ) {x : ℕ} → x ∈ part l f e → x ∈ l
+in-part l f e h = in-drop f l (in-take (e - f) (drop f l) h)
+
+-- the makers of a step's files are steps
+pub part-files : {n : ℕ} {mentions ends made : List ℕ} → Sound n mentions ends made → (f e : ℕ) → Files n (part mentions f e) made
+part-files {mentions} r f e = record { low = λ i b. r .low (getD (part mentions f e) i 0) (in-part mentions f e (in-at (part mentions f e) i b)); makers = r .makers }
+
+pub part-few : {n : ℕ} {mentions ends made : List ℕ} → Sound n mentions ends made → (f e : ℕ) → length (part mentions f e) ≤ maxMentions
+part-few {mentions} r f e = simp (length-take, length-drop) (omega (arith, r .few-mentions))
 
 -- an output of a step is among the mentions
 mentioned-out : (steps : List Step) (m f : ℕ) → m < length steps → f ∈ stepAt steps m .outs → f ∈ concat (map mentionsOf steps)

@@ -77,6 +77,10 @@ unfoldable pub makersIn : List ℕ → List ℕ → List ℕ
 unfolding makerIn concat
 makersIn made fs = concat (map (makerIn made) fs)
 
+-- the entry for the file at place i
+abbrev pub makerAt : List ℕ → List ℕ → ℕ → ℕ
+makerAt made fs i = getD made (getD fs i 0) 0
+
 -- the makers of a step's inputs
 unfoldable pub beforeIn : List ℕ → List ℕ → List ℕ → ℕ → List ℕ
 unfolding makersIn inputsIn
@@ -100,3 +104,8 @@ pub record Sound (n : ℕ) (mentions ends made : List ℕ) : Type 0 where
   pub few-steps : n ≤ maxSteps
   pub few-files : length made ≤ maxFiles
   pub few-mentions : length mentions ≤ maxMentions
+
+-- files that the makers' table has, and entries of it for n steps
+pub record Files (n : ℕ) (fs made : List ℕ) : Type 0 where
+  pub low : (i : ℕ) → i < length fs → getD fs i 0 < length made
+  pub makers : (f : ℕ) → f < length made → getD made f 0 ≤ n

@@ -1,8 +1,8 @@
 // The tables of a read graph: a step's parts of the mentions.
 ghost use mathlib.Core.Path.{_≡_};
 ghost use Prim.Native.Nat.{_+_, _*_, _<_};
-ghost use lib.ListN.{length};
-ghost use Rattle.tables.specs.Tables.{Placed, startIn, outsIn, countedIn, inputsIn};
+ghost use lib.ListN.{length, getD};
+ghost use Rattle.tables.specs.Tables.{Placed, startIn, outsIn, countedIn, inputsIn, makerAt};
 use lists::words::at;
 
 // The step's inputs of any kind.
@@ -44,4 +44,12 @@ pub fn outs<'a, 'b>(mentions: &'a [u32], ends: &'b [u32], s: usize) -> &'a [u32]
     let from = start(ends, s);
     let to = at(ends, 4 * s);
     &mentions[from..to]
+}
+
+// The maker of the file at place i, as the makers' table has it.
+pub fn maker(fs: &[u32], i: usize, made: &[u32]) -> usize
+    requires { ⌜ (i < length (now fs)) × (getD (now fs) i 0 < length (now made)) ⌝ }
+    ensures { λ r. ⌜ r ≡ makerAt (now (made .entry)) (now (fs .entry)) i ⌝ }
+{
+    at(made, at(fs, i))
 }

@@ -1,0 +1,92 @@
+// The graph of steps: the order of the needed ones, or a circle among them.
+ghost use mathlib.Core.Path.{_≡_};
+ghost use Prim.Native.Nat.{_≤_, _<_};
+ghost use lib.ListN.{length, take};
+ghost use Rattle.tables.specs.Tables.{Files};
+ghost use Rattle.graph.specs.Walk.{Opens, Finds, Starts, Explored};
+use lists::words::at;
+use tables::inputs;
+use tables::maker;
+
+// How a walk ends: with so many steps in order, or with a circle, at these places of the path.
+pub enum Visit {
+    Done(usize),
+    Circle(usize, usize),
+}
+
+// The place, from `from` on, of the first file whose maker is not done, or the number of files.
+fn next_open(fs: &[u32], made: &[u32], seen: &[u32], from: usize) -> usize
+    requires { ⌜ Files (length (now seen)) (now fs) (now made) × (from ≤ length (now fs)) ⌝ }
+    ensures { λ r. ⌜ Opens (now (fs .entry)) (now (made .entry)) (now (seen .entry)) from r ⌝ }
+{
+    let mut i = from;
+    while i < fs.len() {
+        let m = maker(fs, i, made);
+        if m == 0 {
+            i += 1;
+        } else {
+            if at(seen, m - 1) != 2 {
+                return i;
+            }
+            i += 1;
+        }
+    }
+    i
+}
+
+// The first place of x, or the length.
+fn place(l: &[u32], x: usize) -> usize
+    ensures { λ r. ⌜ Finds (now (l .entry)) x r ⌝ }
+{
+    let mut j = 0;
+    while j < l.len() {
+        if at(l, j) == x {
+            return j;
+        }
+        j += 1;
+    }
+    j
+}
+
+// Walks from a step to the makers of its inputs, and on to theirs, with `path` from that step to the one where the walk stands. A step
+// whose inputs' makers are all done is done, and comes next in `order`; an input's maker that is on the path closes a circle.
+fn explore(
+    mentions: &[u32],
+    ends: &[u32],
+    made: &[u32],
+    seen: &mut [u32],
+    next: &mut [u32],
+    path: &mut [u32],
+    order: &mut [u32],
+    root: usize,
+    already: usize,
+) -> Visit
+    requires { ⌜ Starts (now mentions) (now ends) (now made) (now seen) (now next) (now path) (now order) root already ⌝ }
+    ensures { λ r. ⌜ Explored (now (mentions .entry)) (now (ends .entry)) (now (made .entry)) (length (now (order .entry))) (take already (now (order .entry))) root (now (seen .exit)) (now (next .exit)) (now (path .exit)) (now (order .exit)) r ⌝ }
+{
+    seen[root] = 1;
+    path[0] = root as u32;
+    let mut depth: usize = 1;
+    let mut done = already;
+    while 0 < depth {
+        let s = at(path, depth - 1);
+        let fs = inputs(mentions, ends, s);
+        let i = next_open(fs, made, seen, at(next, s));
+        next[s] = i as u32;
+        if i < fs.len() {
+            let m = maker(fs, i, made) - 1;
+            if at(seen, m) == 1 {
+                return Visit::Circle(place(path, m), depth);
+            }
+            seen[m] = 1;
+            path[depth] = m as u32;
+            depth += 1;
+        } else {
+            seen[s] = 2;
+            order[done] = s as u32;
+            done += 1;
+            depth -= 1;
+        }
+    }
+    Visit::Done(done)
+}
