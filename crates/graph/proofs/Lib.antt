@@ -1,3 +1,4 @@
 pub mod Opens
 pub mod Walk
 pub mod Exploring
+pub mod Roots

@@ -10,7 +10,7 @@ use Rattle.orders.specs.Order.{IsOrder, IsCircle}
 use Rattle.orders.specs.Greedy.{In, By}
 use Rattle.orders.specs.Reach.{Reached, reach}
 use Rattle.orders.specs.Circle.{Linked}
-use Rattle.tables.specs.Tables.{makerAt, inputsIn, beforeIn, Sound, Files}
+use Rattle.tables.specs.Tables.{makerAt, makersIn, inputsIn, beforeIn, Sound, Files}
 use Rattle.graph.specs.declared.Visit.{Visit}
 use Rattle.graph.specs.declared.Visit.the-variants.{Done, Circle}
 
@@ -86,3 +86,22 @@ pub record Finds (l : List ℕ) (x j : ℕ) : Type 0 where
   pub within : j ≤ length l
   pub first : (i : ℕ) → i < j → getD l i 0 ≡ x → ⊥
   pub found : j < length l → getD l j 0 ≡ x
+
+-- The walks from the makers of the first i roots are made.
+pub record Rooted (mentions ends made roots : List ℕ) (n : ℕ) (seen next order : List ℕ) (done i : ℕ) : Type 0 where
+  pub visited : Visited mentions ends made n (Reached (beforeIn mentions ends made) (makersIn made roots)) seen next order done
+  pub rooted : (j : ℕ) → j < i → (m : ℕ) → makerAt made roots j ≡ suc m → m ∈ take done order
+
+-- What the walks find: those from one more root, or a circle.
+unfoldable pub RootSeen : List ℕ → List ℕ → List ℕ → List ℕ → ℕ → ℕ → List ℕ → List ℕ → List ℕ → List ℕ → Visit → Type 0
+RootSeen mentions ends made roots n i seen next path order (Done k) = Rooted mentions ends made roots n seen next order k i
+RootSeen mentions ends made roots n i seen next path order (Circle from to) =
+    Circled (beforeIn mentions ends made) (Reached (beforeIn mentions ends made) (makersIn made roots)) path from to
+
+-- what the walk from root i asks
+pub record RootAsked (mentions ends made roots : List ℕ) (i : ℕ) (seen next path order : List ℕ) (done : ℕ) : Type 0 where
+  pub sound : Sound (length order) mentions ends made
+  pub files : Files (length order) roots made
+  pub state : Rooted mentions ends made roots (length order) seen next order done i
+  pub path-long : length path ≡ length order
+  pub one-more : i < length roots

@@ -1,9 +1,9 @@
 // The graph of steps: the order of the needed ones, or a circle among them.
 ghost use mathlib.Core.Path.{_≡_};
-ghost use Prim.Native.Nat.{_≤_, _<_};
+ghost use Prim.Native.Nat.{_+_, _≤_, _<_};
 ghost use lib.ListN.{length, take};
 ghost use Rattle.tables.specs.Tables.{Files};
-ghost use Rattle.graph.specs.Walk.{Opens, Finds, Starts, Explored};
+ghost use Rattle.graph.specs.Walk.{Opens, Finds, Starts, Explored, RootAsked, RootSeen};
 use lists::words::at;
 use tables::inputs;
 use tables::maker;
@@ -89,4 +89,19 @@ fn explore(
         }
     }
     Visit::Done(done)
+}
+
+// The walk from the maker of root i, if it has one that was not seen before.
+fn explore_root(mentions: &[u32], ends: &[u32], made: &[u32], roots: &[u32], i: usize, seen: &mut [u32], next: &mut [u32], path: &mut [u32], order: &mut [u32], done: usize) -> Visit
+    requires { ⌜ RootAsked (now mentions) (now ends) (now made) (now roots) i (now seen) (now next) (now path) (now order) done ⌝ }
+    ensures { λ r. ⌜ RootSeen (now (mentions .entry)) (now (ends .entry)) (now (made .entry)) (now (roots .entry)) (length (now (order .entry))) (i + 1) (now (seen .exit)) (now (next .exit)) (now (path .exit)) (now (order .exit)) r ⌝ }
+{
+    let k = maker(roots, i, made);
+    if k == 0 {
+        return Visit::Done(done);
+    }
+    if at(seen, k - 1) != 0 {
+        return Visit::Done(done);
+    }
+    explore(mentions, ends, made, seen, next, path, order, k - 1, done)
 }
