@@ -8,16 +8,18 @@ use mathlib.Core.Logic.{_⊎_, inl, inr}
 use mathlib.Core.List.{List, [], _∷_}
 use lib.ListN.{length, getD, take, drop}
 use Rattle.lists.specs.Tests.{split}
-use Rattle.lists.specs.Members.{_∈_, _∉_, _⊆_, here, there, has, has-true, has-false, in-cons, not-in-nil}
-use Rattle.orders.specs.Order.{IsOrder, IsCircle, ready-order}
+use Rattle.lists.specs.Members.{_∈_, _∉_, _⊆_, here, there, has, has-true, has-false, in-cons, in-take, place, not-in-nil}
+use Rattle.orders.specs.Order.{IsOrder, IsCircle}
 use Rattle.orders.specs.Greedy.{In, By}
-use Rattle.orders.specs.Reach.{Upstream, direct, further, Reached, reach, upstream-more}
-use Rattle.tables.specs.Tables.{makerAt, makersIn, beforeIn, Sound, Files}
-use Rattle.tables.proofs.Makers.{in-makersIn, makersIn-in, maker-low}
+use Rattle.orders.specs.Reach.{Upstream, direct, further, Reached, upstream-more, reach-least, reach-complete}
+use Rattle.lists.specs.Fill.{length-zeros, getD-zeros}
+use Rattle.tables.specs.Tables.{makerAt, makersIn, beforeIn, neededIn, Sound, Files}
+use Rattle.tables.proofs.Makers.{in-makersIn, makersIn-in, maker-low, makers-small}
+use Rattle.tables.proofs.Held.{before-small}
 use Rattle.graph.specs.declared.Visit.{Visit}
 use Rattle.graph.specs.declared.Visit.the-variants.{Done, Circle}
-use Rattle.graph.specs.Walk.{mark, Walk, Passed, Visited, Settled, Circled, Explored, Starts, Rooted, RootSeen, RootAsked}
-use Rattle.graph.proofs.Walk.{mark-zero}
+use Rattle.graph.specs.Walk.{mark, Walk, Passed, Visited, Settled, Circled, Explored, Starts, Rooted, RootSeen, RootAsked, SortAsked, Ordered}
+use Rattle.graph.proofs.Walk.{mark-zero, walk-none}
 
 upstream-trans : {before : ℕ → List ℕ} {m k s : ℕ} → Upstream before m k → Upstream before k s → Upstream before m s
 upstream-trans (direct h) w = upstream-more h w
@@ -120,3 +122,81 @@ module _ {mentions ends made roots : List ℕ} {i : ℕ} {seen next path order :
       rooted = one-more made roots (take n order′) i (λ j b m q. s .kept m (r .state .rooted j b m q)) (λ m q. rw (root-is m q) (s .root-done));
     }
     root-found seen′ next′ path′ order′ (Circle from to) c = circled-more root-reached c
+
+-- between two roots
+pub record Rooting (mentions ends made roots : List ℕ) (n : ℕ) (seen next path order : List ℕ) (done i : ℕ) : Type 0 where
+  pub within : i ≤ length roots
+  pub path-long : length path ≡ n
+  pub state : Rooted mentions ends made roots n seen next order done i
+
+pub asked-lengths : {mentions ends made roots seen next path order : List ℕ} → SortAsked mentions ends made roots seen next path order → (length seen ≡ length order) × (length next ≡ length order)
+asked-lengths {order} r = (ap length (r .unseen) ∙ length-zeros (length order), ap length (r .unpassed) ∙ length-zeros (length order))
+
+pub roots-begin : {mentions ends made roots seen next path order : List ℕ} → SortAsked mentions ends made roots seen next path order
+    → Rooting mentions ends made roots (length order) seen next path order 0 0
+roots-begin {seen} {next} {order} r =
+    let n : ℕ = length order in
+    record {
+      within = omega arith;
+      path-long = r .path-long;
+      state = record {
+        visited = record {
+          done-in = omega arith;
+          next-long = asked-lengths r .1;
+          order-long = refl;
+          walk = walk-none (asked-lengths r .0) (λ s b. ap (λ (l : List ℕ). getD l s 0) (r .unseen) ∙ getD-zeros n s);
+          passed = λ s b. (
+              let z : getD next s 0 ≡ 0 = ap (λ (l : List ℕ). getD l s 0) (r .unpassed) ∙ getD-zeros n s in
+              record { within = rw z (omega arith); passed = λ j c m e. absurd (omega arith) }
+              );
+        };
+        rooted = λ j b m e. absurd (omega arith);
+      };
+    }
+
+module _ {mentions ends made roots : List ℕ} {n : ℕ} {seen next path order : List ℕ} {done i : ℕ}
+    (sound : Sound n mentions ends made) (files : Files n roots made) (r : Rooting mentions ends made roots n seen next path order done i) where
+  pub roots-ask : i < length roots → RootAsked mentions ends made roots i seen next path order done
+  roots-ask b =
+      let e : length order ≡ n = r .state .visited .order-long in
+      record { sound = rw e sound; files = rw e files; state = rw e (r .state); path-long = rw e (r .path-long); one-more = b }
+
+  -- what a walk says with the length of `order`, it says with n
+  told : (seen′ next′ path′ order′ : List ℕ) {o : Visit} {w : Visit} → RootSeen mentions ends made roots (length order) (i + 1) seen′ next′ path′ order′ o → o ≡ w
+      → RootSeen mentions ends made roots n (i + 1) seen′ next′ path′ order′ w
+  told seen′ next′ path′ order′ s e = rw (r .state .visited .order-long, e) at s
+
+  pub roots-more : (seen′ next′ path′ order′ : List ℕ) {o : Visit} {k : ℕ} → i < length roots → RootSeen mentions ends made roots (length order) (i + 1) seen′ next′ path′ order′ o → o ≡ Done k
+      → length path′ ≡ length path → Rooting mentions ends made roots n seen′ next′ path′ order′ k (i + 1)
+  unfolding RootSeen
+  roots-more seen′ next′ path′ order′ b s e l = record { within = omega arith; path-long = l ∙ r .path-long; state = told seen′ next′ path′ order′ s e }
+
+  pub roots-circle : (seen′ next′ path′ order′ : List ℕ) {o : Visit} {from to : ℕ} → RootSeen mentions ends made roots (length order) (i + 1) seen′ next′ path′ order′ o → o ≡ Circle from to
+      → Circled (beforeIn mentions ends made) (In (neededIn mentions ends made n roots)) path′ from to
+  unfolding RootSeen neededIn
+  roots-circle seen′ next′ path′ order′ s e = circled-more (λ x h. reach-complete before n start (before-small sound) (makers-small files) h) (told seen′ next′ path′ order′ s e)
+    where
+      before : ℕ → List ℕ
+      before = beforeIn mentions ends made
+
+      start : List ℕ
+      start = makersIn made roots
+
+  pub roots-end : length roots ≤ i → Ordered mentions ends made roots n order done
+  unfolding neededIn
+  roots-end b = record {
+    within = r .state .visited .done-in;
+    in-order = record {
+      lists = record {
+        each = reach-least (beforeIn mentions ends made) n (makersIn made roots) (In (take done order))
+            (λ s h. let (j, c, e) = in-makersIn made roots h in r .state .rooted j (omega (arith, r .within)) s e)
+            (λ s h m k. let (j, c, e) = place h in in-take j (take done order) (w .ordered j c m (rw e k)));
+        once = w .done-once;
+        no-others = λ s h. reach-complete (beforeIn mentions ends made) n (makersIn made roots) (before-small sound) (makers-small files) (w .done-wanted s h);
+      };
+      after = λ j c m h v. w .ordered j c m h;
+    };
+  }
+    where
+      w : Walk (beforeIn mentions ends made) n (Reached (beforeIn mentions ends made) (makersIn made roots)) seen [] (take done order)
+      w = r .state .visited .walk

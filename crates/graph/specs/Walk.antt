@@ -4,13 +4,13 @@ use mathlib.Core.Path.{_≡_}
 use mathlib.Core.List.{List, [], _∷_}
 use lib.ListN.{length, getD, take, drop}
 use Rattle.lists.specs.Tests.{ifB}
-use Rattle.lists.specs.Parts.{part}
+use Rattle.lists.specs.Fill.{zeros}
 use Rattle.lists.specs.Members.{_∈_, _∉_, _⊆_, Each, Once, has}
 use Rattle.orders.specs.Order.{IsOrder, IsCircle}
 use Rattle.orders.specs.Greedy.{In, By}
-use Rattle.orders.specs.Reach.{Reached, reach}
+use Rattle.orders.specs.Reach.{Reached}
 use Rattle.orders.specs.Circle.{Linked}
-use Rattle.tables.specs.Tables.{makerAt, makersIn, inputsIn, beforeIn, Sound, Files}
+use Rattle.tables.specs.Tables.{makerAt, makersIn, inputsIn, beforeIn, neededIn, Sound, Files}
 use Rattle.graph.specs.declared.Visit.{Visit}
 use Rattle.graph.specs.declared.Visit.the-variants.{Done, Circle}
 
@@ -105,3 +105,21 @@ pub record RootAsked (mentions ends made roots : List ℕ) (i : ℕ) (seen next 
   pub state : Rooted mentions ends made roots (length order) seen next order done i
   pub path-long : length path ≡ length order
   pub one-more : i < length roots
+
+-- What all the walks ask: sound tables, roots that are files, nothing seen.
+pub record SortAsked (mentions ends made roots seen next path order : List ℕ) : Type 0 where
+  pub sound : Sound (length order) mentions ends made
+  pub files : Files (length order) roots made
+  pub unseen : seen ≡ zeros (length order)
+  pub unpassed : next ≡ zeros (length order)
+  pub path-long : length path ≡ length order
+
+-- the first k numbers of `order` are the needed steps in an order, with each one after the makers of its inputs
+pub record Ordered (mentions ends made roots : List ℕ) (n : ℕ) (order : List ℕ) (k : ℕ) : Type 0 where
+  pub within : k ≤ n
+  pub in-order : IsOrder (In (neededIn mentions ends made n roots)) (By (beforeIn mentions ends made)) (take k order)
+
+-- What they find: an order of the needed steps, or a circle of needed ones.
+unfoldable pub Sorted : List ℕ → List ℕ → List ℕ → List ℕ → ℕ → List ℕ → List ℕ → Visit → Type 0
+Sorted mentions ends made roots n path order (Done k) = Ordered mentions ends made roots n order k
+Sorted mentions ends made roots n path order (Circle from to) = Circled (beforeIn mentions ends made) (In (neededIn mentions ends made n roots)) path from to

@@ -3,7 +3,7 @@ ghost use mathlib.Core.Path.{_≡_};
 ghost use Prim.Native.Nat.{_+_, _≤_, _<_};
 ghost use lib.ListN.{length, take};
 ghost use Rattle.tables.specs.Tables.{Files};
-ghost use Rattle.graph.specs.Walk.{Opens, Finds, Starts, Explored, RootAsked, RootSeen};
+ghost use Rattle.graph.specs.Walk.{Opens, Finds, Starts, Explored, RootAsked, RootSeen, SortAsked, Sorted};
 use lists::words::at;
 use tables::inputs;
 use tables::maker;
@@ -92,7 +92,18 @@ fn explore(
 }
 
 // The walk from the maker of root i, if it has one that was not seen before.
-fn explore_root(mentions: &[u32], ends: &[u32], made: &[u32], roots: &[u32], i: usize, seen: &mut [u32], next: &mut [u32], path: &mut [u32], order: &mut [u32], done: usize) -> Visit
+fn explore_root(
+    mentions: &[u32],
+    ends: &[u32],
+    made: &[u32],
+    roots: &[u32],
+    i: usize,
+    seen: &mut [u32],
+    next: &mut [u32],
+    path: &mut [u32],
+    order: &mut [u32],
+    done: usize,
+) -> Visit
     requires { ⌜ RootAsked (now mentions) (now ends) (now made) (now roots) i (now seen) (now next) (now path) (now order) done ⌝ }
     ensures { λ r. ⌜ RootSeen (now (mentions .entry)) (now (ends .entry)) (now (made .entry)) (now (roots .entry)) (length (now (order .entry))) (i + 1) (now (seen .exit)) (now (next .exit)) (now (path .exit)) (now (order .exit)) r ⌝ }
 {
@@ -104,4 +115,45 @@ fn explore_root(mentions: &[u32], ends: &[u32], made: &[u32], roots: &[u32], i: 
         return Visit::Done(done);
     }
     explore(mentions, ends, made, seen, next, path, order, k - 1, done)
+}
+
+// The needed steps in an order, or a circle among them: the walks from all roots, one after another.
+fn sort(
+    mentions: &[u32],
+    ends: &[u32],
+    made: &[u32],
+    roots: &[u32],
+    seen: &mut [u32],
+    next: &mut [u32],
+    path: &mut [u32],
+    order: &mut [u32],
+) -> Visit
+    requires { ⌜ SortAsked (now mentions) (now ends) (now made) (now roots) (now seen) (now next) (now path) (now order) ⌝ }
+    ensures { λ r. ⌜ Sorted (now (mentions .entry)) (now (ends .entry)) (now (made .entry)) (now (roots .entry)) (length (now (order .entry))) (now (path .exit)) (now (order .exit)) r ⌝ }
+{
+    let mut done: usize = 0;
+    let mut i = 0;
+    while i < roots.len() {
+        match explore_root(
+            mentions,
+            ends,
+            made,
+            roots,
+            i,
+            seen,
+            next,
+            path,
+            order,
+            done,
+        ) {
+            Visit::Done(k) => {
+                done = k;
+                i += 1;
+            }
+            Visit::Circle(from, to) => {
+                return Visit::Circle(from, to);
+            }
+        }
+    }
+    Visit::Done(done)
 }

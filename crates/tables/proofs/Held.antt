@@ -1,5 +1,5 @@
 -- What the tables give for the steps that they hold.
-use Prim.Native.Nat.{ℕ, zero, suc, _+_, _-_, _≤_, _<_}
+use Prim.Native.Nat.{ℕ, zero, suc, _+_, _*_, _-_, _≤_, _<_}
 use native.Mathlib.Decide.{decLt}
 use native.Mathlib.Omega.{arith}
 use mathlib.Core.Path.{_≡_, refl, sym, ap, _∙_, fun-ext}
@@ -8,14 +8,16 @@ use mathlib.Core.List.{List, [], _∷_, _++_, map}
 use lib.ListN.{length, getD, drop, length-take, length-drop, length-map, List·getD-map, List·getD-eq-default}
 use Rattle.lists.specs.Members.{_∈_, here, in-at, in-take, in-drop, in-left, in-right, not-in-nil}
 use Rattle.lists.specs.Parts.{part}
+use Rattle.orders.specs.Reach.{Closed}
 use Rattle.rules.specs.Basics.{concat}
 use Rattle.rules.specs.Limits.{maxMentions}
 use Rattle.rules.specs.Reading.{Step, isPhony}
-use Rattle.rules.specs.Graph.{inputs, counted, noStep, stepAt, makers, makersOf, before}
+use Rattle.rules.specs.Graph.{inputs, counted, noStep, stepAt, makers, makersOf, before, needed}
 use Rattle.rules.specs.Stale.{phonyStep}
 use Rattle.rules.specs.Words.{Makes}
 use Rattle.rules.proofs.Graph.{in-makers}
-use Rattle.tables.specs.Tables.{bit, mentionsOf, endsFrom, madeBy, Holds, outsIn, countedIn, inputsIn, makerIn, makersIn, beforeIn, Placed, Sound, Files}
+use Rattle.tables.specs.Tables.{bit, mentionsOf, endsFrom, madeBy, Holds, outsIn, countedIn, inputsIn, makerIn, makersIn, beforeIn, neededIn, Placed, Sound, Files}
+use Rattle.tables.proofs.Makers.{makers-small}
 use Rattle.tables.proofs.Places.{read-inputs, read-counted, read-outs, read-placed}
 
 -- tables that hold nothing
@@ -39,6 +41,10 @@ in-part l f e h = in-drop f l (in-take (e - f) (drop f l) h)
 -- the makers of a step's files are steps
 pub part-files : {n : ℕ} {mentions ends made : List ℕ} → Sound n mentions ends made → (f e : ℕ) → Files n (part mentions f e) made
 part-files {mentions} r f e = record { low = λ i b. r .low (getD (part mentions f e) i 0) (in-part mentions f e (in-at (part mentions f e) i b)); makers = r .makers }
+
+pub before-small : {n : ℕ} {mentions ends made : List ℕ} → Sound n mentions ends made → Closed (beforeIn mentions ends made) (λ s. s < n)
+unfolding beforeIn inputsIn
+before-small {ends} r s b m h = makers-small (part-files r (getD ends (4 * s) 0) (getD ends (4 * s + 3) 0)) m h
 
 pub part-few : {n : ℕ} {mentions ends made : List ℕ} → Sound n mentions ends made → (f e : ℕ) → length (part mentions f e) ≤ maxMentions
 part-few {mentions} r f e = simp (length-take, length-drop) (omega (arith, r .few-mentions))
@@ -97,6 +103,10 @@ module _ {steps : List Step} {files : ℕ} {mentions ends phony made : List ℕ}
   pub held-before : beforeIn mentions ends made ≡ before steps
   unfolding beforeIn before
   held-before = fun-ext (λ s. ap (makersIn made) (held-inputs s) ∙ held-makersOf (inputs (stepAt steps s)))
+
+  pub held-needed : (roots : List ℕ) → neededIn mentions ends made (length steps) roots ≡ needed steps roots
+  unfolding neededIn needed
+  held-needed roots = rw (held-before, held-makersOf roots)
 
   pub held-sound : Sound (length steps) mentions ends made
   held-sound = record {

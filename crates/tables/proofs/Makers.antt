@@ -39,3 +39,6 @@ makersIn-in made (f ∷ fs) (suc i) b e = in-right (makerIn made f) (makersIn-in
 
 pub maker-low : {n : ℕ} {fs made : List ℕ} → Files n fs made → {i k : ℕ} → i < length fs → k ≡ makerAt made fs i → k ≤ n
 maker-low {fs} r {i} b e = rw e (r .makers (getD fs i 0) (r .low i b))
+
+pub makers-small : {n : ℕ} {fs made : List ℕ} → Files n fs made → (m : ℕ) → m ∈ makersIn made fs → m < n
+makers-small {fs} {made} r m h = let (i, b, e) = in-makersIn made fs h in maker-low r {i = i} b (sym e)

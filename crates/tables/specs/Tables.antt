@@ -6,6 +6,7 @@ use mathlib.Core.List.{List, [], _∷_, _++_, map}
 use lib.ListN.{length, getD}
 use Rattle.lists.specs.Members.{_∈_}
 use Rattle.lists.specs.Parts.{part}
+use Rattle.orders.specs.Reach.{reach}
 use Rattle.rules.specs.Basics.{concat}
 use Rattle.rules.specs.Limits.{maxSteps, maxFiles, maxMentions}
 use Rattle.rules.specs.Reading.{Step, isPhony}
@@ -85,6 +86,11 @@ makerAt made fs i = getD made (getD fs i 0) 0
 unfoldable pub beforeIn : List ℕ → List ℕ → List ℕ → ℕ → List ℕ
 unfolding makersIn inputsIn
 beforeIn mentions ends made s = makersIn made (inputsIn mentions ends s)
+
+-- the needed steps of n
+unfoldable pub neededIn : List ℕ → List ℕ → List ℕ → ℕ → List ℕ → List ℕ
+unfolding reach beforeIn makersIn
+neededIn mentions ends made n roots = reach (beforeIn mentions ends made) n (makersIn made roots)
 
 -- ------------------------------------------------------------------ what reading them asks
 
