@@ -3,8 +3,12 @@ ghost use mathlib.Core.Path.{_≡_};
 ghost use Prim.Native.Nat.{_+_, _≤_, _<_};
 ghost use lib.ListN.{length, take};
 ghost use Rattle.tables.specs.Tables.{Files};
+ghost use Rattle.lists.specs.Parts.{part};
+ghost use Rattle.rules.specs.Promises.{filled};
+ghost use Rattle.graph.specs.Sort.{NeededAsked, Showable, Shown, SortShows, NeededSorted};
 ghost use Rattle.graph.specs.Walk.{Opens, Finds, Starts, Explored, RootAsked, RootSeen, SortAsked, Sorted};
 use lists::words::at;
+use lists::words::zero_from;
 use tables::inputs;
 use tables::maker;
 
@@ -12,6 +16,12 @@ use tables::maker;
 pub enum Visit {
     Done(usize),
     Circle(usize, usize),
+}
+
+// How the sorting of the needed steps ends: with so many in order, or with a circle of that length.
+pub enum Sorting {
+    Ordered(usize),
+    Circular(usize),
 }
 
 // The place, from `from` on, of the first file whose maker is not done, or the number of files.
@@ -156,4 +166,47 @@ fn sort(
         }
     }
     Visit::Done(done)
+}
+
+// Puts l at the front of the list, and zeros after it.
+pub fn fill(list: &mut [u32], l: &[u32])
+    requires { ⌜ length (now l) ≤ length (now list) ⌝ }
+    ensures { λ _. ⌜ now (list .exit) ≡ filled (now (l .entry)) (now (list .entry)) ⌝ }
+{
+    let mut i = 0;
+    while i < l.len() {
+        list[i] = l[i];
+        i += 1;
+    }
+    zero_from(list, l.len());
+}
+
+// Puts the steps at these places of the path at the front of the list, and zeros after them; their number.
+fn show(path: &[u32], from: usize, to: usize, list: &mut [u32]) -> usize
+    requires { ⌜ Showable (now path) from to (now list) ⌝ }
+    ensures { λ r. ⌜ Shown (part (now (path .entry)) from to) (now (list .entry)) r (now (list .exit)) ⌝ }
+{
+    fill(list, &path[from..to]);
+    to - from
+}
+
+// Sorts, and shows a circle in the list.
+fn sort_or_show(
+    mentions: &[u32],
+    ends: &[u32],
+    made: &[u32],
+    roots: &[u32],
+    seen: &mut [u32],
+    next: &mut [u32],
+    path: &mut [u32],
+    order: &mut [u32],
+    list: &mut [u32],
+) -> Sorting
+    requires { ⌜ SortShows (now mentions) (now ends) (now made) (now roots) (now seen) (now next) (now path) (now order) (now list) ⌝ }
+    ensures { λ r. ⌜ NeededSorted (now (mentions .entry)) (now (ends .entry)) (now (made .entry)) (now (roots .entry)) (length (now (order .entry))) (now (order .exit)) (now (list .entry)) (now (list .exit)) r ⌝ }
+{
+    match sort(mentions, ends, made, roots, seen, next, path, order) {
+        Visit::Done(k) => Sorting::Ordered(k),
+        Visit::Circle(from, to) => Sorting::Circular(show(path, from, to, list)),
+    }
 }
