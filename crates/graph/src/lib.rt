@@ -210,3 +210,32 @@ fn sort_or_show(
         Visit::Circle(from, to) => Sorting::Circular(show(path, from, to, list)),
     }
 }
+
+// The needed steps in an order at the front of `order`, or a circle among them at the front of the list with zeros after it.
+pub fn order_needed(
+    mentions: &[u32],
+    ends: &[u32],
+    made: &[u32],
+    roots: &[u32],
+    order: &mut [u32],
+    list: &mut [u32],
+) -> Sorting
+    requires { ⌜ NeededAsked (now mentions) (now ends) (now made) (now roots) (now order) (now list) ⌝ }
+    ensures { λ r. ⌜ NeededSorted (now (mentions .entry)) (now (ends .entry)) (now (made .entry)) (now (roots .entry)) (length (now (order .entry))) (now (order .exit)) (now (list .entry)) (now (list .exit)) r ⌝ }
+{
+    let n = order.len();
+    let mut seen = [0u32; 512];
+    let mut next = [0u32; 512];
+    let mut path = [0u32; 512];
+    sort_or_show(
+        mentions,
+        ends,
+        made,
+        roots,
+        &mut seen[..n],
+        &mut next[..n],
+        &mut path[..n],
+        order,
+        list,
+    )
+}
