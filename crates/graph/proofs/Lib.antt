@@ -4,3 +4,4 @@ pub mod Exploring
 pub mod Roots
 pub mod Filling
 pub mod Showing
+pub mod Absent

@@ -38,9 +38,18 @@ holds-nothing = record {
 in-part : (l : List ℕ) (f e : ℕ) {x : ℕ} → x ∈ part l f e → x ∈ l
 in-part l f e h = in-drop f l (in-take (e - f) (drop f l) h)
 
--- the makers of a step's files are steps
+-- a part of the mentions holds files
+pub part-low : {mentions : List ℕ} {n : ℕ} → ((f : ℕ) → f ∈ mentions → f < n) → (f e i : ℕ) → i < length (part mentions f e) → getD (part mentions f e) i 0 < n
+part-low {mentions} low f e i b = low (getD (part mentions f e) i 0) (in-part mentions f e (in-at (part mentions f e) i b))
+
+pub inputs-low : {mentions : List ℕ} {n : ℕ} → ((f : ℕ) → f ∈ mentions → f < n) → (ends : List ℕ) (s : ℕ) {fs : List ℕ} → fs ≡ inputsIn mentions ends s
+    → (i : ℕ) → i < length fs → getD fs i 0 < n
+unfolding inputsIn
+inputs-low low ends s q i b = rw q (part-low low (getD ends (4 * s) 0) (getD ends (4 * s + 3) 0) i (rw q at b))
+
+-- and their makers are steps
 pub part-files : {n : ℕ} {mentions ends made : List ℕ} → Sound n mentions ends made → (f e : ℕ) → Files n (part mentions f e) made
-part-files {mentions} r f e = record { low = λ i b. r .low (getD (part mentions f e) i 0) (in-part mentions f e (in-at (part mentions f e) i b)); makers = r .makers }
+part-files r f e = record { low = part-low (r .low) f e; makers = r .makers }
 
 pub before-small : {n : ℕ} {mentions ends made : List ℕ} → Sound n mentions ends made → Closed (beforeIn mentions ends made) (λ s. s < n)
 unfolding beforeIn inputsIn

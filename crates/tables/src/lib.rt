@@ -53,3 +53,11 @@ pub fn maker(fs: &[u32], i: usize, made: &[u32]) -> usize
 {
     at(made, at(fs, i))
 }
+
+// The time of a file.
+pub fn time(times: &[u64], f: usize) -> u64
+    requires { ⌜ f < length (now times) ⌝ }
+    ensures { λ r. ⌜ r ≡ getD (now (times .entry)) f 0 ⌝ }
+{
+    times[f]
+}
