@@ -1,19 +1,17 @@
 -- A turn of each loop: what it keeps of the loop's state, and what the ways out of the loop give.
-use Prim.Native.Nat.{ℕ, zero, suc, _+_, _-_, _≤_, _<_, min}
-use mathlib.Core.Bool.{Bool, true, false}
-use mathlib.Core.List.{List, [], _∷_, _++_}
+use Prim.Native.Nat.{ℕ, suc, _+_, _≤_, _<_}
+use mathlib.Core.Bool.{true, false}
+use mathlib.Core.List.{List}
 use mathlib.Core.Path.{_≡_, refl, sym, _∙_, ap}
 use native.Mathlib.Nat.{le-antisymm}
 use native.Mathlib.Numerals.{add-one}
 use native.Mathlib.Omega.{arith}
 use borrow.Author.Tests.{eq-eqb, ne-eqb}
-use lib.ListN.{length, take, drop, getD, set, length-set, drop-of-length-le}
-use lib.Seq.{drop-cons, paste, paste-zero, paste-suc, length-paste}
-use Rattle.lists.specs.Tests.{ifB}
+use lib.ListN.{length, drop, getD, set, length-set, drop-of-length-le}
+use lib.Seq.{drop-cons, paste, paste-zero, paste-suc}
 use Rattle.lists.specs.Bytes.{eqBytes, lessBytes, ne-eqBytes, less-lower}
 use Rattle.lists.specs.Order.{orderBytes, less-order, greater-order, equal-order, order-same}
-use Rattle.lists.specs.Fill.{zeroed, zeroed-none, zeroed-more, zeroed-past, length-zeroed}
-use Rattle.lists.specs.declared.Order.{Order}
+use Rattle.lists.specs.Fill.{zeroed, zeroed-none, zeroed-more}
 use Rattle.lists.specs.declared.Order.the-variants.{Less, Equal, Greater}
 
 -- ---- two lists side by side, of which n places are compared

@@ -3,7 +3,7 @@ use Prim.Native.Nat.{ℕ, zero, suc, _≤_, _<_}
 use mathlib.Core.Bool.{Bool, true, false}
 use mathlib.Core.List.{List, [], _∷_}
 use mathlib.Core.Logic.{_⊎_, inl, inr, ⊎-elim}
-use mathlib.Core.Path.{_≡_, refl, sym, _∙_, ap, ap₂}
+use mathlib.Core.Path.{_≡_, refl, sym, _∙_, ap₂}
 use native.Mathlib.Nat.{not-suc-le-zero, le-of-suc-le-suc}
 use native.Mathlib.Omega.{arith}
 use borrow.Author.Tests.{lt-ltb, le-ltb, eq-eqb, ne-eqb, ltb-true, ltb-false, eqb-true, eqb-false}
@@ -127,7 +127,8 @@ pub less-ne : {s t : List ℕ} → lessBytes s t ≡ true → s ≡ t → ⊥
 less-ne p e = differ p (eq-less e)
 
 -- The first place where two lists differ decides, and a shorter list comes before what it begins.
-pub less-at : (k : ℕ) (s t : List ℕ) → take k s ≡ take k t → k < length s → k < length t → getD s k 0 < getD t k 0 → lessBytes s t ≡ true
+pub less-at : (k : ℕ) (s t : List ℕ) → take k s ≡ take k t → k < length s → k < length t
+    → getD s k 0 < getD t k 0 → lessBytes s t ≡ true
 less-at k [] t e hs ht h = absurd (not-suc-le-zero hs)
 less-at k (x ∷ s) [] e hs ht h = absurd (not-suc-le-zero ht)
 less-at zero (x ∷ s) (y ∷ t) e hs ht h = less-lower x y s t h

@@ -1,12 +1,12 @@
 -- A list with zeros at the places from f up to, not including, e.
 use Prim.Native.Nat.{ℕ, zero, suc, _+_, _-_, _≤_, _<_}
-use mathlib.Core.List.{List, [], _∷_, _++_, append-nil, append-assoc}
+use mathlib.Core.List.{List, _++_, append-nil, append-assoc}
 use mathlib.Core.Path.{_≡_, refl, sym, _∙_, ap}
 use native.Mathlib.Numerals.{add-one}
 use native.Mathlib.Omega.{arith}
 use lib.ListN.{length, take, drop, getD, set, replicate, length-replicate, take-append-drop, length-append, length-take, replicate-append-replicate}
-use lib.Seq.{take-all, drop-length, drop-cons, length-take-le, take-length, paste, length-paste, length-paste-head, take-paste, drop-paste, set-at, append-snoc}
-use Rattle.lists.specs.Parts.{part, part-paste, part-paste-before, part-paste-after, getD-paste-in, getD-paste-before, getD-paste-after}
+use lib.Seq.{take-all, drop-length, drop-cons, paste, length-paste, set-at, append-snoc}
+use Rattle.lists.specs.Parts.{part, put-back-paste, part-paste, part-paste-before, part-paste-after, getD-paste-in, getD-paste-before, getD-paste-after}
 
 abbrev pub zeros : ℕ → List ℕ
 zeros n = replicate n 0
@@ -85,9 +85,19 @@ module _ (l : List ℕ) (f e : ℕ) (hf : f ≤ e) (he : e ≤ length l) where
 pub zeroed-more : (l : List ℕ) (f i : ℕ) → f ≤ i → i < length l → set (zeroed l f i) i 0 ≡ zeroed l f (i + 1)
 unfolding zeroed
 zeroed-more l f i h k =
-    let n : length (take f l ++ zeros (i - f)) ≡ i =
-    simp (length-append, length-take, length-zeros) (omega arith) in
+    let p : List ℕ = take f l ++ zeros (i - f) in
+    let n : length p ≡ i = simp (length-append, length-take, length-zeros) (omega arith) in
     let z : i + 1 - f ≡ i - f + 1 = omega arith in
-    rw
-    (drop-cons l i 0 k, set-at (take f l ++ zeros (i - f)) (getD l i 0) (drop (suc i) l) 0 i n, z, ← replicate-append-replicate {A = ℕ} (i - f) 1 0, ← append-assoc (take f l) (zeros (i - f)) (zeros 1), add-one i)
-    (sym (append-snoc (take f l ++ zeros (i - f)) 0 (drop (suc i) l)))
+    ap (λ (r : List ℕ). set (p ++ r) i 0) (drop-cons l i 0 k)
+    ∙ set-at p (getD l i 0) (drop (suc i) l) 0 i n
+    ∙ sym (append-snoc p 0 (drop (suc i) l))
+    ∙ rw (z, ← replicate-append-replicate {A = ℕ} (i - f) 1 0, ← append-assoc, add-one i)
+
+-- A callee zeroed places of the part `&mut d[f..e]` that it was lent.
+module _ (d : List ℕ) (f e : ℕ) (hf : f ≤ e) (he : e ≤ length d) where
+  pub put-back-zeroed : (a b : ℕ) → a ≤ b → b ≤ e - f
+      → take f d ++ (zeroed (part d f e) a b ++ drop (e - f) (drop f d)) ≡ zeroed d (f + a) (f + b)
+  put-back-zeroed a b ha hb =
+      let z : f + b - (f + a) ≡ b - a = omega arith in
+      rw (zeroed-paste (part d f e) a b ha, zeroed-paste d (f + a) (f + b) (omega arith), z)
+      (put-back-paste d f e hf he a (zeros (b - a)) (b - a) (omega arith))

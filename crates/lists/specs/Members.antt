@@ -38,11 +38,11 @@ unfoldable pub has : ℕ → List ℕ → Bool
 has x [] = false
 has x (y ∷ l) = let r = has x l in eqb x y || r
 
-unfoldable pub all : (ℕ → Bool) → List ℕ → Bool
+unfoldable pub all : {A : Type 0} → (A → Bool) → List A → Bool
 all p [] = true
 all p (x ∷ l) = let r = all p l in p x && r
 
-unfoldable pub any : (ℕ → Bool) → List ℕ → Bool
+unfoldable pub any : {A : Type 0} → (A → Bool) → List A → Bool
 any p [] = false
 any p (x ∷ l) = let r = any p l in p x || r
 

@@ -1,9 +1,9 @@
 -- The order of two lists of bytes as one answer of three.
-use Prim.Native.Nat.{ℕ, _<_}
+use Prim.Native.Nat.{ℕ}
 use mathlib.Core.Bool.{true, false}
-use mathlib.Core.List.{List, [], _∷_}
-use mathlib.Core.Path.{_≡_, refl, sym, _∙_}
-use Rattle.lists.specs.Bytes.{lessBytes, less-same, less-lower, less-higher, less-total, less-asym, less-irrefl}
+use mathlib.Core.List.{List, _∷_}
+use mathlib.Core.Path.{_≡_, sym}
+use Rattle.lists.specs.Bytes.{lessBytes, less-same, less-total, less-asym, less-irrefl}
 use Rattle.lists.specs.Tests.{ifB, split}
 use Rattle.lists.specs.declared.Order.{Order}
 use Rattle.lists.specs.declared.Order.the-variants.{Less, Equal, Greater}

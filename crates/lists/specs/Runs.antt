@@ -1,15 +1,23 @@
 -- Scans: the longest run of a class of bytes at the front, and what follows it; and what a reader from place to place says.
-use Prim.Native.Nat.{ℕ, zero, suc, _+_, _-_, _≤_, _<_}
-use mathlib.Core.Bool.{Bool, true, false}
+use Prim.Native.Nat.{ℕ, _+_, _-_, _≤_, _<_}
+use mathlib.Core.Bool.{Bool, true, false, not}
 use mathlib.Core.List.{List, [], _∷_, _++_}
 use mathlib.Core.Path.{_≡_, refl, sym, _∙_, ap}
 use native.Mathlib.Nat.{le-refl, le-trans}
 use native.Mathlib.Numerals.{add-one}
 use native.Mathlib.Omega.{arith}
+use lib.Dec.{eqb}
 use lib.ListN.{length, take, drop, getD, length-append, length-drop, drop-of-length-le}
 use lib.Seq.{drop-cons, take-append-seam}
 use Rattle.lists.specs.Parts.{part}
-use Rattle.lists.specs.Tests.{ifB, split, differ}
+use Rattle.lists.specs.Tests.{ifB, split}
+
+-- The class of one byte, and that of all others.
+abbrev pub is : ℕ → ℕ → Bool
+is b x = eqb x b
+
+abbrev pub isNot : ℕ → ℕ → Bool
+isNot b x = not (eqb x b)
 
 unfoldable pub run : (ℕ → Bool) → List ℕ → List ℕ
 run p [] = []
@@ -48,7 +56,8 @@ pub record Reads (f : List ℕ → List ℕ) (s : List ℕ) (i r : ℕ) : Type 0
   pub rest : drop r s ≡ f (drop i s)
 
 -- One reader after another.
-pub reads-then : {f g : List ℕ → List ℕ} {s : List ℕ} {i j r : ℕ} → Reads f s i j → Reads g s j r → Reads (λ (l : List ℕ). g (f l)) s i r
+pub reads-then : {f g : List ℕ → List ℕ} {s : List ℕ} {i j r : ℕ} → Reads f s i j → Reads g s j r
+    → Reads (λ (l : List ℕ). g (f l)) s i r
 reads-then a b = record { forward = le-trans (a .forward) (b .forward); within = b .within; rest = rw (← (a .rest)) (b .rest) }
 
 -- A place is told by how much is left.
@@ -59,8 +68,15 @@ reads-place {f} {s} {i} {r} a = rw (← (a .rest), length-drop r s) (omega (arit
 pub part-run : (p : ℕ → Bool) {s : List ℕ} {i r : ℕ} → Reads (afterRun p) s i r → part s i r ≡ run p (drop i s)
 part-run p {s} {i} {r} a =
     let n : r - i ≡ length (run p (drop i s)) =
-    omega
-    (arith, a .forward, a .within, length-drop i s, length-drop r s, ap length (a .rest), simp length-append at (ap length (run-append p (drop i s)))) in
+    omega (
+      arith,
+      a .forward,
+      a .within,
+      length-drop i s,
+      length-drop r s,
+      ap length (a .rest),
+      simp length-append at (ap length (run-append p (drop i s))),
+    ) in
     rw n (take-run p (drop i s))
 
 -- The state of a loop that scans from i and is at k.

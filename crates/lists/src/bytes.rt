@@ -6,6 +6,7 @@ ghost use lib.Seq.{paste};
 ghost use Rattle.lists.specs.Bytes.{eqBytes, lessBytes};
 ghost use Rattle.lists.specs.Order.{orderBytes};
 ghost use Rattle.lists.specs.Fill.{zeroed};
+ghost use Rattle.lists.specs.Runs.{Reads, afterRun, is, isNot};
 use crate::Order;
 
 pub fn equal(a: &[u8], b: &[u8]) -> bool
@@ -63,6 +64,36 @@ pub fn less(a: &[u8], b: &[u8]) -> bool
         Order::Equal => false,
         Order::Greater => false,
     }
+}
+
+// The first place from `from` on whose byte is not b, or the end.
+pub fn skip(s: &[u8], from: usize, b: u8) -> usize
+    requires { ⌜ from ≤ length (now s) ⌝ }
+    ensures { λ r. ⌜ Reads (afterRun (is b)) (now (s .entry)) from r ⌝ }
+{
+    let mut i = from;
+    while i < s.len() {
+        if s[i] != b {
+            return i;
+        }
+        i += 1;
+    }
+    i
+}
+
+// The first place from `from` on whose byte is b, or the end.
+pub fn find(s: &[u8], from: usize, b: u8) -> usize
+    requires { ⌜ from ≤ length (now s) ⌝ }
+    ensures { λ r. ⌜ Reads (afterRun (isNot b)) (now (s .entry)) from r ⌝ }
+{
+    let mut i = from;
+    while i < s.len() {
+        if s[i] == b {
+            return i;
+        }
+        i += 1;
+    }
+    i
 }
 
 // Copies src into dst from place `at` on.

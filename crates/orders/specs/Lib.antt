@@ -4,3 +4,4 @@ pub mod GreedyLaws
 pub mod Circle
 pub mod Reach
 pub mod Along
+pub mod Same

@@ -1,1 +1,9 @@
 pub mod Graph
+pub mod Stale
+pub mod Sources
+pub mod Demand3
+pub mod Checks
+pub mod Promises
+pub mod Marked
+pub mod WrongPlanners
+pub mod Answers

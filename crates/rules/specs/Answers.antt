@@ -1,5 +1,9 @@
--- The answers of the two asks as document 01's numbers and places.
+-- The answers of the two asks as document 01's numbers and values.
 use Prim.Native.Nat.{ℕ}
+use Rattle.rules.specs.declared.PlanAnswer.{PlanAnswer}
+use Rattle.rules.specs.declared.PlanAnswer.the-variants.{Listed, Refused as PlanRefused}
+use Rattle.rules.specs.declared.TextAnswer.{TextAnswer}
+use Rattle.rules.specs.declared.TextAnswer.the-variants.{Written, Refused as TextRefused}
 use Rattle.rules.specs.declared.Refusal.{Refusal}
 use Rattle.rules.specs.declared.Refusal.the-variants.{ShortBuffer, LongManifest, BadByte, BadLine, BadDollar, NotYet, BadRule, BadPath, OverLimit, BadVersion, BadCard, BadTarget, NoRoot, Circle, MissingSource, EndlessText, LongText, NoCommand}
 
@@ -44,3 +48,22 @@ placeOfRefusal (MissingSource f) = f
 placeOfRefusal (EndlessText s) = s
 placeOfRefusal (LongText s) = s
 placeOfRefusal (NoCommand s) = s
+
+-- what an answer says: a refusal's number with its place, or 0 with the count that a plan or a text gives
+pub record Said : Type 0 where
+  pub number : ℕ
+  pub value : ℕ
+
+unfoldable pub refusalSays : Refusal → Said
+unfolding numberOfRefusal placeOfRefusal
+refusalSays r = record { number = numberOfRefusal r; value = placeOfRefusal r }
+
+unfoldable pub planSays : PlanAnswer → Said
+unfolding refusalSays
+planSays (Listed n) = record { number = 0; value = n }
+planSays (PlanRefused r) = refusalSays r
+
+unfoldable pub textSays : TextAnswer → Said
+unfolding refusalSays
+textSays (Written n) = record { number = 0; value = n }
+textSays (TextRefused r) = refusalSays r

@@ -1,20 +1,13 @@
 -- What the definitions are written with: tests and sums on lists.
 use Prim.Native.Nat.{ℕ, _+_}
 use mathlib.Core.List.{List, [], _∷_, _++_}
-use mathlib.Core.Bool.{Bool, true, false, _&&_, _||_}
+use mathlib.Core.Bool.{Bool, true, false}
+use Rattle.lists.specs.Members.{any}
 use Rattle.lists.specs.Bytes.{eqBytes}
 
 abbrev pub isEmpty : {A : Type 0} → List A → Bool
 isEmpty [] = true
 isEmpty (a ∷ l) = false
-
-unfoldable pub any : {A : Type 0} → (A → Bool) → List A → Bool
-any p [] = false
-any p (a ∷ l) = p a || any p l
-
-unfoldable pub all : {A : Type 0} → (A → Bool) → List A → Bool
-all p [] = true
-all p (a ∷ l) = p a && all p l
 
 -- is this name among them; "Paths are compared byte for byte."
 unfoldable pub among : List ℕ → List (List ℕ) → Bool

@@ -5,10 +5,10 @@ use mathlib.Core.Bool.{Bool, true, false, not, _&&_, _||_}
 use lib.Dec.{eqb}
 use lib.ListN.{length, getD}
 use Rattle.lists.specs.Tests.{ifB}
-use Rattle.lists.specs.Members.{has, keep, upTo}
+use Rattle.lists.specs.Members.{has, keep, upTo, any}
 use Rattle.orders.specs.Greedy.{greedy, whole}
 use Rattle.orders.specs.Reach.{reach}
-use Rattle.rules.specs.Basics.{isEmpty, any, concat}
+use Rattle.rules.specs.Basics.{isEmpty, concat}
 use Rattle.rules.specs.Reading.{Step, Reading, isPhony}
 
 -- an input of any kind

@@ -18,3 +18,4 @@ pub mod PlanAsk
 pub mod TextAsk
 pub mod Promises
 pub mod Marked
+pub mod Samples

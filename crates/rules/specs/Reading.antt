@@ -7,8 +7,8 @@ use lib.ListN.{length, getD}
 use Rattle.lists.specs.Tests.{ifB}
 use Rattle.lists.specs.Text.{bytes}
 use Rattle.lists.specs.Bytes.{eqBytes}
-use Rattle.lists.specs.Members.{has}
-use Rattle.rules.specs.Basics.{among, any}
+use Rattle.lists.specs.Members.{has, any}
+use Rattle.rules.specs.Basics.{among}
 
 -- a name and its value
 pub record Bound : Type 0 where

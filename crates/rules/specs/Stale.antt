@@ -1,15 +1,15 @@
 -- Stale and fresh, the times of files, and the list.
-use Prim.Native.Nat.{ℕ, zero, max}
+use Prim.Native.Nat.{ℕ, max}
 use mathlib.Core.List.{List, [], _∷_, map}
 use mathlib.Core.Bool.{Bool, true, false, not, _&&_, _||_}
 use lib.Dec.{eqb, ltb}
 use lib.ListN.{length, getD}
 use Rattle.lists.specs.Tests.{ifB}
-use Rattle.lists.specs.Members.{has, keep}
+use Rattle.lists.specs.Members.{has, keep, any}
 use Rattle.orders.specs.Greedy.{greedy}
 use Rattle.orders.specs.Reach.{upstream}
 use Rattle.orders.specs.Along.{values}
-use Rattle.rules.specs.Basics.{isEmpty, any}
+use Rattle.rules.specs.Basics.{isEmpty}
 use Rattle.rules.specs.Reading.{Step, isPhony}
 use Rattle.rules.specs.Graph.{stepAt, inputs, counted, makers, makersOf, before, needed, neededOrder}
 
@@ -78,11 +78,18 @@ unfoldable pub verdicts : List Step → (ℕ → ℕ) → List ℕ → ℕ → V
 unfolding values verdict
 verdicts steps card order s = values unknown (verdict steps card) order s
 
+-- the verdict on each needed step, where these have an order
+abbrev pub told : List Step → (ℕ → ℕ) → List ℕ → ℕ → Verdict
+told steps card rs = verdicts steps card (neededOrder steps rs)
+
 -- "A command step is one whose rule isn't `phony`."
+unfoldable pub isStale : List Step → (ℕ → ℕ) → List ℕ → ℕ → Bool
+unfolding verdicts neededOrder phonyStep
+isStale steps card rs s = not (phonyStep steps s) && told steps card rs s .stale
+
 unfoldable pub staleNeeded : List Step → (ℕ → ℕ) → List ℕ → List ℕ
-unfolding keep verdicts needed neededOrder phonyStep
-staleNeeded steps card rs =
-    keep (λ s. not (phonyStep steps s) && verdicts steps card (neededOrder steps rs) s .stale) (needed steps rs)
+unfolding keep isStale needed
+staleNeeded steps card rs = keep (isStale steps card rs) (needed steps rs)
 
 -- "The list holds the stale, needed command steps, each once .. At each place stands the lowest-numbered of them not yet listed whose stale
 -- command steps upstream are all listed."

@@ -4,12 +4,13 @@ use mathlib.Core.List.{List, [], _∷_, _++_, map}
 use mathlib.Core.Bool.{Bool, true, false, not, _&&_, _||_}
 use lib.Dec.{eqb, leb, ltb}
 use lib.ListN.{length}
+use Rattle.lists.specs.Members.{any}
 use Rattle.rules.specs.declared.Refusal.{Refusal}
 use Rattle.rules.specs.declared.Refusal.the-variants.{BadLine, BadRule, BadPath, OverLimit, BadVersion}
 use Rattle.lists.specs.Tests.{ifB}
 use Rattle.lists.specs.Text.{bytes}
 use Rattle.lists.specs.Bytes.{eqBytes}
-use Rattle.rules.specs.Basics.{isEmpty, among, any, all, sum}
+use Rattle.rules.specs.Basics.{isEmpty, among, sum}
 use Rattle.rules.specs.Limits.{maxSteps, maxFiles, maxRules, maxBindings, maxMentions, maxName, maxPath, maxValue, maxWritten}
 use Rattle.rules.specs.Dollars.{expand}
 use Rattle.rules.specs.Forms.{Form, ruleForm, buildForm, defaultForm, bindingForm, BuildLine}

@@ -4,10 +4,11 @@ use mathlib.Core.List.{List, [], _∷_, _++_, map}
 use mathlib.Core.Option.{Option, none, some}
 use mathlib.Core.Bool.{Bool, true, false}
 use lib.ListN.{getD}
+use Rattle.lists.specs.Members.{any}
 use Rattle.lists.specs.Tests.{ifB}
 use Rattle.lists.specs.Text.{bytes}
 use Rattle.lists.specs.Bytes.{eqBytes}
-use Rattle.rules.specs.Basics.{among, any}
+use Rattle.rules.specs.Basics.{among}
 use Rattle.rules.specs.Bytes.{space, newline}
 use Rattle.rules.specs.Dollars.{expand, refs}
 use Rattle.rules.specs.Reading.{Bound, Rule, Step, Reading, find, fileVar, keysOf}

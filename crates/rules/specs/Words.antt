@@ -1,9 +1,10 @@
--- Document 01's words about the graph of steps as statements that need not be computed: maker, needed, upstream, stale. The laws show
--- that the computed definitions meet them.
+-- Document 01's words about the graph of steps as statements that need not be computed: maker, needed, upstream, order, circle, list. The laws
+-- show that the computed definitions meet them.
 use Prim.Native.Nat.{ℕ, _<_}
 use mathlib.Core.List.{List}
 use mathlib.Core.Bool.{true, false}
 use mathlib.Core.Path.{_≡_}
+use mathlib.Core.Logic.{_⊎_}
 use lib.ListN.{length}
 use Rattle.lists.specs.Members.{_∈_}
 use Rattle.orders.specs.Order.{IsOrder, IsCircle, IsLeast}
@@ -26,6 +27,17 @@ pub record Feeds (steps : List Step) (m s : ℕ) : Type 0 where
 pub data Needed (steps : List Step) (targets : List ℕ) : ℕ → Type 0 where
   target : {m f : ℕ} → f ∈ targets → Makes steps m f → Needed steps targets m
   input : {m s : ℕ} → Needed steps targets s → Feeds steps m s → Needed steps targets m
+
+-- "A needed source is a file without a maker that is a target or an input of a needed step."
+pub record NeededSource (steps : List Step) (targets : List ℕ) (f : ℕ) : Type 0 where
+  pub no-maker : (m : ℕ) → ¬ Makes steps m f
+  pub needed : (f ∈ targets) ⊎ ((s : ℕ) × Needed steps targets s × (f ∈ inputs (stepAt steps s)))
+
+-- "a needed source is missing", where `card` gives the times of the files
+pub record Missing (steps : List Step) (card : ℕ → ℕ) (files : ℕ) (targets : List ℕ) (f : ℕ) : Type 0 where
+  pub file : f < files
+  pub absent : card f ≡ 0
+  pub source : NeededSource steps targets f
 
 -- "Upstream of a step are the makers of its inputs, of any kind, and whatever is upstream of those, through fresh and phony steps too."
 pub data Upstream (steps : List Step) (m : ℕ) : ℕ → Type 0 where

@@ -1,15 +1,15 @@
 -- What each byte does to the number under way, and what a caller of `number` learns.
-use Prim.Native.Nat.{ℕ, suc, _+_, _-_, _*_, _≤_, _<_}
-use mathlib.Core.Bool.{Bool, true, false}
+use Prim.Native.Nat.{ℕ, _+_, _-_, _*_, _≤_, _<_}
+use mathlib.Core.Bool.{true, false}
 use mathlib.Core.List.{List, [], _∷_}
-use mathlib.Core.Path.{_≡_, refl, sym, _∙_, ap}
+use mathlib.Core.Path.{_≡_, sym, _∙_, ap}
 use native.Mathlib.Numerals.{add-one}
 use native.Mathlib.Omega.{arith}
 use borrow.Author.Tests.{le-leb, lt-leb, leb-true, eq-eqb, ne-eqb}
 use lib.Dec.{leb, eqb}
 use lib.ListN.{length, drop, getD, drop-of-length-le}
 use lib.Seq.{drop-cons}
-use Rattle.lists.specs.Tests.{ifB, split, and-left, and-right}
+use Rattle.lists.specs.Tests.{split, and-left, and-right}
 use Rattle.version.specs.Version.{dot, digit, Number, value, none, inRange, numberFrom, number}
 use Rattle.version.specs.declared.Part.{Part}
 use Rattle.version.specs.declared.Part.the-variants.{Value, Malformed}

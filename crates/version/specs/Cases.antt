@@ -3,7 +3,7 @@ use mathlib.Core.Bool.{true, false}
 use mathlib.Core.Path.{_≡_, refl}
 use Rattle.lists.specs.Text.{bytes}
 use Rattle.version.specs.declared.ReadVersion.the-variants.{Read, Malformed}
-use Rattle.version.specs.Version.{version, digit, inRange, numberFrom, number, patchFrom, minorFrom, majorFrom, readVersion, above, tooNew, refused, ours, least}
+use Rattle.version.specs.Version.{version, digit, inRange, numberFrom, number, patchFrom, minorFrom, majorFrom, readVersion, above, tooNew, refused}
 
 -- What is read.
 reads :

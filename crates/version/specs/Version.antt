@@ -42,10 +42,11 @@ unfolding digit numberFrom
 number [] = none
 number (b ∷ s) = ifB (digit b) (λ _. numberFrom 0 (b ∷ s)) (λ _. none)
 
--- "one to three decimal numbers with dots .. absent ones 0": each step is given what was read at its place.
 abbrev pub version : ℕ → ℕ → ℕ → Version
 version a b c = record { major = a; minor = b; patch = c }
 
+-- A version by what was read as its third number, then its second, then its first. A number ends at the end or at a dot,
+-- after which the next one begins; after the third nothing may stand.
 unfoldable pub patchFrom : ℕ → ℕ → Number → ReadVersion
 patchFrom a b none = Malformed
 patchFrom a b (value c []) = Read (version a b c)
@@ -63,11 +64,12 @@ majorFrom none = Malformed
 majorFrom (value a []) = Read (version a 0 0)
 majorFrom (value a (d ∷ s)) = minorFrom a (number s)
 
+-- "one to three decimal numbers with dots, each 0 to 65,535 (leading zeros allowed), absent ones 0"
 unfoldable pub readVersion : List ℕ → ReadVersion
 unfolding number majorFrom
 readVersion s = majorFrom (number s)
 
--- The greater version has the greater number at the first place where the two differ.
+-- "comparison": the greater version has the greater number at the first place where the two differ.
 unfoldable pub above : Version → Version → Bool
 above v w =
     ifB (eqb (v .major) (w .major))
@@ -81,12 +83,12 @@ ours = version 1 5 0
 abbrev pub least : Version
 least = version 0 0 0
 
+-- Refusal 10, "version malformed or above OURS", of what was read, and of the bytes.
 unfoldable pub tooNew : ReadVersion → Bool
 unfolding above
 tooNew (Read v) = above v ours
 tooNew Malformed = true
 
--- Refusal 10: "version malformed or above OURS"
 unfoldable pub refused : List ℕ → Bool
 unfolding tooNew readVersion
 refused s = tooNew (readVersion s)

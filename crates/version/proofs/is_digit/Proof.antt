@@ -1,7 +1,6 @@
 -- `version::is_digit` meets its contract.
 use borrow.Author.Tests.{le-leb, lt-leb}
 use Rattle.version.specs.Version.{digit}
-use borrow.Author.Needs.{needs}
 use Rattle.version.proofs.is_digit.Statement.{statement}
 use Rattle.version.proofs.is_digit.Tie as tie
 

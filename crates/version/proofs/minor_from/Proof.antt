@@ -1,7 +1,7 @@
 -- `version::minor_from` meets its contract.
-use Rattle.version.proofs.Steps.{none-read, last-read, one-read}
-use Rattle.version.specs.Version.{minorFrom}
 use borrow.Author.Needs.{needs}
+use Rattle.version.specs.Version.{minorFrom}
+use Rattle.version.proofs.Steps.{none-read, last-read, one-read}
 use Rattle.version.proofs.minor_from.Statement.{statement}
 use Rattle.version.proofs.minor_from.Tie as tie
 

@@ -1,15 +1,15 @@
 -- `version::number` meets its contract: each turn keeps what is left to be read the same.
-use borrow.Author.Tests.{not-true, not-false}
+use Prim.Native.Nat.{_-_}
 use mathlib.Core.Bool.{true}
 use mathlib.Core.Path.{_≡_, sym, _∙_}
 use native.Mathlib.Omega.{arith}
+use borrow.Author.Needs.{needs}
+use borrow.Author.Tests.{not-true, not-false}
 use denote.Ref.{now}
+use lib.ListN.{length, getD}
 use Rattle.version.specs.Part.{partOf}
 use Rattle.version.specs.Version.{digit}
 use Rattle.version.proofs.Steps.{Reading, digit-range, no-byte, no-digit, begin, at-end, at-dot, no-number, over, more}
-use Prim.Native.Nat.{_-_}
-use lib.ListN.{length, getD}
-use borrow.Author.Needs.{needs}
 use Rattle.version.proofs.number.Statement.{statement}
 use Rattle.version.proofs.number.Tie as tie
 

@@ -1,7 +1,7 @@
 -- `version::patch_from` meets its contract.
-use Rattle.version.proofs.Steps.{none-read, last-read, one-read}
-use Rattle.version.specs.Version.{patchFrom}
 use borrow.Author.Needs.{needs}
+use Rattle.version.specs.Version.{patchFrom}
+use Rattle.version.proofs.Steps.{none-read, last-read, one-read}
 use Rattle.version.proofs.patch_from.Statement.{statement}
 use Rattle.version.proofs.patch_from.Tie as tie
 

@@ -1,13 +1,11 @@
+-- `lists::bytes::compare` meets its contract.
 use Prim.Native.Nat.{_-_}
-use Rattle.lists.specs.Order.{orderBytes}
 use native.Mathlib.Omega.{arith}
-use Rattle.lists.proofs.Steps.{Comparing, compare-begin, order-lower, order-higher, order-more, order-shorter, order-longer, order-end}
 use borrow.Author.Needs.{needs}
+use Rattle.lists.specs.Order.{orderBytes}
+use Rattle.lists.proofs.Steps.{Comparing, compare-begin, order-lower, order-higher, order-more, order-shorter, order-longer, order-end}
 use Rattle.lists.proofs.bytes.compare.Statement.{statement}
 use Rattle.lists.proofs.bytes.compare.Tie as tie
-use Rattle.lists.proofs.bytes.compare.Reads as reads
-use Rattle.lists.proofs.bytes.compare.Lts as lts
-use Rattle.lists.proofs.bytes.lesser.Reads as lesser-reads
 
 abbrev Inv-loop : tie.InvT-loop
 Inv-loop a b n i₀ i = Comparing orderBytes a b n i
@@ -15,51 +13,39 @@ Inv-loop a b n i₀ i = Comparing orderBytes a b n i
 abbrev μ-loop : tie.MeasureT-loop
 μ-loop a b n i₀ i = n - i
 
--- src/bytes.rt:36:9
 lesser-requires : tie.Need-lesser-requires Inv-loop μ-loop
 lesser-requires c κs = search needs
 
--- src/bytes.rt:38:5
 loop-holds : tie.Need-loop-holds Inv-loop μ-loop
 loop-holds c = compare-begin
 
--- src/bytes.rt:39:17
 shared-slice-read-x : tie.Need-shared-slice-read-x Inv-loop μ-loop
 shared-slice-read-x c = search needs
 
--- src/bytes.rt:40:17
 shared-slice-read-y : tie.Need-shared-slice-read-y Inv-loop μ-loop
 shared-slice-read-y c = search needs
 
--- src/bytes.rt:42:13
 returns : tie.Need-returns Inv-loop μ-loop
 returns c = order-lower (c .before .before .before .before .loop .inv) (omega (arith, c .before .before .before .before .before .lesser .ensures)) (omega (arith, c .before .before .before .before .before .lesser .ensures)) (c .if1 .taken)
 
--- src/bytes.rt:45:13
 returns-2 : tie.Need-returns-2 Inv-loop μ-loop
 returns-2 c = order-higher (c .before .before .before .before .before .loop .inv) (omega (arith, c .before .before .before .before .before .before .lesser .ensures)) (omega (arith, c .before .before .before .before .before .before .lesser .ensures)) (c .if2 .taken)
 
--- src/bytes.rt:47:9
 add-i : tie.Need-add-i Inv-loop μ-loop
 add-i c = search needs
 
--- src/bytes.rt:38:5
 loop-less : tie.Need-loop-less Inv-loop μ-loop
 loop-less c = search needs
 
--- src/bytes.rt:38:5
 loop-again : tie.Need-loop-again Inv-loop μ-loop
 loop-again c = order-more (c .before .before .before .before .before .loop .inv) (omega (arith, c .before .before .before .before .before .before .lesser .ensures)) (omega (arith, c .before .before .before .before .before .before .lesser .ensures)) (c .before .before .before .before .loop-test .taken) (omega arith)
 
--- src/bytes.rt:50:9
 returns-3 : tie.Need-returns-3 Inv-loop μ-loop
 returns-3 c = order-shorter (c .before .before .loop .inv) (omega (arith, c .before .before .before .lesser .ensures)) (omega (arith, c .before .before .before .lesser .ensures))
 
--- src/bytes.rt:53:9
 returns-4 : tie.Need-returns-4 Inv-loop μ-loop
 returns-4 c = order-longer (c .before .before .before .loop .inv) (omega (arith, c .before .before .before .before .lesser .ensures)) (omega (arith, c .before .before .before .before .lesser .ensures))
 
--- src/bytes.rt:33:1
 returns-5 : tie.Need-returns-5 Inv-loop μ-loop
 returns-5 c = order-end (c .before .before .before .loop .inv) (omega (arith, c .before .before .before .before .lesser .ensures)) (omega (arith, c .before .before .before .before .lesser .ensures))
 

@@ -1,11 +1,10 @@
+-- `lists::bytes::copy_at` meets its contract.
 use Prim.Native.Nat.{_-_}
+use borrow.Author.Needs.{needs}
 use lib.ListN.{length}
 use Rattle.lists.proofs.Steps.{Copying, copy-begin, copy-more, copy-end}
-use borrow.Author.Needs.{needs}
 use Rattle.lists.proofs.bytes.copy_at.Statement.{statement}
 use Rattle.lists.proofs.bytes.copy_at.Tie as tie
-use Rattle.lists.proofs.bytes.copy_at.Reads as reads
-use Rattle.lists.proofs.bytes.copy_at.Lts as lts
 
 abbrev Inv-loop : tie.InvT-loop
 Inv-loop dst₀ at src i₀ dst i = Copying dst₀ at src dst i
@@ -13,39 +12,30 @@ Inv-loop dst₀ at src i₀ dst i = Copying dst₀ at src dst i
 abbrev μ-loop : tie.MeasureT-loop
 μ-loop dst₀ at src i₀ dst i = length src - i
 
--- src/bytes.rt:74:5
 loop-holds : tie.Need-loop-holds Inv-loop μ-loop
 loop-holds c = copy-begin
 
--- src/bytes.rt:75:23
 shared-slice-read-dst : tie.Need-shared-slice-read-dst Inv-loop μ-loop
 shared-slice-read-dst c = search needs
 
--- src/bytes.rt:75:13
 add-dst : tie.Need-add-dst Inv-loop μ-loop
 add-dst c = search needs
 
--- src/bytes.rt:75:9
 slice-write-dst : tie.Need-slice-write-dst Inv-loop μ-loop
 slice-write-dst c = search needs
 
--- src/bytes.rt:76:9
 add-i : tie.Need-add-i Inv-loop μ-loop
 add-i c = search needs
 
--- src/bytes.rt:74:5
 loop-less : tie.Need-loop-less Inv-loop μ-loop
 loop-less c = search needs
 
--- src/bytes.rt:74:5
 loop-again : tie.Need-loop-again Inv-loop μ-loop
 loop-again c = copy-more (c .before .before .loop .inv) (c .before .before .before .pre) (c .before .loop-test .taken)
 
--- src/bytes.rt:69:1
 same-length : tie.Need-same-length Inv-loop μ-loop
 same-length c = search needs
 
--- src/bytes.rt:69:1
 returns : tie.Need-returns Inv-loop μ-loop
 returns c = copy-end (c .before .loop .inv) (c .loop-test .left)
 

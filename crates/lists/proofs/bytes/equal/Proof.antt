@@ -1,12 +1,11 @@
+-- `lists::bytes::equal` meets its contract.
 use Prim.Native.Nat.{_-_}
+use borrow.Author.Needs.{needs}
 use lib.ListN.{length}
 use Rattle.lists.specs.Bytes.{eqBytes}
 use Rattle.lists.proofs.Steps.{Comparing, compare-begin, equal-length, equal-end, equal-differ, equal-more}
-use borrow.Author.Needs.{needs}
 use Rattle.lists.proofs.bytes.equal.Statement.{statement}
 use Rattle.lists.proofs.bytes.equal.Tie as tie
-use Rattle.lists.proofs.bytes.equal.Reads as reads
-use Rattle.lists.proofs.bytes.equal.Lts as lts
 
 abbrev Inv-loop : tie.InvT-loop
 Inv-loop a b i₀ i = Comparing eqBytes a b (length a) i
@@ -14,39 +13,30 @@ Inv-loop a b i₀ i = Comparing eqBytes a b (length a) i
 abbrev μ-loop : tie.MeasureT-loop
 μ-loop a b i₀ i = length a - i
 
--- src/bytes.rt:15:9
 returns : tie.Need-returns Inv-loop μ-loop
 returns c = equal-length _ _ (c .if1 .taken)
 
--- src/bytes.rt:18:5
 loop-holds : tie.Need-loop-holds Inv-loop μ-loop
 loop-holds c = compare-begin
 
--- src/bytes.rt:19:12
 shared-slice-read-if2 : tie.Need-shared-slice-read-if2 Inv-loop μ-loop
 shared-slice-read-if2 c = search needs
 
--- src/bytes.rt:19:20
 shared-slice-read-if2-2 : tie.Need-shared-slice-read-if2-2 Inv-loop μ-loop
 shared-slice-read-if2-2 c = search needs
 
--- src/bytes.rt:20:13
 returns-2 : tie.Need-returns-2 Inv-loop μ-loop
 returns-2 c = equal-differ (c .before .before .before .before .loop .inv) (c .before .before .before .loop-test .taken) (search needs) (c .if2 .taken)
 
--- src/bytes.rt:22:9
 add-i : tie.Need-add-i Inv-loop μ-loop
 add-i c = search needs
 
--- src/bytes.rt:18:5
 loop-less : tie.Need-loop-less Inv-loop μ-loop
 loop-less c = search needs
 
--- src/bytes.rt:18:5
 loop-again : tie.Need-loop-again Inv-loop μ-loop
 loop-again c = equal-more (c .before .before .before .before .loop .inv) (c .before .before .before .loop-test .taken) (search needs) (c .before .before .before .loop-test .taken) (c .if2 .left)
 
--- src/bytes.rt:11:1
 returns-3 : tie.Need-returns-3 Inv-loop μ-loop
 returns-3 c = equal-end (c .before .loop .inv) (c .loop-test .left) (search needs)
 

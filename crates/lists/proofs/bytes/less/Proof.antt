@@ -1,38 +1,29 @@
+-- `lists::bytes::less` meets its contract.
 use mathlib.Core.Path.{sym, _∙_}
+use borrow.Author.Needs.{needs}
 use Rattle.lists.specs.Bytes.{eq-less, less-asym}
 use Rattle.lists.specs.Order.{order-less, order-equal, order-greater}
-use borrow.Author.Needs.{needs}
 use Rattle.lists.proofs.bytes.less.Statement.{statement}
 use Rattle.lists.proofs.bytes.less.Tie as tie
-use Rattle.lists.proofs.bytes.less.Reads as reads
-use Rattle.lists.proofs.bytes.less.Lts as lts
-use Rattle.lists.proofs.bytes.compare.Reads as compare-reads
 
--- src/bytes.rt:61:11
 compare-requires : tie.Need-compare-requires
 compare-requires c κs = search needs
 
--- src/bytes.rt:62:24
 enum-told : tie.Need-enum-told
 enum-told c = search needs
 
--- src/bytes.rt:63:25
 enum-told-2 : tie.Need-enum-told-2
 enum-told-2 c = search needs
 
--- src/bytes.rt:64:27
 enum-told-3 : tie.Need-enum-told-3
 enum-told-3 c = search needs
 
--- src/bytes.rt:58:1
 returns : tie.Need-returns
 returns c = sym (order-less _ _ (sym (c .before .before .compare .ensures) ∙ c .enum-told .given .1))
 
--- src/bytes.rt:58:1
 returns-2 : tie.Need-returns-2
 returns-2 c = sym (eq-less (order-equal _ _ (sym (c .before .before .compare .ensures) ∙ c .enum-told2 .given .1)))
 
--- src/bytes.rt:58:1
 returns-3 : tie.Need-returns-3
 returns-3 c = sym (less-asym _ _ (order-greater _ _ (sym (c .before .before .compare .ensures) ∙ c .enum-told3 .given .1)))
 

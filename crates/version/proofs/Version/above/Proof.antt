@@ -1,7 +1,6 @@
 -- `Version::above` meets its contract.
 use borrow.Author.Tests.{eq-eqb, ne-eqb}
 use Rattle.version.specs.Version.{above}
-use borrow.Author.Needs.{needs}
 use Rattle.version.proofs.Version.above.Statement.{statement}
 use Rattle.version.proofs.Version.above.Tie as tie
 

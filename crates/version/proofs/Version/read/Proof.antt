@@ -1,7 +1,7 @@
 -- `Version::read` meets its contract.
-use Rattle.version.proofs.Steps.{none-read, last-read, one-read}
-use Rattle.version.specs.Version.{readVersion, majorFrom}
 use borrow.Author.Needs.{needs}
+use Rattle.version.specs.Version.{readVersion, majorFrom}
+use Rattle.version.proofs.Steps.{none-read, last-read, one-read}
 use Rattle.version.proofs.Version.read.Statement.{statement}
 use Rattle.version.proofs.Version.read.Tie as tie
 

@@ -1,7 +1,7 @@
 -- `Version::refused` meets its contract.
-use mathlib.Core.Path.{_≡_, sym, _∙_, ap}
-use Rattle.version.specs.Version.{refused, tooNew}
+use mathlib.Core.Path.{sym, _∙_, ap}
 use borrow.Author.Needs.{needs}
+use Rattle.version.specs.Version.{refused, tooNew}
 use Rattle.version.proofs.Version.refused.Statement.{statement}
 use Rattle.version.proofs.Version.refused.Tie as tie
 
