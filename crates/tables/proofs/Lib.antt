@@ -1,3 +1,4 @@
 pub mod Places
 pub mod Makers
+pub mod Looking
 pub mod Held

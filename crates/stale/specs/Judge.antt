@@ -1,0 +1,55 @@
+-- Stale and time, read from the tables: what is known of each step stands in two columns.
+use Prim.Native.Nat.{ℕ, _≤_, _<_}
+use mathlib.Core.Path.{_≡_}
+use mathlib.Core.Bool.{Bool, _||_}
+use mathlib.Core.List.{List, [], _∷_, map}
+use lib.Dec.{eqb, ltb}
+use lib.ListN.{length, getD}
+use Rattle.lists.specs.Tests.{ifB}
+use Rattle.lists.specs.Members.{_∈_, any}
+use Rattle.rules.specs.Reading.{Step}
+use Rattle.rules.specs.Stale.{Verdict, greatest, verdict}
+use Rattle.tables.specs.Tables.{bit, makerIn, makersIn, Holds, Sound, Files}
+
+-- what the columns say of a step
+abbrev pub known : List ℕ → List ℕ → ℕ → Verdict
+known stale late m = record { stale = eqb (getD stale m 0) 1; time = getD late m 0 }
+
+-- the time of a file on the card, by its number
+abbrev pub timeAt : List ℕ → ℕ → ℕ
+timeAt times f = getD times f 0
+
+-- the time that a phony maker gives
+unfoldable pub lateTime : List ℕ → List ℕ → List ℕ → ℕ
+lateTime phony late [] = 0
+lateTime phony late (m ∷ ms) = ifB (eqb (getD phony m 0) 1) (λ _. getD late m 0) (λ _. 0)
+
+unfoldable pub fileTime : List ℕ → List ℕ → List ℕ → List ℕ → ℕ → ℕ
+unfolding lateTime makerIn
+fileTime made phony times late f = ifB (eqb (timeAt times f) 0) (λ _. lateTime phony late (makerIn made f)) (λ _. timeAt times f)
+
+unfoldable pub newestOf : List ℕ → List ℕ → List ℕ → List ℕ → List ℕ → ℕ
+unfolding greatest fileTime
+newestOf made phony times late fs = greatest (map (fileTime made phony times late) fs)
+
+-- is a maker of these files stale
+unfoldable pub staleMaker : List ℕ → List ℕ → List ℕ → Bool
+unfolding any makersIn
+staleMaker made stale fs = any (λ m. eqb (getD stale m 0) 1) (makersIn made fs)
+
+-- is one of these files missing, or older than t
+unfoldable pub outdated : List ℕ → ℕ → List ℕ → Bool
+unfolding any
+outdated times t fs = any (λ f. eqb (timeAt times f) 0 || ltb (timeAt times f) t) fs
+
+-- what asking the time of a file asks
+pub record FileAsked (made phony times late : List ℕ) (f : ℕ) : Type 0 where
+  pub low : f < length made
+  pub timed : length times ≡ length made
+  pub maker-low : getD made f 0 ≤ length phony
+  pub late-long : length late ≡ length phony
+
+pub record FilesAsked (fs made phony times late : List ℕ) : Type 0 where
+  pub files : Files (length phony) fs made
+  pub timed : length times ≡ length made
+  pub late-long : length late ≡ length phony

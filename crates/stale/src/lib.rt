@@ -1,0 +1,99 @@
+// Which steps are stale.
+ghost use mathlib.Core.Path.{_≡_};
+ghost use Prim.Native.Nat.{ℕ, _+_, _≤_, _<_, max};
+ghost use lib.ListN.{length, getD};
+ghost use Rattle.tables.specs.Tables.{bit, Files};
+ghost use Rattle.stale.specs.Judge.{fileTime, newestOf, staleMaker, outdated, FileAsked, FilesAsked};
+use lists::words::at;
+use tables::maker;
+use tables::time;
+
+// What is told of a step: 1 if it is stale, else 0, and the time that its missing outputs have if it is phony.
+pub struct Judged {
+    pub stale: u32,
+    pub time: u64,
+}
+
+fn flag(b: bool) -> u32
+    ensures { λ r. ⌜ r ≡ bit b ⌝ }
+{
+    if b { 1 } else { 0 }
+}
+
+fn later(a: u64, b: u64) -> u64
+    ensures { λ r. ⌜ r ≡ max a b ⌝ }
+{
+    if a < b { b } else { a }
+}
+
+// The time of a file: the card's, or the one that its phony maker gives.
+fn file_time(made: &[u32], phony: &[u32], times: &[u64], late: &[u64], f: usize) -> u64
+    requires { ⌜ FileAsked (now made) (now phony) (now times) (now late) f ⌝ }
+    ensures { λ r. ⌜ r ≡ fileTime (now (made .entry)) (now (phony .entry)) (now (times .entry)) (now (late .entry)) f ⌝ }
+{
+    let t = time(times, f);
+    if t != 0 {
+        return t;
+    }
+    let m = at(made, f);
+    if m == 0 {
+        return 0;
+    }
+    if at(phony, m - 1) != 1 {
+        return 0;
+    }
+    time(late, m - 1)
+}
+
+// The greatest time of these files.
+fn newest(fs: &[u32], made: &[u32], phony: &[u32], times: &[u64], late: &[u64]) -> u64
+    requires { ⌜ FilesAsked (now fs) (now made) (now phony) (now times) (now late) ⌝ }
+    ensures { λ r. ⌜ r ≡ newestOf (now (made .entry)) (now (phony .entry)) (now (times .entry)) (now (late .entry)) (now (fs .entry)) ⌝ }
+{
+    let mut t: u64 = 0;
+    let mut i = 0;
+    while i < fs.len() {
+        t = later(t, file_time(made, phony, times, late, at(fs, i)));
+        i += 1;
+    }
+    t
+}
+
+// Is a maker of these files stale.
+fn stale_maker(fs: &[u32], made: &[u32], stale: &[u32]) -> bool
+    requires { ⌜ Files (length (now stale)) (now fs) (now made) ⌝ }
+    ensures { λ r. ⌜ r ≡ staleMaker (now (made .entry)) (now (stale .entry)) (now (fs .entry)) ⌝ }
+{
+    let mut i = 0;
+    while i < fs.len() {
+        let m = maker(fs, i, made);
+        if m == 0 {
+            i += 1;
+        } else {
+            if at(stale, m - 1) == 1 {
+                return true;
+            }
+            i += 1;
+        }
+    }
+    false
+}
+
+// Is one of these files missing, or older than t.
+fn is_outdated(fs: &[u32], times: &[u64], t: u64) -> bool
+    requires { ⌜ ((i : ℕ) → i < length (now fs) → getD (now fs) i 0 < length (now times)) ⌝ }
+    ensures { λ r. ⌜ r ≡ outdated (now (times .entry)) t (now (fs .entry)) ⌝ }
+{
+    let mut i = 0;
+    while i < fs.len() {
+        let u = time(times, at(fs, i));
+        if u == 0 {
+            return true;
+        }
+        if u < t {
+            return true;
+        }
+        i += 1;
+    }
+    false
+}
