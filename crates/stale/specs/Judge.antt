@@ -1,15 +1,17 @@
 -- Stale and time, read from the tables: what is known of each step stands in two columns.
 use Prim.Native.Nat.{ℕ, _≤_, _<_}
 use mathlib.Core.Path.{_≡_}
-use mathlib.Core.Bool.{Bool, _||_}
+use mathlib.Core.Bool.{Bool, _&&_, _||_}
 use mathlib.Core.List.{List, [], _∷_, map}
 use lib.Dec.{eqb, ltb}
 use lib.ListN.{length, getD}
 use Rattle.lists.specs.Tests.{ifB}
 use Rattle.lists.specs.Members.{_∈_, any}
+use Rattle.rules.specs.Basics.{isEmpty}
 use Rattle.rules.specs.Reading.{Step}
 use Rattle.rules.specs.Stale.{Verdict, greatest, verdict}
-use Rattle.tables.specs.Tables.{bit, makerIn, makersIn, Holds, Sound, Files}
+use Rattle.tables.specs.Tables.{bit, makerIn, makersIn, inputsIn, outsIn, Holds, Sound, Files}
+use Rattle.stale.specs.declared.Judged.{Judged}
 
 -- what the columns say of a step
 abbrev pub known : List ℕ → List ℕ → ℕ → Verdict
@@ -53,3 +55,25 @@ pub record FilesAsked (fs made phony times late : List ℕ) : Type 0 where
   pub files : Files (length phony) fs made
   pub timed : length times ≡ length made
   pub late-long : length late ≡ length phony
+
+-- has a step no inputs at all, and is an output missing
+unfoldable pub bareMissing : List ℕ → List ℕ → List ℕ → ℕ → Bool
+unfolding outdated inputsIn outsIn
+bareMissing mentions ends times s = isEmpty (inputsIn mentions ends s) && outdated times 0 (outsIn mentions ends s)
+
+-- what judging a step asks
+pub record JudgeAsked (mentions ends phony made times stale late : List ℕ) : Type 0 where
+  pub sound : Sound (length phony) mentions ends made
+  pub timed : length times ≡ length made
+  pub stale-long : length stale ≡ length phony
+  pub late-long : length late ≡ length phony
+
+-- the verdict on step s, from what the columns say of the others
+pub record Told (steps : List Step) (times stale late : List ℕ) (s : ℕ) (judged : Judged) : Type 0 where
+  pub told-stale : judged .stale ≡ bit (verdict steps (timeAt times) (known stale late) s .stale)
+  pub told-time : judged .time ≡ verdict steps (timeAt times) (known stale late) s .time
+
+-- whatever steps the tables hold
+abbrev pub Judges : List ℕ → List ℕ → List ℕ → List ℕ → List ℕ → List ℕ → List ℕ → ℕ → Judged → Type 0
+Judges mentions ends phony made times stale late s judged =
+    (steps : List Step) (files : ℕ) → Holds steps files mentions ends phony made → Told steps times stale late s judged

@@ -2,10 +2,14 @@
 ghost use mathlib.Core.Path.{_≡_};
 ghost use Prim.Native.Nat.{ℕ, _+_, _≤_, _<_, max};
 ghost use lib.ListN.{length, getD};
-ghost use Rattle.tables.specs.Tables.{bit, Files};
-ghost use Rattle.stale.specs.Judge.{fileTime, newestOf, staleMaker, outdated, FileAsked, FilesAsked};
+ghost use Rattle.lists.specs.Members.{_∈_};
+ghost use Rattle.tables.specs.Tables.{bit, Files, Placed};
+ghost use Rattle.stale.specs.Judge.{fileTime, newestOf, staleMaker, outdated, bareMissing, FileAsked, FilesAsked, JudgeAsked, Judges};
 use lists::words::at;
+use tables::counted;
+use tables::inputs;
 use tables::maker;
+use tables::outs;
 use tables::time;
 
 // What is told of a step: 1 if it is stale, else 0, and the time that its missing outputs have if it is phony.
@@ -96,4 +100,38 @@ fn is_outdated(fs: &[u32], times: &[u64], t: u64) -> bool
         i += 1;
     }
     false
+}
+
+// Has the step no inputs at all, and is an output missing.
+fn bare_missing(mentions: &[u32], ends: &[u32], times: &[u64], s: usize) -> bool
+    requires { ⌜ Placed (now mentions) (now ends) s × ((f : ℕ) → f ∈ now mentions → f < length (now times)) ⌝ }
+    ensures { λ r. ⌜ r ≡ bareMissing (now (mentions .entry)) (now (ends .entry)) (now (times .entry)) s ⌝ }
+{
+    let fs = inputs(mentions, ends, s);
+    if 0 < fs.len() {
+        return false;
+    }
+    is_outdated(outs(mentions, ends, s), times, 0)
+}
+
+// The verdict on a step, from what the two columns say of the makers of its inputs.
+fn judge(mentions: &[u32], ends: &[u32], phony: &[u32], made: &[u32], times: &[u64], stale: &[u32], late: &[u64], s: usize) -> Judged
+    requires { ⌜ JudgeAsked (now mentions) (now ends) (now phony) (now made) (now times) (now stale) (now late) × (s < length (now phony)) ⌝ }
+    ensures { λ r. ⌜ Judges (now (mentions .entry)) (now (ends .entry)) (now (phony .entry)) (now (made .entry)) (now (times .entry)) (now (stale .entry)) (now (late .entry)) s r ⌝ }
+{
+    let fs = counted(mentions, ends, s);
+    let t = newest(fs, made, phony, times, late);
+    if stale_maker(fs, made, stale) {
+        return Judged { stale: 1, time: t };
+    }
+    if at(phony, s) == 1 {
+        return Judged {
+            stale: flag(bare_missing(mentions, ends, times, s)),
+            time: t,
+        };
+    }
+    Judged {
+        stale: flag(is_outdated(outs(mentions, ends, s), times, t)),
+        time: t,
+    }
 }

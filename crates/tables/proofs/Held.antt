@@ -16,7 +16,7 @@ use Rattle.rules.specs.Graph.{inputs, counted, noStep, stepAt, makers, makersOf
 use Rattle.rules.specs.Stale.{phonyStep}
 use Rattle.rules.specs.Words.{Makes}
 use Rattle.rules.proofs.Graph.{in-makers}
-use Rattle.tables.specs.Tables.{bit, mentionsOf, endsFrom, madeBy, Holds, outsIn, countedIn, inputsIn, makerIn, makersIn, beforeIn, neededIn, Placed, Sound, Files}
+use Rattle.tables.specs.Tables.{bit, mentionsOf, endsFrom, madeBy, Holds, startIn, outsIn, countedIn, inputsIn, makerIn, makersIn, beforeIn, neededIn, Placed, Sound, Files}
 use Rattle.tables.proofs.Makers.{makers-small}
 use Rattle.tables.proofs.Places.{read-inputs, read-counted, read-outs, read-placed}
 
@@ -46,6 +46,16 @@ pub inputs-low : {mentions : List ℕ} {n : ℕ} → ((f : ℕ) → f ∈ mentio
     → (i : ℕ) → i < length fs → getD fs i 0 < n
 unfolding inputsIn
 inputs-low low ends s q i b = rw q (part-low low (getD ends (4 * s) 0) (getD ends (4 * s + 3) 0) i (rw q at b))
+
+pub counted-low : {mentions : List ℕ} {n : ℕ} → ((f : ℕ) → f ∈ mentions → f < n) → (ends : List ℕ) (s : ℕ) {fs : List ℕ} → fs ≡ countedIn mentions ends s
+    → (i : ℕ) → i < length fs → getD fs i 0 < n
+unfolding countedIn
+counted-low low ends s q i b = rw q (part-low low (getD ends (4 * s) 0) (getD ends (4 * s + 2) 0) i (rw q at b))
+
+pub outs-low : {mentions : List ℕ} {n : ℕ} → ((f : ℕ) → f ∈ mentions → f < n) → (ends : List ℕ) (s : ℕ) {fs : List ℕ} → fs ≡ outsIn mentions ends s
+    → (i : ℕ) → i < length fs → getD fs i 0 < n
+unfolding outsIn
+outs-low low ends s q i b = rw q (part-low low (startIn ends s) (getD ends (4 * s) 0) i (rw q at b))
 
 -- and their makers are steps
 pub part-files : {n : ℕ} {mentions ends made : List ℕ} → Sound n mentions ends made → (f e : ℕ) → Files n (part mentions f e) made
