@@ -6,9 +6,10 @@ use mathlib.Core.List.{List, [], _∷_, map}
 use lib.Dec.{eqb, ltb}
 use lib.ListN.{length, getD}
 use Rattle.lists.specs.Tests.{ifB}
-use Rattle.lists.specs.Members.{_∈_, any}
+use Rattle.lists.specs.Members.{_∈_, _∉_, Each, Once, any}
 use Rattle.rules.specs.Basics.{isEmpty}
 use Rattle.rules.specs.Reading.{Step}
+use Rattle.rules.specs.Graph.{before}
 use Rattle.rules.specs.Stale.{Verdict, greatest, verdict}
 use Rattle.tables.specs.Tables.{bit, makerIn, makersIn, inputsIn, outsIn, Holds, Sound, Files}
 use Rattle.stale.specs.declared.Judged.{Judged}
@@ -77,3 +78,20 @@ pub record Told (steps : List Step) (times stale late : List ℕ) (s : ℕ) (jud
 abbrev pub Judges : List ℕ → List ℕ → List ℕ → List ℕ → List ℕ → List ℕ → List ℕ → ℕ → Judged → Type 0
 Judges mentions ends phony made times stale late s judged =
     (steps : List Step) (files : ℕ) → Holds steps files mentions ends phony made → Told steps times stale late s judged
+
+-- an order of steps in which each comes after the makers of its inputs
+pub record Sorted (steps : List Step) (order : List ℕ) : Type 0 where
+  pub once : Once order
+  pub after : Each (λ earlier s. (m : ℕ) → m ∈ before steps s → m ∈ earlier) order
+
+-- the columns hold the verdict on each step of the order, and what they held before of any other
+pub record AllTold (mentions ends phony made times order before-stale stale late : List ℕ) : Type 0 where
+  pub stale-long : length stale ≡ length phony
+  pub late-long : length late ≡ length phony
+  pub others : (s : ℕ) → s ∉ order → getD stale s 0 ≡ getD before-stale s 0
+  pub told : (steps : List Step) (files : ℕ) → Holds steps files mentions ends phony made → Sorted steps order
+      → (s : ℕ) → s ∈ order → Told steps times stale late s (record { stale = getD stale s 0; time = getD late s 0 })
+
+pub record AllAsked (mentions ends phony made times order stale late : List ℕ) : Type 0 where
+  pub asked : JudgeAsked mentions ends phony made times stale late
+  pub steps : (i : ℕ) → i < length order → getD order i 0 < length phony

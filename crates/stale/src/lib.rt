@@ -4,7 +4,7 @@ ghost use Prim.Native.Nat.{ℕ, _+_, _≤_, _<_, max};
 ghost use lib.ListN.{length, getD};
 ghost use Rattle.lists.specs.Members.{_∈_};
 ghost use Rattle.tables.specs.Tables.{bit, Files, Placed};
-ghost use Rattle.stale.specs.Judge.{fileTime, newestOf, staleMaker, outdated, bareMissing, FileAsked, FilesAsked, JudgeAsked, Judges};
+ghost use Rattle.stale.specs.Judge.{fileTime, newestOf, staleMaker, outdated, bareMissing, FileAsked, FilesAsked, JudgeAsked, Judges, AllAsked, AllTold};
 use lists::words::at;
 use tables::counted;
 use tables::inputs;
@@ -133,5 +133,20 @@ fn judge(mentions: &[u32], ends: &[u32], phony: &[u32], made: &[u32], times: &[u
     Judged {
         stale: flag(is_outdated(outs(mentions, ends, s), times, t)),
         time: t,
+    }
+}
+
+// The verdicts on the steps of an order, each from those before it.
+fn judge_all(mentions: &[u32], ends: &[u32], phony: &[u32], made: &[u32], times: &[u64], order: &[u32], stale: &mut [u32], late: &mut [u64])
+    requires { ⌜ AllAsked (now mentions) (now ends) (now phony) (now made) (now times) (now order) (now stale) (now late) ⌝ }
+    ensures { λ _. ⌜ AllTold (now (mentions .entry)) (now (ends .entry)) (now (phony .entry)) (now (made .entry)) (now (times .entry)) (now (order .entry)) (now (stale .entry)) (now (stale .exit)) (now (late .exit)) ⌝ }
+{
+    let mut i = 0;
+    while i < order.len() {
+        let s = at(order, i);
+        let v = judge(mentions, ends, phony, made, times, stale, late, s);
+        stale[s] = v.stale;
+        late[s] = v.time;
+        i += 1;
     }
 }
