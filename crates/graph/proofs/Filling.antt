@@ -7,7 +7,7 @@ use mathlib.Core.Path.{_≡_, refl, sym, ap, _∙_}
 use mathlib.Core.List.{List, [], _∷_, _++_, append-nil}
 use lib.ListN.{length, getD, take, drop, set, length-set}
 use lib.Seq.{take-suc, drop-cons, set-at, append-snoc, length-take-le, take-length, drop-length, take-append-seam}
-use Rattle.lists.specs.Fill.{zeros, zeroed, length-zeros}
+use Rattle.lists.specs.Fill.{zeros, zeroed}
 use Rattle.rules.specs.Promises.{filled}
 
 pub record Filling (l lent now : List ℕ) (i : ℕ) : Type 0 where
@@ -34,12 +34,3 @@ module _ {l lent now : List ℕ} {i : ℕ} (r : Filling l lent now i) (fits : le
       let q : now ≡ l ++ drop (length l) lent = r .copied ∙ rw (e, take-length l) in
       ap (λ (z : List ℕ). z ++ zeros (length now - length l) ++ drop (length now) now) (ap (take (length l)) q ∙ take-append-seam l (drop (length l) lent))
       ∙ rw (drop-length now, r .long, append-nil)
-
--- the first n of zeros
-pub take-blank : (n size : ℕ) → n ≤ size → take n (zeros size) ≡ zeros n
-take-blank zero size b = refl
-take-blank (suc n) zero b = absurd (omega arith)
-take-blank (suc n) (suc size) b = ap (λ (l : List ℕ). 0 ∷ l) (take-blank n size (omega arith))
-
-pub length-blank : (n size : ℕ) → n ≤ size → n ≡ length (take n (zeros size))
-length-blank n size b = sym (ap length (take-blank n size b) ∙ length-zeros n)

@@ -18,7 +18,7 @@ use Rattle.tables.proofs.Held.{held-phony, held-makers, held-makersOf, held-cou
 use Rattle.stale.specs.declared.Judged.{Judged}
 use Rattle.stale.specs.Judge.{known, timeAt, lateTime, fileTime, newestOf, staleMaker, outdated, bareMissing, Told}
 
-bit-test : (b : Bool) → eqb (bit b) 1 ≡ b
+pub bit-test : (b : Bool) → eqb (bit b) 1 ≡ b
 bit-test true = refl
 bit-test false = refl
 

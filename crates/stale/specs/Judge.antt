@@ -7,11 +7,14 @@ use lib.Dec.{eqb, ltb}
 use lib.ListN.{length, getD}
 use Rattle.lists.specs.Tests.{ifB}
 use Rattle.lists.specs.Members.{_∈_, _∉_, Each, Once, any}
+use Rattle.lists.specs.Fill.{zeros}
+use Rattle.orders.specs.Order.{IsOrder}
+use Rattle.orders.specs.Greedy.{In, By}
 use Rattle.rules.specs.Basics.{isEmpty}
 use Rattle.rules.specs.Reading.{Step}
-use Rattle.rules.specs.Graph.{before}
-use Rattle.rules.specs.Stale.{Verdict, greatest, verdict}
-use Rattle.tables.specs.Tables.{bit, makerIn, makersIn, inputsIn, outsIn, Holds, Sound, Files}
+use Rattle.rules.specs.Graph.{before, needed}
+use Rattle.rules.specs.Stale.{Verdict, greatest, verdict, staleNeeded}
+use Rattle.tables.specs.Tables.{bit, makerIn, makersIn, inputsIn, outsIn, Holds, Sound, Files, Marks}
 use Rattle.stale.specs.declared.Judged.{Judged}
 
 -- what the columns say of a step
@@ -95,3 +98,21 @@ pub record AllTold (mentions ends phony made times order before-stale stale late
 pub record AllAsked (mentions ends phony made times order stale late : List ℕ) : Type 0 where
   pub asked : JudgeAsked mentions ends phony made times stale late
   pub steps : (i : ℕ) → i < length order → getD order i 0 < length phony
+
+-- the marks of phony steps are taken off, the others kept
+pub record CommandsKept (phony marks exit : List ℕ) : Type 0 where
+  pub long : length exit ≡ length phony
+  pub off : (s : ℕ) → s < length phony → getD phony s 0 ≡ 1 → getD exit s 0 ≡ 0
+  pub kept : (s : ℕ) → s < length phony → (getD phony s 0 ≡ 1 → ⊥) → getD exit s 0 ≡ getD marks s 0
+
+pub record StaleAsked (mentions ends phony made times order marks : List ℕ) : Type 0 where
+  pub sound : Sound (length phony) mentions ends made
+  pub timed : length times ≡ length made
+  pub steps : (i : ℕ) → i < length order → getD order i 0 < length phony
+  pub unmarked : marks ≡ zeros (length phony)
+
+-- The stale needed command steps are marked: whatever steps the tables hold and whatever the roots are, where `order` is an order of the needed steps.
+abbrev pub StaleMarked : List ℕ → List ℕ → List ℕ → List ℕ → List ℕ → List ℕ → List ℕ → Type 0
+StaleMarked mentions ends phony made times order marks =
+    (steps : List Step) (files : ℕ) (roots : List ℕ) → Holds steps files mentions ends phony made → IsOrder (In (needed steps roots)) (By (before steps)) order
+    → Marks (length phony) (staleNeeded steps (timeAt times) roots) marks

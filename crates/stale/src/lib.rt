@@ -4,7 +4,7 @@ ghost use Prim.Native.Nat.{ℕ, _+_, _≤_, _<_, max};
 ghost use lib.ListN.{length, getD};
 ghost use Rattle.lists.specs.Members.{_∈_};
 ghost use Rattle.tables.specs.Tables.{bit, Files, Placed};
-ghost use Rattle.stale.specs.Judge.{fileTime, newestOf, staleMaker, outdated, bareMissing, FileAsked, FilesAsked, JudgeAsked, Judges, AllAsked, AllTold};
+ghost use Rattle.stale.specs.Judge.{fileTime, newestOf, staleMaker, outdated, bareMissing, FileAsked, FilesAsked, JudgeAsked, Judges, AllAsked, AllTold, CommandsKept, StaleAsked, StaleMarked};
 use lists::words::at;
 use tables::counted;
 use tables::inputs;
@@ -115,7 +115,16 @@ fn bare_missing(mentions: &[u32], ends: &[u32], times: &[u64], s: usize) -> bool
 }
 
 // The verdict on a step, from what the two columns say of the makers of its inputs.
-fn judge(mentions: &[u32], ends: &[u32], phony: &[u32], made: &[u32], times: &[u64], stale: &[u32], late: &[u64], s: usize) -> Judged
+fn judge(
+    mentions: &[u32],
+    ends: &[u32],
+    phony: &[u32],
+    made: &[u32],
+    times: &[u64],
+    stale: &[u32],
+    late: &[u64],
+    s: usize,
+) -> Judged
     requires { ⌜ JudgeAsked (now mentions) (now ends) (now phony) (now made) (now times) (now stale) (now late) × (s < length (now phony)) ⌝ }
     ensures { λ r. ⌜ Judges (now (mentions .entry)) (now (ends .entry)) (now (phony .entry)) (now (made .entry)) (now (times .entry)) (now (stale .entry)) (now (late .entry)) s r ⌝ }
 {
@@ -137,7 +146,16 @@ fn judge(mentions: &[u32], ends: &[u32], phony: &[u32], made: &[u32], times: &[u
 }
 
 // The verdicts on the steps of an order, each from those before it.
-fn judge_all(mentions: &[u32], ends: &[u32], phony: &[u32], made: &[u32], times: &[u64], order: &[u32], stale: &mut [u32], late: &mut [u64])
+fn judge_all(
+    mentions: &[u32],
+    ends: &[u32],
+    phony: &[u32],
+    made: &[u32],
+    times: &[u64],
+    order: &[u32],
+    stale: &mut [u32],
+    late: &mut [u64],
+)
     requires { ⌜ AllAsked (now mentions) (now ends) (now phony) (now made) (now times) (now order) (now stale) (now late) ⌝ }
     ensures { λ _. ⌜ AllTold (now (mentions .entry)) (now (ends .entry)) (now (phony .entry)) (now (made .entry)) (now (times .entry)) (now (order .entry)) (now (stale .entry)) (now (stale .exit)) (now (late .exit)) ⌝ }
 {
@@ -149,4 +167,48 @@ fn judge_all(mentions: &[u32], ends: &[u32], phony: &[u32], made: &[u32], times:
         late[s] = v.time;
         i += 1;
     }
+}
+
+// Takes the marks of the phony steps off.
+fn keep_commands(phony: &[u32], marks: &mut [u32])
+    requires { ⌜ length (now marks) ≡ length (now phony) ⌝ }
+    ensures { λ _. ⌜ CommandsKept (now (phony .entry)) (now (marks .entry)) (now (marks .exit)) ⌝ }
+{
+    let mut s = 0;
+    while s < phony.len() {
+        if at(phony, s) == 1 {
+            marks[s] = 0;
+            s += 1;
+        } else {
+            s += 1;
+        }
+    }
+}
+
+// Marks the stale command steps of the order.
+pub fn stale_commands(
+    mentions: &[u32],
+    ends: &[u32],
+    phony: &[u32],
+    made: &[u32],
+    times: &[u64],
+    order: &[u32],
+    marks: &mut [u32],
+)
+    requires { ⌜ StaleAsked (now mentions) (now ends) (now phony) (now made) (now times) (now order) (now marks) ⌝ }
+    ensures { λ _. ⌜ StaleMarked (now (mentions .entry)) (now (ends .entry)) (now (phony .entry)) (now (made .entry)) (now (times .entry)) (now (order .entry)) (now (marks .exit)) ⌝ }
+{
+    let n = phony.len();
+    let mut late = [0u64; 512];
+    judge_all(
+        mentions,
+        ends,
+        phony,
+        made,
+        times,
+        order,
+        marks,
+        &mut late[..n],
+    );
+    keep_commands(phony, marks);
 }

@@ -4,7 +4,7 @@ use mathlib.Core.Path.{_≡_}
 use mathlib.Core.Bool.{Bool, true, false}
 use mathlib.Core.List.{List, [], _∷_, _++_, map}
 use lib.ListN.{length, getD}
-use Rattle.lists.specs.Members.{_∈_}
+use Rattle.lists.specs.Members.{_∈_, has}
 use Rattle.lists.specs.Parts.{part}
 use Rattle.orders.specs.Reach.{reach}
 use Rattle.rules.specs.Basics.{concat}
@@ -115,3 +115,8 @@ pub record Sound (n : ℕ) (mentions ends made : List ℕ) : Type 0 where
 pub record Files (n : ℕ) (fs made : List ℕ) : Type 0 where
   pub low : (i : ℕ) → i < length fs → getD fs i 0 < length made
   pub makers : (f : ℕ) → f < length made → getD made f 0 ≤ n
+
+-- of n steps, those in a list are marked with 1 and the others with 0
+pub record Marks (n : ℕ) (l marks : List ℕ) : Type 0 where
+  pub long : length marks ≡ n
+  pub marked : (s : ℕ) → s < n → getD marks s 0 ≡ bit (has s l)

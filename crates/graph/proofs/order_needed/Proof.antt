@@ -1,5 +1,5 @@
 use mathlib.Core.Path.{sym}
-use Rattle.graph.proofs.Filling.{take-blank, length-blank}
+use Rattle.tables.proofs.Blank.{take-blank, length-blank}
 use borrow.Author.Needs.{needs}
 use Rattle.graph.proofs.order_needed.Statement.{statement}
 use Rattle.graph.proofs.order_needed.Tie as tie
