@@ -1,0 +1,47 @@
+-- The list of the pending steps: at each place the lowest of them not yet listed with none of them upstream.
+use Prim.Native.Nat.{ℕ, _≤_, _<_}
+use mathlib.Core.Path.{_≡_}
+use mathlib.Core.Logic.{_⊎_}
+use mathlib.Core.Bool.{Bool, true}
+use mathlib.Core.List.{List}
+use lib.Dec.{eqb}
+use lib.ListN.{length, getD}
+use Rattle.lists.specs.Fill.{zeros}
+use Rattle.lists.specs.Members.{_∈_, Each, Once, all, keep, upTo}
+use Rattle.orders.specs.Greedy.{greedy}
+use Rattle.orders.specs.Reach.{Upstream, upstream}
+use Rattle.rules.specs.Promises.{filled}
+use Rattle.tables.specs.Tables.{makersIn, inputsIn, beforeIn, Sound, Placed, Files}
+
+-- the steps with the mark 1
+unfoldable pub marked : ℕ → List ℕ → List ℕ
+unfolding keep upTo
+marked n marks = keep (λ s. eqb (getD marks s 0) 1) (upTo n)
+
+-- are all makers of these files clear
+unfoldable pub allClear : List ℕ → List ℕ → List ℕ → Bool
+unfolding all makersIn
+allClear made clear fs = all (λ m. eqb (getD clear m 0) 1) (makersIn made fs)
+
+-- no pending step is upstream of s
+abbrev pub Unblocked : (ℕ → List ℕ) → List ℕ → ℕ → Type 0
+Unblocked before pending s = (m : ℕ) → Upstream before m s → getD pending m 0 ≡ 1 → ⊥
+
+-- a clear step is not pending, and no pending step is upstream of it
+abbrev pub Clear : (ℕ → List ℕ) → List ℕ → List ℕ → Type 0
+Clear before pending clear = (s : ℕ) → getD clear s 0 ≡ 1 → (getD pending s 0 ≡ 1 → ⊥) × Unblocked before pending s
+
+-- What a look at step s makes of the lowest ready step so far and of the clear steps, by whether its inputs' makers are all clear.
+pub record Looks (s : ℕ) (ready : Bool) (pending clear exit : List ℕ) (best r : ℕ) : Type 0 where
+  pub long : length exit ≡ length clear
+  pub keeps : (u : ℕ) → getD clear u 0 ≡ 1 → getD exit u 0 ≡ 1
+  pub clears : (u : ℕ) → getD exit u 0 ≡ 1 → (getD clear u 0 ≡ 1) ⊎ ((u ≡ s) × (ready ≡ true) × (getD pending s 0 ≡ 1 → ⊥))
+  pub free : ready ≡ true → (getD pending s 0 ≡ 1 → ⊥) → getD exit s 0 ≡ 1
+  pub lower : r ≤ best
+  pub found : r < best → (r ≡ s) × (ready ≡ true) × (getD pending s 0 ≡ 1)
+  pub least : ready ≡ true → getD pending s 0 ≡ 1 → (getD clear s 0 ≡ 1 → ⊥) → r ≤ s
+
+pub record LookAsked (mentions ends made pending clear : List ℕ) (s : ℕ) : Type 0 where
+  pub sound : Sound (length pending) mentions ends made
+  pub long : length clear ≡ length pending
+  pub low : s < length pending

@@ -1,0 +1,50 @@
+// The list of the pending steps.
+ghost use mathlib.Core.Path.{_≡_};
+ghost use Prim.Native.Nat.{ℕ, _+_, _≤_, _<_};
+ghost use lib.ListN.{length, getD};
+ghost use Rattle.tables.specs.Tables.{Files, inputsIn};
+ghost use Rattle.listing.specs.Listing.{allClear, Looks, LookAsked};
+use lists::words::at;
+use tables::inputs;
+use tables::maker;
+
+// Are all makers of these files clear.
+fn all_clear(fs: &[u32], made: &[u32], clear: &[u32]) -> bool
+    requires { ⌜ Files (length (now clear)) (now fs) (now made) ⌝ }
+    ensures { λ r. ⌜ r ≡ allClear (now (made .entry)) (now (clear .entry)) (now (fs .entry)) ⌝ }
+{
+    let mut i = 0;
+    while i < fs.len() {
+        let m = maker(fs, i, made);
+        if m == 0 {
+            i += 1;
+        } else {
+            if at(clear, m - 1) != 1 {
+                return false;
+            }
+            i += 1;
+        }
+    }
+    true
+}
+
+// A look at step s: where its inputs' makers are all clear, it is ready if it is pending, and clear if not. The lowest ready step so far.
+fn look(mentions: &[u32], ends: &[u32], made: &[u32], pending: &[u32], clear: &mut [u32], s: usize, best: usize) -> usize
+    requires { ⌜ LookAsked (now mentions) (now ends) (now made) (now pending) (now clear) s ⌝ }
+    ensures { λ r. ⌜ Looks s (allClear (now (made .entry)) (now (clear .entry)) (inputsIn (now (mentions .entry)) (now (ends .entry)) s)) (now (pending .entry)) (now (clear .entry)) (now (clear .exit)) best r ⌝ }
+{
+    if at(clear, s) == 1 {
+        return best;
+    }
+    if !all_clear(inputs(mentions, ends, s), made, clear) {
+        return best;
+    }
+    if at(pending, s) != 1 {
+        clear[s] = 1;
+        return best;
+    }
+    if s < best {
+        return s;
+    }
+    best
+}
