@@ -7,11 +7,11 @@ use mathlib.Core.List.{List}
 use lib.Dec.{eqb}
 use lib.ListN.{length, getD}
 use Rattle.lists.specs.Fill.{zeros}
-use Rattle.lists.specs.Members.{_∈_, Each, Once, all, keep, upTo}
+use Rattle.lists.specs.Members.{_∈_, all, keep, upTo}
 use Rattle.orders.specs.Greedy.{greedy}
 use Rattle.orders.specs.Reach.{Upstream, upstream}
 use Rattle.rules.specs.Promises.{filled}
-use Rattle.tables.specs.Tables.{makersIn, inputsIn, beforeIn, Sound, Placed, Files}
+use Rattle.tables.specs.Tables.{makersIn, inputsIn, beforeIn, Sound, Sorted}
 
 -- the steps with the mark 1
 unfoldable pub marked : ℕ → List ℕ → List ℕ
@@ -45,3 +45,21 @@ pub record LookAsked (mentions ends made pending clear : List ℕ) (s : ℕ) : T
   pub sound : Sound (length pending) mentions ends made
   pub long : length clear ≡ length pending
   pub low : s < length pending
+
+-- r is the lowest pending step of the order with none upstream, or n where there is none
+pub record NextReady (before : ℕ → List ℕ) (pending order : List ℕ) (n r : ℕ) : Type 0 where
+  pub within : r ≤ n
+  pub found : r < n → (r ∈ order) × (getD pending r 0 ≡ 1) × Unblocked before pending r
+  pub least : (s : ℕ) → s ∈ order → getD pending s 0 ≡ 1 → Unblocked before pending s → r ≤ s
+
+pub record PassAsked (mentions ends made order pending clear : List ℕ) : Type 0 where
+  pub sound : Sound (length pending) mentions ends made
+  pub sorted : Sorted (beforeIn mentions ends made) order
+  pub steps : (i : ℕ) → i < length order → getD order i 0 < length pending
+  pub long : length clear ≡ length pending
+  pub clear-now : Clear (beforeIn mentions ends made) pending clear
+
+pub record Passed (mentions ends made order pending exit : List ℕ) (r : ℕ) : Type 0 where
+  pub next : NextReady (beforeIn mentions ends made) pending order (length pending) r
+  pub long : length exit ≡ length pending
+  pub clear-now : Clear (beforeIn mentions ends made) pending exit

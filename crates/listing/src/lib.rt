@@ -3,7 +3,7 @@ ghost use mathlib.Core.Path.{_≡_};
 ghost use Prim.Native.Nat.{ℕ, _+_, _≤_, _<_};
 ghost use lib.ListN.{length, getD};
 ghost use Rattle.tables.specs.Tables.{Files, inputsIn};
-ghost use Rattle.listing.specs.Listing.{allClear, Looks, LookAsked};
+ghost use Rattle.listing.specs.Listing.{allClear, Looks, LookAsked, PassAsked, Passed};
 use lists::words::at;
 use tables::inputs;
 use tables::maker;
@@ -45,6 +45,20 @@ fn look(mentions: &[u32], ends: &[u32], made: &[u32], pending: &[u32], clear: &m
     }
     if s < best {
         return s;
+    }
+    best
+}
+
+// Looks at the steps of the order one after another. The lowest pending step with no pending one upstream, or the number of steps.
+fn next_ready(mentions: &[u32], ends: &[u32], made: &[u32], order: &[u32], pending: &[u32], clear: &mut [u32]) -> usize
+    requires { ⌜ PassAsked (now mentions) (now ends) (now made) (now order) (now pending) (now clear) ⌝ }
+    ensures { λ r. ⌜ Passed (now (mentions .entry)) (now (ends .entry)) (now (made .entry)) (now (order .entry)) (now (pending .entry)) (now (clear .exit)) r ⌝ }
+{
+    let mut best = pending.len();
+    let mut i = 0;
+    while i < order.len() {
+        best = look(mentions, ends, made, pending, clear, at(order, i), best);
+        i += 1;
     }
     best
 }

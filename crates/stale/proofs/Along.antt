@@ -14,9 +14,9 @@ use Rattle.rules.specs.Reading.{Step}
 use Rattle.rules.specs.Graph.{before}
 use Rattle.rules.specs.Stale.{Verdict, verdict}
 use Rattle.rules.proofs.Stale.{verdict-local}
-use Rattle.tables.specs.Tables.{bit, Holds}
+use Rattle.tables.specs.Tables.{bit, Holds, Sorted}
 use Rattle.stale.specs.declared.Judged.{Judged}
-use Rattle.stale.specs.Judge.{known, timeAt, Told, Judges, JudgeAsked, Sorted, AllTold, AllAsked}
+use Rattle.stale.specs.Judge.{known, timeAt, Told, Judges, JudgeAsked, AllTold, AllAsked}
 
 -- the first i steps of the order are told of
 pub record Telling (mentions ends phony made times order before-stale stale late : List ℕ) (i : ℕ) : Type 0 where
@@ -24,7 +24,7 @@ pub record Telling (mentions ends phony made times order before-stale stale late
   pub stale-long : length stale ≡ length phony
   pub late-long : length late ≡ length phony
   pub others : (s : ℕ) → s ∉ take i order → getD stale s 0 ≡ getD before-stale s 0
-  pub told : (steps : List Step) (files : ℕ) → Holds steps files mentions ends phony made → Sorted steps order
+  pub told : (steps : List Step) (files : ℕ) → Holds steps files mentions ends phony made → Sorted (before steps) order
       → (s : ℕ) → s ∈ take i order → Told steps times stale late s (record { stale = getD stale s 0; time = getD late s 0 })
 
 pub tell-begin : {mentions ends phony made times order stale late : List ℕ} → AllAsked mentions ends phony made times order stale late
@@ -51,12 +51,12 @@ module _ {mentions ends phony made times order before-stale stale late : List �
     one-more : take (i + 1) order ≡ take i order ++ (s ∷ [])
     one-more = rw (add-one i, e) (take-suc order i 0 b)
 
-    module _ {steps : List Step} (o : Sorted steps order) where
+    module _ {prior : ℕ → List ℕ} (o : Sorted prior order) where
       new : s ∉ take i order
       new = rw e (o .once i b)
 
       -- what is before a step told of is told of
-      earlier : {u : ℕ} → u ∈ take i order → (m : ℕ) → m ∈ before steps u → m ∈ take i order
+      earlier : {u : ℕ} → u ∈ take i order → (m : ℕ) → m ∈ prior u → m ∈ take i order
       earlier {u} h m k =
           let (j, p, q, d) = place-before i order h in
           in-take-more order j i (omega arith) (o .after j q m (rw d k))

@@ -23,9 +23,9 @@ use Rattle.rules.specs.Stale.{Verdict, unknown, phonyStep, verdict, verdicts, t
 use Rattle.rules.specs.Words.{input}
 use Rattle.rules.proofs.Graph.{in-before, in-needed}
 use Rattle.rules.proofs.Stale.{verdict-local}
-use Rattle.tables.specs.Tables.{bit, Holds, Marks}
+use Rattle.tables.specs.Tables.{bit, Holds, Marks, Sorted}
 use Rattle.tables.proofs.Held.{held-phony}
-use Rattle.stale.specs.Judge.{known, timeAt, Told, Sorted, AllTold, CommandsKept, StaleAsked}
+use Rattle.stale.specs.Judge.{known, timeAt, Told, AllTold, CommandsKept, StaleAsked}
 use Rattle.stale.proofs.Judging.{bit-test}
 
 -- the steps below s are seen to
@@ -87,7 +87,7 @@ needed-closed steps roots s h m k = in-needed steps roots .1 (input (in-needed s
 module _ {mentions ends phony made times order blank stale late exit : List ℕ} (t : AllTold mentions ends phony made times order blank stale late)
     (unmarked : blank ≡ zeros (length phony)) (k : CommandsKept phony stale exit) {steps : List Step} {files : ℕ} (h : Holds steps files mentions ends phony made)
     (roots : List ℕ) (o : IsOrder (In (needed steps roots)) (By (before steps)) order) where
-  sorted : Sorted steps order
+  sorted : Sorted (before steps) order
   sorted = record { once = o .lists .once; after = direct-earlier (needed-closed steps roots) o }
 
   of : (s : ℕ) → s ∈ needed steps roots → Told steps times stale late s (record { stale = getD stale s 0; time = getD late s 0 })

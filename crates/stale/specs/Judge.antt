@@ -6,7 +6,7 @@ use mathlib.Core.List.{List, [], _∷_, map}
 use lib.Dec.{eqb, ltb}
 use lib.ListN.{length, getD}
 use Rattle.lists.specs.Tests.{ifB}
-use Rattle.lists.specs.Members.{_∈_, _∉_, Each, Once, any}
+use Rattle.lists.specs.Members.{_∈_, _∉_, any}
 use Rattle.lists.specs.Fill.{zeros}
 use Rattle.orders.specs.Order.{IsOrder}
 use Rattle.orders.specs.Greedy.{In, By}
@@ -14,7 +14,7 @@ use Rattle.rules.specs.Basics.{isEmpty}
 use Rattle.rules.specs.Reading.{Step}
 use Rattle.rules.specs.Graph.{before, needed}
 use Rattle.rules.specs.Stale.{Verdict, greatest, verdict, staleNeeded}
-use Rattle.tables.specs.Tables.{bit, makerIn, makersIn, inputsIn, outsIn, Holds, Sound, Files, Marks}
+use Rattle.tables.specs.Tables.{bit, makerIn, makersIn, inputsIn, outsIn, Holds, Sound, Files, Marks, Sorted}
 use Rattle.stale.specs.declared.Judged.{Judged}
 
 -- what the columns say of a step
@@ -82,17 +82,12 @@ abbrev pub Judges : List ℕ → List ℕ → List ℕ → List ℕ → List ℕ
 Judges mentions ends phony made times stale late s judged =
     (steps : List Step) (files : ℕ) → Holds steps files mentions ends phony made → Told steps times stale late s judged
 
--- an order of steps in which each comes after the makers of its inputs
-pub record Sorted (steps : List Step) (order : List ℕ) : Type 0 where
-  pub once : Once order
-  pub after : Each (λ earlier s. (m : ℕ) → m ∈ before steps s → m ∈ earlier) order
-
 -- the columns hold the verdict on each step of the order, and what they held before of any other
 pub record AllTold (mentions ends phony made times order before-stale stale late : List ℕ) : Type 0 where
   pub stale-long : length stale ≡ length phony
   pub late-long : length late ≡ length phony
   pub others : (s : ℕ) → s ∉ order → getD stale s 0 ≡ getD before-stale s 0
-  pub told : (steps : List Step) (files : ℕ) → Holds steps files mentions ends phony made → Sorted steps order
+  pub told : (steps : List Step) (files : ℕ) → Holds steps files mentions ends phony made → Sorted (before steps) order
       → (s : ℕ) → s ∈ order → Told steps times stale late s (record { stale = getD stale s 0; time = getD late s 0 })
 
 pub record AllAsked (mentions ends phony made times order stale late : List ℕ) : Type 0 where

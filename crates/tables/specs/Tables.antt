@@ -4,7 +4,7 @@ use mathlib.Core.Path.{_≡_}
 use mathlib.Core.Bool.{Bool, true, false}
 use mathlib.Core.List.{List, [], _∷_, _++_, map}
 use lib.ListN.{length, getD}
-use Rattle.lists.specs.Members.{_∈_, has}
+use Rattle.lists.specs.Members.{_∈_, Each, Once, has}
 use Rattle.lists.specs.Parts.{part}
 use Rattle.orders.specs.Reach.{reach}
 use Rattle.rules.specs.Basics.{concat}
@@ -120,3 +120,8 @@ pub record Files (n : ℕ) (fs made : List ℕ) : Type 0 where
 pub record Marks (n : ℕ) (l marks : List ℕ) : Type 0 where
   pub long : length marks ≡ n
   pub marked : (s : ℕ) → s < n → getD marks s 0 ≡ bit (has s l)
+
+-- a list of steps, none twice, in which each comes after those before it
+pub record Sorted (before : ℕ → List ℕ) (l : List ℕ) : Type 0 where
+  pub once : Once l
+  pub after : Each (λ earlier s. (m : ℕ) → m ∈ before s → m ∈ earlier) l
