@@ -6,11 +6,11 @@ use mathlib.Core.List.{List}
 use lib.ListN.{length, take, drop, length-take, length-drop}
 use Rattle.lists.specs.Parts.{part, drop-take}
 use Rattle.orders.specs.Greedy.{In}
-use Rattle.tables.specs.Tables.{beforeIn, neededIn}
+use Rattle.tables.specs.Tables.{beforeIn, neededIn, Shown}
 use Rattle.graph.specs.declared.Visit.{Visit}
 use Rattle.graph.specs.declared.Visit.the-variants.{Done, Circle}
 use Rattle.graph.specs.Walk.{Circled, Ordered, Sorted}
-use Rattle.graph.specs.Sort.{Showable, Shown, InOrder, InCircle}
+use Rattle.graph.specs.Sort.{Showable, InOrder, InCircle}
 
 module _ (mentions ends made roots : List ℕ) (n : ℕ) (path order : List ℕ) {o : Visit} (s : Sorted mentions ends made roots n path order o) where
   pub shows-order : {k : ℕ} → o ≡ Done k → (list : List ℕ) → InOrder mentions ends made roots n order k list list

@@ -5,8 +5,7 @@ use mathlib.Core.List.{List}
 use lib.ListN.{length}
 use Rattle.orders.specs.Order.{IsCircle}
 use Rattle.orders.specs.Greedy.{In, By}
-use Rattle.rules.specs.Promises.{filled}
-use Rattle.tables.specs.Tables.{beforeIn, neededIn, Sound, Files}
+use Rattle.tables.specs.Tables.{beforeIn, neededIn, Sound, Files, Shown}
 use Rattle.graph.specs.declared.Sorting.{Sorting}
 use Rattle.graph.specs.declared.Sorting.the-variants.{Ordered as OrderedSteps, Circular}
 use Rattle.graph.specs.Walk.{SortAsked, Ordered}
@@ -29,11 +28,6 @@ pub record Showable (path : List ℕ) (from to : ℕ) (list : List ℕ) : Type 0
   pub forward : from ≤ to
   pub within : to ≤ length path
   pub room : length path ≤ length list
-
--- the list begins with l, whose length is k, and is zero after it
-pub record Shown (l list : List ℕ) (k : ℕ) (exit : List ℕ) : Type 0 where
-  pub counted : k ≡ length l
-  pub shown : exit ≡ filled l list
 
 pub record InCircle (mentions ends made roots : List ℕ) (n k : ℕ) (list exit : List ℕ) : Type 0 where
   pub circle : List ℕ

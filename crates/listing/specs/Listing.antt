@@ -10,7 +10,6 @@ use Rattle.lists.specs.Fill.{zeros}
 use Rattle.lists.specs.Members.{_∈_, all, keep, upTo}
 use Rattle.orders.specs.Greedy.{greedy}
 use Rattle.orders.specs.Reach.{Upstream, upstream}
-use Rattle.rules.specs.Promises.{filled}
 use Rattle.tables.specs.Tables.{makersIn, inputsIn, beforeIn, Sound, Sorted}
 
 -- the steps with the mark 1
@@ -63,3 +62,17 @@ pub record Passed (mentions ends made order pending exit : List ℕ) (r : ℕ) :
   pub next : NextReady (beforeIn mentions ends made) pending order (length pending) r
   pub long : length exit ≡ length pending
   pub clear-now : Clear (beforeIn mentions ends made) pending exit
+
+-- What the list asks: sound tables, an order that holds every pending step, nothing clear yet, room for every step.
+pub record ListAsked (mentions ends made order pending clear list : List ℕ) : Type 0 where
+  pub sound : Sound (length pending) mentions ends made
+  pub sorted : Sorted (beforeIn mentions ends made) order
+  pub steps : (i : ℕ) → i < length order → getD order i 0 < length pending
+  pub inside : (s : ℕ) → getD pending s 0 ≡ 1 → s ∈ order
+  pub unclear : clear ≡ zeros (length pending)
+  pub room : length pending ≤ length list
+
+-- the least list of the pending steps
+unfoldable pub leastIn : List ℕ → List ℕ → List ℕ → List ℕ → List ℕ
+unfolding greedy marked upstream beforeIn
+leastIn mentions ends made pending = greedy (marked (length pending) pending) (upstream (beforeIn mentions ends made) (length pending))

@@ -2,9 +2,10 @@
 ghost use mathlib.Core.Path.{_≡_};
 ghost use Prim.Native.Nat.{ℕ, _+_, _≤_, _<_};
 ghost use lib.ListN.{length, getD};
-ghost use Rattle.tables.specs.Tables.{Files, inputsIn};
-ghost use Rattle.listing.specs.Listing.{allClear, Looks, LookAsked, PassAsked, Passed};
+ghost use Rattle.tables.specs.Tables.{Files, inputsIn, Shown};
+ghost use Rattle.listing.specs.Listing.{allClear, Looks, LookAsked, PassAsked, Passed, ListAsked, leastIn};
 use lists::words::at;
+use lists::words::zero_from;
 use tables::inputs;
 use tables::maker;
 
@@ -29,7 +30,15 @@ fn all_clear(fs: &[u32], made: &[u32], clear: &[u32]) -> bool
 }
 
 // A look at step s: where its inputs' makers are all clear, it is ready if it is pending, and clear if not. The lowest ready step so far.
-fn look(mentions: &[u32], ends: &[u32], made: &[u32], pending: &[u32], clear: &mut [u32], s: usize, best: usize) -> usize
+fn look(
+    mentions: &[u32],
+    ends: &[u32],
+    made: &[u32],
+    pending: &[u32],
+    clear: &mut [u32],
+    s: usize,
+    best: usize,
+) -> usize
     requires { ⌜ LookAsked (now mentions) (now ends) (now made) (now pending) (now clear) s ⌝ }
     ensures { λ r. ⌜ Looks s (allClear (now (made .entry)) (now (clear .entry)) (inputsIn (now (mentions .entry)) (now (ends .entry)) s)) (now (pending .entry)) (now (clear .entry)) (now (clear .exit)) best r ⌝ }
 {
@@ -50,7 +59,14 @@ fn look(mentions: &[u32], ends: &[u32], made: &[u32], pending: &[u32], clear: &m
 }
 
 // Looks at the steps of the order one after another. The lowest pending step with no pending one upstream, or the number of steps.
-fn next_ready(mentions: &[u32], ends: &[u32], made: &[u32], order: &[u32], pending: &[u32], clear: &mut [u32]) -> usize
+fn next_ready(
+    mentions: &[u32],
+    ends: &[u32],
+    made: &[u32],
+    order: &[u32],
+    pending: &[u32],
+    clear: &mut [u32],
+) -> usize
     requires { ⌜ PassAsked (now mentions) (now ends) (now made) (now order) (now pending) (now clear) ⌝ }
     ensures { λ r. ⌜ Passed (now (mentions .entry)) (now (ends .entry)) (now (made .entry)) (now (order .entry)) (now (pending .entry)) (now (clear .exit)) r ⌝ }
 {
@@ -61,4 +77,29 @@ fn next_ready(mentions: &[u32], ends: &[u32], made: &[u32], order: &[u32], pendi
         i += 1;
     }
     best
+}
+
+// Lists the pending steps, at each place the lowest with no pending one upstream, and takes the mark of each off; zeros after them. Their number.
+fn list_pending(
+    mentions: &[u32],
+    ends: &[u32],
+    made: &[u32],
+    order: &[u32],
+    pending: &mut [u32],
+    clear: &mut [u32],
+    list: &mut [u32],
+) -> usize
+    requires { ⌜ ListAsked (now mentions) (now ends) (now made) (now order) (now pending) (now clear) (now list) ⌝ }
+    ensures { λ r. ⌜ Shown (leastIn (now (mentions .entry)) (now (ends .entry)) (now (made .entry)) (now (pending .entry))) (now (list .entry)) r (now (list .exit)) ⌝ }
+{
+    let mut count: usize = 0;
+    let mut s = next_ready(mentions, ends, made, order, pending, clear);
+    while s < pending.len() {
+        list[count] = s as u32;
+        count += 1;
+        pending[s] = 0;
+        s = next_ready(mentions, ends, made, order, pending, clear);
+    }
+    zero_from(list, count);
+    count
 }

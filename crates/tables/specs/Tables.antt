@@ -9,6 +9,7 @@ use Rattle.lists.specs.Parts.{part}
 use Rattle.orders.specs.Reach.{reach}
 use Rattle.rules.specs.Basics.{concat}
 use Rattle.rules.specs.Limits.{maxSteps, maxFiles, maxMentions}
+use Rattle.rules.specs.Promises.{filled}
 use Rattle.rules.specs.Reading.{Step, isPhony}
 use Rattle.rules.specs.Graph.{inputs, makers}
 
@@ -125,3 +126,8 @@ pub record Marks (n : ℕ) (l marks : List ℕ) : Type 0 where
 pub record Sorted (before : ℕ → List ℕ) (l : List ℕ) : Type 0 where
   pub once : Once l
   pub after : Each (λ earlier s. (m : ℕ) → m ∈ before s → m ∈ earlier) l
+
+-- the list begins with l, whose length is k, and is zero after it
+pub record Shown (l list : List ℕ) (k : ℕ) (exit : List ℕ) : Type 0 where
+  pub counted : k ≡ length l
+  pub shown : exit ≡ filled l list
