@@ -4,4 +4,3 @@ pub mod Exploring
 pub mod Roots
 pub mod Filling
 pub mod Showing
-pub mod Absent

@@ -1,19 +1,16 @@
 // The graph of steps: the order of the needed ones, or a circle among them.
 ghost use mathlib.Core.Path.{_≡_};
-ghost use Prim.Native.Nat.{ℕ, _+_, _≤_, _<_};
-ghost use mathlib.Core.List.{[], _∷_};
-ghost use lib.ListN.{length, getD, take};
+ghost use Prim.Native.Nat.{_+_, _≤_};
+ghost use lib.ListN.{length, take};
 ghost use Rattle.tables.specs.Tables.{Files, Shown};
 ghost use Rattle.lists.specs.Parts.{part};
 ghost use Rattle.rules.specs.Promises.{filled};
 ghost use Rattle.graph.specs.Sort.{NeededAsked, Showable, SortShows, NeededSorted};
-ghost use Rattle.graph.specs.Sources.{Lowered, LowestMissing, SourceAsked};
 ghost use Rattle.graph.specs.Walk.{Opens, Finds, Starts, Explored, RootAsked, RootSeen, SortAsked, Sorted};
 use lists::words::at;
 use lists::words::zero_from;
 use tables::inputs;
 use tables::maker;
-use tables::time;
 
 // How a walk ends: with so many steps in order, or with a circle, at these places of the path.
 pub enum Visit {
@@ -241,57 +238,4 @@ pub fn order_needed(
         order,
         list,
     )
-}
-
-// f where it is a missing source below `low`, else `low`.
-fn lower(f: usize, made: &[u32], times: &[u64], low: usize) -> usize
-    requires { ⌜ (f < length (now made)) × (length (now times) ≡ length (now made)) ⌝ }
-    ensures { λ r. ⌜ Lowered (now (times .entry)) (now (made .entry)) (f ∷ []) low r ⌝ }
-{
-    if low <= f {
-        return low;
-    }
-    if at(made, f) != 0 {
-        return low;
-    }
-    if time(times, f) != 0 {
-        return low;
-    }
-    f
-}
-
-// The lowest of the missing sources among these files, if it is below `best`, else `best`.
-fn lowest_absent(fs: &[u32], made: &[u32], times: &[u64], best: usize) -> usize
-    requires { ⌜ ((i : ℕ) → i < length (now fs) → getD (now fs) i 0 < length (now made)) × (length (now times) ≡ length (now made)) ⌝ }
-    ensures { λ r. ⌜ Lowered (now (times .entry)) (now (made .entry)) (now (fs .entry)) best r ⌝ }
-{
-    let mut low = best;
-    let mut i = 0;
-    while i < fs.len() {
-        low = lower(at(fs, i), made, times, low);
-        i += 1;
-    }
-    low
-}
-
-// The lowest missing source among the roots and the inputs of these steps, or the number of files where there is none.
-pub fn missing_source(
-    mentions: &[u32],
-    ends: &[u32],
-    made: &[u32],
-    times: &[u64],
-    roots: &[u32],
-    order: &[u32],
-) -> usize
-    requires { ⌜ SourceAsked (now mentions) (now ends) (now made) (now times) (now roots) (now order) ⌝ }
-    ensures { λ r. ⌜ LowestMissing (now (mentions .entry)) (now (ends .entry)) (now (made .entry)) (now (times .entry)) (now (roots .entry)) (now (order .entry)) (length (now (made .entry))) r ⌝ }
-{
-    let mut low = lowest_absent(roots, made, times, made.len());
-    let mut i = 0;
-    while i < order.len() {
-        let fs = inputs(mentions, ends, at(order, i));
-        low = lowest_absent(fs, made, times, low);
-        i += 1;
-    }
-    low
 }

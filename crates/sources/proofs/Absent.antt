@@ -11,7 +11,7 @@ use lib.ListN.{length, getD, take}
 use lib.Seq.{take-suc, take-all}
 use Rattle.lists.specs.Members.{_∈_, here, in-cons, in-left, in-right, in-append, in-snoc, not-in-nil}
 use Rattle.tables.specs.Tables.{inputsIn}
-use Rattle.graph.specs.Sources.{Absent, Lowered, Wanted, LowestMissing}
+use Rattle.sources.specs.Sources.{Absent, Lowered, Wanted, LowestMissing}
 
 module _ {times made : List ℕ} where
   pub lower-none : {low : ℕ} → Lowered times made [] low low

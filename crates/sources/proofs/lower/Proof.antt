@@ -1,11 +1,11 @@
 use mathlib.Core.Path.{sym, _∙_}
-use Rattle.graph.proofs.Absent.{lower-kept, lower-found}
+use Rattle.sources.proofs.Absent.{lower-kept, lower-found}
 use native.Mathlib.Omega.{arith}
 use borrow.Author.Needs.{needs}
-use Rattle.graph.proofs.lower.Statement.{statement}
-use Rattle.graph.proofs.lower.Tie as tie
-use Rattle.graph.proofs.lower.Reads as reads
-use Rattle.graph.proofs.lower.Lts as lts
+use Rattle.sources.proofs.lower.Statement.{statement}
+use Rattle.sources.proofs.lower.Tie as tie
+use Rattle.sources.proofs.lower.Reads as reads
+use Rattle.sources.proofs.lower.Lts as lts
 use Rattle.lists.proofs.words.at.Reads as at-reads
 use Rattle.tables.proofs.time.Reads as time-reads
 

@@ -2,13 +2,13 @@ use Prim.Native.Nat.{_-_}
 use mathlib.Core.Path.{_≡_}
 use native.Mathlib.Omega.{arith}
 use lib.ListN.{length}
-use Rattle.graph.proofs.Absent.{Lowering, lower-begin, lower-more, lower-end}
+use Rattle.sources.proofs.Absent.{Lowering, lower-begin, lower-more, lower-end}
 use borrow.Author.Needs.{needs}
-use Rattle.graph.proofs.lowest_absent.Statement.{statement}
-use Rattle.graph.proofs.lowest_absent.Tie as tie
-use Rattle.graph.proofs.lowest_absent.Reads as reads
-use Rattle.graph.proofs.lowest_absent.Lts as lts
-use Rattle.graph.proofs.lower.Reads as lower-reads
+use Rattle.sources.proofs.lowest_absent.Statement.{statement}
+use Rattle.sources.proofs.lowest_absent.Tie as tie
+use Rattle.sources.proofs.lowest_absent.Reads as reads
+use Rattle.sources.proofs.lowest_absent.Lts as lts
+use Rattle.sources.proofs.lower.Reads as lower-reads
 use Rattle.lists.proofs.words.at.Reads as at-reads
 
 abbrev Inv-loop : tie.InvT-loop

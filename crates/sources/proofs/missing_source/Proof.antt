@@ -1,13 +1,13 @@
 use Prim.Native.Nat.{_-_}
 use lib.ListN.{length}
 use Rattle.tables.proofs.Held.{inputs-low}
-use Rattle.graph.proofs.Absent.{Searching, lowest-begin, lowest-more, lowest-end}
+use Rattle.sources.proofs.Absent.{Searching, lowest-begin, lowest-more, lowest-end}
 use borrow.Author.Needs.{needs}
-use Rattle.graph.proofs.missing_source.Statement.{statement}
-use Rattle.graph.proofs.missing_source.Tie as tie
-use Rattle.graph.proofs.missing_source.Reads as reads
-use Rattle.graph.proofs.missing_source.Lts as lts
-use Rattle.graph.proofs.lowest_absent.Reads as lowest-absent-reads
+use Rattle.sources.proofs.missing_source.Statement.{statement}
+use Rattle.sources.proofs.missing_source.Tie as tie
+use Rattle.sources.proofs.missing_source.Reads as reads
+use Rattle.sources.proofs.missing_source.Lts as lts
+use Rattle.sources.proofs.lowest_absent.Reads as lowest-absent-reads
 use Rattle.lists.proofs.words.at.Reads as at-reads
 use Rattle.tables.proofs.inputs.Reads as inputs-reads
 
