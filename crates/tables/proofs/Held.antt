@@ -35,7 +35,7 @@ holds-nothing = record {
   few-mentions = omega arith;
 }
 
-in-part : (l : List ℕ) (f e : ℕ) {x : ℕ} → x ∈ part l f e → x ∈ l
+pub in-part : (l : List ℕ) (f e : ℕ) {x : ℕ} → x ∈ part l f e → x ∈ l
 in-part l f e h = in-drop f l (in-take (e - f) (drop f l) h)
 
 -- a part of the mentions holds files
