@@ -8,9 +8,14 @@ use lib.Dec.{eqb}
 use lib.ListN.{length, getD}
 use Rattle.lists.specs.Fill.{zeros}
 use Rattle.lists.specs.Members.{_∈_, all, keep, upTo}
-use Rattle.orders.specs.Greedy.{greedy}
+use Rattle.orders.specs.Order.{IsOrder}
+use Rattle.orders.specs.Greedy.{In, By, greedy}
 use Rattle.orders.specs.Reach.{Upstream, upstream}
-use Rattle.tables.specs.Tables.{makersIn, inputsIn, beforeIn, Sound, Sorted}
+use Rattle.rules.specs.Reading.{Step}
+use Rattle.rules.specs.Graph.{before, needed}
+use Rattle.rules.specs.Stale.{listOf}
+use Rattle.tables.specs.Tables.{makersIn, inputsIn, beforeIn, Holds, Sound, Sorted, Shown}
+use Rattle.stale.specs.Judge.{timeAt}
 
 -- the steps with the mark 1
 unfoldable pub marked : ℕ → List ℕ → List ℕ
@@ -76,3 +81,23 @@ pub record ListAsked (mentions ends made order pending clear list : List ℕ) : 
 unfoldable pub leastIn : List ℕ → List ℕ → List ℕ → List ℕ → List ℕ
 unfolding greedy marked upstream beforeIn
 leastIn mentions ends made pending = greedy (marked (length pending) pending) (upstream (beforeIn mentions ends made) (length pending))
+
+-- What listing the stale steps asks: sound tables, a time for each file, an order of steps with each after those before it, room for every step.
+pub record StaleListAsked (mentions ends phony made times order list : List ℕ) : Type 0 where
+  pub sound : Sound (length phony) mentions ends made
+  pub timed : length times ≡ length made
+  pub sorted : Sorted (beforeIn mentions ends made) order
+  pub steps : (i : ℕ) → i < length order → getD order i 0 < length phony
+  pub room : length phony ≤ length list
+
+-- the same, with working space that is all zero
+pub record SpaceAsked (mentions ends phony made times order marks clear list : List ℕ) : Type 0 where
+  pub asked : StaleListAsked mentions ends phony made times order list
+  pub unmarked : marks ≡ zeros (length phony)
+  pub unclear : clear ≡ zeros (length phony)
+
+-- The list is document 01's, whatever steps the tables hold and whatever the roots are, where `order` is an order of the needed steps.
+abbrev pub StaleListed : List ℕ → List ℕ → List ℕ → List ℕ → List ℕ → List ℕ → List ℕ → ℕ → List ℕ → Type 0
+StaleListed mentions ends phony made times order list k exit =
+    (steps : List Step) (files : ℕ) (roots : List ℕ) → Holds steps files mentions ends phony made → IsOrder (In (needed steps roots)) (By (before steps)) order
+    → Shown (listOf steps (timeAt times) roots) list k exit

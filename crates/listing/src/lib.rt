@@ -3,9 +3,10 @@ ghost use mathlib.Core.Path.{_≡_};
 ghost use Prim.Native.Nat.{ℕ, _+_, _≤_, _<_};
 ghost use lib.ListN.{length, getD};
 ghost use Rattle.tables.specs.Tables.{Files, inputsIn, Shown};
-ghost use Rattle.listing.specs.Listing.{allClear, Looks, LookAsked, PassAsked, Passed, ListAsked, leastIn};
+ghost use Rattle.listing.specs.Listing.{allClear, Looks, LookAsked, PassAsked, Passed, ListAsked, leastIn, StaleListAsked, SpaceAsked, StaleListed};
 use lists::words::at;
 use lists::words::zero_from;
+use stale::stale_commands;
 use tables::inputs;
 use tables::maker;
 
@@ -102,4 +103,52 @@ fn list_pending(
     }
     zero_from(list, count);
     count
+}
+
+// Marks the stale command steps of the order, and lists them.
+fn list_marked(
+    mentions: &[u32],
+    ends: &[u32],
+    phony: &[u32],
+    made: &[u32],
+    times: &[u64],
+    order: &[u32],
+    marks: &mut [u32],
+    clear: &mut [u32],
+    list: &mut [u32],
+) -> usize
+    requires { ⌜ SpaceAsked (now mentions) (now ends) (now phony) (now made) (now times) (now order) (now marks) (now clear) (now list) ⌝ }
+    ensures { λ r. ⌜ StaleListed (now (mentions .entry)) (now (ends .entry)) (now (phony .entry)) (now (made .entry)) (now (times .entry)) (now (order .entry)) (now (list .entry)) r (now (list .exit)) ⌝ }
+{
+    stale_commands(mentions, ends, phony, made, times, order, marks);
+    list_pending(mentions, ends, made, order, marks, clear, list)
+}
+
+// The list of the stale command steps of the order, with zeros after it; their number.
+pub fn list_stale(
+    mentions: &[u32],
+    ends: &[u32],
+    phony: &[u32],
+    made: &[u32],
+    times: &[u64],
+    order: &[u32],
+    list: &mut [u32],
+) -> usize
+    requires { ⌜ StaleListAsked (now mentions) (now ends) (now phony) (now made) (now times) (now order) (now list) ⌝ }
+    ensures { λ r. ⌜ StaleListed (now (mentions .entry)) (now (ends .entry)) (now (phony .entry)) (now (made .entry)) (now (times .entry)) (now (order .entry)) (now (list .entry)) r (now (list .exit)) ⌝ }
+{
+    let n = phony.len();
+    let mut marks = [0u32; 512];
+    let mut clear = [0u32; 512];
+    list_marked(
+        mentions,
+        ends,
+        phony,
+        made,
+        times,
+        order,
+        &mut marks[..n],
+        &mut clear[..n],
+        list,
+    )
 }

@@ -7,11 +7,11 @@ use mathlib.Core.Bool.{Bool, true, false, not, _&&_}
 use mathlib.Core.Logic.{inl, inr}
 use mathlib.Core.List.{List, [], _∷_}
 use lib.Dec.{eqb}
-use lib.ListN.{length, getD, set, length-set}
+use lib.ListN.{length, getD, set, length-set, List·getD-eq-default}
 use lib.Seq.{getD-set-same, getD-set-other}
 use Rattle.lists.specs.Tests.{split, differ}
 use Rattle.lists.specs.Fill.{zeros, getD-zeros}
-use Rattle.lists.specs.Members.{_∈_, _∉_, has, has-true, has-false, in-has, not-in-has, keep, in-keep, keep-in}
+use Rattle.lists.specs.Members.{_∈_, _∉_, has, has-true, has-false, in-has, not-in-has, keep, in-keep, keep-in, decIn}
 use Rattle.orders.specs.Order.{IsOrder}
 use Rattle.orders.specs.Greedy.{In, By}
 use Rattle.orders.specs.GreedyLaws.{whole-order, order-whole}
@@ -25,7 +25,7 @@ use Rattle.rules.proofs.Graph.{in-before, in-needed}
 use Rattle.rules.proofs.Stale.{verdict-local}
 use Rattle.tables.specs.Tables.{bit, Holds, Marks, Sorted}
 use Rattle.tables.proofs.Held.{held-phony}
-use Rattle.stale.specs.Judge.{known, timeAt, Told, AllTold, CommandsKept, StaleAsked}
+use Rattle.stale.specs.Judge.{known, timeAt, Told, AllTold, CommandsKept, StaleMarked}
 use Rattle.stale.proofs.Judging.{bit-test}
 
 -- the steps below s are seen to
@@ -84,6 +84,20 @@ told-of b t = record { stale = b; time = t }
 needed-closed : (steps : List Step) (roots : List ℕ) → Closed (before steps) (In (needed steps roots))
 needed-closed steps roots s h m k = in-needed steps roots .1 (input (in-needed steps roots .0 h) (in-before steps s .0 k))
 
+-- a mark stands at a step of the order
+marked-inside : {mentions ends phony made times order blank stale late exit : List ℕ} → AllTold mentions ends phony made times order blank stale late
+    → blank ≡ zeros (length phony) → CommandsKept phony stale exit → (s : ℕ) → getD exit s 0 ≡ 1 → s ∈ order
+marked-inside {phony} {order} {exit} t unmarked k s e = elim (decLt s (length phony)) [
+  | yes b ↦ elim (ℕ-discrete (getD phony s 0) 1) [
+    | yes p ↦ absurd (omega (arith, k .off s b p))
+    | no p ↦ elim (decIn s order) [
+      | yes h ↦ h
+      | no h ↦ absurd (omega (arith, k .kept s b p, t .others s h, ap (λ (l : List ℕ). getD l s 0) unmarked, getD-zeros (length phony) s))
+    ]
+  ]
+  | no b ↦ absurd (omega (arith, List·getD-eq-default exit 0 {n = s} (omega (arith, k .long))))
+]
+
 module _ {mentions ends phony made times order blank stale late exit : List ℕ} (t : AllTold mentions ends phony made times order blank stale late)
     (unmarked : blank ≡ zeros (length phony)) (k : CommandsKept phony stale exit) {steps : List Step} {files : ℕ} (h : Holds steps files mentions ends phony made)
     (roots : List ℕ) (o : IsOrder (In (needed steps roots)) (By (before steps)) order) where
@@ -117,9 +131,13 @@ module _ {mentions ends phony made times order blank stale late exit : List ℕ}
       (λ (e : phonyStep steps s ≡ true). rw (e, and-none (has s (needed steps roots))) (k .off s b (held-phony h s ∙ ap bit e)))
       (λ (e : phonyStep steps s ≡ false). rw e (k .kept s b (λ q. absurd (omega (arith, sym q ∙ held-phony h s ∙ ap bit e))) ∙ needed-mark s))
 
-  pub stale-marks : Marks (length phony) (staleNeeded steps (timeAt times) roots) exit
+  stale-marks : Marks (length phony) (staleNeeded steps (timeAt times) roots) exit
   unfolding staleNeeded
   stale-marks = record {
     long = k .long;
     marked = λ s b. stale-mark s b ∙ ap bit (sym (has-keep (isStale steps (timeAt times) roots) (needed steps roots) s));
   }
+
+pub all-marked : {mentions ends phony made times order blank stale late exit : List ℕ} → AllTold mentions ends phony made times order blank stale late
+    → blank ≡ zeros (length phony) → CommandsKept phony stale exit → StaleMarked mentions ends phony made times order exit
+all-marked t unmarked k = record { long = k .long; inside = marked-inside t unmarked k; marked = λ steps files roots h o. stale-marks t unmarked k h roots o }

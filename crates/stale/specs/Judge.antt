@@ -106,8 +106,10 @@ pub record StaleAsked (mentions ends phony made times order marks : List ℕ) : 
   pub steps : (i : ℕ) → i < length order → getD order i 0 < length phony
   pub unmarked : marks ≡ zeros (length phony)
 
--- The stale needed command steps are marked: whatever steps the tables hold and whatever the roots are, where `order` is an order of the needed steps.
-abbrev pub StaleMarked : List ℕ → List ℕ → List ℕ → List ℕ → List ℕ → List ℕ → List ℕ → Type 0
-StaleMarked mentions ends phony made times order marks =
-    (steps : List Step) (files : ℕ) (roots : List ℕ) → Holds steps files mentions ends phony made → IsOrder (In (needed steps roots)) (By (before steps)) order
-    → Marks (length phony) (staleNeeded steps (timeAt times) roots) marks
+-- Only steps of the order are marked; and the marked ones are the stale needed command steps, whatever steps the tables hold and whatever the
+-- roots are, where `order` is an order of the needed steps.
+pub record StaleMarked (mentions ends phony made times order marks : List ℕ) : Type 0 where
+  pub long : length marks ≡ length phony
+  pub inside : (s : ℕ) → getD marks s 0 ≡ 1 → s ∈ order
+  pub marked : (steps : List Step) (files : ℕ) (roots : List ℕ) → Holds steps files mentions ends phony made → IsOrder (In (needed steps roots)) (By (before steps)) order
+      → Marks (length phony) (staleNeeded steps (timeAt times) roots) marks

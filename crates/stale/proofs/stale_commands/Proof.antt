@@ -2,7 +2,7 @@ use mathlib.Core.Path.{sym, _∙_, ap}
 use lib.ListN.{length}
 use Rattle.lists.specs.Fill.{length-zeros}
 use Rattle.tables.proofs.Blank.{length-blank}
-use Rattle.stale.proofs.Marking.{stale-marks}
+use Rattle.stale.proofs.Marking.{all-marked}
 use borrow.Author.Needs.{needs}
 use Rattle.stale.proofs.stale_commands.Statement.{statement}
 use Rattle.stale.proofs.stale_commands.Tie as tie
@@ -41,7 +41,7 @@ same-length c = search needs
 
 -- src/lib.rt:171:1
 returns : tie.Need-returns
-returns c = λ steps files roots h o. stale-marks (c .before .before .before .before .before .before .before .judge-all .ensures) (c .before .before .before .before .before .before .before .before .before .before .before .before .before .before .before .before .before .pre .unmarked) (c .before .before .keep-commands .ensures) h roots o
+returns c = all-marked (c .before .before .before .before .before .before .before .judge-all .ensures) (c .before .before .before .before .before .before .before .before .before .before .before .before .before .before .before .before .before .pre .unmarked) (c .before .before .keep-commands .ensures)
 
 pub stale-commands-spec : {M : Type 1} → statement M
 stale-commands-spec =
