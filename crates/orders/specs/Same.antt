@@ -1,11 +1,11 @@
 -- Orders, circles and least lists of the same steps with the same steps before them, said in another way.
 use mathlib.Core.Logic.{_↔_}
 use mathlib.Core.List.{List}
-use Prim.Native.Nat.{ℕ, suc, _<_}
+use Prim.Native.Nat.{ℕ, suc}
 use native.Mathlib.Omega.{arith}
-use lib.ListN.{length, getD}
-use Rattle.lists.specs.Members.{_∈_, in-at}
-use Rattle.orders.specs.Order.{Lists, IsOrder, Ready, Lowest, IsLeast, IsCircle}
+use lib.ListN.{getD}
+use Rattle.lists.specs.Members.{in-at}
+use Rattle.orders.specs.Order.{Lists, IsOrder, Ready, IsLeast, IsCircle}
 
 pub lists-as : {Want Want′ : ℕ → Type 0} → ((s : ℕ) → Want s ↔ Want′ s) → {l : List ℕ} → Lists Want l → Lists Want′ l
 lists-as same o =

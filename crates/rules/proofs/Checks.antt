@@ -1,6 +1,6 @@
 -- The checks ahead of 14, "all that the order of refusals puts before 14": past them the plan ask's outcome is that of its graph.
 use Prim.Native.Nat.{ℕ, _≤_}
-use mathlib.Core.Path.{_≡_, refl}
+use mathlib.Core.Path.{_≡_}
 use mathlib.Core.Bool.{true, false}
 use mathlib.Core.Option.{none}
 use mathlib.Core.List.{List}
@@ -11,7 +11,7 @@ use Rattle.rules.specs.Manifest.{accepted, readManifest}
 use Rattle.rules.specs.Card.{soundCard}
 use Rattle.rules.specs.Targets.{badTarget}
 use Rattle.rules.specs.Graph.{noRoot, roots}
-use Rattle.rules.specs.PlanAsk.{PlanOutcome, targetFiles, planFrom, planRoots, planRead, planAsk}
+use Rattle.rules.specs.PlanAsk.{targetFiles, planFrom, planRoots, planRead, planAsk}
 
 -- 1 to 13 do not apply, and `rd` is what was read
 pub record PastChecks (manifest card targets : List ℕ) (room : ℕ) (rd : Reading) : Type 0 where

@@ -1,29 +1,29 @@
 -- Demand 3, from the definitions: past the checks ahead of 14, a circle is refused exactly when no order of the needed steps exists, and a
 -- real one can be shown; otherwise, and if no needed source is missing, the list is the least one that keeps the two rules of `KeepsBothRules`.
-use Prim.Native.Nat.{ℕ, _<_, _≤_}
+use Prim.Native.Nat.{ℕ, _<_}
 use native.Mathlib.Omega.{arith}
-use mathlib.Core.Path.{_≡_, refl, sym, _∙_}
+use mathlib.Core.Path.{_≡_, sym, _∙_}
 use mathlib.Core.Logic.{_⊎_, inl, inr, _↔_}
-use mathlib.Core.Bool.{Bool, true, false, not, _&&_, true≢false}
+use mathlib.Core.Bool.{true, false, not, true≢false}
 use mathlib.Core.Option.{Option, none, some}
-use mathlib.Core.List.{List, [], _∷_}
+use mathlib.Core.List.{List}
 use lib.ListN.{length, getD, take}
 use borrow.Author.Tests.{not-true}
-use Rattle.lists.specs.Tests.{ifB, split}
-use Rattle.lists.specs.Members.{_∈_, Rising, keep, in-keep, keep-in, and-both, rising-keep}
-use Rattle.orders.specs.Order.{IsOrder, IsLeast, IsCircle, first-difference, least-order, order-no-circle}
-use Rattle.orders.specs.Greedy.{In, By, greedy, whole}
+use Rattle.lists.specs.Tests.{split}
+use Rattle.lists.specs.Members.{_∈_, Rising, in-keep, keep-in, and-both, rising-keep}
+use Rattle.orders.specs.Order.{IsOrder, first-difference, least-order, order-no-circle}
+use Rattle.orders.specs.Greedy.{In, By}
 use Rattle.orders.specs.GreedyLaws.{whole-order, whole-least, order-whole}
 use Rattle.orders.specs.Circle.{circleOf, not-whole-circle}
 use Rattle.orders.specs.Reach.{Closed, upstream, upstream-whole, rising-reach, upstream-sound}
-use Rattle.orders.specs.Along.{values, along-solves, solution-unique, along-independent}
+use Rattle.orders.specs.Along.{along-solves, solution-unique}
 use Rattle.orders.specs.Same.{order-as, circle-as, least-as}
 use Rattle.rules.specs.Reading.{Step, Reading}
 use Rattle.rules.specs.Graph.{makersOf, before, needed, neededOrder, hasOrder}
-use Rattle.rules.specs.Stale.{Verdict, unknown, verdict, verdicts, told, phonyStep, isStale, staleNeeded, listOf}
-use Rattle.rules.specs.Words.{Feeds, Needed, input, Upstream, NeededOrder, NeededCircle, Told, Stale, StaleList}
-use Rattle.rules.specs.PlanAsk.{PlanOutcome, listed, circular, noPlan, cardTime, missingSource, listedOr15, planFrom}
-use Rattle.rules.proofs.Graph.{in-before, before-low, in-needed, in-upstream, needed-low, upstream-words, words-upstream}
+use Rattle.rules.specs.Stale.{Verdict, unknown, verdicts, told, phonyStep, isStale, staleNeeded, listOf}
+use Rattle.rules.specs.Words.{Needed, input, Upstream, NeededOrder, NeededCircle, Told, Stale, StaleList}
+use Rattle.rules.specs.PlanAsk.{listed, circular, cardTime, missingSource, listedOr15, planFrom}
+use Rattle.rules.proofs.Graph.{in-before, in-needed, in-upstream, needed-low}
 use Rattle.rules.proofs.Stale.{verdict-local}
 use Rattle.rules.proofs.Sources.{MissingIn, missing-none}
 

@@ -1,19 +1,18 @@
 -- The computed graph (makers, before, needed, upstream) says what document 01's words say.
-use Prim.Native.Nat.{ℕ, zero, suc, _+_, _<_, _≤_}
+use Prim.Native.Nat.{ℕ, zero, suc, _+_, _<_}
 use native.Mathlib.Omega.{arith}
-use mathlib.Core.Path.{_≡_, refl, sym, ap, _∙_}
-use mathlib.Core.Logic.{_⊎_, inl, inr, _↔_}
-use mathlib.Core.Bool.{Bool, true, false}
-use mathlib.Core.List.{List, [], _∷_, _++_, map}
+use mathlib.Core.Path.{_≡_, refl}
+use mathlib.Core.Logic.{inl, inr, _↔_}
+use mathlib.Core.Bool.{true, false}
+use mathlib.Core.List.{List, [], _∷_, map}
 use lib.ListN.{length, getD}
-use Rattle.lists.specs.Tests.{ifB, split}
-use Rattle.lists.specs.Members.{_∈_, _∉_, here, there, has, has-true, in-has, in-cons, not-in-nil, in-left, in-right, in-append}
-use Rattle.orders.specs.Greedy.{In}
+use Rattle.lists.specs.Tests.{split}
+use Rattle.lists.specs.Members.{_∈_, here, there, has, has-true, in-has, in-cons, not-in-nil, in-left, in-right, in-append}
 use Rattle.orders.specs.Reach as reaching
-use Rattle.orders.specs.Reach.{Closed, reach-least, reach-start, reach-closed, reach-low, rising-reach}
+use Rattle.orders.specs.Reach.{Closed, reach-least, reach-start, reach-closed}
 use Rattle.rules.specs.Basics.{concat}
 use Rattle.rules.specs.Reading.{Step}
-use Rattle.rules.specs.Graph.{inputs, counted, noStep, stepAt, makersFrom, makers, makersOf, before, needed}
+use Rattle.rules.specs.Graph.{inputs, noStep, stepAt, makersFrom, makers, makersOf, before, needed}
 use Rattle.rules.specs.Words.{Makes, Feeds, Needed, target, input, Upstream, maker, further}
 
 in-makersFrom : (k : ℕ) (l : List Step) (f : ℕ) {m : ℕ} → m ∈ makersFrom k l f → (i : ℕ) × (i < length l) × (m ≡ k + i) × (f ∈ getD l i noStep .outs)
@@ -121,3 +120,9 @@ in-upstream steps s b {m} =
 pub needed-low : {steps : List Step} {rs : List ℕ} {s : ℕ} → Needed steps rs s → s < length steps
 needed-low (target i w) = w .step
 needed-low (input n w) = w .made .step
+
+-- the needed steps are the least set that holds the makers of the targets and, with a step, the makers of its inputs
+pub needed-least : {steps : List Step} {targets : List ℕ} (P : ℕ → Type 0) → ((m f : ℕ) → f ∈ targets → Makes steps m f → P m)
+    → ((m s : ℕ) → P s → Feeds steps m s → P m) → {s : ℕ} → Needed steps targets s → P s
+needed-least P a b {s} (target {f = f} h w) = a s f h w
+needed-least P a b {s} (input {s = k} n w) = b s k (needed-least P a b n) w

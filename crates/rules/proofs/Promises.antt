@@ -1,12 +1,12 @@
 -- The promises can be kept on every input, and they fix every outcome but the circle.
 use Prim.Native.Nat.{ℕ}
 use mathlib.Core.Path.{_≡_, refl, sym, _∙_}
-use mathlib.Core.Bool.{Bool, true, false}
+use mathlib.Core.Bool.{true, false}
 use mathlib.Core.Option.{Option, none, some}
-use mathlib.Core.List.{List, []}
+use mathlib.Core.List.{List}
 use lib.Dec.{ltb}
 use lib.ListN.{length}
-use Rattle.lists.specs.Tests.{ifB, split}
+use Rattle.lists.specs.Tests.{split}
 use Rattle.orders.specs.Circle.{circleOf}
 use Rattle.rules.specs.declared.Refusal.the-variants.{Circle}
 use Rattle.rules.specs.declared.PlanAnswer.{PlanAnswer}
@@ -23,7 +23,7 @@ use Rattle.rules.specs.Graph.{before, needed, hasOrder, noRoot, roots}
 use Rattle.rules.specs.PlanAsk.{PlanOutcome, listed, circular, noPlan, targetFiles, missingSource, listedOr15, planFrom, planRoots, planRead, planAsk}
 use Rattle.rules.specs.TextAsk.{TextOutcome, text, noText, textAsk}
 use Rattle.rules.specs.Answers.{Said, planSays, textSays}
-use Rattle.rules.specs.Promises.{filled, leftBy, Is, Shows, PlanMeets, PlanPromise, TextMeets, TextPromise}
+use Rattle.rules.specs.Promises.{filled, leftBy, Is, PlanMeets, PlanPromise, TextMeets, TextPromise}
 use Rattle.rules.proofs.Demand3.{some-circle}
 
 -- an outcome that is a circle has no order

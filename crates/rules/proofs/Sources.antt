@@ -1,7 +1,7 @@
 -- Refusal 15: the computed place is the lowest missing needed source, and there is none where none is computed.
-use Prim.Native.Nat.{ℕ, _<_, _≤_}
+use Prim.Native.Nat.{ℕ, _≤_}
 use mathlib.Core.Path.{_≡_, refl, sym, _∙_}
-use mathlib.Core.Logic.{_⊎_, inl, inr, _↔_}
+use mathlib.Core.Logic.{inl, inr, _↔_}
 use mathlib.Core.Bool.{Bool, true, false, _&&_, _||_, true≢false}
 use mathlib.Core.Option.{Option, none, some}
 use mathlib.Core.List.{List, [], _∷_}
@@ -9,12 +9,12 @@ use borrow.Author.Tests.{eqb-true, eq-eqb}
 use lib.Dec.{eqb}
 use lib.ListN.{length}
 use Rattle.lists.specs.Tests.{and-true}
-use Rattle.lists.specs.Members.{_∈_, not-in-nil, has, has-true, in-has, any, any-true, true-any, find, find-some, find-none, find-least, upTo, in-upTo, upTo-in, rising-upTo, here, and-both, or-cases}
+use Rattle.lists.specs.Members.{_∈_, not-in-nil, has, has-true, in-has, any, any-true, true-any, find-some, find-none, find-least, upTo, in-upTo, upTo-in, rising-upTo, here, and-both, or-cases}
 use Rattle.rules.specs.Basics.{isEmpty}
 use Rattle.rules.specs.Reading.{Step, Reading}
 use Rattle.rules.specs.Graph.{inputs, stepAt, makers, needed, isNeededSource}
 use Rattle.rules.specs.PlanAsk.{cardTime, missingSource}
-use Rattle.rules.specs.Words.{Makes, Needed, NeededSource, Missing}
+use Rattle.rules.specs.Words.{NeededSource, Missing}
 use Rattle.rules.proofs.Graph.{in-makers, in-needed}
 
 empty-none : (l : List ℕ) → isEmpty l ≡ true → (x : ℕ) → ¬ (x ∈ l)

@@ -1,16 +1,15 @@
 -- Stale and time: a step's verdict rests on those of the makers of its inputs alone, so the verdicts do not depend on the order taken.
-use Prim.Native.Nat.{ℕ, max}
-use mathlib.Core.Path.{_≡_, refl, sym, ap, ap₂, _∙_}
+use Prim.Native.Nat.{ℕ}
+use mathlib.Core.Path.{_≡_, refl, ap, ap₂}
 use mathlib.Core.Logic.{inl, inr}
-use mathlib.Core.Bool.{Bool, true, false, _||_}
+use mathlib.Core.Bool.{Bool, _||_}
 use mathlib.Core.List.{List, [], _∷_, _++_, map}
-use Rattle.lists.specs.Tests.{ifB, split}
-use Rattle.lists.specs.Members.{_∈_, here, there, in-left, in-right, in-append, not-in-nil, any}
+use Rattle.lists.specs.Tests.{ifB}
+use Rattle.lists.specs.Members.{_∈_, here, there, in-left, in-right, in-append, any}
 use Rattle.orders.specs.Along.{Local}
 use Rattle.rules.specs.Reading.{Step}
 use Rattle.rules.specs.Graph.{inputs, counted, stepAt, makers, makersOf, before}
-use Rattle.rules.specs.Stale.{Verdict, phonyStep, madeTime, timeOf, greatest, newestInput, makerStale, staleCommand, stalePhony, verdict}
-use Rattle.rules.specs.Words.{Makes}
+use Rattle.rules.specs.Stale.{Verdict, phonyStep, madeTime, timeOf, greatest, newestInput, makerStale, verdict}
 use Rattle.rules.proofs.Graph.{in-makers, in-makersOf, makersOf-in}
 
 any-same : (p q : ℕ → Bool) (l : List ℕ) → ((x : ℕ) → x ∈ l → p x ≡ q x) → any p l ≡ any q l

@@ -25,17 +25,25 @@ pub record CardRecord : Type 0 where
   pub size : ℕ
   pub time : ℕ
 
+unfoldable pub recordAt : ℕ → List ℕ → CardRecord
+unfolding numberAt
+recordAt at s = record { offset = numberAt at 4 s; size = numberAt (at + 4) 4 s; time = numberAt (at + 8) 8 s }
+
 -- the first records of those bytes
 unfoldable pub recordsOf : ℕ → List ℕ → List CardRecord
-unfolding numberAt
+unfolding recordAt
 recordsOf zero s = []
-recordsOf (suc n) s = record { offset = numberAt 0 4 s; size = numberAt 4 4 s; time = numberAt 8 8 s } ∷ recordsOf n (drop 16 s)
+recordsOf (suc n) s = recordAt 0 s ∷ recordsOf n (drop 16 s)
+
+-- the rules for one record whose name has to start at `at`
+unfoldable pub soundRecord : ℕ → CardRecord → Bool
+soundRecord at r = eqb (r .offset) at && leb 1 (r .size) && leb (r .size) maxPath && leb 1 (r .time) && leb (r .time) maxTime
 
 -- "Names lie end to end in record order to the end": each starts where the one before it ends, the last ends where the card does
 unfoldable pub soundRecords : ℕ → ℕ → List CardRecord → Bool
+unfolding soundRecord
 soundRecords at end [] = eqb at end
-soundRecords at end (r ∷ rs) =
-    eqb (r .offset) at && leb 1 (r .size) && leb (r .size) maxPath && leb 1 (r .time) && leb (r .time) maxTime && soundRecords (at + r .size) end rs
+soundRecords at end (r ∷ rs) = soundRecord at r && soundRecords (at + r .size) end rs
 
 pub record Entry : Type 0 where
   pub name : List ℕ
@@ -70,13 +78,15 @@ unfoldable pub cardEntries : List ℕ → List Entry
 unfolding entriesOf cardRecords cardNames
 cardEntries s = entriesOf (cardRecords s) (cardNames s)
 
+-- the rules for the records and the names
+unfoldable pub soundNames : List ℕ → Bool
+unfolding soundRecords cardRecords cardNames rising cardEntries
+soundNames s = soundRecords 0 (length (cardNames s)) (cardRecords s) && rising (cardEntries s)
+
 -- a card that breaks no rule; its records are looked at only under a sound header
 unfoldable pub soundCard : List ℕ → Bool
-unfolding soundHeader soundRecords cardRecords cardNames rising cardEntries
-soundCard s =
-    ifB (soundHeader s)
-    (λ _. soundRecords 0 (length (cardNames s)) (cardRecords s) && rising (cardEntries s))
-    (λ _. false)
+unfolding soundHeader soundNames
+soundCard s = ifB (soundHeader s) (λ _. soundNames s) (λ _. false)
 
 -- "A file not listed is missing and has time 0."
 unfoldable pub timeIn : List Entry → List ℕ → ℕ

@@ -2,7 +2,7 @@
 use Prim.Native.Nat.{ℕ, zero, suc, _-_}
 use mathlib.Core.List.{List, [], _∷_}
 use mathlib.Core.Option.{Option, none, some}
-use mathlib.Core.Bool.{Bool, true, false, not, _&&_, _||_}
+use mathlib.Core.Bool.{Bool, false, not, _&&_, _||_}
 use lib.Dec.{eqb}
 use lib.ListN.{length}
 use Rattle.lists.specs.Tests.{ifB}
@@ -12,7 +12,7 @@ use Rattle.lists.specs.Runs.{run, afterRun}
 use Rattle.rules.specs.Basics.{isEmpty, among}
 use Rattle.rules.specs.Bytes.{newline, space, dollar, colon, bar, equals, nameByte}
 use Rattle.rules.specs.Dollars.{Scan, plain, afterJoin, afterDollar, inBraces, inName, bad, turn, badDollar}
-use Rattle.rules.specs.Lines.{isSpace, startsWith}
+use Rattle.rules.specs.Lines.{isSpace}
 
 -- What is wrong with a line's bytes: it fits no form (4), a `$` is bad (5), given by the number of the line's bytes from that `$` on, or a
 -- keyword or key is not yet in this edition (6).

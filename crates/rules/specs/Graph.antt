@@ -1,15 +1,14 @@
 -- The graph of steps and files: makers, roots, needed steps, needed sources, and the order of the needed steps.
 use Prim.Native.Nat.{ℕ, suc}
 use mathlib.Core.List.{List, [], _∷_, _++_, map}
-use mathlib.Core.Bool.{Bool, true, false, not, _&&_, _||_}
-use lib.Dec.{eqb}
+use mathlib.Core.Bool.{Bool, not, _&&_, _||_}
 use lib.ListN.{length, getD}
 use Rattle.lists.specs.Tests.{ifB}
-use Rattle.lists.specs.Members.{has, keep, upTo, any}
+use Rattle.lists.specs.Members.{has, keep, any}
 use Rattle.orders.specs.Greedy.{greedy, whole}
 use Rattle.orders.specs.Reach.{reach}
 use Rattle.rules.specs.Basics.{isEmpty, concat}
-use Rattle.rules.specs.Reading.{Step, Reading, isPhony}
+use Rattle.rules.specs.Reading.{Step, Reading}
 
 -- an input of any kind
 unfoldable pub inputs : Step → List ℕ

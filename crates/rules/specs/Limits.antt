@@ -1,5 +1,5 @@
 -- Every limit of document 01, once.
-use Prim.Native.Nat.{ℕ, _^_}
+use Prim.Native.Nat.{ℕ}
 
 -- "Limits: 512 steps, 1,024 files, 128 rules, 1,024 bindings, 4,096 path mentions; declared names 64 bytes, paths 255, values 2,048;
 -- all paths and values read so far 60,000 bytes together."

@@ -1,12 +1,12 @@
 -- The marked cases of document 01, M1 to M10, as one table, from the bytes of manifests, cards and target lists. `proofs/Marked.antt` proves it.
 use Prim.Native.Nat.{ℕ, suc, _+_, _*_, _/_, _%_, zero}
 use Prim.Native.String.{String}
-use mathlib.Core.List.{List, [], _∷_, _++_, map}
-use mathlib.Core.Path.{_≡_, refl}
+use mathlib.Core.List.{List, [], _∷_, _++_}
+use mathlib.Core.Path.{_≡_}
 use mathlib.Core.Bool.{true}
 use lib.ListN.{length}
 use Rattle.lists.specs.Text.{bytes}
-use Rattle.rules.specs.declared.Wanted.the-variants.{Command, Description}
+use Rattle.rules.specs.declared.Wanted.the-variants.{Command}
 use Rattle.rules.specs.Reading.{Step}
 use Rattle.rules.specs.Card.{Entry, soundCard, cardEntries, timeIn}
 use Rattle.rules.specs.declared.PlanAnswer.{PlanAnswer}

@@ -1,9 +1,8 @@
 -- What has been read of a manifest, and what is looked up in it.
-use Prim.Native.Nat.{ℕ, zero, suc, _+_}
+use Prim.Native.Nat.{ℕ, suc}
 use mathlib.Core.List.{List, [], _∷_, _++_, map}
 use mathlib.Core.Option.{Option, none, some}
-use mathlib.Core.Bool.{Bool, true, false, not, _||_}
-use lib.ListN.{length, getD}
+use mathlib.Core.Bool.{Bool, not, _||_}
 use Rattle.lists.specs.Tests.{ifB}
 use Rattle.lists.specs.Text.{bytes}
 use Rattle.lists.specs.Bytes.{eqBytes}

@@ -4,7 +4,7 @@ use Prim.Native.Nat.{ℕ}
 use mathlib.Core.List.{List, [], _∷_, _++_}
 use mathlib.Core.Path.{_≡_, refl}
 use Rattle.lists.specs.Text.{bytes}
-use Rattle.rules.specs.declared.Wanted.the-variants.{Command, Description}
+use Rattle.rules.specs.declared.Wanted.the-variants.{Description}
 use Rattle.rules.specs.Answers.{numberOfRefusal, placeOfRefusal}
 use Rattle.rules.specs.PlanAsk.{PlanOutcome, planAsk, listed, circular, noPlan}
 use Rattle.rules.specs.TextAsk.{TextOutcome, textAsk, text, noText}

@@ -1,8 +1,8 @@
 -- A line's form applied to what has been read: its 7s, then its 8s, then its 9s, then its 10, each for the whole line before the next.
 use Prim.Native.Nat.{ℕ, _+_}
 use mathlib.Core.List.{List, [], _∷_, _++_, map}
-use mathlib.Core.Bool.{Bool, true, false, not, _&&_, _||_}
-use lib.Dec.{eqb, leb, ltb}
+use mathlib.Core.Bool.{Bool, false, not, _&&_, _||_}
+use lib.Dec.{leb, ltb}
 use lib.ListN.{length}
 use Rattle.lists.specs.Members.{any}
 use Rattle.rules.specs.declared.Refusal.{Refusal}
@@ -14,7 +14,7 @@ use Rattle.rules.specs.Basics.{isEmpty, among, sum}
 use Rattle.rules.specs.Limits.{maxSteps, maxFiles, maxRules, maxBindings, maxMentions, maxName, maxPath, maxValue, maxWritten}
 use Rattle.rules.specs.Dollars.{expand}
 use Rattle.rules.specs.Forms.{Form, ruleForm, buildForm, defaultForm, bindingForm, BuildLine}
-use Rattle.rules.specs.Reading.{Bound, Rule, Step, Reading, fileVar, hasKey, declared, mention, numbersOf, isMade}
+use Rattle.rules.specs.Reading.{Rule, Step, Reading, fileVar, hasKey, declared, mention, numbersOf, isMade}
 use Rattle.version.specs.Version.{refused as versionRefused}
 
 -- the open block: none, a rule's (with the start of its line and what it holds so far), or a build step's

@@ -11,7 +11,7 @@ use Rattle.lists.specs.Bytes.{eqBytes}
 use Rattle.rules.specs.Basics.{among}
 use Rattle.rules.specs.Bytes.{space, newline}
 use Rattle.rules.specs.Dollars.{expand, refs}
-use Rattle.rules.specs.Reading.{Bound, Rule, Step, Reading, find, fileVar, keysOf}
+use Rattle.rules.specs.Reading.{Step, Reading, find, fileVar, keysOf}
 
 -- "joined by one space (`$in_newline` by a newline), names as they are"
 unfoldable pub joinedBy : ℕ → List (List ℕ) → List ℕ

@@ -1,9 +1,9 @@
 -- The text ask whole.
 use Prim.Native.Nat.{ℕ}
-use mathlib.Core.List.{List, [], _∷_, _++_}
-use mathlib.Core.Bool.{Bool, _||_}
+use mathlib.Core.List.{List, []}
+use mathlib.Core.Bool.{_||_}
 use lib.Dec.{leb, ltb}
-use lib.ListN.{length, getD}
+use lib.ListN.{length}
 use Rattle.rules.specs.declared.Refusal.{Refusal}
 use Rattle.rules.specs.declared.Refusal.the-variants.{ShortBuffer, EndlessText, LongText, NoCommand}
 use Rattle.rules.specs.declared.Wanted.{Wanted}
@@ -11,7 +11,7 @@ use Rattle.rules.specs.declared.Wanted.the-variants.{Command, Descriptio
 use Rattle.lists.specs.Tests.{ifB}
 use Rattle.lists.specs.Text.{bytes}
 use Rattle.rules.specs.Limits.{maxText}
-use Rattle.rules.specs.Reading.{Step, Reading, isPhony}
+use Rattle.rules.specs.Reading.{Reading, isPhony}
 use Rattle.rules.specs.Manifest.{Read, accepted, refusedWith, readManifest}
 use Rattle.rules.specs.Graph.{stepAt}
 use Rattle.rules.specs.Text.{leadsBack, textOf, deep}

@@ -1,0 +1,5 @@
+//! Safe functions over the static library of the proved crates. Nothing checks these declarations against the Rattle
+//! sources, so they are few; slices pass as a pointer and a length.
+
+pub mod card;
+pub mod measure;

@@ -1,0 +1,45 @@
+//! How the benchmarks measure: rounds of each side in turn, in one process; the median and the minimum are told.
+
+use std::hint::black_box;
+use std::time::{Duration, Instant};
+
+const ROUNDS: usize = 201;
+
+/// The median and the minimum time of one call.
+#[derive(Clone, Copy)]
+pub struct Times {
+    pub median: Duration,
+    pub least: Duration,
+}
+
+fn sorted(mut times: Vec<Duration>) -> Times {
+    times.sort();
+    Times { median: times[times.len() / 2], least: times[0] }
+}
+
+/// Measures two functions against each other, a call of each in every round.
+pub fn both<A, B>(mut ours: impl FnMut() -> A, mut theirs: impl FnMut() -> B) -> (Times, Times) {
+    let (mut a, mut b) = (Vec::new(), Vec::new());
+    for _ in 0..ROUNDS {
+        let began = Instant::now();
+        black_box(ours());
+        a.push(began.elapsed());
+        let began = Instant::now();
+        black_box(theirs());
+        b.push(began.elapsed());
+    }
+    (sorted(a), sorted(b))
+}
+
+/// Prints a row: ours, the second planner's, and the ratio of the minima.
+pub fn row(name: &str, ours: Times, theirs: Times) {
+    let micros = |d: Duration| d.as_nanos() as f64 / 1_000.0;
+    println!(
+        "{name:34} ours {:9.2} / {:9.2} us   second {:9.2} / {:9.2} us   ratio {:5.2}",
+        micros(ours.median),
+        micros(ours.least),
+        micros(theirs.median),
+        micros(theirs.least),
+        ours.least.as_secs_f64() / theirs.least.as_secs_f64()
+    );
+}

@@ -1,0 +1,102 @@
+use Rattle.card.proofs.Numbers.{word-is}
+use borrow.Author.Needs.{needs}
+use Rattle.card.proofs.word.Statement.{statement}
+use Rattle.card.proofs.word.Tie as tie
+use Rattle.card.proofs.word.Reads as reads
+use Rattle.card.proofs.word.Lts as lts
+use Rattle.card.proofs.wide.Reads as wide-reads
+
+-- src/lib.rt:22:10
+shared-slice-read-wide : tie.Need-shared-slice-read-wide
+shared-slice-read-wide c = search needs
+
+-- src/lib.rt:22:5
+wide-requires : tie.Need-wide-requires
+wide-requires c κs = search needs
+
+-- src/lib.rt:23:21
+add-wide : tie.Need-add-wide
+add-wide c = search needs
+
+-- src/lib.rt:23:16
+shared-slice-read-wide-2 : tie.Need-shared-slice-read-wide-2
+shared-slice-read-wide-2 c = search needs
+
+-- src/lib.rt:23:11
+wide-requires-2 : tie.Need-wide-requires-2
+wide-requires-2 c κs = search needs
+
+-- src/lib.rt:23:11
+mul-result : tie.Need-mul-result
+mul-result c = search needs
+
+-- src/lib.rt:22:5
+add-result : tie.Need-add-result
+add-result c = search needs
+
+-- src/lib.rt:24:21
+add-wide-2 : tie.Need-add-wide-2
+add-wide-2 c = search needs
+
+-- src/lib.rt:24:16
+shared-slice-read-wide-3 : tie.Need-shared-slice-read-wide-3
+shared-slice-read-wide-3 c = search needs
+
+-- src/lib.rt:24:11
+wide-requires-3 : tie.Need-wide-requires-3
+wide-requires-3 c κs = search needs
+
+-- src/lib.rt:24:11
+mul-result-2 : tie.Need-mul-result-2
+mul-result-2 c = search needs
+
+-- src/lib.rt:22:5
+add-result-2 : tie.Need-add-result-2
+add-result-2 c = search needs
+
+-- src/lib.rt:25:21
+add-wide-3 : tie.Need-add-wide-3
+add-wide-3 c = search needs
+
+-- src/lib.rt:25:16
+shared-slice-read-wide-4 : tie.Need-shared-slice-read-wide-4
+shared-slice-read-wide-4 c = search needs
+
+-- src/lib.rt:25:11
+wide-requires-4 : tie.Need-wide-requires-4
+wide-requires-4 c κs = search needs
+
+-- src/lib.rt:25:11
+mul-result-3 : tie.Need-mul-result-3
+mul-result-3 c = search needs
+
+-- src/lib.rt:22:5
+add-result-3 : tie.Need-add-result-3
+add-result-3 c = search needs
+
+-- src/lib.rt:18:1
+returns : tie.Need-returns
+returns c = word-is _ _ (c .before .before .before .before .before .before .before .before .before .pre) (c .before .before .before .before .before .before .wide .ensures) (c .before .before .before .before .wide2 .ensures) (c .before .before .wide3 .ensures) (c .wide4 .ensures)
+
+pub word-spec : {M : Type 1} → statement M
+word-spec =
+    tie.close
+    (tie.spec
+    shared-slice-read-wide
+    wide-requires
+    add-wide
+    shared-slice-read-wide-2
+    wide-requires-2
+    mul-result
+    add-result
+    add-wide-2
+    shared-slice-read-wide-3
+    wide-requires-3
+    mul-result-2
+    add-result-2
+    add-wide-3
+    shared-slice-read-wide-4
+    wide-requires-4
+    mul-result-3
+    add-result-3
+    returns)

@@ -1,0 +1,4 @@
+pub mod Numbers
+pub mod Lies
+pub mod Steps
+pub mod Laws

@@ -1,0 +1,13 @@
+//! The small program: plans `build.ninja` by `times.card` for the targets on standard input.
+
+use std::fs;
+use std::io::{self, Read, Write};
+
+fn main() -> io::Result<()> {
+    // A file that can't be opened is read as empty.
+    let manifest = fs::read("build.ninja").unwrap_or_default();
+    let card = fs::read("times.card").unwrap_or_default();
+    let mut targets = Vec::new();
+    io::stdin().read_to_end(&mut targets)?;
+    io::stdout().write_all(&second::program::output(&manifest, &card, &targets))
+}

@@ -1,0 +1,43 @@
+//! The graph of steps and files, by number, that planning works on.
+
+/// Steps in order and the number of files; no file is the output of two steps.
+#[derive(Debug, Clone, Default, PartialEq, Eq)]
+pub struct Graph {
+    pub steps: Vec<Step>,
+    pub files: usize,
+}
+
+/// A step's files by kind; files may be mentioned more than once as inputs.
+#[derive(Debug, Clone, Default, PartialEq, Eq)]
+pub struct Step {
+    pub outputs: Vec<u32>,
+    pub explicit: Vec<u32>,
+    pub implicit: Vec<u32>,
+    pub order_only: Vec<u32>,
+    pub phony: bool,
+}
+
+impl Step {
+    /// The inputs whose age counts.
+    pub fn dated_inputs(&self) -> impl Iterator<Item = u32> + '_ {
+        self.explicit.iter().chain(&self.implicit).copied()
+    }
+
+    /// The inputs of any kind.
+    pub fn inputs(&self) -> impl Iterator<Item = u32> + '_ {
+        self.dated_inputs().chain(self.order_only.iter().copied())
+    }
+}
+
+impl Graph {
+    /// The maker of each file.
+    pub fn makers(&self) -> Vec<Option<u32>> {
+        let mut makers = vec![None; self.files];
+        for (number, step) in (0..).zip(&self.steps) {
+            for &output in &step.outputs {
+                makers[output as usize] = Some(number);
+            }
+        }
+        makers
+    }
+}
