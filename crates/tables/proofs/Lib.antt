@@ -1,0 +1,5 @@
+pub mod Places
+pub mod Makers
+pub mod Looking
+pub mod Blank
+pub mod Held
