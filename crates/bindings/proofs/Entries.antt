@@ -3,14 +3,13 @@ use Prim.Native.Nat.{ℕ, zero, suc, _+_, _*_, _-_, _≤_, _<_}
 use mathlib.Core.List.{List, [], _∷_, _++_, append-assoc, append-nil}
 use mathlib.Core.Path.{_≡_, refl, sym, _∙_, ap}
 use native.Mathlib.Decide.{decLe}
-use native.Mathlib.Numerals.{add-one}
 use native.Mathlib.Omega.{arith}
 use lib.ListN.{length, take, drop, getD, set, length-append, length-drop, length-set, drop-of-length-le}
-use lib.Seq.{take-take, take-append-seam, take-all, drop-append-seam, drop-cons, drop-nil, getD-take, getD-append-add, take-suc-set, take-length, paste, length-paste, take-paste}
+use lib.Seq.{take-take, take-append-seam, drop-append-seam, drop-cons, drop-nil, getD-take, getD-append-add, take-suc-set, take-length, paste, length-paste, take-paste}
 use Rattle.lists.specs.Parts.{part, drop-take}
 use Rattle.rules.specs.Limits.{maxName}
 use Rattle.bindings.specs.Log.{Logged, noEntry, entryAt, asOf}
-use Rattle.bindings.specs.Held.{maxEntries, maxTexts, maxRows, textsOf, rowOf, rowsOf, valuesIn, ShortNames, Holds, HasEntry, Room, startIn, Row}
+use Rattle.bindings.specs.Held.{maxTexts, maxRows, textsOf, rowOf, rowsOf, valuesIn, ShortNames, Holds, HasEntry, Room, startIn, Row}
 
 -- ---- lengths
 

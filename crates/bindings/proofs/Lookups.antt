@@ -1,22 +1,21 @@
 -- What is looked up in a log, as the reading looks it up, and what an entry more changes.
-use Prim.Native.Nat.{ℕ, suc, _+_, _*_, _-_, _≤_, _<_}
-use mathlib.Core.Bool.{Bool, true, false, _&&_, _||_}
+use Prim.Native.Nat.{ℕ, suc, _-_, _≤_, _<_}
+use mathlib.Core.Bool.{true, false}
 use mathlib.Core.List.{List, [], _∷_, map}
-use mathlib.Core.Option.{Option, none, some}
+use mathlib.Core.Option.{some}
 use mathlib.Core.Path.{_≡_, refl, sym, _∙_, ap}
-use native.Mathlib.Decide.{decLt}
 use native.Mathlib.Omega.{arith}
-use borrow.Author.Tests.{eqb-true, eqb-false, eq-eqb, ne-eqb}
+use borrow.Author.Tests.{eq-eqb, ne-eqb}
 use lib.Dec.{eqb}
-use lib.ListN.{length, getD}
-use Rattle.lists.specs.Tests.{ifB, split, differ}
+use lib.ListN.{length}
+use Rattle.lists.specs.Tests.{split}
 use Rattle.lists.specs.Bytes.{eqBytes}
 use Rattle.lists.specs.Members.{any}
 use Rattle.rules.specs.Basics.{among}
-use Rattle.rules.specs.Reading.{Bound, Rule, find, fileVar, orEmpty, hasKey, keysOf}
+use Rattle.rules.specs.Reading.{Rule, find, fileVar, orEmpty, hasKey, keysOf}
 use Rattle.bindings.specs.declared.Found.{Found}
 use Rattle.bindings.specs.declared.Found.the-variants.{At, Missing}
-use Rattle.bindings.specs.Log.{Logged, noEntry, ofFile, ofRules, ofKeys, ofStep, entryAt, isNamed, newest, isAt, valueOf, boundOf, boundBy, rulesIn, rulesOf, newestRule, keysAt, withKey, Owner, Owned}
+use Rattle.bindings.specs.Log.{Logged, ofFile, ofRules, ofKeys, ofStep, entryAt, isNamed, newest, isAt, valueOf, boundOf, boundBy, rulesIn, rulesOf, newestRule, keysAt, withKey, Owner, Owned}
 
 -- ---- numbers of entries
 

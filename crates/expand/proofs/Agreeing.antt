@@ -1,5 +1,5 @@
 -- What the fronts of two lists say of the lists.
-use Prim.Native.Nat.{ℕ, min, _≤_}
+use Prim.Native.Nat.{ℕ, min}
 use mathlib.Core.Bool.{Bool, true, false}
 use mathlib.Core.List.{List, [], _∷_, _++_, append-assoc}
 use mathlib.Core.Path.{_≡_, refl, sym, _∙_, ap}
@@ -8,7 +8,6 @@ use borrow.Author.Tests.{eq-eqb}
 use lib.ListN.{length, take, drop, take-append-drop}
 use lib.Seq.{take-append-le}
 use Rattle.lists.specs.Bytes.{eqBytes, eqBytes-true, eqBytes-false, ne-eqBytes}
-use Rattle.expand.specs.declared.Ahead.{Ahead}
 use Rattle.expand.specs.declared.Ahead.the-variants.{Differ, Both}
 use Rattle.expand.specs.Ahead.{Agree, Compared}
 

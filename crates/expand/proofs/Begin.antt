@@ -1,26 +1,23 @@
 -- The run that an expansion begins with at a place of the raw text.
 use Prim.Native.Nat.{ℕ, suc, _+_, _-_, _≤_, _<_}
-use mathlib.Core.Bool.{true, false, not}
-use mathlib.Core.List.{List, [], _∷_, _++_}
+use mathlib.Core.Bool.{false}
+use mathlib.Core.List.{List, [], _∷_}
 use mathlib.Core.Option.{none, some}
 use mathlib.Core.Path.{_≡_, refl, sym, _∙_, ap}
 use native.Mathlib.Nat.{le-refl}
 use native.Mathlib.Omega.{arith}
 use borrow.Author.Tests.{ne-eqb}
-use lib.Dec.{eqb}
 use lib.ListN.{length, drop, getD, length-drop}
-use Rattle.lists.specs.Tests.{ifB, differ}
-use Rattle.lists.specs.Parts.{part, length-part, part-none, part-cons}
+use Rattle.lists.specs.Tests.{differ}
+use Rattle.lists.specs.Parts.{part, length-part, part-none}
 use Rattle.lists.specs.Runs.{isNot, run, afterRun, Reads, part-run}
 use Rattle.rules.specs.Bytes.{dollar}
 use Rattle.rules.specs.Dollars.{badDollar}
-use Rattle.scan.specs.Element.{Element, literal, joins, names, wrong, element, restOf, Found, FoundName}
+use Rattle.scan.specs.Element.{Element, literal, joins, wrong, element, restOf, Found, FoundName}
 use Rattle.scan.proofs.Places.{at-cons}
 use Rattle.scan.proofs.Pieces.{sound-rest, sound-not-bad}
-use Rattle.bindings.specs.Log.{Logged}
-use Rattle.bindings.specs.Held.{Holds}
 use Rattle.expand.specs.declared.Run.{Run}
-use Rattle.expand.specs.Runs.{expanded, bytesOf, Placed, leftOf, Begins, Variable}
+use Rattle.expand.specs.Runs.{expanded, bytesOf, Placed, leftOf, Begins, Variable, Ready}
 use Rattle.expand.proofs.Pieces.{expand-run, expand-literal, expand-join, expand-name, sound-run, literal-here}
 
 -- a run of the raw text itself
@@ -111,3 +108,8 @@ module _ (raw texts bind : List ℕ) (count i : ℕ) (h : i < length raw) (s : b
     pub none-begins : {r : Run} → element (drop (i + 1) raw) ≡ wrong → Begins raw texts bind count i r
     unfolding restOf
     none-begins e = absurd (sound-not-bad (drop (i + 1) raw) sound-here (ap restOf e))
+
+-- After the run an expansion can go on.
+pub ready-on : {t raw texts bind : List ℕ} {count i : ℕ} {r : Run} → Ready t raw texts bind count i → Begins raw texts bind count i r → Ready t raw texts bind count (r .next)
+ready-on a b =
+    record { table = a .table; short = a .short; within = b .placed .within; sound = b .placed .sound; held = a .held }

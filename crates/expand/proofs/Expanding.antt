@@ -1,16 +1,17 @@
 -- The loop that writes an expansion run by run.
-use Prim.Native.Nat.{ℕ, _+_, _*_, _-_, _≤_, _<_}
-use mathlib.Core.Bool.{Bool, true, false}
-use mathlib.Core.List.{List, [], _∷_, _++_, append-nil, append-assoc}
+use Prim.Native.Nat.{ℕ, _+_, _*_, _-_, _≤_}
+use mathlib.Core.Bool.{true, false}
+use mathlib.Core.List.{List, [], _++_, append-nil, append-assoc}
 use mathlib.Core.Path.{_≡_, refl, sym, _∙_, ap}
 use native.Mathlib.Omega.{arith}
 use lib.ListN.{length, drop, length-append, drop-of-length-le}
-use Rattle.lists.specs.Tests.{ifB, split}
+use Rattle.lists.specs.Tests.{split}
 use Rattle.lists.specs.Parts.{part, length-part}
 use Rattle.bindings.specs.Log.{Logged}
 use Rattle.bindings.specs.Held.{maxTexts, Holds}
 use Rattle.expand.specs.declared.Run.{Run}
-use Rattle.expand.specs.Runs.{expanded, bytesOf, Placed, leftOf, Begins, Ready, laidOver, laidAt, Written}
+use Rattle.expand.specs.Runs.{expanded, bytesOf, Placed, leftOf, Begins, Ready, laidAt, Written}
+use Rattle.expand.proofs.Begin.{ready-on}
 use Rattle.expand.proofs.Laid.{length-laid-at, laid-none, laid-on}
 
 pub length-bytes : {raw texts : List ℕ} {r : Run} → Placed raw texts r → length (bytesOf raw texts r) ≡ r .to - r .from
@@ -52,14 +53,7 @@ module _ {t raw texts bind : List ℕ} {count : ℕ} {before word : List ℕ} {i
     expand-on {next} e =
         let k = length-bytes (b .placed) in
         record {
-          ready =
-              record {
-                table = x .ready .table;
-                short = x .ready .short;
-                within = b .placed .within;
-                sound = b .placed .sound;
-                held = x .ready .held;
-              };
+          ready = ready-on (x .ready) b;
           bounded = omega (arith, x .bounded, b .bounded, b .forward);
           long = ap length e ∙ length-laid-at word n (bytesOf raw texts r) ∙ x .long;
           done = λ log h.

@@ -1,17 +1,17 @@
 -- The loop that goes on to a run with a byte in it.
 use Prim.Native.Nat.{ℕ, _+_, _*_, _-_, _≤_, _<_}
 use mathlib.Core.Bool.{true, false}
-use mathlib.Core.List.{List, [], _++_}
-use mathlib.Core.Path.{_≡_, refl, sym, _∙_}
+use mathlib.Core.List.{List, []}
+use mathlib.Core.Path.{_≡_, refl, _∙_}
 use native.Mathlib.Nat.{le-refl, le-trans}
 use native.Mathlib.Omega.{arith}
 use lib.ListN.{length, drop}
-use Rattle.lists.specs.Tests.{ifB, split}
+use Rattle.lists.specs.Tests.{split}
 use Rattle.lists.specs.Parts.{part-none}
 use Rattle.bindings.specs.Log.{Logged}
 use Rattle.bindings.specs.Held.{maxTexts, Holds}
 use Rattle.expand.specs.declared.Run.{Run}
-use Rattle.expand.specs.Runs.{expanded, bytesOf, Placed, leftOf, Begins, Going, most, Filled}
+use Rattle.expand.specs.Runs.{expanded, bytesOf, leftOf, Begins, Going, most, Filled}
 
 pub bytes-none : (raw texts : List ℕ) (r : Run) → r .to ≤ r .from → bytesOf raw texts r ≡ []
 unfolding bytesOf

@@ -1,11 +1,11 @@
 -- Bytes written over a buffer as far as they fit, and one part after another.
 use Prim.Native.Nat.{ℕ, _+_, _-_, _≤_, _<_}
-use mathlib.Core.List.{List, [], _∷_, _++_, append-nil, append-assoc}
-use mathlib.Core.Path.{_≡_, refl, sym, _∙_, ap}
+use mathlib.Core.List.{List, [], _++_, append-nil}
+use mathlib.Core.Path.{_≡_, sym, _∙_, ap}
 use native.Mathlib.Decide.{decLt}
 use native.Mathlib.Omega.{arith}
-use lib.ListN.{length, take, drop, length-append, length-take, length-drop, drop-of-length-le, take-append-drop}
-use lib.Seq.{length-take-le, take-nil, take-all, take-take, take-append-le, take-append-seam, take-append-add, drop-append-add, drop-append-seam, drop-drop, paste}
+use lib.ListN.{length, take, drop, length-append, length-take, length-drop, drop-of-length-le}
+use lib.Seq.{length-take-le, take-nil, take-all, take-take, take-append-le, take-append-seam, take-append-add, drop-append-add, drop-drop, paste}
 use Rattle.expand.specs.Runs.{laidOver, laidAt}
 
 -- ---- from a place on

@@ -1,7 +1,7 @@
 -- The loop that compares two expansions run by run.
-use Prim.Native.Nat.{ℕ, min, _+_, _*_, _-_, _≤_, _<_}
-use mathlib.Core.Bool.{Bool, true, false}
-use mathlib.Core.List.{List, [], _∷_, _++_}
+use Prim.Native.Nat.{ℕ, min, _+_, _-_, _≤_, _<_}
+use mathlib.Core.Bool.{true, false}
+use mathlib.Core.List.{List, [], _++_}
 use mathlib.Core.Path.{_≡_, refl, sym, _∙_, ap}
 use native.Mathlib.Decide.{ℕ-discrete}
 use native.Mathlib.Nat.{le-refl, lt-of-lt-of-le}
@@ -9,11 +9,11 @@ use native.Mathlib.Omega.{arith}
 use borrow.Author.Tests.{eq-eqb, ne-eqb}
 use lib.Dec.{eqb}
 use lib.ListN.{length, drop, length-append, drop-of-length-le}
-use Rattle.lists.specs.Tests.{ifB, split}
+use Rattle.lists.specs.Tests.{split}
 use Rattle.lists.specs.Bytes.{eqBytes, ne-eqBytes, eq-eqBytes}
 use Rattle.lists.specs.Parts.{drop-part}
 use Rattle.bindings.specs.Log.{Logged}
-use Rattle.bindings.specs.Held.{maxTexts, Holds}
+use Rattle.bindings.specs.Held.{Holds}
 use Rattle.expand.specs.declared.Run.{Run}
 use Rattle.expand.specs.declared.Ahead.{Ahead}
 use Rattle.expand.specs.declared.Ahead.the-variants.{Differ, Both}

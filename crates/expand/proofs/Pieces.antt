@@ -2,19 +2,18 @@
 use Prim.Native.Nat.{ℕ}
 use mathlib.Core.Bool.{true, false, not, _&&_}
 use mathlib.Core.List.{List, [], _∷_, _++_}
-use mathlib.Core.Option.{none, some}
-use mathlib.Core.Path.{_≡_, refl, sym, _∙_, ap}
+use mathlib.Core.Option.{none}
+use mathlib.Core.Path.{_≡_, refl, _∙_, ap}
 use native.Mathlib.Omega.{arith}
-use borrow.Author.Tests.{not-true, eqb-false}
+use borrow.Author.Tests.{eqb-false}
 use lib.Dec.{eqb}
-use lib.ListN.{length}
-use Rattle.lists.specs.Tests.{ifB, split, differ}
+use Rattle.lists.specs.Tests.{split}
 use Rattle.lists.specs.Runs.{isNot, run, afterRun}
 use Rattle.rules.specs.Basics.{isEmpty}
 use Rattle.rules.specs.Bytes.{newline, dollar, openBrace, closeBrace, shortByte}
 use Rattle.rules.specs.Dollars.{escaped, badDollar, fill, expand}
 use Rattle.rules.specs.Forms.{nameOf, afterName}
-use Rattle.scan.specs.Element.{Element, literal, joins, names, wrong, braced, element}
+use Rattle.scan.specs.Element.{literal, joins, names, wrong, braced, element}
 use Rattle.scan.proofs.Pieces.{pieces-byte, pieces-literal, pieces-join, pieces-name, sound-byte}
 
 module _ (look : List ℕ → List ℕ) where

@@ -1,21 +1,19 @@
 -- The value of a variable, as a run of the bound texts or an empty one.
-use Prim.Native.Nat.{ℕ, _≤_, _<_}
+use Prim.Native.Nat.{ℕ, _<_}
 use mathlib.Core.Bool.{true, false}
-use mathlib.Core.List.{List, []}
-use mathlib.Core.Path.{_≡_, refl, sym, _∙_, ap}
+use mathlib.Core.List.{List}
+use mathlib.Core.Path.{_≡_, refl, sym, _∙_}
 use native.Mathlib.Omega.{arith}
 use native.Mathlib.Nat.{le-refl}
 use lib.ListN.{length}
 use Rattle.lists.specs.Tests.{differ}
 use Rattle.lists.specs.Parts.{part-none}
-use Rattle.rules.specs.Reading.{fileVar, orEmpty}
 use Rattle.bindings.specs.declared.Found.{Found}
 use Rattle.bindings.specs.declared.Found.the-variants.{At, Missing}
 use Rattle.bindings.specs.declared.Place.{Place}
-use Rattle.bindings.specs.Log.{Logged, ofFile, newest, valueOf, boundBy}
+use Rattle.bindings.specs.Log.{Logged, ofFile, newest, valueOf}
 use Rattle.bindings.specs.Held.{Holds, Sound, HasEntry, ValueAt}
 use Rattle.bindings.proofs.Lookups.{newest-below, var-newest}
-use Rattle.expand.specs.declared.Run.{Run}
 use Rattle.expand.specs.Runs.{bytesOf, Variable}
 
 -- f is the newest entry of the name.

@@ -5,7 +5,9 @@ ghost use Rattle.bindings.specs.Log.{Logged};
 ghost use Rattle.bindings.specs.Held.{Holds};
 ghost use Rattle.lists.specs.Bytes.{eqBytes};
 ghost use Rattle.expand.specs.Runs.{expanded, bytesOf, Placed, Ready, laidAt, Written};
+ghost use Rattle.expand.specs.Digest.{digestFrom};
 
+mod digests;
 mod fronts;
 mod runs;
 
@@ -113,4 +115,19 @@ pub fn same(t: &[u8; 256], a: &[u8], b: &[u8], texts: &[u8], bind: &[u32], count
             }
         }
     }
+}
+
+// The digest of what a raw text expands to.
+pub fn digest(t: &[u8; 256], raw: &[u8], texts: &[u8], bind: &[u32], count: usize) -> usize
+    requires { ⌜ Ready (now t) (now raw) (now texts) (now bind) count 0 ⌝ }
+    ensures { λ r. ⌜ ((log : List Logged) → Holds log (now (texts .entry)) (now (bind .entry)) count → r ≡ digestFrom 0 (expanded log (now (raw .entry)))) ⌝ }
+{
+    let mut at = 0;
+    let mut h = 0;
+    while at < raw.len() {
+        let r = run_at(t, raw, at, texts, bind, count);
+        h = digests::run(raw, texts, r, h);
+        at = r.next;
+    }
+    h
 }

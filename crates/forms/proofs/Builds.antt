@@ -3,7 +3,7 @@ use Prim.Native.Nat.{ℕ, _+_, _≤_, _<_}
 use mathlib.Core.Bool.{Bool, true, false, not}
 use mathlib.Core.List.{List, [], _∷_}
 use mathlib.Core.Path.{_≡_, refl, sym, _∙_}
-use native.Mathlib.Nat.{le-refl, le-trans}
+use native.Mathlib.Nat.{le-refl}
 use native.Mathlib.Omega.{arith}
 use borrow.Author.Tests.{ne-eqb, not-true, not-false}
 use lib.Dec.{eqb}
@@ -20,6 +20,7 @@ use Rattle.forms.specs.Faults.{Fails}
 use Rattle.forms.specs.Paths.{PathsAt, ListEnds}
 use Rattle.forms.specs.Statements.{NameEnds, BarEnds, HeadAt, BuildAt}
 use Rattle.forms.proofs.Faults.{fails-then}
+use Rattle.forms.proofs.Walks.{paths-of}
 
 -- ---- bars
 
@@ -57,9 +58,6 @@ pub no-paths : (l : List ℕ) → PathsAt l (length l) []
 unfolding paths pathsUp
 no-paths l = record { within = le-refl (length l); rest = []; cut = rw (at-end l (length l) (le-refl (length l))) }
 
-pub paths-of : {l : List ℕ} {at end : ℕ} {any : Bool} (w : ListEnds l at end any) → PathsAt l at (w .raw)
-paths-of {l} {end = end} w = record { within = le-trans (w .whole .forward) (w .whole .within); rest = drop end l; cut = w .whole .cut }
-
 module _ {l : List ℕ} {h : Head} {b : BuildLine} {i : List (List ℕ)} (k : HeadAt l h b i) where
   pub inputs-at : {x : Cut Form} {p q : ℕ} {m o : List (List ℕ)} → x ≡ inputsOf b i m o → PathsAt l p m → PathsAt l q o
       → BuildAt l x (record { outs = h .outs; rule = h .rule; ins = h .ins; implicit = p; order = q })
@@ -84,28 +82,28 @@ module _ {l : List ℕ} {h : Head} {b : BuildLine} {i : List (List ℕ)} (k : He
 module _ (b : BuildLine) (i m : List (List ℕ)) where
   pub order-wrong : (s : List ℕ) {l : List ℕ} {f : Fault} → Fails l (paths s) f → Fails l (cutOrderOnly b i m s) f
   unfolding cutOrderOnly
-  order-wrong s e = fails-then e _
+  order-wrong s e = fails-then _ e
 
   module _ {l : List ℕ} {at end : ℕ} {any : Bool} (w : ListEnds l at end any) where
     pub order-more : end < length l → cutOrderOnly b i m (drop at l) ≡ fails noForm
     unfolding cutOrderOnly
-    order-more h = rw (w .whole .cut, at-cons l end h)
+    order-more h = rw (w .cut, at-cons l end h)
 
     pub order-ends : length l ≤ end → cutOrderOnly b i m (drop at l) ≡ inputsOf b i m (w .raw)
     unfolding cutOrderOnly
-    order-ends h = rw (w .whole .cut, at-end l end h)
+    order-ends h = rw (w .cut, at-end l end h)
 
 -- ---- the implicit inputs
 
 module _ (b : BuildLine) (i : List (List ℕ)) where
   pub implicit-wrong : (s : List ℕ) {l : List ℕ} {f : Fault} → Fails l (paths s) f → Fails l (afterInputs b i (oneBar s)) f
   unfolding afterInputs
-  implicit-wrong s e = fails-then e _
+  implicit-wrong s e = fails-then _ e
 
   pub implicit-are : {l : List ℕ} {at end : ℕ} {any : Bool} (w : ListEnds l at end any)
       → afterInputs b i (oneBar (drop at l)) ≡ afterImplicit b i (w .raw) (barsAt (drop end l))
   unfolding afterInputs
-  implicit-are w = rw (w .whole .cut)
+  implicit-are w = rw (w .cut)
 
 -- ---- the rule and the explicit inputs
 
@@ -116,7 +114,7 @@ headOf outs w = record { outs = outs; rule = w; ins = []; implicit = []; orderOn
 module _ (outs : List (List ℕ)) where
   pub name-wrong : (s : List ℕ) {l : List ℕ} {f : Fault} → Fails l (ruleWord (nameOf s)) f → Fails l (cutInputs outs s) f
   unfolding cutInputs
-  name-wrong s e = fails-then e _
+  name-wrong s e = fails-then _ e
 
   module _ {l : List ℕ} {from to : ℕ} (n : NameEnds l from to (ruleWord (nameOf (drop from l)))) where
     inputs-from : cutInputs outs (drop from l) ≡ then (paths (drop to l)) (λ i. afterInputs (headOf outs (part l from to)) (i .raw) (barsAt (i .rest)))
@@ -124,12 +122,12 @@ module _ (outs : List (List ℕ)) where
     inputs-from = rw (n .cut, ← (n .reads .rest))
 
     pub inputs-wrong : {f : Fault} → Fails l (paths (drop to l)) f → Fails l (cutInputs outs (drop from l)) f
-    inputs-wrong e = rw inputs-from (fails-then e _)
+    inputs-wrong e = rw inputs-from (fails-then _ e)
 
     module _ {end : ℕ} {any : Bool} (w : ListEnds l to end any) where
       pub inputs-are : cutInputs outs (drop from l) ≡ afterInputs (headOf outs (part l from to)) (w .raw) (barsAt (drop end l))
       unfolding then
-      inputs-are = inputs-from ∙ rw (w .whole .cut)
+      inputs-are = inputs-from ∙ rw (w .cut)
 
       pub head-at : {at : ℕ} → PathsAt l at outs → HeadAt l (record { outs = at; rule = from; ins = to }) (headOf outs (part l from to)) (w .raw)
       head-at p = record { ordered = n .reads .forward; rule = refl; outs = p; inputs = paths-of w }
@@ -138,12 +136,12 @@ module _ (outs : List (List ℕ)) where
 
 pub outputs-wrong : (s : List ℕ) {l : List ℕ} {f : Fault} → Fails l (paths s) f → Fails l (cutBuild s) f
 unfolding cutBuild
-outputs-wrong s e = fails-then e _
+outputs-wrong s e = fails-then _ e
 
 module _ {l : List ℕ} {at end : ℕ} {any : Bool} (w : ListEnds l at end any) where
   outputs-are : cutBuild (drop at l) ≡ afterOutputs (w .raw) (drop end l)
   unfolding cutBuild
-  outputs-are = rw (w .whole .cut)
+  outputs-are = rw (w .cut)
 
   pub outputs-end : length l ≤ end → cutBuild (drop at l) ≡ fails noForm
   unfolding afterOutputs

@@ -1,10 +1,9 @@
 -- How a fault is told, and that it stays a fault in what is cut next.
 use Prim.Native.Nat.{ℕ, _-_, _<_}
 use mathlib.Core.List.{List}
-use mathlib.Core.Path.{_≡_, sym, _∙_}
-use native.Mathlib.Omega.{arith}
+use mathlib.Core.Path.{_≡_}
 use lib.ListN.{length}
-use Rattle.rules.specs.Forms.{noForm, wrongDollar, notYet, Cut, fits, fails, then}
+use Rattle.rules.specs.Forms.{noForm, wrongDollar, notYet, Cut, fails, then}
 use Rattle.forms.specs.declared.Fault.{Fault}
 use Rattle.forms.specs.declared.Fault.the-variants.{NoForm, BadDollar, NotYet}
 use Rattle.forms.specs.Faults.{faultIn, Within, Fails}
@@ -22,10 +21,6 @@ module _ {A : Type 0} {l : List ℕ} {x : Cut A} where
   unfolding Within faultIn
   bad-dollar h e = record { within = h; cut = e }
 
-  module _ {f : Fault} (e : Fails l x f) where
-    pub fails-then : {B : Type 0} (k : A → Cut B) → Fails l (then x k) f
-    unfolding then
-    fails-then k = record { within = e .within; cut = rw (e .cut) }
-
-    pub fails-not : {a : A} → x ≡ fits a → ⊥
-    fails-not h = let z : _≡_ {A = ℕ} 0 1 = cc (sym (e .cut) ∙ h) in omega arith
+  pub fails-then : {B : Type 0} {f : Fault} (k : A → Cut B) → Fails l x f → Fails l (then x k) f
+  unfolding then
+  fails-then k e = record { within = e .within; cut = rw (e .cut) }

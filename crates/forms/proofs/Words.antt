@@ -2,7 +2,7 @@
 use Prim.Native.Nat.{ℕ, _+_, _-_, _≤_, _<_}
 use mathlib.Core.Bool.{Bool, true, false}
 use mathlib.Core.List.{List}
-use mathlib.Core.Option.{none, some}
+use mathlib.Core.Option.{none}
 use mathlib.Core.Path.{_≡_, sym, _∙_, ap}
 use native.Mathlib.Nat.{le-trans}
 use native.Mathlib.Omega.{arith}
@@ -15,30 +15,24 @@ use Rattle.rules.specs.Basics.{isEmpty}
 use Rattle.rules.specs.Bytes.{equals}
 use Rattle.rules.specs.Dollars.{badDollar}
 use Rattle.rules.specs.Lines.{isSpace}
-use Rattle.rules.specs.Forms.{Fault as Rules·Fault, noForm, Cut, fits, fails, gap, nameOf, afterName, ruleWord, keyWord, paths, checked, bindingForm, cutRule, cutDefault, rawValue, cutValue, cutBinding}
-use Rattle.scan.specs.declared.Word.{Word}
-use Rattle.scan.specs.Words.{wordCut}
+use Rattle.rules.specs.Forms.{Fault as Rules·Fault, noForm, fits, fails, gap, nameOf, afterName, ruleWord, keyWord, paths, checked, bindingForm, cutRule, cutDefault, rawValue, cutValue, cutBinding}
+use Rattle.scan.specs.Texts.{ValueBad}
 use Rattle.scan.proofs.Places.{at-cons, at-end}
-use Rattle.scan.proofs.Names.{part-name}
+use Rattle.scan.proofs.Faults.{raw-length}
 use Rattle.forms.specs.declared.Fault.{Fault}
 use Rattle.forms.specs.declared.Fault.the-variants.{BadDollar}
 use Rattle.forms.specs.Faults.{Fails}
 use Rattle.forms.specs.Paths.{ListEnds}
 use Rattle.forms.specs.Statements.{NameEnds, RuleAt, DefaultAt, BindingAt}
 use Rattle.forms.proofs.Faults.{bad-dollar, fails-then}
-use Rattle.forms.proofs.Dollars.{bad-within}
-
--- What a word is, found in the bytes of a name.
-pub word-cut : {l : List ℕ} {from to : ℕ} (f : List ℕ → Cut (List ℕ)) {r w : Word} → Reads afterName l from to
-    → wordCut (part l from to) r ≡ f (part l from to) → r ≡ w → f (nameOf (drop from l)) ≡ wordCut (part l from to) w
-word-cut {l} {from} {to} f a e q = rw (← (part-name a)) (sym e ∙ ap (wordCut (part l from to)) q)
+use Rattle.forms.proofs.Walks.{paths-of}
 
 -- ---- `rule NAME`
 
 module _ {l : List ℕ} {at from : ℕ} (g : Reads gap l at from) where
   pub rule-wrong : {f : Fault} → Fails l (ruleWord (nameOf (drop from l))) f → Fails l (cutRule (drop at l)) f
   unfolding cutRule
-  rule-wrong e = fails-then (rw (g .rest) at e) _
+  rule-wrong e = fails-then _ (rw (g .rest) at e)
 
   module _ {to end : ℕ} (n : NameEnds l from to (ruleWord (nameOf (drop from l)))) (h : Reads gap l to end) where
     pub rule-more : end < length l → cutRule (drop at l) ≡ fails noForm
@@ -58,34 +52,30 @@ module _ {l : List ℕ} {at from : ℕ} (g : Reads gap l at from) where
 
 pub default-wrong : (s : List ℕ) {l : List ℕ} {f : Fault} → Fails l (paths s) f → Fails l (cutDefault s) f
 unfolding cutDefault
-default-wrong s e = fails-then e _
+default-wrong s e = fails-then _ e
 
 module _ {l : List ℕ} {at end : ℕ} {any : Bool} (w : ListEnds l at end any) where
   pub default-none : any ≡ false → cutDefault (drop at l) ≡ fails noForm
   unfolding cutDefault
-  default-none e = rw (w .whole .cut, not-false (isEmpty (w .raw)) (sym (w .some) ∙ e))
+  default-none e = rw (w .cut, not-false (isEmpty (w .raw)) (sym (w .some) ∙ e))
 
   module _ (e : any ≡ true) where
     pub default-more : end < length l → cutDefault (drop at l) ≡ fails noForm
     unfolding cutDefault
-    default-more h = rw (w .whole .cut, not-true (isEmpty (w .raw)) (sym (w .some) ∙ e), at-cons l end h)
+    default-more h = rw (w .cut, not-true (isEmpty (w .raw)) (sym (w .some) ∙ e), at-cons l end h)
 
     pub default-ends : length l ≤ end → DefaultAt l (cutDefault (drop at l)) at
     unfolding cutDefault
     default-ends h =
         record {
           raw = w .raw;
-          stands = record { within = le-trans (w .whole .forward) (w .whole .within); rest = drop end l; cut = w .whole .cut };
-          cut = rw (w .whole .cut, not-true (isEmpty (w .raw)) (sym (w .some) ∙ e), at-end l end h);
+          stands = paths-of w;
+          cut = rw (w .cut, not-true (isEmpty (w .raw)) (sym (w .some) ∙ e), at-end l end h);
         }
 
 -- ---- `NAME = value`
 
 -- The raw value lies at the end of the line.
-raw-short : (s : List ℕ) → length (rawValue s) ≤ length s
-unfolding rawValue
-raw-short s = omega (arith, simp length-append at (ap length (run-append isSpace s)))
-
 raw-last : (s : List ℕ) → drop (length s - length (rawValue s)) s ≡ rawValue s
 unfolding rawValue
 raw-last s =
@@ -94,13 +84,16 @@ raw-last s =
 
 pub raw-at : (l : List ℕ) (k : ℕ) → k ≤ length l → drop (length l - length (rawValue (drop k l))) l ≡ rawValue (drop k l)
 raw-at l k h =
-    let n : length l - length (rawValue (drop k l)) ≡ k + (length (drop k l) - length (rawValue (drop k l))) = omega (arith, length-drop k l, raw-short (drop k l)) in
+    let n : length l - length (rawValue (drop k l)) ≡ k + (length (drop k l) - length (rawValue (drop k l))) = omega (arith, length-drop k l, raw-length (drop k l) 0) in
     rw n (sym (drop-drop _ k l) ∙ raw-last (drop k l))
 
 module _ {l : List ℕ} {to at : ℕ} (g : Reads gap l to at) where
   pub value-none : (w : List ℕ) → length l ≤ at → cutValue w (gap (drop to l)) ≡ fails noForm
   unfolding cutValue
   value-none w h = rw (← (g .rest), at-end l at h)
+
+  pub value-short : {raw : List ℕ} → raw ≡ rawValue (drop (at + 1) l) → length raw ≤ length l
+  value-short v = rw v (raw-length l (at + 1))
 
   module _ (h : at < length l) where
     pub value-other : (w : List ℕ) → (getD l at 0 ≡ equals → ⊥) → cutValue w (gap (drop to l)) ≡ fails noForm
@@ -112,24 +105,21 @@ module _ {l : List ℕ} {to at : ℕ} (g : Reads gap l to at) where
       unfolding cutValue
       value-is w = rw (← (g .rest), at-cons l at h, e, v)
 
-      pub value-short : length raw ≤ length l
-      value-short = rw v (omega (arith, raw-short (drop (at + 1) l), length-drop (at + 1) l))
-
-      pub value-sound : {from : ℕ} → from ≤ to → none ≡ badDollar raw → BindingAt l (cutValue (part l from to) (gap (drop to l))) from to (length l - length raw)
+      pub value-sound : {from : ℕ} → from ≤ to → badDollar raw ≡ none → BindingAt l (cutValue (part l from to) (gap (drop to l))) from to (length l - length raw)
       unfolding checked
       value-sound {from} o d =
           record {
             ordered = o;
             within = le-trans (g .forward) (g .within);
             starts = omega arith;
-            cut = value-is (part l from to) ∙ rw (← d, v, raw-at l (at + 1) (omega arith));
+            cut = value-is (part l from to) ∙ rw (d, v, raw-at l (at + 1) (omega arith));
           }
 
-      pub value-bad : (w : List ℕ) {p : ℕ} → some p ≡ badDollar raw → Fails l (cutValue w (gap (drop to l))) (BadDollar (length l - length raw + p))
+      pub value-bad : (w : List ℕ) {p : ℕ} → ValueBad raw p → Fails l (cutValue w (gap (drop to l))) (BadDollar (length l - length raw + p))
       unfolding checked
-      value-bad w {p} d =
-          let n : length raw - p ≡ length l - (length l - length raw + p) = omega (arith, value-short, bad-within raw (sym d)) in
-          bad-dollar (omega (arith, value-short, bad-within raw (sym d))) (value-is w ∙ rw (← d, n))
+      value-bad w {p} b =
+          let n : length raw - p ≡ length l - (length l - length raw + p) = omega (arith, value-short v, b .within) in
+          bad-dollar (omega (arith, value-short v, b .within)) (value-is w ∙ rw (b .bad, n))
 
 module _ {l : List ℕ} {from to : ℕ} (a : Reads afterName l from to) where
   pub binding-key : keyWord (nameOf (drop from l)) ≡ fits (part l from to) → cutBinding (drop from l) ≡ cutValue (part l from to) (gap (drop to l))

@@ -89,13 +89,6 @@ pub fn cut_indented(t: &[u8; 256], l: &[u8]) -> Assignment
     cut_binding(t, l, from, to)
 }
 
-// What stands next in a list of paths.
-pub enum Item {
-    Path(usize, usize),
-    End(usize),
-    Wrong(Fault),
-}
-
 // A list of paths: whether it has any, and where it ends.
 pub enum Listed {
     Ends(bool, usize),

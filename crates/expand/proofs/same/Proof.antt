@@ -28,7 +28,9 @@ enum-told : tie.Need-enum-told Inv-loop μ-loop
 enum-told c = search needs
 
 returns : tie.Need-returns Inv-loop μ-loop
-returns c = match-differ (c .before .before .before .before .before .loop .inv) (c .before .before .before .before .filled .ensures) (c .before .before .before .filled2 .ensures) (c .before .before .runs-ahead .ensures) (c .enum-told .given .1)
+returns c =
+    let a = c .before .before in
+    match-differ (a .before .before .before .loop .inv) (a .before .before .filled .ensures) (a .before .filled2 .ensures) (a .runs-ahead .ensures) (c .enum-told .given .1)
 
 enum-known-n : tie.Need-enum-known-n Inv-loop μ-loop
 enum-known-n c = search needs
@@ -40,19 +42,29 @@ sub-result-2 : tie.Need-sub-result-2 Inv-loop μ-loop
 sub-result-2 c = search needs
 
 returns-2 : tie.Need-returns-2 Inv-loop μ-loop
-returns-2 c = match-end (c .before .before .before .before .before .before .before .before .before .loop .inv) (c .before .before .before .before .before .before .before .before .filled .ensures) (c .before .before .before .before .before .before .before .filled2 .ensures) (c .before .before .before .before .before .before .runs-ahead .ensures) (c .before .before .before .before .n .given .1) (c .before .before .if1 .taken)
+returns-2 c =
+    let a = c .before .before .before .before .before .before in
+    match-end (a .before .before .before .loop .inv) (a .before .before .filled .ensures) (a .before .filled2 .ensures) (a .runs-ahead .ensures) (c .before .before .before .before .n .given .1) (c .before .before .if1 .taken)
 
 add-x : tie.Need-add-x Inv-loop μ-loop
-add-x c = omega (arith, shorter (c .before .before .before .before .before .before .before .before .loop .inv) (c .before .before .before .before .before .before .before .filled .ensures) (c .before .before .before .before .before .before .filled2 .ensures) (c .before .before .before .before .before .runs-ahead .ensures) (c .before .before .before .n .given .1), c .struct-known3 .given, c .before .before .before .before .before .before .before .filled .ensures .placed)
+add-x c =
+    let a = c .before .before .before .before .before in
+    omega (arith, shorter (a .before .before .before .loop .inv) (a .before .before .filled .ensures) (a .before .filled2 .ensures) (a .runs-ahead .ensures) (c .before .before .before .n .given .1), c .struct-known3 .given, a .before .before .filled .ensures .placed)
 
 add-y : tie.Need-add-y Inv-loop μ-loop
-add-y c = omega (arith, shorter (c .before .before .before .before .before .before .before .before .before .loop .inv) (c .before .before .before .before .before .before .before .before .filled .ensures) (c .before .before .before .before .before .before .before .filled2 .ensures) (c .before .before .before .before .before .before .runs-ahead .ensures) (c .before .before .before .before .n .given .1), c .struct-known4 .given, c .before .before .before .before .before .before .before .filled2 .ensures .placed)
+add-y c =
+    let a = c .before .before .before .before .before .before in
+    omega (arith, shorter (a .before .before .before .loop .inv) (a .before .before .filled .ensures) (a .before .filled2 .ensures) (a .runs-ahead .ensures) (c .before .before .before .before .n .given .1), c .struct-known4 .given, a .before .filled2 .ensures .placed)
 
 loop-less : tie.Need-loop-less Inv-loop μ-loop
-loop-less c = match-less (c .before .before .before .before .before .before .before .before .before .loop .inv) (c .before .before .before .before .before .before .before .before .filled .ensures) (c .before .before .before .before .before .before .before .filled2 .ensures) (c .before .before .before .before .before .before .runs-ahead .ensures) (c .before .before .before .before .n .given .1) (c .before .before .if1 .left)
+loop-less c =
+    let a = c .before .before .before .before .before .before in
+    match-less (a .before .before .before .loop .inv) (a .before .before .filled .ensures) (a .before .filled2 .ensures) (a .runs-ahead .ensures) (c .before .before .before .before .n .given .1) (c .before .before .if1 .left)
 
 loop-again : tie.Need-loop-again Inv-loop μ-loop
-loop-again c = match-on (c .before .before .before .before .before .before .before .before .before .loop .inv) (c .before .before .before .before .before .before .before .before .filled .ensures) (c .before .before .before .before .before .before .before .filled2 .ensures) (c .before .before .before .before .before .before .runs-ahead .ensures) (c .before .before .before .before .n .given .1)
+loop-again c =
+    let a = c .before .before .before .before .before .before in
+    match-on (a .before .before .before .loop .inv) (a .before .before .filled .ensures) (a .before .filled2 .ensures) (a .runs-ahead .ensures) (c .before .before .before .before .n .given .1)
 
 pub same-spec : {M : Type 1} → statement M
 same-spec =

@@ -5,7 +5,8 @@ use borrow.Author.Needs.{needs}
 use Rattle.forms.specs.Paths.{ListEnds, ListedAt}
 use Rattle.forms.specs.Statements.{StatementAt}
 use Rattle.forms.proofs.Faults.{no-form}
-use Rattle.forms.proofs.Builds.{paths-of, outputs-wrong, outputs-end, outputs-other, outputs-none, outputs-some}
+use Rattle.forms.proofs.Walks.{paths-of}
+use Rattle.forms.proofs.Builds.{outputs-wrong, outputs-end, outputs-other, outputs-none, outputs-some}
 use Rattle.forms.proofs.build.cut_build.Statement.{statement}
 use Rattle.forms.proofs.build.cut_build.Tie as tie
 

@@ -26,7 +26,7 @@ after-inputs-requires : tie.Need-after-inputs-requires
 unfolding ListedAt
 after-inputs-requires c κs =
     let w : ListEnds _ _ _ _ = subst (ListedAt _ _) (c .before .end .given .1) (c .before .before .before .listed .ensures) in
-    (search needs, w .whole .within)
+    (search needs, w .within)
 
 enum-known-f : tie.Need-enum-known-f
 enum-known-f c = search needs

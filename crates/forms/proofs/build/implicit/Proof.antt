@@ -3,7 +3,8 @@ use mathlib.Core.Path.{subst}
 use borrow.Author.Needs.{needs}
 use Rattle.forms.specs.Paths.{ListEnds, ListedAt}
 use Rattle.forms.specs.Statements.{StatementAt}
-use Rattle.forms.proofs.Builds.{paths-of, implicit-wrong, implicit-are}
+use Rattle.forms.proofs.Walks.{paths-of}
+use Rattle.forms.proofs.Builds.{implicit-wrong, implicit-are}
 use Rattle.forms.proofs.build.implicit.Statement.{statement}
 use Rattle.forms.proofs.build.implicit.Tie as tie
 
@@ -17,7 +18,7 @@ after-implicit-requires : tie.Need-after-implicit-requires
 unfolding ListedAt
 after-implicit-requires c κs =
     let w : ListEnds _ _ _ _ = subst (ListedAt _ _) (c .before .end .given .1) (c .before .before .before .listed .ensures) in
-    (search needs, w .whole .within)
+    (search needs, w .within)
 
 enum-known-f : tie.Need-enum-known-f
 enum-known-f c = search needs

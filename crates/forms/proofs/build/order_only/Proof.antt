@@ -4,7 +4,8 @@ use borrow.Author.Needs.{needs}
 use Rattle.forms.specs.Paths.{ListEnds, ListedAt}
 use Rattle.forms.specs.Statements.{StatementAt}
 use Rattle.forms.proofs.Faults.{no-form}
-use Rattle.forms.proofs.Builds.{paths-of, inputs-at, order-wrong, order-more, order-ends}
+use Rattle.forms.proofs.Walks.{paths-of}
+use Rattle.forms.proofs.Builds.{inputs-at, order-wrong, order-more, order-ends}
 use Rattle.forms.proofs.build.order_only.Statement.{statement}
 use Rattle.forms.proofs.build.order_only.Tie as tie
 

@@ -1,10 +1,12 @@
 -- `forms::names::cut_binding` meets its contract.
+use mathlib.Core.Path.{_∙_, ap}
 use borrow.Author.Needs.{needs}
 use Rattle.rules.specs.Forms.{keyWord}
-use Rattle.scan.specs.Words.{wordCut}
+use Rattle.scan.proofs.Answers.{word-name, word-no-form, word-not-yet}
+use Rattle.scan.proofs.Names.{part-name}
 use Rattle.forms.specs.Statements.{AssignmentAt}
 use Rattle.forms.proofs.Faults.{no-form, not-yet}
-use Rattle.forms.proofs.Words.{word-cut, binding-key, binding-wrong}
+use Rattle.forms.proofs.Words.{binding-key, binding-wrong}
 use Rattle.forms.proofs.names.cut_binding.Statement.{statement}
 use Rattle.forms.proofs.names.cut_binding.Tie as tie
 
@@ -33,16 +35,17 @@ enum-told-3 : tie.Need-enum-told-3
 enum-told-3 c = search needs
 
 returns : tie.Need-returns
-unfolding wordCut
-returns c = rw (binding-key (c .before .before .before .before .before .before .pre .1) (word-cut keyWord (c .before .before .before .before .before .before .pre .1) (c .before .before .before .key-word .ensures) (c .before .enum-told .given .1))) (c .cut-value .ensures)
+returns c =
+    rw (binding-key (c .before .before .before .before .before .before .pre .1) (word-name _ _ (c .before .before .before .key-word .ensures ∙ ap keyWord (part-name (c .before .before .before .before .before .before .pre .1))) (c .before .enum-told .given .1)))
+    (c .cut-value .ensures)
 
 returns-2 : tie.Need-returns-2
-unfolding AssignmentAt wordCut
-returns-2 c = no-form (binding-wrong _ (word-cut keyWord (c .before .before .before .before .before .pre .1) (c .before .before .key-word .ensures) (c .enum-told2 .given .1)))
+unfolding AssignmentAt
+returns-2 c = no-form (binding-wrong _ (word-no-form _ _ (c .before .before .key-word .ensures ∙ ap keyWord (part-name (c .before .before .before .before .before .pre .1))) (c .enum-told2 .given .1)))
 
 returns-3 : tie.Need-returns-3
-unfolding AssignmentAt wordCut
-returns-3 c = not-yet (binding-wrong _ (word-cut keyWord (c .before .before .before .before .before .pre .1) (c .before .before .key-word .ensures) (c .enum-told3 .given .1)))
+unfolding AssignmentAt
+returns-3 c = not-yet (binding-wrong _ (word-not-yet _ _ (c .before .before .key-word .ensures ∙ ap keyWord (part-name (c .before .before .before .before .before .pre .1))) (c .enum-told3 .given .1)))
 
 pub cut-binding-spec : {M : Type 1} → statement M
 cut-binding-spec =

@@ -1,8 +1,8 @@
 -- `forms::names::cut_value` meets its contract.
-use mathlib.Core.Path.{sym}
+use mathlib.Core.Path.{subst}
 use native.Mathlib.Omega.{arith}
 use borrow.Author.Needs.{needs}
-use Rattle.scan.proofs.Answers.{value-sound as sound-value, value-bad as bad-value}
+use Rattle.scan.specs.Texts.{ValueBad, ValueAt}
 use Rattle.forms.specs.Statements.{AssignmentAt}
 use Rattle.forms.proofs.Faults.{no-form}
 use Rattle.forms.proofs.Words.{value-none, value-other, value-short, value-sound, value-bad}
@@ -30,7 +30,7 @@ raw-value-requires : tie.Need-raw-value-requires
 raw-value-requires c κs = search needs
 
 sub-start : tie.Need-sub-start
-sub-start c = value-short (c .before .before .before .before .gap .ensures) (c .before .before .before .if1 .left) (c .before .if2 .left) (c .raw-value .ensures)
+sub-start c = value-short (c .before .before .before .before .gap .ensures) (c .raw-value .ensures)
 
 bad-dollar-requires : tie.Need-bad-dollar-requires
 bad-dollar-requires c κs = search needs
@@ -42,20 +42,18 @@ enum-known-p : tie.Need-enum-known-p
 enum-known-p c = search needs
 
 add-t18 : tie.Need-add-t18
+unfolding ValueAt
 add-t18 c =
-    omega (
-      arith,
-      value-short (c .before .before .before .before .before .before .before .before .gap .ensures) (c .before .before .before .before .before .before .before .if1 .left) (c .before .before .before .before .before .if2 .left) (c .before .before .before .before .raw-value .ensures),
-      bad-value _ _ (c .before .before .before .bad-dollar .ensures) (c .before .p .given .1) .within,
-    )
+    let b : ValueBad _ _ = subst (ValueAt _) (c .before .p .given .1) (c .before .before .before .bad-dollar .ensures) in
+    omega (arith, value-short (c .before .before .before .before .before .before .before .before .gap .ensures) (c .before .before .before .before .raw-value .ensures), b .within)
 
 returns-3 : tie.Need-returns-3
-unfolding AssignmentAt
-returns-3 c = value-sound (c .before .before .before .before .before .before .before .gap .ensures) (c .before .before .before .before .before .before .if1 .left) (c .before .before .before .before .if2 .left) (c .before .before .before .raw-value .ensures) (c .before .before .before .before .before .before .before .before .before .pre .1) (sym (sound-value _ _ (c .before .before .bad-dollar .ensures) (c .enum-told .given .1)))
+unfolding AssignmentAt ValueAt
+returns-3 c = value-sound (c .before .before .before .before .before .before .before .gap .ensures) (c .before .before .before .before .before .before .if1 .left) (c .before .before .before .before .if2 .left) (c .before .before .before .raw-value .ensures) (c .before .before .before .before .before .before .before .before .before .pre .1) (subst (ValueAt _) (c .enum-told .given .1) (c .before .before .bad-dollar .ensures))
 
 returns-4 : tie.Need-returns-4
-unfolding AssignmentAt
-returns-4 c = value-bad (c .before .before .before .before .before .before .before .before .gap .ensures) (c .before .before .before .before .before .before .before .if1 .left) (c .before .before .before .before .before .if2 .left) (c .before .before .before .before .raw-value .ensures) _ (sym (bad-value _ _ (c .before .before .before .bad-dollar .ensures) (c .before .p .given .1) .bad))
+unfolding AssignmentAt ValueAt
+returns-4 c = value-bad (c .before .before .before .before .before .before .before .before .gap .ensures) (c .before .before .before .before .before .before .before .if1 .left) (c .before .before .before .before .before .if2 .left) (c .before .before .before .before .raw-value .ensures) _ (subst (ValueAt _) (c .before .p .given .1) (c .before .before .before .bad-dollar .ensures))
 
 pub cut-value-spec : {M : Type 1} → statement M
 cut-value-spec =

@@ -1,10 +1,11 @@
 -- `forms::names::rule_name` meets its contract.
+use mathlib.Core.Path.{_∙_, ap}
 use borrow.Author.Needs.{needs}
 use Rattle.rules.specs.Forms.{ruleWord}
-use Rattle.scan.specs.Words.{wordCut}
+use Rattle.scan.proofs.Answers.{word-name, word-no-form, word-not-yet}
+use Rattle.scan.proofs.Names.{part-name}
 use Rattle.forms.specs.Statements.{NamedAt}
 use Rattle.forms.proofs.Faults.{no-form, not-yet}
-use Rattle.forms.proofs.Words.{word-cut}
 use Rattle.forms.proofs.names.rule_name.Statement.{statement}
 use Rattle.forms.proofs.names.rule_name.Tie as tie
 
@@ -33,16 +34,20 @@ enum-told-3 : tie.Need-enum-told-3
 enum-told-3 c = search needs
 
 returns : tie.Need-returns
-unfolding NamedAt wordCut
-returns c = record { reads = c .before .before .before .before .name .ensures; cut = word-cut ruleWord (c .before .before .before .before .name .ensures) (c .before .before .rule-word .ensures) (c .enum-told .given .1) }
+unfolding NamedAt
+returns c =
+    record {
+      reads = c .before .before .before .before .name .ensures;
+      cut = word-name _ _ (c .before .before .rule-word .ensures ∙ ap ruleWord (part-name (c .before .before .before .before .name .ensures))) (c .enum-told .given .1);
+    }
 
 returns-2 : tie.Need-returns-2
-unfolding NamedAt wordCut
-returns-2 c = no-form (word-cut ruleWord (c .before .before .before .before .name .ensures) (c .before .before .rule-word .ensures) (c .enum-told2 .given .1))
+unfolding NamedAt
+returns-2 c = no-form (word-no-form _ _ (c .before .before .rule-word .ensures ∙ ap ruleWord (part-name (c .before .before .before .before .name .ensures))) (c .enum-told2 .given .1))
 
 returns-3 : tie.Need-returns-3
-unfolding NamedAt wordCut
-returns-3 c = not-yet (word-cut ruleWord (c .before .before .before .before .name .ensures) (c .before .before .rule-word .ensures) (c .enum-told3 .given .1))
+unfolding NamedAt
+returns-3 c = not-yet (word-not-yet _ _ (c .before .before .rule-word .ensures ∙ ap ruleWord (part-name (c .before .before .before .before .name .ensures))) (c .enum-told3 .given .1))
 
 pub rule-name-spec : {M : Type 1} → statement M
 rule-name-spec =

@@ -1,0 +1,3 @@
+pub mod Bare
+pub mod Lift
+pub mod Grow
