@@ -1,3 +1,4 @@
 pub mod Bare
 pub mod Lift
 pub mod Grow
+pub mod Agreement

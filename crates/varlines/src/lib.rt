@@ -79,10 +79,10 @@ pub fn add_to_block(
     requires { ⌜ Asks (now t) (now raw) (now texts) (now bind) (now word) c Open.Step ⌝ }
     ensures { λ r. ⌜ Meets (now (texts .entry)) (now (bind .entry)) c Open.Step (λ rd b. blockLine start b (now (name .entry)) (now (raw .entry)) rd) (now (texts .exit)) (now (bind .exit)) r ⌝ }
 {
-    let n = expand(t, raw, texts, bind, c.entries, word);
-    if over(name.len(), n, c) {
+    let len = expand(t, raw, texts, bind, c.entries, word);
+    if over(name.len(), len, c) {
         return LineAnswer::Refused(Refusal::OverLimit(start));
     }
-    let d = put(texts, bind, c, 3 + 2 * (c.steps - 1), name, &word[..n]);
+    let d = put(texts, bind, c, 3 + 2 * (c.steps - 1), name, &word[..len]);
     LineAnswer::Goes(d, Open::Step)
 }
