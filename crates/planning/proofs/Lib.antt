@@ -1,2 +1,3 @@
 pub mod Missing
 pub mod Outcomes
+pub mod Choosing
