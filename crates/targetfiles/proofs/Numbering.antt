@@ -5,9 +5,11 @@ use mathlib.Core.List.{List, [], _∷_, _++_}
 use mathlib.Core.Option.{some}
 use mathlib.Core.Path.{_≡_, refl, sym, _∙_, ap, subst}
 use native.Mathlib.Numerals.{add-one}
+use native.Mathlib.Decide.{decLt}
+use native.Mathlib.Nat.{not-suc-le-zero}
 use native.Mathlib.Omega.{arith}
-use lib.ListN.{length, take, set, length-set, length-append}
-use lib.Seq.{length-take-le, take-suc-set}
+use lib.ListN.{length, take, getD, set, length-set, length-append}
+use lib.Seq.{length-take-le, take-suc-set, getD-set-same, getD-set-other}
 use Rattle.lists.specs.Tests.{ifB, split}
 use Rattle.lists.specs.Parts.{part}
 use Rattle.rules.specs.Basics.{among}
@@ -33,6 +35,7 @@ pub record Walked (targets names ends : List ℕ) (count : ℕ) (start : List �
   pub within : from ≤ length targets
   pub short : length targets ≤ maxTargets
   pub few : n + n ≤ from
+  pub low : (i : ℕ) → i < n → getD out i 0 < count
   pub walks : (files : List (List ℕ)) → Holds names ends count files → Walking files targets from (take n out)
 
 module _ {targets names ends : List ℕ} {count : ℕ} where
@@ -42,7 +45,7 @@ module _ {targets names ends : List ℕ} {count : ℕ} where
   pub begin : {out : List ℕ} → Asked names ends count out → malformed targets ≡ false → Walked targets names ends count out 0 0 out
   begin a h =
       let w = walk-begin [] targets h in
-      record { same = refl; named = a .named; room = a .room; within = w .within; short = w .short; few = omega arith; walks = λ files d. walk-begin files targets h }
+      record { same = refl; named = a .named; room = a .room; within = w .within; short = w .short; few = omega arith; low = λ i b. absurd (not-suc-le-zero b); walks = λ files d. walk-begin files targets h }
 
   module _ {from n : ℕ} {start out : List ℕ} (w : Walked targets names ends count start from n out) {r : Next} (a : r ≡ nextIn (namesFrom targets from)) where
     pub ended : r ≡ End → NumbersTargets targets names ends count out (All n)
@@ -52,7 +55,7 @@ module _ {targets names ends : List ℕ} {count : ℕ} where
           says = λ files d.
               let (g, h) = walk-end (w .walks files d) a e in
               let k : n ≤ length out = omega (arith, w .room, w .few, w .within, w .short) in
-              record { good = g; within = k; counted = sym (ap length h ∙ length-take-le n out k); numbers = sym h };
+              record { good = g; within = k; counted = sym (ap length h ∙ length-take-le n out k); numbers = sym h; low = rw (← d .counted) (w .low) };
         }
 
     pub bad : r ≡ BadName → NumbersTargets targets names ends count out (Bad from)
@@ -69,6 +72,14 @@ module _ {targets names ends : List ℕ} {count : ℕ} where
         pub unknown : x ≡ Missing → NumbersTargets targets names ends count out (Bad from)
         unknown m = record { says = λ files d. walk-missing (w .walks files d) a e (find-missing f d m) }
 
+        below : {k : ℕ} → x ≡ At k → k < count
+        below m =
+            let (i, j, k) = find-at f (w .named .holds) m in
+            k
+
+        there : n < length out
+        there = omega (arith, w .room, w .few, w .within, w .short, turn .some, turn .within)
+
         pub known : {k : ℕ} → x ≡ At k → k < 2 ^ 32
         known m =
             let h = w .named .holds in
@@ -84,8 +95,12 @@ module _ {targets names ends : List ℕ} {count : ℕ} where
               within = omega (arith, turn .within);
               short = w .short;
               few = omega (arith, w .few, turn .some);
+              low = λ i b. elim (decLt i n) [
+                | yes e ↦ rw (getD-set-other out n i k 0 (λ (q : i ≡ n). omega (arith, q, e))) (w .low i e)
+                | no e ↦ (let q : i ≡ n = omega arith in rw (q, getD-set-same out n k 0 there) (below m))
+              ];
               walks = λ files d.
                   let (h, i, j) = find-at f d m in
-                  let q : take (n + 1) (set out n k) ≡ take n out ++ (numberOf (part targets from end) files ∷ []) = rw (add-one n, ← i) (take-suc-set out n k (omega (arith, w .room, w .few, w .within, w .short, turn .some, turn .within))) in
+                  let q : take (n + 1) (set out n k) ≡ take n out ++ (numberOf (part targets from end) files ∷ []) = rw (add-one n, ← i) (take-suc-set out n k there) in
                   rw q (walk-more (w .walks files d) a e h);
             }

@@ -1,9 +1,9 @@
 -- What the numbers of a target list are held to.
-use Prim.Native.Nat.{ℕ, _≤_}
+use Prim.Native.Nat.{ℕ, _≤_, _<_}
 use mathlib.Core.List.{List, map}
 use mathlib.Core.Option.{none, some}
 use mathlib.Core.Path.{_≡_}
-use lib.ListN.{length, take}
+use lib.ListN.{length, take, getD}
 use Rattle.rules.specs.Limits.{maxTargets}
 use Rattle.rules.specs.Reading.{numberOf}
 use Rattle.rules.specs.Targets.{Target, targetsOf, badTarget}
@@ -27,6 +27,7 @@ pub record Numbers (targets out : List ℕ) (files : List (List ℕ)) (n : ℕ) 
   pub within : n ≤ length out
   pub counted : n ≡ length (numbersOf files targets)
   pub numbers : take n out ≡ numbersOf files targets
+  pub low : (i : ℕ) → i < n → getD out i 0 < length files
 
 abbrev pub Says : List ℕ → List ℕ → List (List ℕ) → Numbered → Type 0
 Says targets out files (All n) = Numbers targets out files n
