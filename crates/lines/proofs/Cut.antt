@@ -2,15 +2,16 @@
 use Prim.Native.Nat.{ℕ, _+_, _-_, _≤_, _<_}
 use mathlib.Core.Bool.{true, false}
 use mathlib.Core.List.{List}
-use mathlib.Core.Path.{_≡_, ap}
+use mathlib.Core.Path.{_≡_, subst, ap}
 use native.Mathlib.Omega.{arith}
 use lib.ListN.{length}
 use Rattle.lists.specs.Parts.{part, part-to-end}
 use Rattle.lists.specs.Text.{bytes}
+use Rattle.rules.specs.declared.Refusal.{Refusal}
 use Rattle.rules.specs.declared.Refusal.the-variants.{BadLine}
 use Rattle.rules.specs.Limits.{maxManifest}
 use Rattle.rules.specs.Lines.{Line}
-use Rattle.rules.specs.Forms.{Cut, fits, Form}
+use Rattle.rules.specs.Forms.{cutIndented, Cut, fits, Form}
 use Rattle.rules.specs.Statements.{refused}
 use Rattle.rules.specs.Manifest.{faultOf, ifCut}
 use Rattle.scan.specs.Endings.{LineEnded, LineOpen}
@@ -20,7 +21,9 @@ use Rattle.forms.specs.declared.Fault.{Fault}
 use Rattle.forms.specs.declared.Fault.the-variants.{NoForm, BadDollar, NotYet}
 use Rattle.forms.specs.Faults.{faultIn, Within, Fails}
 use Rattle.forms.specs.Statements.{BindingAt}
-use Rattle.lines.specs.Cuts.{LineSpan, refusalOf, Near, Wrong, SoundBinding}
+use Rattle.lines.specs.Cuts.{LineSpan, refusalOf, Near, Wrong, SoundBinding, BlockLineAt}
+use Rattle.lines.specs.declared.BlockLine.{BlockLine}
+use Rattle.lines.specs.declared.BlockLine.the-variants.{Binding as Setting, Refused as NoSetting}
 use Rattle.lines.proofs.Dollars.{Sound}
 
 -- ---- where a line lies
@@ -67,3 +70,14 @@ module _ (l : Line) {x : Cut Form} where
 
   pub line-binds : {from to at : ℕ} → Sound x → BindingAt (l .text) x from to at → l .ended ≡ true → SoundBinding l x from to at
   line-binds d b e = record { ended = e; places = b; dollars = d .dollars _ _ (b .cut) }
+
+-- ---- by the answer
+
+module _ (l : Line) where
+  pub setting-told : {x : BlockLine} {from to at : ℕ} → BlockLineAt l x → x ≡ Setting from to at → SoundBinding l (cutIndented (l .text)) from to at
+  unfolding BlockLineAt
+  setting-told a e = subst (BlockLineAt l) e a
+
+  pub wrong-told : {x : BlockLine} {r : Refusal} → BlockLineAt l x → x ≡ NoSetting r → Wrong l (cutIndented (l .text)) r
+  unfolding BlockLineAt
+  wrong-told a e = subst (BlockLineAt l) e a
