@@ -88,7 +88,7 @@ pub fn read_indented(
 {
     match block {
         Open::Nothing => LineAnswer::Refused(Refusal::BadLine(start)),
-        Open::Rule(head, entry) => { read_key(t, start, l, ended, head, entry, texts, bind, c) }
+        Open::Rule(head, entry) => read_key(t, start, l, ended, head, entry, texts, bind, c),
         Open::Step => read_setting(t, start, l, ended, texts, bind, word, c),
     }
 }
