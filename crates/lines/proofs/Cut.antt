@@ -11,7 +11,7 @@ use Rattle.rules.specs.declared.Refusal.{Refusal}
 use Rattle.rules.specs.declared.Refusal.the-variants.{BadLine}
 use Rattle.rules.specs.Limits.{maxManifest}
 use Rattle.rules.specs.Lines.{Line}
-use Rattle.rules.specs.Forms.{cutIndented, Cut, fits, Form}
+use Rattle.rules.specs.Forms.{cutStatement, cutIndented, Cut, fits, Form}
 use Rattle.rules.specs.Statements.{refused}
 use Rattle.rules.specs.Manifest.{faultOf, ifCut}
 use Rattle.scan.specs.Endings.{LineEnded, LineOpen}
@@ -20,8 +20,11 @@ use Rattle.scan.proofs.Faults.{fault-place}
 use Rattle.forms.specs.declared.Fault.{Fault}
 use Rattle.forms.specs.declared.Fault.the-variants.{NoForm, BadDollar, NotYet}
 use Rattle.forms.specs.Faults.{faultIn, Within, Fails}
-use Rattle.forms.specs.Statements.{BindingAt}
-use Rattle.lines.specs.Cuts.{LineSpan, refusalOf, Near, Wrong, SoundBinding, BlockLineAt}
+use Rattle.forms.specs.declared.BuildPlaces.{BuildPlaces}
+use Rattle.forms.specs.Statements.{RuleAt, BuildAt, DefaultAt, BindingAt}
+use Rattle.lines.specs.Cuts.{LineSpan, refusalOf, Near, Wrong, SoundBinding, FileLineAt, BlockLineAt}
+use Rattle.lines.specs.declared.FileLine.{FileLine}
+use Rattle.lines.specs.declared.FileLine.the-variants.{Rule, Build, Default, Binding, Refused}
 use Rattle.lines.specs.declared.BlockLine.{BlockLine}
 use Rattle.lines.specs.declared.BlockLine.the-variants.{Binding as Setting, Refused as NoSetting}
 use Rattle.lines.proofs.Dollars.{Sound}
@@ -81,3 +84,23 @@ module _ (l : Line) where
   pub wrong-told : {x : BlockLine} {r : Refusal} → BlockLineAt l x → x ≡ NoSetting r → Wrong l (cutIndented (l .text)) r
   unfolding BlockLineAt
   wrong-told a e = subst (BlockLineAt l) e a
+
+  pub rule-told : {x : FileLine} {from to : ℕ} → FileLineAt l x → x ≡ Rule from to → (l .ended ≡ true) × RuleAt (l .text) (cutStatement (l .text)) from to
+  unfolding FileLineAt
+  rule-told a e = subst (FileLineAt l) e a
+
+  pub build-told : {x : FileLine} {p : BuildPlaces} → FileLineAt l x → x ≡ Build p → (l .ended ≡ true) × BuildAt (l .text) (cutStatement (l .text)) p
+  unfolding FileLineAt
+  build-told a e = subst (FileLineAt l) e a
+
+  pub default-told : {x : FileLine} {at : ℕ} → FileLineAt l x → x ≡ Default at → (l .ended ≡ true) × DefaultAt (l .text) (cutStatement (l .text)) at
+  unfolding FileLineAt
+  default-told a e = subst (FileLineAt l) e a
+
+  pub binding-told : {x : FileLine} {from to at : ℕ} → FileLineAt l x → x ≡ Binding from to at → SoundBinding l (cutStatement (l .text)) from to at
+  unfolding FileLineAt
+  binding-told a e = subst (FileLineAt l) e a
+
+  pub refused-told : {x : FileLine} {r : Refusal} → FileLineAt l x → x ≡ Refused r → Wrong l (cutStatement (l .text)) r
+  unfolding FileLineAt
+  refused-told a e = subst (FileLineAt l) e a
