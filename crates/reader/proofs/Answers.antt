@@ -1,7 +1,7 @@
 -- The whole manifest: 2, 3, and what its lines answer.
 use Prim.Native.Nat.{ℕ, _≤_, _<_}
 use mathlib.Core.List.{List, [], _∷_}
-use mathlib.Core.Path.{_≡_, sym, _∙_, ap}
+use mathlib.Core.Path.{subst, _≡_, sym, _∙_, ap}
 use borrow.Author.Tests.{lt-ltb, le-ltb}
 use lib.ListN.{length}
 use Rattle.rules.specs.declared.Refusal.{Refusal}
@@ -21,7 +21,9 @@ use Rattle.held.specs.declared.LineAnswer.the-variants.{Goes, Refused}
 use Rattle.held.specs.Held.{joined}
 use Rattle.held.proofs.Agreement.{agreed-on, agreed-refused}
 use Rattle.filelines.proofs.Outcomes.{close-none}
-use Rattle.reader.specs.Manifests.{Roomy, LinesAsk, LinesRead, Held}
+use Rattle.reader.specs.Manifests.{Roomy, LinesAsk, LinesRead, Held, IsRead}
+use Rattle.reader.specs.declared.ReadAnswer.{ReadAnswer}
+use Rattle.reader.specs.declared.ReadAnswer.the-variants.{Accepted, Refused as NotRead}
 
 -- ---- the end of the manifest closes a block
 
@@ -66,3 +68,14 @@ module _ (m : List ℕ) (f : FirstBad) (h : length m ≤ maxManifest) (e : place
 pub lines-ask : {t m names fileEnds texts bind graph word : List ℕ} → Roomy t names fileEnds texts bind graph word → length m ≤ maxManifest
     → LinesAsk t m names fileEnds texts bind graph word
 lines-ask a h = record { short = h; roomy = a }
+
+-- ---- by the answer
+
+module _ (m names fileEnds texts bind graph : List ℕ) {x : ReadAnswer} (a : IsRead m names fileEnds texts bind graph x) where
+  pub read-accepted : {c : Counts} → x ≡ Accepted c → Held m names fileEnds texts bind graph c
+  unfolding IsRead
+  read-accepted e = subst (IsRead m names fileEnds texts bind graph) e a
+
+  pub read-refused : {r : Refusal} → x ≡ NotRead r → readManifest m ≡ refusedWith r
+  unfolding IsRead
+  read-refused e = subst (IsRead m names fileEnds texts bind graph) e a
