@@ -1,0 +1,92 @@
+// The pass over a line's paths that changes nothing: which are empty, which are outputs of earlier steps, whether two outputs are equal.
+ghost use mathlib.Core.Path.{_≡_};
+ghost use mathlib.Core.List.{List};
+ghost use Rattle.rules.specs.Basics.{isEmpty};
+ghost use Rattle.rules.specs.Reading.{Reading, isMade};
+ghost use Rattle.bindings.specs.Log.{Logged};
+ghost use Rattle.expand.specs.Runs.{Ready};
+ghost use Rattle.held.specs.Held.{Bound, Holds};
+ghost use Rattle.outputs.specs.Asks.{pathOf, Filed, Files, ListAsks, MadeAsks, PathAsks, AnyPath};
+use expand::expand;
+use forms::Next;
+use forms::paths::next_path;
+use held::Counts;
+use lists::words::at;
+use names::Found;
+use names::find;
+
+fn is_empty(
+    t: &[u8; 256],
+    raw: &[u8],
+    texts: &[u8],
+    bind: &[u32],
+    c: Counts,
+    word: &mut [u8],
+) -> bool
+    requires { ⌜ Ready (now t) (now raw) (now texts) (now bind) (c .entries) 0 ⌝ }
+    ensures { λ r. ⌜ ((log : List Logged) (rd : Reading) → Bound log (now (texts .entry)) (now (bind .entry)) c rd → r ≡ isEmpty (pathOf rd (now (raw .entry)))) ⌝ }
+{
+    expand(t, raw, texts, bind, c.entries, word) == 0
+}
+
+// "empty path" (8)
+pub fn has_empty(
+    t: &[u8; 256],
+    l: &[u8],
+    start: usize,
+    texts: &[u8],
+    bind: &[u32],
+    c: Counts,
+    word: &mut [u8],
+) -> bool
+    requires { ⌜ ListAsks (now t) (now l) (now texts) (now bind) (c .entries) start ⌝ }
+    ensures { λ r. ⌜ AnyPath (λ log rd. Bound log (now (texts .entry)) (now (bind .entry)) c rd) (λ rd raw. isEmpty (pathOf rd raw)) (now (l .entry)) start r ⌝ }
+{
+    let mut i = start;
+    loop {
+        match next_path(t, l, i) {
+            Next::Path(from, to) => {
+                if is_empty(t, &l[from..to], texts, bind, c, word) {
+                    return true;
+                }
+                i = to;
+            }
+            Next::Stop => {
+                return false;
+            }
+        }
+    }
+}
+
+// Whether a path is the output of an earlier step: its entry among the makers is not 0.
+fn is_output(names: &[u8], ends: &[u32], graph: &[u32], c: Counts, path: &[u8]) -> bool
+    requires { ⌜ Files (now names) (now ends) (now graph) c ⌝ }
+    ensures { λ r. ⌜ ((log : List Logged) (rd : Reading) → Filed log (now (names .entry)) (now (ends .entry)) (now (graph .entry)) c rd → r ≡ isMade (now (path .entry)) rd) ⌝ }
+{
+    match find(names, ends, c.files, path) {
+        Found::At(k) => at(graph, 6656 + k) != 0,
+        Found::Missing => false,
+    }
+}
+
+// Whether a raw path expands to the output of an earlier step. The word buffer is left with the path as far as it fits.
+pub fn is_made(
+    t: &[u8; 256],
+    raw: &[u8],
+    names: &[u8],
+    ends: &[u32],
+    texts: &[u8],
+    bind: &[u32],
+    graph: &[u32],
+    word: &mut [u8],
+    c: Counts,
+) -> bool
+    requires { ⌜ MadeAsks (now t) (now raw) (now names) (now ends) (now texts) (now bind) (now graph) (now word) c ⌝ }
+    ensures { λ r. ⌜ ((log : List Logged) (rd : Reading) → Holds log (now (names .entry)) (now (ends .entry)) (now (texts .entry)) (now (bind .entry)) (now (graph .entry)) c rd → r ≡ isMade (pathOf rd (now (raw .entry))) rd) ⌝ }
+{
+    let n = expand(t, raw, texts, bind, c.entries, word);
+    if word.len() < n {
+        return false;
+    }
+    is_output(names, ends, graph, c, &word[..n])
+}
