@@ -24,7 +24,7 @@ use Rattle.names.proofs.Laws.{find-at, find-missing}
 use Rattle.tables.specs.Tables.{madeBy, makerIn}
 use Rattle.tables.proofs.Held.{held-makers}
 use Rattle.bindings.specs.Log.{Logged}
-use Rattle.bindings.specs.Held.{Holds as BindingsHold}
+use Rattle.bindings.specs.Held.{Holds as BindingsHold, Sound as BindingsSound}
 use Rattle.expand.specs.Runs.{expanded, Written}
 use Rattle.expand.proofs.Callers.{expanded-vars, written-long, written-whole}
 use Rattle.held.specs.declared.Counts.{Counts}
@@ -136,3 +136,6 @@ module _ (raw : List ℕ) {texts bind word word′ : List ℕ} {c : Counts} {n :
 
     pub word-counted : Whole names ends texts bind graph c → n ≤ length word′ → length (take n word′) ≡ n
     word-counted w l = let k = x (w .log) (w .holds .bound .held) in ap length (written-whole k (rw (written-long k) at l)) ∙ sym (k .count)
+
+pub table-held : {names ends texts bind graph : List ℕ} {c : Counts} → Whole names ends texts bind graph c → BindingsSound texts bind (c .entries)
+table-held w = record { log = w .log; held = w .holds .bound .held }

@@ -7,6 +7,9 @@ ghost use Rattle.bindings.specs.Log.{Logged};
 ghost use Rattle.expand.specs.Runs.{Ready};
 ghost use Rattle.held.specs.Held.{Bound, Holds};
 ghost use Rattle.outputs.specs.Asks.{pathOf, Filed, Files, ListAsks, MadeAsks, PathAsks, AnyPath};
+
+mod twice;
+
 use expand::expand;
 use forms::Next;
 use forms::paths::next_path;
@@ -89,4 +92,36 @@ pub fn is_made(
         return false;
     }
     is_output(names, ends, graph, c, &word[..n])
+}
+
+// "output made twice" (8), by an earlier step
+fn has_made(
+    t: &[u8; 256],
+    l: &[u8],
+    start: usize,
+    names: &[u8],
+    ends: &[u32],
+    texts: &[u8],
+    bind: &[u32],
+    graph: &[u32],
+    word: &mut [u8],
+    c: Counts,
+) -> bool
+    requires { ⌜ PathAsks (now t) (now l) (now names) (now ends) (now texts) (now bind) (now graph) (now word) c start ⌝ }
+    ensures { λ r. ⌜ AnyPath (λ log rd. Holds log (now (names .entry)) (now (ends .entry)) (now (texts .entry)) (now (bind .entry)) (now (graph .entry)) c rd) (λ rd raw. isMade (pathOf rd raw) rd) (now (l .entry)) start r ⌝ }
+{
+    let mut i = start;
+    loop {
+        match next_path(t, l, i) {
+            Next::Path(from, to) => {
+                if is_made(t, &l[from..to], names, ends, texts, bind, graph, word, c) {
+                    return true;
+                }
+                i = to;
+            }
+            Next::Stop => {
+                return false;
+            }
+        }
+    }
 }
