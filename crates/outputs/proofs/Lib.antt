@@ -1,3 +1,4 @@
 pub mod Walking
 pub mod Makers
 pub mod Marking
+pub mod Joining

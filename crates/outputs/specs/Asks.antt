@@ -64,7 +64,15 @@ pub record PathAsks (t l names fileEnds texts bind graph word : List ℕ) (c : C
   pub room : maxWritten ≤ length word
   pub whole : Whole names fileEnds texts bind graph c
 
--- the same for a build line, with room for a mark for each of its outputs
+-- where the parts of a build line stand, and the table of bindings
+pub record FormAsks (t l texts bind : List ℕ) (count : ℕ) (p : BuildPlaces) : Type 0 where
+  pub table : t ≡ classes
+  pub short : length l ≤ maxManifest
+  pub line : BuildLine
+  pub stands : Stands l p line
+  pub held : Sound texts bind count
+
+-- all that is held for a build line, with room for a mark for each of its outputs
 pub record LineAsks (t l names fileEnds texts bind graph word : List ℕ) (c : Counts) (p : BuildPlaces) : Type 0 where
   pub table : t ≡ classes
   pub short : length l ≤ maxManifest
