@@ -1,0 +1,4 @@
+pub mod Outcomes
+pub mod Growing
+pub mod Adding
+pub mod Putting
