@@ -128,8 +128,8 @@ module _ {l names ends texts bind graph₀ : List ℕ} {c : Counts} {start at : 
         record {
           within = n .within;
           rest = λ ps w.
-            let (us, u, s) = turn ps w in
-            (us, u, λ log rd h. reach-on (s log rd h) e);
+              let (us, u, s) = turn ps w in
+              (us, u, λ log rd h. reach-on (s log rd h) e);
         }
 
     pub add-over : r ≡ Over → {ps : List (List ℕ)} → PathsAt l at ps → {graph″ : List ℕ}
@@ -145,6 +145,6 @@ module _ {l names ends texts bind graph₀ : List ℕ} {c : Counts} {start at : 
       let (qs, v, s) = x .rest ps w in
       record {
         agrees = λ log rd h.
-          let z = s log rd h in
-          rw (z .left ∙ ap (λ (y : List (List ℕ)). soundDefaults start (expanded (z .reading) y) (z .reading)) (f qs v) ∙ sound-end (z .holds) start) (goes (z .holds) nothing);
+            let z = s log rd h in
+            rw (z .left ∙ ap (λ (y : List (List ℕ)). soundDefaults start (expanded (z .reading) y) (z .reading)) (f qs v) ∙ sound-end (z .holds) start) (goes (z .holds) nothing);
       }

@@ -101,8 +101,13 @@ unfolding soundDefaults overPaths any overCounts mentioned withDefaults numbersO
 sound-end {c = c} {rd = rd} h start =
     let a : rd .mentions + 0 ≡ rd .mentions = omega arith in
     let b : rd .written + 0 ≡ rd .written = omega arith in
-    rw (mention-none (rd .files), a, b, append-nil (rd .defaults),
+    rw (
+      mention-none (rd .files),
+      a,
+      b,
+      append-nil (rd .defaults),
       le-ltb maxFiles (length (rd .files)) (omega (arith, h .named .counted, h .named .few)),
       le-ltb maxBindings (rd .bindings) (omega (arith, h .bound .bindings-counted, h .bound .few-bindings)),
       le-ltb maxMentions (rd .mentions) (omega (arith, h .graphed .mentions-counted, h .graphed .mentions-low)),
-      le-ltb maxWritten (rd .written) (omega (arith, h .bound .written-counted, h .bound .few-written)))
+      le-ltb maxWritten (rd .written) (omega (arith, h .bound .written-counted, h .bound .few-written)),
+    )

@@ -33,8 +33,8 @@ module _ {names ends graph : List ℕ} {c : Counts} {path : List ℕ} {r : Found
   put-found {k} e o =
       record {
         held = λ texts bind log rd h m.
-          let (a, q, b) = find-at f (h .named) e in
-          rw (← q) (default-held h (length path) k (within (length path) c o) (omega (arith, h .named .counted)));
+            let (a, q, b) = find-at f (h .named) e in
+            rw (← q) (default-held h (length path) k (within (length path) c o) (omega (arith, h .named .counted)));
       }
 
   -- An output has a name.
@@ -50,7 +50,7 @@ module _ (raw : List ℕ) {names ends texts bind graph word word′ : List ℕ} 
   default-over o =
       record {
         answer = λ log rd h m.
-          rw (path-held (h .bound) raw, ← x log (h .bound .held) .count) o;
+            rw (path-held (h .bound) raw, ← x log (h .bound .held) .count) o;
       }
 
   pub default-added : n ≤ length word′ → overDefault n c ≡ false → {graph′ : List ℕ} {d : Counts} → Puts names ends graph c (take n word′) graph′ d
@@ -59,8 +59,8 @@ module _ (raw : List ℕ) {names ends texts bind graph word word′ : List ℕ} 
   default-added l o p =
       record {
         answer = λ log rd h m.
-          let w = x log (h .bound .held) in
-          let q : take n word′ ≡ pathOf rd raw = written-whole w (rw (written-long w) at l) ∙ sym (path-held (h .bound) raw) in
-          let s : length (pathOf rd raw) ≡ n = ap length (path-held (h .bound) raw) ∙ sym (w .count) in
-          (rw s o, rw (← q) (p .held texts bind log rd h (rw q m)));
+            let w = x log (h .bound .held) in
+            let q : take n word′ ≡ pathOf rd raw = written-whole w (rw (written-long w) at l) ∙ sym (path-held (h .bound) raw) in
+            let s : length (pathOf rd raw) ≡ n = ap length (path-held (h .bound) raw) ∙ sym (w .count) in
+            (rw s o, rw (← q) (p .held texts bind log rd h (rw q m)));
       }

@@ -162,3 +162,29 @@ fn add_sound(
         }
     }
 }
+
+// `default PATHS`, where no block is open: its 8s first, for the whole line.
+pub fn add_defaults(
+    t: &[u8; 256],
+    start: usize,
+    l: &[u8],
+    at: usize,
+    names: &[u8],
+    ends: &[u32],
+    texts: &[u8],
+    bind: &[u32],
+    graph: &mut [u32],
+    word: &mut [u8],
+    c: Counts,
+) -> LineAnswer
+    requires { ⌜ DefaultAsks (now t) (now l) (now names) (now ends) (now texts) (now bind) (now graph) (now word) c at ⌝ }
+    ensures { λ r. ⌜ ((ps : List (List ℕ)) → PathsAt (now (l .entry)) at ps → Adds (now (names .entry)) (now (ends .entry)) (now (texts .entry)) (now (bind .entry)) (now (graph .entry)) c (λ rd. addDefaults start (expanded rd ps) rd) (now (names .entry)) (now (ends .entry)) (now (graph .exit)) r) ⌝ }
+{
+    if has_empty(t, l, at, texts, bind, c, word) {
+        return LineAnswer::Refused(Refusal::BadPath(start));
+    }
+    if has_unmade(t, l, at, names, ends, texts, bind, graph, word, c) {
+        return LineAnswer::Refused(Refusal::BadPath(start));
+    }
+    add_sound(t, start, l, at, names, ends, texts, bind, graph, word, c)
+}

@@ -40,7 +40,6 @@ empties : {l texts bind : List ℕ} {c : Counts} {at : ℕ} {r : Bool} → Empti
 empties a {ps} w {log} rd h = any-expanded isEmpty rd ps ∙ sym (a .answer ps w log rd h)
 
 module _ {l texts bind : List ℕ} {c : Counts} {p : BuildPlaces} where
-
   module _ {r : Bool} (a : Empties l texts bind c (p .ins) r) where
     pub ins-empty : r ≡ true → (b : BuildLine) → Stands l p b → (log : List Logged) (rd : Reading) → Bound log texts bind c rd → true ≡ any isEmpty (inputsOfLine (expandedLine rd b))
     ins-empty e b w log rd h = sym (empty-inputs rd b ∙ rw (empties a (w .ins) rd h ∙ e))

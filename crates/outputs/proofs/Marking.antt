@@ -107,11 +107,14 @@ module _ {l texts bind : List ℕ} {c : Counts} {start : ℕ} {marks₀ marks : 
           within = n .within;
           ahead = omega (arith, x .ahead, n .forward, n .longer);
           rest = λ ps w.
-            let (qs, v, s) = x .rest ps w in
-            let (us, q, u) = walk-on n v in
-            (us, u, λ log rd b.
-              rw (add-one k, take-suc-set marks k d r, append-assoc (take k marks) (d ∷ []) (map (markOf rd) us), e log (b .held), mark-held b (part l from to))
-              (rw q at (s log rd b)));
+              let (qs, v, s) = x .rest ps w in
+              let (us, q, u) = walk-on n v in (
+                us,
+                u,
+                λ log rd b.
+                    rw (add-one k, take-suc-set marks k d r, append-assoc (take k marks) (d ∷ []) (map (markOf rd) us), e log (b .held), mark-held b (part l from to))
+                    (rw q at (s log rd b)),
+              );
         }
 
   pub note-end : ((ps : List (List ℕ)) → PathsAt l i ps → ps ≡ []) → length l ≤ maxManifest → maxManifest ≤ length marks₀ → Noted l texts bind c start marks₀ marks k
@@ -120,8 +123,8 @@ module _ {l texts bind : List ℕ} {c : Counts} {start : ℕ} {marks₀ marks : 
         long = x .long;
         within = omega (arith, x .ahead, x .within);
         marked = λ ps w log rd b.
-          let (qs, v, y) = x .rest ps w in
-          sym (append-nil (take k marks)) ∙ rw (f qs v) at (y log rd b);
+            let (qs, v, y) = x .rest ps w in
+            sym (append-nil (take k marks)) ∙ rw (f qs v) at (y log rd b);
       }
 
 -- the digest fits
@@ -139,8 +142,8 @@ module _ {l texts bind : List ℕ} {c : Counts} {from to : ℕ} {marks : List �
   not-again b h =
       record {
         answer = λ qs w log rd g e.
-          let (p, q) = head-is marks k b e in
-          sym (unmarked rd (part l from to) qs (sym (rw (p, q) at h)));
+            let (p, q) = head-is marks k b e in
+            sym (unmarked rd (part l from to) qs (sym (rw (p, q) at h)));
       }
 
   pub maybe-again : {r : Bool} → AnyPath (λ log rd. Bound log texts bind c rd) (λ rd raw. eqBytes (pathOf rd (part l from to)) (pathOf rd raw)) l to r → Again l texts bind c from to marks k r
@@ -172,10 +175,13 @@ module _ {l texts bind : List ℕ} {c : Counts} {start : ℕ} {marks : List ℕ}
         → (drop k marks ≡ map (markOf rd) (part l from to ∷ us)) × (twice (expanded rd ps) ≡ among (pathOf rd (part l from to)) (expanded rd us) || twice (expanded rd us)))
     turn ps w =
         let (qs, v, s) = x .rest ps w in
-        let (us, q, u) = walk-on n v in
-        (us, u, λ log rd b m.
-          let (a, e) = s log rd b m in
-          (a ∙ ap (map (markOf rd)) q, e ∙ ap (λ (r : List (List ℕ)). twice (expanded rd r)) q ∙ twice-more rd (part l from to) us))
+        let (us, q, u) = walk-on n v in (
+          us,
+          u,
+          λ log rd b m.
+              let (a, e) = s log rd b m in
+              (a ∙ ap (map (markOf rd)) q, e ∙ ap (λ (r : List (List ℕ)). twice (expanded rd r)) q ∙ twice-more rd (part l from to) us),
+        )
 
     pub marked-here : {t : List ℕ} → MarkedAsks t l texts bind c start marks → k < length marks
     marked-here a =
@@ -189,9 +195,9 @@ module _ {l texts bind : List ℕ} {c : Counts} {start : ℕ} {marks : List ℕ}
       compare-found e =
           record {
             answer = λ ps w log rd g m.
-              let (us, u, s) = turn ps w in
-              let (d, q) = s log rd g m in
-              sym (q ∙ ap (λ (x : Bool). x || twice (expanded rd us)) (sym (a .answer us u log rd g d) ∙ e));
+                let (us, u, s) = turn ps w in
+                let (d, q) = s log rd g m in
+                sym (q ∙ ap (λ (x : Bool). x || twice (expanded rd us)) (sym (a .answer us u log rd g d) ∙ e));
           }
 
       pub compare-on : r ≡ false → Comparing l texts bind c start marks (k + 1) to
@@ -199,19 +205,22 @@ module _ {l texts bind : List ℕ} {c : Counts} {start : ℕ} {marks : List ℕ}
           record {
             within = n .within;
             rest = λ ps w.
-              let (us, u, s) = turn ps w in
-              (us, u, λ log rd g m.
-                let (d, q) = s log rd g m in
-                (rw (add-one k) (head-is marks k b d .1), q ∙ ap (λ (x : Bool). x || twice (expanded rd us)) (sym (a .answer us u log rd g d) ∙ e)));
+                let (us, u, s) = turn ps w in (
+                  us,
+                  u,
+                  λ log rd g m.
+                      let (d, q) = s log rd g m in
+                      (rw (add-one k) (head-is marks k b d .1), q ∙ ap (λ (x : Bool). x || twice (expanded rd us)) (sym (a .answer us u log rd g d) ∙ e)),
+                );
           }
 
   pub compare-end : ((ps : List (List ℕ)) → PathsAt l i ps → ps ≡ []) → Compared l texts bind c start marks false
   compare-end f =
       record {
         answer = λ ps w log rd g m.
-          let (qs, v, s) = x .rest ps w in
-          let (d, q) = s log rd g m in
-          sym (q ∙ ap (λ (r : List (List ℕ)). twice (expanded rd r)) (f qs v) ∙ twice-none rd);
+            let (qs, v, s) = x .rest ps w in
+            let (d, q) = s log rd g m in
+            sym (q ∙ ap (λ (r : List (List ℕ)). twice (expanded rd r)) (f qs v) ∙ twice-none rd);
       }
 
 -- the path that is looked at

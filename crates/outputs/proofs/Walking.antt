@@ -50,9 +50,9 @@ unfolding any
 any-append p [] r = refl
 any-append p (x ∷ l) r = rw (any-append p l r) (or-assoc (p x) (any p l) (any p r))
   where
-  or-assoc : (a b c : Bool) → a || (b || c) ≡ (a || b) || c
-  or-assoc true b c = refl
-  or-assoc false b c = refl
+    or-assoc : (a b c : Bool) → a || (b || c) ≡ (a || b) || c
+    or-assoc true b c = refl
+    or-assoc false b c = refl
 
 pub any-map : {A B : Type 0} (p : B → Bool) (f : A → B) (l : List A) → any p (map f l) ≡ any (λ x. p (f x)) l
 unfolding any
@@ -85,24 +85,24 @@ module _ {Held : List Logged → Reading → Type 0} {test : Reading → List �
         record {
           within = n .within;
           rest = λ ps w.
-            let (qs, v, s) = x .rest ps w in
-            let (us, q, u) = walk-on n v in
-            (us, u, λ log rd k. s log rd k ∙ ap (any (test rd)) q ∙ any-cons (test rd) (part l from to) us ∙ ap (λ (b : Bool). b || any (test rd) us) (sym (e log rd k) ∙ f));
+              let (qs, v, s) = x .rest ps w in
+              let (us, q, u) = walk-on n v in
+              (us, u, λ log rd k. s log rd k ∙ ap (any (test rd)) q ∙ any-cons (test rd) (part l from to) us ∙ ap (λ (b : Bool). b || any (test rd) us) (sym (e log rd k) ∙ f));
         }
 
     pub look-found : r ≡ true → AnyPath Held test l at true
     look-found f =
         record {
           answer = λ ps w log rd k.
-            let (qs, v, s) = x .rest ps w in
-            let (us, q, u) = walk-on n v in
-            sym (s log rd k ∙ ap (any (test rd)) q ∙ any-cons (test rd) (part l from to) us ∙ ap (λ (b : Bool). b || any (test rd) us) (sym (e log rd k) ∙ f));
+              let (qs, v, s) = x .rest ps w in
+              let (us, q, u) = walk-on n v in
+              sym (s log rd k ∙ ap (any (test rd)) q ∙ any-cons (test rd) (part l from to) us ∙ ap (λ (b : Bool). b || any (test rd) us) (sym (e log rd k) ∙ f));
         }
 
   pub look-end : ((ps : List (List ℕ)) → PathsAt l i ps → ps ≡ []) → AnyPath Held test l at false
   look-end f =
       record {
         answer = λ ps w log rd k.
-          let (qs, v, s) = x .rest ps w in
-          sym (s log rd k ∙ ap (any (test rd)) (f qs v) ∙ any-none (test rd));
+            let (qs, v, s) = x .rest ps w in
+            sym (s log rd k ∙ ap (any (test rd)) (f qs v) ∙ any-none (test rd));
       }
