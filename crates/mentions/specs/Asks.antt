@@ -1,5 +1,5 @@
 -- What mentions ask: room for all that the limits allow, and some line held.
-use Prim.Native.Nat.{ℕ, _+_, _≤_, _<_}
+use Prim.Native.Nat.{ℕ, _+_, _≤_}
 use mathlib.Core.Bool.{Bool, false, _||_}
 use mathlib.Core.List.{List, [], _∷_}
 use mathlib.Core.Option.{none}
@@ -59,12 +59,17 @@ pub record First (graph : List ℕ) (c : Counts) (k n : ℕ) (graph′ : List �
   pub counted : r ≡ countedPath (c .files + 1) n c
 
 -- a path that is within the limits but for the count of files
-pub record Fits (path names fileEnds texts bind graph : List ℕ) (c : Counts) : Type 0 where
+pub record Fits (path names fileEnds graph : List ℕ) (c : Counts) : Type 0 where
+  pub texts : List ℕ
+  pub bind : List ℕ
   pub names-long : maxWritten ≤ length names
   pub ends-long : maxFiles ≤ length fileEnds
   pub within : overCounted (length path) c ≡ false
   pub line : Line
   pub writing : Writing names fileEnds texts bind graph c line
+
+pub record Marked (path names fileEnds graph : List ℕ) (c : Counts) (names′ fileEnds′ graph′ : List ℕ) (r : Mentioned) : Type 0 where
+  pub marks : (texts bind : List ℕ) (h : Line) → Writing names fileEnds texts bind graph c h → Marks names′ fileEnds′ texts bind graph′ h (path ∷ []) r
 
 -- ------------------------------------------------------------------ raw paths
 

@@ -27,13 +27,14 @@ pub record Line : Type 0 where
   pub made : List ℕ
   pub ruleOf : List ℕ
 
-abbrev pub columnsOf : Line → List (List ℕ)
-columnsOf h = h .mentions ∷ h .ends ∷ h .phony ∷ h .made ∷ h .ruleOf ∷ h .reading .defaults ∷ []
+-- the columns of the graph lie in it
+pub record Columns (graph mentions ends phony made ruleOf defaults : List ℕ) : Type 0 where
+  pub lies : Lies capacities graph (mentions ∷ ends ∷ phony ∷ made ∷ ruleOf ∷ defaults ∷ [])
 
 pub record Writing (names fileEnds texts bind graph : List ℕ) (c : Counts) (h : Line) : Type 0 where
   pub named : NamesHold names fileEnds (c .files) (h .reading .files)
   pub bound : Bound (h .log) texts bind c (h .reading)
-  pub lies : Lies capacities graph (columnsOf h)
+  pub columns : Columns graph (h .mentions) (h .ends) (h .phony) (h .made) (h .ruleOf) (h .reading .defaults)
   pub filed : length (h .made) ≡ length (h .reading .files)
   pub paths-counted : c .paths ≡ length (h .mentions)
   pub defaults-counted : c .defaults ≡ length (h .reading .defaults)
@@ -49,7 +50,6 @@ madeWith p files made = ifB (among p files) (λ _. made) (λ _. made ++ (0 ∷ [
 
 -- one path more
 unfoldable pub withPath : List ℕ → Line → Line
-unfolding mentioned madeWith
 withPath p h =
     record {
       log = h .log;
@@ -62,13 +62,11 @@ withPath p h =
     }
 
 unfoldable pub withPaths : List (List ℕ) → Line → Line
-unfolding withPath
 withPaths [] h = h
 withPaths (p ∷ ps) h = withPaths ps (withPath p h)
 
 -- are these mentions over a limit: paths over 255 bytes, or files, mentions and bytes in all
 unfoldable pub overLine : List (List ℕ) → Reading → Bool
-unfolding overPaths overCounts mentioned
 overLine ps rd = overPaths ps || overCounts (mentioned ps rd)
 
 -- The paths are mentioned, or the line is over a limit, whatever it mentions after them.

@@ -1,11 +1,9 @@
 // Files mentioned by a build line: each path is expanded, numbered by first mention, and noted in the graph's columns.
 ghost use mathlib.Core.Path.{_≡_};
-ghost use mathlib.Core.List.{List, [], _∷_};
-ghost use Prim.Native.Nat.{ℕ, _+_, _≤_, _<_};
+ghost use Prim.Native.Nat.{_+_, _≤_, _<_};
 ghost use lib.ListN.{length};
 ghost use Rattle.rules.specs.Limits.{maxMentions, maxWritten, maxFiles};
-ghost use Rattle.mentions.specs.Lines.{Line, Writing, Marks};
-ghost use Rattle.mentions.specs.Asks.{overCounted, Again, First, Fits, Asks, Mentions, ListAsks, MentionsAll};
+ghost use Rattle.mentions.specs.Asks.{overCounted, Again, First, Fits, Marked, Asks, Mentions, ListAsks, MentionsAll};
 use arena::put;
 use expand::expand;
 use forms::Next;
@@ -78,15 +76,9 @@ fn note_first(graph: &mut [u32], c: Counts, k: usize, n: usize) -> Counts
 }
 
 // A path that is within the limits, but for the count of files.
-fn mark(
-    path: &[u8],
-    names: &mut [u8],
-    ends: &mut [u32],
-    graph: &mut [u32],
-    c: Counts,
-) -> Mentioned
-    requires { ⌜ ((texts : List ℕ) × (bind : List ℕ) × Fits (now path) (now names) (now ends) texts bind (now graph) c) ⌝ }
-    ensures { λ r. ⌜ ((texts bind : List ℕ) (h : Line) → Writing (now (names .entry)) (now (ends .entry)) texts bind (now (graph .entry)) c h → Marks (now (names .exit)) (now (ends .exit)) texts bind (now (graph .exit)) h (now (path .entry) ∷ []) r) ⌝ }
+fn mark(path: &[u8], names: &mut [u8], ends: &mut [u32], graph: &mut [u32], c: Counts) -> Mentioned
+    requires { ⌜ Fits (now path) (now names) (now ends) (now graph) c ⌝ }
+    ensures { λ r. ⌜ Marked (now (path .entry)) (now (names .entry)) (now (ends .entry)) (now (graph .entry)) c (now (names .exit)) (now (ends .exit)) (now (graph .exit)) r ⌝ }
 {
     let files = c.files;
     match add(names, ends, files, path) {

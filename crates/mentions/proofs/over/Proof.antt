@@ -1,24 +1,30 @@
+-- `mentions::over` meets its contract.
+use Prim.Native.Nat.{_+_}
+use native.Mathlib.Omega.{arith}
 use borrow.Author.Needs.{needs}
+use borrow.Author.Tests.{lt-ltb, le-ltb}
+use Rattle.mentions.specs.Asks.{overCounted}
 use Rattle.mentions.proofs.over.Statement.{statement}
 use Rattle.mentions.proofs.over.Tie as tie
-use Rattle.mentions.proofs.over.Reads as reads
-use Rattle.mentions.proofs.over.Lts as lts
 
--- src/lib.rt:30:9
 returns : tie.Need-returns
-returns c = search needs
+unfolding overCounted
+returns c = rw (lt-ltb _ _ (c .if1 .taken))
 
--- src/lib.rt:33:9
 returns-2 : tie.Need-returns-2
-returns-2 c = search needs
+unfolding overCounted
+returns-2 c =
+    let a = c .before .before .before .args in
+    rw (le-ltb _ _ (c .before .before .if1 .left), lt-ltb 4096 (a .c .mentions + 1) (omega arith))
 
--- src/lib.rt:35:13
 add-result : tie.Need-add-result
 add-result c = search needs
 
--- src/lib.rt:25:1
 returns-3 : tie.Need-returns-3
-returns-3 c = search needs
+unfolding overCounted
+returns-3 c =
+    let a = c .before .before .before .before .args in
+    rw (le-ltb _ _ (c .before .before .before .if1 .left), le-ltb 4096 (a .c .mentions + 1) (omega arith))
 
 pub over-spec : {M : Type 1} → statement M
 over-spec = tie.close (tie.spec returns returns-2 add-result returns-3)

@@ -1,0 +1,5 @@
+pub mod Columns
+pub mod Limits
+pub mod Marking
+pub mod Mentioning
+pub mod Passing
