@@ -3,3 +3,4 @@ pub mod Limits
 pub mod Marking
 pub mod Mentioning
 pub mod Passing
+pub mod Closed

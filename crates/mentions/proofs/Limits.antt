@@ -3,9 +3,9 @@ use Prim.Native.Nat.{ℕ, _+_, _≤_, _<_}
 use mathlib.Core.Bool.{Bool, true, false, _||_, or-true}
 use mathlib.Core.Logic.{inl, inr}
 use mathlib.Core.List.{List, [], _∷_, _++_, map}
-use mathlib.Core.Path.{_≡_, refl}
+use mathlib.Core.Path.{_≡_, refl, _∙_}
 use native.Mathlib.Omega.{arith}
-use borrow.Author.Tests.{lt-ltb, ltb-true, ltb-false}
+use borrow.Author.Tests.{lt-ltb, le-ltb, ltb-true, ltb-false}
 use lib.Dec.{ltb}
 use lib.ListN.{length, length-append}
 use Rattle.lists.specs.Tests.{split, or-left, or-right}
@@ -117,6 +117,14 @@ module _ (l r : List (List ℕ)) (rd : Reading) where
       (λ (e : x ≡ true). rw e)
       (λ (e : x ≡ false). rw e h))
 
+pub short-none : overPaths [] ≡ false
+unfolding overPaths any
+short-none = refl
+
+pub short-append : (l r : List (List ℕ)) → overPaths l ≡ false → overPaths r ≡ false → overPaths (l ++ r) ≡ false
+unfolding overPaths
+short-append l r a b = any-append (longerThan maxPath) l r ∙ rw (a, b)
+
 pub mentioned-none : (rd : Reading) → mentioned [] rd ≡ rd
 unfolding mentioned sum
 mentioned-none rd =
@@ -145,6 +153,10 @@ pub record Within (n : ℕ) (c : Counts) : Type 0 where
   pub short : n ≤ maxPath
   pub few : c .mentions < maxMentions
   pub low : c .written + n ≤ maxWritten
+
+pub path-short : (p : List ℕ) {c : Counts} → Within (length p) c → overPaths (p ∷ []) ≡ false
+unfolding overPaths any longerThan
+path-short p w = rw (le-ltb maxPath (length p) (w .short))
 
 pub path-within : (n : ℕ) (c : Counts) → overCounted n c ≡ false → Within n c
 unfolding overCounted

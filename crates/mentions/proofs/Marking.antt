@@ -22,7 +22,7 @@ use Rattle.mentions.specs.declared.Mentioned.the-variants.{On, Over}
 use Rattle.mentions.specs.Lines.{Line, Columns, Writing, madeWith, withPath, withPaths, Marks, on, over}
 use Rattle.mentions.specs.Asks.{countedPath, Again, First}
 use Rattle.mentions.proofs.Columns.{push-mention, push-made}
-use Rattle.mentions.proofs.Limits.{Within, line-files}
+use Rattle.mentions.proofs.Limits.{Within, line-files, path-short}
 
 -- ---- the names after a mention
 
@@ -109,7 +109,7 @@ module _ {names fileEnds graph path names′ fileEnds′ : List ℕ} {c : Counts
       let m = after-old a (w .named) e in
       let z = made-old path (h .reading .files) (h .made) (sym (m .holds .counted) ∙ w .named .counted) in
       rw (g .stored, g .counted)
-      (on (path-held w path l m (rw z (push-mention (w .columns) k (c .paths) (w .paths-counted) (mentions-short w path l))) (rw z (w .filed ∙ sym (w .named .counted)))))
+      (on (path-held w path l m (rw z (push-mention (w .columns) k (c .paths) (w .paths-counted) (mentions-short w path l))) (rw z (w .filed ∙ sym (w .named .counted)))) (path-short path l))
 
   pub path-new : {k : ℕ} {graph′ : List ℕ} {d : Counts} → r ≡ New k → First graph c k (length path) graph′ d → Marks names′ fileEnds′ texts bind graph′ h (path ∷ []) (On d)
   unfolding withPaths
@@ -121,7 +121,8 @@ module _ {names fileEnds graph path names′ fileEnds′ : List ℕ} {c : Counts
       (on
       (path-held w path l m
       (rw z (push-made (push-mention (w .columns) k (c .paths) (w .paths-counted) (mentions-short w path l)) 0 _ (omega (arith, w .filed, w .named .counted)) (omega (arith, w .filed, w .named .counted, m .holds .few))))
-      (rw z (omega (arith, length-append (h .made) (0 ∷ []), w .filed, w .named .counted)))))
+      (rw z (omega (arith, length-append (h .made) (0 ∷ []), w .filed, w .named .counted))))
+      (path-short path l))
 
   pub path-full : maxWritten ≤ length names → maxFiles ≤ length fileEnds → r ≡ Full → {graph′ : List ℕ} → Marks names′ fileEnds′ texts bind graph′ h (path ∷ []) Over
   path-full n f e =

@@ -1,6 +1,6 @@
 -- The loop over a list of raw paths: what it has mentioned so far, and what is left.
 use Prim.Native.Nat.{ℕ, _≤_}
-use mathlib.Core.Bool.{true}
+use mathlib.Core.Bool.{true, false}
 use mathlib.Core.List.{List, [], _∷_, _++_}
 use mathlib.Core.Path.{_≡_, refl, _∙_}
 use native.Mathlib.Omega.{arith}
@@ -8,7 +8,7 @@ use lib.ListN.{length}
 use Rattle.lists.specs.Parts.{part, length-part}
 use Rattle.rules.specs.Dollars.{expand}
 use Rattle.rules.specs.Reading.{Reading, fileVar}
-use Rattle.rules.specs.Statements.{expanded, mentioned}
+use Rattle.rules.specs.Statements.{expanded, mentioned, overPaths}
 use Rattle.scan.specs.Texts.{PathNext}
 use Rattle.forms.specs.declared.Next.{Next}
 use Rattle.forms.specs.declared.Next.the-variants.{Path, Stop}
@@ -19,23 +19,26 @@ use Rattle.mentions.specs.declared.Mentioned.{Mentioned}
 use Rattle.mentions.specs.declared.Mentioned.the-variants.{On, Over}
 use Rattle.mentions.specs.Lines.{Line, Writing, withPath, withPaths, overLine, Marks, on, over}
 use Rattle.mentions.specs.Asks.{Room, Asks, Mentions, ListAsks, MentionsAll}
-use Rattle.mentions.proofs.Limits.{line-later}
+use Rattle.mentions.proofs.Limits.{line-later, short-append, short-none}
 
 -- ---- answers
 
 module _ {names fileEnds texts bind graph : List ℕ} {h : Line} {ps : List (List ℕ)} where
   pub marks-on : {c : Counts} → Marks names fileEnds texts bind graph h ps (On c) → Writing names fileEnds texts bind graph c (withPaths ps h)
-  marks-on (on w) = w
+  marks-on (on w s) = w
+
+  pub marks-short : {c : Counts} → Marks names fileEnds texts bind graph h ps (On c) → overPaths ps ≡ false
+  marks-short (on w s) = s
 
   pub marks-over : Marks names fileEnds texts bind graph h ps Over → (more : List (List ℕ)) → overLine (ps ++ more) (h .reading) ≡ true
   marks-over (over f) = f
 
 -- one path, then the others
 module _ {names fileEnds texts bind graph : List ℕ} (p : List ℕ) (ps : List (List ℕ)) (h : Line) where
-  pub marks-cons : {r : Mentioned} → Marks names fileEnds texts bind graph (withPath p h) ps r → Marks names fileEnds texts bind graph h (p ∷ ps) r
+  pub marks-cons : {r : Mentioned} → overPaths (p ∷ []) ≡ false → Marks names fileEnds texts bind graph (withPath p h) ps r → Marks names fileEnds texts bind graph h (p ∷ ps) r
   unfolding withPaths withPath
-  marks-cons (on w) = on w
-  marks-cons (over f) = over (λ more. line-later (p ∷ []) (ps ++ more) (h .reading) (f more))
+  marks-cons q (on w s) = on w (short-append (p ∷ []) ps q s)
+  marks-cons q (over f) = over (λ more. line-later (p ∷ []) (ps ++ more) (h .reading) (f more))
 
 pub expanded-same : (a b : Reading) → a .vars ≡ b .vars → (raw : List (List ℕ)) → expanded a raw ≡ expanded b raw
 unfolding expanded
@@ -89,7 +92,7 @@ module _ {l : List ℕ} {h : Line} {raw : List (List ℕ)} {names fileEnds texts
         stands = s;
         writing = marks-on k;
         vars = g .vars;
-        left = λ x. g .left (rw e (marks-cons p (expanded (h .reading) qs) (g .line) x));
+        left = λ x. g .left (rw e (marks-cons p (expanded (h .reading) qs) (g .line) (marks-short k) x));
       }
 
   going-over : {names′ fileEnds′ graph′ : List ℕ} → Mentions (part l from to) names fileEnds texts bind graph d names′ fileEnds′ graph′ Over
@@ -150,7 +153,7 @@ module _ {t l : List ℕ} {at : ℕ} {names₀ fileEnds₀ texts bind graph₀ w
   unfolding expanded withPaths
   pass-end f =
       record {
-        marks = λ raw s h k. let g = x .going raw s h k in g .left (rw (f (g .rest) (g .stands)) (on (g .writing)));
+        marks = λ raw s h k. let g = x .going raw s h k in g .left (rw (f (g .rest) (g .stands)) (on (g .writing) short-none));
       }
 
 -- ---- the next path

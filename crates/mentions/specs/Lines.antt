@@ -1,6 +1,6 @@
 -- What the buffers hold within a line that mentions files: the reading with the mentions so far, and the columns of the graph as they are then.
 use Prim.Native.Nat.{ℕ, _+_, _≤_}
-use mathlib.Core.Bool.{Bool, true, _||_}
+use mathlib.Core.Bool.{Bool, true, false, _||_}
 use mathlib.Core.List.{List, [], _∷_, _++_}
 use mathlib.Core.Path.{_≡_}
 use lib.ListN.{length}
@@ -71,5 +71,5 @@ overLine ps rd = overPaths ps || overCounts (mentioned ps rd)
 
 -- The paths are mentioned, or the line is over a limit, whatever it mentions after them.
 pub data Marks (names fileEnds texts bind graph : List ℕ) (h : Line) (ps : List (List ℕ)) : Mentioned → Type 0 where
-  on : {c : Counts} → Writing names fileEnds texts bind graph c (withPaths ps h) → Marks names fileEnds texts bind graph h ps (On c)
+  on : {c : Counts} → Writing names fileEnds texts bind graph c (withPaths ps h) → overPaths ps ≡ false → Marks names fileEnds texts bind graph h ps (On c)
   over : ((more : List (List ℕ)) → overLine (ps ++ more) (h .reading) ≡ true) → Marks names fileEnds texts bind graph h ps Over
