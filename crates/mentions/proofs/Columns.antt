@@ -17,6 +17,9 @@ module _ {graph m e p d r f : List ℕ} (l : Columns graph m e p d r f) where
   pub mentions-fit : length m ≤ maxMentions
   mentions-fit = lies-column capacities graph (m ∷ e ∷ p ∷ d ∷ r ∷ f ∷ []) 0 (l .lies) (omega arith) .fits
 
+  pub made-fit : length d ≤ maxFiles
+  made-fit = lies-column capacities graph (m ∷ e ∷ p ∷ d ∷ r ∷ f ∷ []) 3 (l .lies) (omega arith) .fits
+
   -- an entry more
   module _ (v at : ℕ) where
     pub push-mention : at ≡ length m → length m < maxMentions → Columns (set graph at v) (m ++ (v ∷ [])) e p d r f
@@ -44,3 +47,6 @@ module _ {graph m e p d r f : List ℕ} (l : Columns graph m e p d r f) where
   read-mention i b =
       let z : 0 + i ≡ i = omega arith in
       rw z at (lies-read capacities graph (m ∷ e ∷ p ∷ d ∷ r ∷ f ∷ []) 0 (l .lies) (omega arith) i b)
+
+  pub read-end : (i : ℕ) → i < length e → getD graph (startOf capacities 1 + i) 0 ≡ getD e i 0
+  read-end i b = lies-read capacities graph (m ∷ e ∷ p ∷ d ∷ r ∷ f ∷ []) 1 (l .lies) (omega arith) i b
