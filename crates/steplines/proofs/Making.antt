@@ -1,5 +1,5 @@
 -- The makers of a step's outputs, one file after another, and the step's other columns.
-use Prim.Native.Nat.{ℕ, suc, _+_, _*_, _^_, _≤_, _<_}
+use Prim.Native.Nat.{ℕ, zero, suc, _+_, _*_, _^_, _≤_, _<_}
 use mathlib.Core.List.{List, [], _∷_, _++_}
 use mathlib.Core.Path.{_≡_, refl, sym, _∙_, ap}
 use native.Mathlib.Omega.{arith}
@@ -90,24 +90,40 @@ module _ {graph₀ : List ℕ} {from to v : ℕ} {graph : List ℕ} {i : ℕ} (x
 
 -- ---- the step
 
-module _ {graph : List ℕ} {from : ℕ} {c : Counts} where
-  pub join-make : {n : ℕ} (a : JoinAsks graph from n c) → MakeAsks graph from (outsEnd c (a .line)) (c .steps + 1)
-  join-make a =
-      record { line = a .line; laid = a .laid; some = a .ready .outs; small = omega (arith, a .ready .few) }
+phony-low : (n : ℕ) → phonyBit n ≤ 1
+phony-low zero = omega arith
+phony-low (suc n) = omega arith
 
+module _ {graph : List ℕ} {from : ℕ} {c : Counts} {to : ℕ} (e : to ≡ getD graph (4096 + 4 * c .steps) 0) where
   -- where the outputs end is the same for all lines held
-  pub join-end : (h : Line) → Laid graph h → Ready from c h → {to : ℕ} → to ≡ getD graph (4096 + 4 * c .steps) 0 → to ≡ outsEnd c h
-  join-end h l r e = e ∙ read-end l (4 * c .steps) (r .ended)
+  join-end : (h : Line) → Laid graph h → Ready from c h → to ≡ outsEnd c h
+  join-end h l r = e ∙ read-end l (4 * c .steps) (r .ended)
 
-  pub join-done : {n to : ℕ} {graph₁ graph₂ graph′ : List ℕ} → to ≡ getD graph (4096 + 4 * c .steps) 0 → Makes graph from to (c .steps + 1) graph₁
-      → graph₂ ≡ set graph₁ (6144 + c .steps) (phonyBit n) → graph′ ≡ set graph₂ (7680 + c .steps) n → Joins graph from n c graph′ (countedStep c)
-  unfolding withRule
-  join-done {n} e m p q =
-      record {
-        laid = λ h l r.
-            let z = join-end h l r e in
-            let k = m .laid h l (rw z (r .outs)) in
-            let w = push-phony k (phonyBit n) (6144 + c .steps) (omega (arith, r .phony)) (omega (arith, r .phony, r .few)) in
-            rw (q, p, ← z) (push-rule w n (7680 + c .steps) (omega (arith, r .ruled)) (omega (arith, r .ruled, r .few)));
-        counted = refl;
-      }
+  pub join-make : {n : ℕ} → JoinAsks graph from n c → MakeAsks graph from to (c .steps + 1)
+  join-make a =
+      record { line = a .line; laid = a .laid; some = rw (join-end (a .line) (a .laid) (a .ready)) (a .ready .outs); small = omega (arith, a .ready .few) }
+
+  module _ {n : ℕ} {graph₁ : List ℕ} (m : Makes graph from to (c .steps + 1) graph₁) {b : ℕ} (q : b ≡ phonyBit n) where
+    -- the places are low, for the stores
+    pub join-first : JoinAsks graph from n c → (6144 + c .steps < length graph₁) × (b < 4294967296)
+    join-first a =
+        let k = m .laid (a .line) (a .laid) (rw (join-end (a .line) (a .laid) (a .ready)) (a .ready .outs)) in
+        (omega (arith, graph-long k, a .ready .few), omega (arith, q, phony-low n))
+
+    module _ {graph₂ : List ℕ} (g : graph₂ ≡ set graph₁ (6144 + c .steps) b) where
+      pub join-second : JoinAsks graph from n c → (7680 + c .steps < length graph₂) × (n < 4294967296)
+      join-second a =
+          let k = m .laid (a .line) (a .laid) (rw (join-end (a .line) (a .laid) (a .ready)) (a .ready .outs)) in
+          (omega (arith, graph-long k, a .ready .few, ap length g ∙ length-set graph₁ (6144 + c .steps) b), omega (arith, a .small))
+
+      pub join-done : {graph′ : List ℕ} → graph′ ≡ set graph₂ (7680 + c .steps) n → Joins graph from n c graph′ (countedStep c)
+      unfolding withRule
+      join-done f =
+          record {
+            laid = λ h l r.
+                let z = join-end h l r in
+                let k = m .laid h l (rw z (r .outs)) in
+                let w = push-phony k b (6144 + c .steps) (omega (arith, r .phony)) (omega (arith, r .phony, r .few)) in
+                rw (f, g, ← z, ← q) (push-rule w n (7680 + c .steps) (omega (arith, r .ruled)) (omega (arith, r .ruled, r .few)));
+            counted = refl;
+          }

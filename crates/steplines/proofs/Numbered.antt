@@ -1,5 +1,5 @@
 -- The number of a step's rule.
-use Prim.Native.Nat.{ℕ, suc, _+_, _≤_, _<_}
+use Prim.Native.Nat.{ℕ, zero, suc, _+_, _≤_, _<_}
 use mathlib.Core.Bool.{Bool, true, false, _||_}
 use mathlib.Core.List.{List, [], _∷_, map}
 use mathlib.Core.Path.{_≡_, refl, sym, _∙_, ap}
@@ -86,3 +86,7 @@ number-low name log =
     split (isPhony name)
     (λ (e : isPhony name ≡ true). rw e (omega arith))
     (λ (e : isPhony name ≡ false). rw e (found-low log name (newest ofRules name log) refl))
+
+pub phony-not : (n : ℕ) → (n ≡ 0 → ⊥) → 0 ≡ phonyBit n
+phony-not zero d = absurd (d refl)
+phony-not (suc n) d = refl

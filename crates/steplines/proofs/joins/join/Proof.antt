@@ -1,3 +1,6 @@
+use native.Mathlib.Omega.{arith}
+use Rattle.mentions.proofs.Columns.{graph-long}
+use Rattle.steplines.proofs.Making.{join-make, join-first, join-second, join-done}
 use borrow.Author.Needs.{needs}
 use Rattle.steplines.proofs.joins.join.Statement.{statement}
 use Rattle.steplines.proofs.joins.join.Tie as tie
@@ -18,7 +21,7 @@ add-at c = search needs
 
 -- src/joins.rt:53:9
 at-requires : tie.Need-at-requires
-at-requires c κs = search needs
+at-requires c κs = let a = c .before .before .pre in omega (arith, a .ready .few, graph-long (a .laid))
 
 -- src/joins.rt:54:27
 add-make : tie.Need-add-make
@@ -26,7 +29,7 @@ add-make c = search needs
 
 -- src/joins.rt:54:5
 make-requires : tie.Need-make-requires
-make-requires c κs = search needs
+make-requires c κs = join-make (c .before .at .ensures) (c .before .before .before .before .pre)
 
 -- src/joins.rt:55:16
 add-put : tie.Need-add-put
@@ -38,7 +41,7 @@ phony-bit-requires c κs = search needs
 
 -- src/joins.rt:55:5
 put-requires : tie.Need-put-requires
-put-requires c κs = search needs
+put-requires c κs = join-first (c .before .before .before .before .before .before .at .ensures) (c .before .before .before .before .make .ensures) (c .phony-bit .ensures) (c .before .before .before .before .before .before .before .before .before .pre)
 
 -- src/joins.rt:56:16
 add-put-2 : tie.Need-add-put-2
@@ -46,7 +49,7 @@ add-put-2 c = search needs
 
 -- src/joins.rt:56:5
 put-requires-2 : tie.Need-put-requires-2
-put-requires-2 c κs = search needs
+put-requires-2 c κs = join-second (c .before .before .before .before .before .before .before .before .before .before .at .ensures) (c .before .before .before .before .before .before .before .before .make .ensures) (c .before .before .before .before .phony-bit .ensures) (c .before .before .before .put .ensures) (c .before .before .before .before .before .before .before .before .before .before .before .before .before .pre)
 
 -- src/joins.rt:59:16
 add-t10 : tie.Need-add-t10
@@ -58,7 +61,7 @@ same-length c = search needs
 
 -- src/joins.rt:48:1
 returns : tie.Need-returns
-returns c = search needs
+returns c = join-done (c .before .before .before .before .before .before .before .before .before .before .before .before .before .at .ensures) (c .before .before .before .before .before .before .before .before .before .before .before .make .ensures) (c .before .before .before .before .before .before .before .phony-bit .ensures) (c .before .before .before .before .before .before .put .ensures) (c .before .before .put2 .ensures)
 
 pub join-spec : {M : Type 1} → statement M
 join-spec =
