@@ -1,3 +1,7 @@
 pub mod Listing
 pub mod Making
 pub mod Numbered
+pub mod Growing
+pub mod Fresh
+pub mod Closed
+pub mod Stepped

@@ -1,0 +1,113 @@
+-- A line that is written whole: the buffers hold the reading with its step.
+use Prim.Native.Nat.{ℕ, _+_, _-_, _*_, _≤_, _<_}
+use mathlib.Core.Bool.{Bool, true, false, not, _||_}
+use mathlib.Core.Logic.{inl, inr}
+use mathlib.Core.List.{List, [], _∷_, _++_, map, append-assoc}
+use mathlib.Core.Path.{_≡_, refl, sym, _∙_, ap, subst}
+use native.Mathlib.Decide.{decLt}
+use native.Mathlib.Omega.{arith}
+use borrow.Author.Tests.{le-ltb, lt-leb}
+use lib.ListN.{length, getD, length-append, List·getD-append}
+use lib.Seq.{getD-append-seam, getD-append-add, take-append-seam, drop-append-seam}
+use Rattle.lists.specs.Members.{_∈_, in-at, in-append, place, any, has}
+use Rattle.lists.specs.Parts.{part}
+use Rattle.rules.specs.Basics.{concat}
+use Rattle.rules.specs.Limits.{maxSteps, maxFiles, maxBindings, maxMentions, maxWritten}
+use Rattle.rules.specs.Forms.{BuildLine}
+use Rattle.rules.specs.Reading.{Step, Reading, isPhony, numbersOf, mention}
+use Rattle.rules.specs.Statements.{mentioned, inputsOfLine, badPaths, overCounts}
+use Rattle.rules.specs.Manifest.{withStep}
+use Rattle.rules.specs.Graph.{inputs, noStep, stepAt}
+use Rattle.bindings.specs.Log.{Logged, ofStep, boundBy}
+use Rattle.bindings.proofs.Lookups.{no-lines, owned-more}
+use Rattle.tables.specs.Tables as tables
+use Rattle.tables.specs.Tables.{bit, mentionsOf, endsFrom}
+use Rattle.tables.proofs.Held.{held-steps}
+use Rattle.held.specs.declared.Counts.{Counts}
+use Rattle.held.specs.Held.{Bound, Ruled, Graphed, Holds}
+use Rattle.mentions.specs.Lines.{Line, Writing}
+use Rattle.mentions.proofs.Limits.{mention-more}
+use Rattle.mentions.proofs.Closed.{Among, among-all, numbers-append, numbers-low, length-numbers}
+use Rattle.steplines.specs.Lists.{withLists, listsOf}
+use Rattle.steplines.specs.Joins.{setAll, Laid, Ready, outsEnd, phonyBit, withRule, countedStep}
+use Rattle.steplines.proofs.Listing.{lists-reading}
+use Rattle.steplines.proofs.Closed.{lists-log, lists-phony, lists-ruled, lists-mentions, lists-ends, endsAfter, concat-lists}
+use Rattle.steplines.proofs.Making.{length-set-all}
+use Rattle.steplines.proofs.Numbered.{ruled-bit}
+use Rattle.steplines.proofs.Growing.{mentions-more, ends-more, length-ends, map-more, makes-more}
+use Rattle.steplines.proofs.Fresh.{line-fresh}
+
+-- ---- the line that is held, before its first path and after its last
+
+abbrev pub lineOf : {log : List Logged} {names fileEnds texts bind graph : List ℕ} {c : Counts} {rd : Reading} → Holds log names fileEnds texts bind graph c rd → Line
+lineOf {log} {rd = rd} h =
+    let g = h .graphed in
+    record { log = log; reading = rd; mentions = g .mentions; ends = g .ends; phony = g .phony; made = g .made; ruleOf = g .ruleOf }
+
+abbrev pub pathsOf : BuildLine → List (List ℕ)
+pathsOf b = b .outs ++ inputsOfLine b
+
+-- the files with those of the line
+abbrev pub filesWith : BuildLine → Reading → List (List ℕ)
+filesWith b rd = mention (rd .files) (pathsOf b)
+
+abbrev pub stepFor : BuildLine → Reading → Step
+stepFor b rd =
+    let f = filesWith b rd in
+    record {
+      outs = numbersOf f (b .outs);
+      ins = numbersOf f (b .ins);
+      implicit = numbersOf f (b .implicit);
+      orderOnly = numbersOf f (b .orderOnly);
+      rule = b .rule;
+      block = [];
+    }
+
+abbrev pub lineAfter : BuildLine → Line → List ℕ → Line
+lineAfter b h made =
+    record {
+      log = h .log;
+      reading = mentioned (pathsOf b) (h .reading);
+      mentions = h .mentions ++ numbersOf (filesWith b (h .reading)) (pathsOf b);
+      ends = h .ends ++ endsAfter (length (h .mentions)) (listsOf b);
+      phony = h .phony;
+      made = made;
+      ruleOf = h .ruleOf;
+    }
+
+same-line : (h : Line) {log : List Logged} {rd : Reading} {m e p r : List ℕ} → h .log ≡ log → h .reading ≡ rd → h .mentions ≡ m → h .ends ≡ e → h .phony ≡ p → h .ruleOf ≡ r
+    → h ≡ record { log = log; reading = rd; mentions = m; ends = e; phony = p; made = h .made; ruleOf = r }
+same-line h a b c d f g = rw (← a, ← b, ← c, ← d, ← f, ← g)
+
+pub lists-line : (b : BuildLine) (h : Line) → withLists (listsOf b) h ≡ lineAfter b h (withLists (listsOf b) h .made)
+lists-line b h =
+    let l = listsOf b in
+    let z = concat-lists b in
+    same-line (withLists l h) (lists-log l h)
+    (rw z at (lists-reading l h))
+    (rw z at (lists-mentions l h))
+    (lists-ends l h)
+    (lists-phony l h)
+    (lists-ruled l h)
+
+-- ---- its columns
+
+module _ (b : BuildLine) (rd : Reading) where
+  step-mentions : mentionsOf (stepFor b rd) ≡ numbersOf (filesWith b rd) (pathsOf b)
+  unfolding mentionsOf inputs inputsOfLine
+  step-mentions =
+      let f = filesWith b rd in
+      rw (numbers-append f (b .outs) (inputsOfLine b), numbers-append f (b .ins) (b .implicit ++ b .orderOnly), numbers-append f (b .implicit) (b .orderOnly))
+
+  step-ends : (k : ℕ) → endsFrom k (stepFor b rd ∷ []) ≡ endsAfter k (listsOf b)
+  unfolding endsFrom
+  step-ends k =
+      let f = filesWith b rd in
+      rw (length-numbers f (b .outs), length-numbers f (b .ins), length-numbers f (b .implicit), length-numbers f (b .orderOnly))
+
+  among-front : (f l r : List (List ℕ)) → Among (l ++ r) f → Among l f
+  among-front f [] r a = tt
+  among-front f (p ∷ l) r a = (a .0, among-front f l r (a .1))
+
+  outs-among : Among (b .outs) (filesWith b rd)
+  outs-among = among-front (filesWith b rd) (b .outs) (inputsOfLine b) (among-all (rd .files) (pathsOf b))
