@@ -5,3 +5,4 @@ pub mod Growing
 pub mod Fresh
 pub mod Closed
 pub mod Stepped
+pub mod Joined

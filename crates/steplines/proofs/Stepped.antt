@@ -93,13 +93,13 @@ lists-line b h =
 -- ---- its columns
 
 module _ (b : BuildLine) (rd : Reading) where
-  step-mentions : mentionsOf (stepFor b rd) ≡ numbersOf (filesWith b rd) (pathsOf b)
+  pub step-mentions : mentionsOf (stepFor b rd) ≡ numbersOf (filesWith b rd) (pathsOf b)
   unfolding mentionsOf inputs inputsOfLine
   step-mentions =
       let f = filesWith b rd in
       rw (numbers-append f (b .outs) (inputsOfLine b), numbers-append f (b .ins) (b .implicit ++ b .orderOnly), numbers-append f (b .implicit) (b .orderOnly))
 
-  step-ends : (k : ℕ) → endsFrom k (stepFor b rd ∷ []) ≡ endsAfter k (listsOf b)
+  pub step-ends : (k : ℕ) → endsFrom k (stepFor b rd ∷ []) ≡ endsAfter k (listsOf b)
   unfolding endsFrom
   step-ends k =
       let f = filesWith b rd in
@@ -109,5 +109,72 @@ module _ (b : BuildLine) (rd : Reading) where
   among-front f [] r a = tt
   among-front f (p ∷ l) r a = (a .0, among-front f l r (a .1))
 
-  outs-among : Among (b .outs) (filesWith b rd)
+  pub outs-among : Among (b .outs) (filesWith b rd)
   outs-among = among-front (filesWith b rd) (b .outs) (inputsOfLine b) (among-all (rd .files) (pathsOf b))
+
+-- a part between two others
+part-between : (a b c : List ℕ) (f e : ℕ) → f ≡ length a → e ≡ length a + length b → part (a ++ (b ++ c)) f e ≡ b
+part-between a b c f e p q =
+    let d : length a + length b - length a ≡ length b = omega arith in
+    rw (p, q, d, drop-append-seam a (b ++ c)) (take-append-seam b c)
+
+module _ {log : List Logged} {names fileEnds texts bind graph : List ℕ} {c : Counts} {rd : Reading} (w : Holds log names fileEnds texts bind graph c rd) (b : BuildLine)
+    (few : c .steps < maxSteps) {names′ fileEnds′ graph₁ : List ℕ} {d : Counts} {made : List ℕ} (x : Writing names′ fileEnds′ texts bind graph₁ d (lineAfter b (lineOf w) made)) where
+  abbrev g : Graphed log graph c rd
+  g = w .graphed
+
+  abbrev numbers : List ℕ
+  numbers = numbersOf (filesWith b rd) (pathsOf b)
+
+  pub steps-same : d .steps ≡ length (rd .steps)
+  unfolding mentioned
+  steps-same = x .bound .steps-counted
+
+  pub made-long : length made ≡ length (filesWith b rd)
+  unfolding mentioned
+  made-long = x .filed
+
+  ends-before : 4 * d .steps ≡ length (g .ends)
+  ends-before = omega (arith, steps-same, ap length (g .tables .ended), length-ends 0 (rd .steps))
+
+  outs-end : outsEnd d (lineAfter b (lineOf w) made) ≡ length (g .mentions) + length (b .outs)
+  outs-end = rw ends-before (getD-append-seam (g .ends) _ _ 0)
+
+  length-paths : length (pathsOf b) ≡ length (b .outs) + length (inputsOfLine b)
+  length-paths = length-append (b .outs) (inputsOfLine b)
+
+  pub mentions-low : (i : ℕ) → i < length (g .mentions ++ numbers) → getD (g .mentions ++ numbers) i 0 < length made
+  mentions-low i h =
+      elim (decLt i (length (g .mentions))) [
+        | yes l ↦
+            rw (List·getD-append (g .mentions) numbers 0 i l)
+            (omega (arith, g .tables .low (getD (g .mentions) i 0) (in-at (g .mentions) i l), mention-more (rd .files) (pathsOf b), made-long))
+        | no l ↦
+            (let j = i - length (g .mentions) in
+            let z : i ≡ length (g .mentions) + j = omega arith in
+            let k : j < length (pathsOf b) = omega (arith, length-append (g .mentions) numbers, length-numbers (filesWith b rd) (pathsOf b)) in
+            rw (z, getD-append-add (g .mentions) numbers j 0, made-long)
+            (numbers-low (filesWith b rd) (pathsOf b) (among-all (rd .files) (pathsOf b)) j k))
+      ]
+
+  -- what the step's columns ask
+  pub step-ready : Ready (c .paths) d (lineAfter b (lineOf w) made)
+  step-ready =
+      record {
+        ended = omega (arith, ends-before, length-append (g .ends) (endsAfter (length (g .mentions)) (listsOf b)));
+        outs =
+            record {
+              ordered = omega (arith, outs-end, g .paths-counted);
+              within = omega (arith, outs-end, length-append (g .mentions) numbers, length-numbers (filesWith b rd) (pathsOf b), length-paths);
+              low = mentions-low;
+            };
+        phony = held-steps (g .tables) ∙ sym steps-same;
+        ruled = g .ruled-all ∙ sym steps-same;
+        few = omega (arith, steps-same, w .bound .steps-counted);
+      }
+
+  pub outs-part : part (g .mentions ++ numbers) (c .paths) (outsEnd d (lineAfter b (lineOf w) made)) ≡ numbersOf (filesWith b rd) (b .outs)
+  outs-part =
+      let f = filesWith b rd in
+      rw (numbers-append f (b .outs) (inputsOfLine b))
+      (part-between (g .mentions) (numbersOf f (b .outs)) (numbersOf f (inputsOfLine b)) _ _ (g .paths-counted) (omega (arith, outs-end, length-numbers f (b .outs))))
