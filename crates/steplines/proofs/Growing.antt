@@ -1,6 +1,6 @@
 -- The tables of the graph with a step more.
-use Prim.Native.Nat.{ℕ, zero, suc, _+_, _*_, _≤_, _<_}
-use mathlib.Core.Bool.{Bool, true, false, _||_, or-false}
+use Prim.Native.Nat.{ℕ, suc, _+_, _*_, _<_}
+use mathlib.Core.Bool.{Bool, true, false, or-false}
 use mathlib.Core.List.{List, [], _∷_, _++_, map, append-assoc, append-nil}
 use mathlib.Core.Path.{_≡_, refl, sym, _∙_, ap}
 use native.Mathlib.Numerals.{add-one}
@@ -16,7 +16,6 @@ use Rattle.rules.specs.Reading.{Step}
 use Rattle.rules.specs.Graph.{inputs, makers, makersFrom}
 use Rattle.tables.specs.Tables.{mentionsOf, endsFrom, madeBy, makerIn, Holds}
 use Rattle.tables.proofs.Held.{held-makers}
-use Rattle.mentions.proofs.Limits.{or-on, or-at}
 use Rattle.steplines.specs.Joins.{setAll}
 
 -- ---- columns

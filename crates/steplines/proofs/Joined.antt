@@ -1,6 +1,6 @@
 -- The buffers hold the reading with a line's step.
 use Prim.Native.Nat.{ℕ, _+_, _≤_, _<_}
-use mathlib.Core.Bool.{Bool, true, false}
+use mathlib.Core.Bool.{false}
 use mathlib.Core.List.{List, [], _∷_, _++_, map}
 use mathlib.Core.Path.{_≡_, refl, sym, _∙_, ap}
 use native.Mathlib.Decide.{decLt}
@@ -22,7 +22,7 @@ use Rattle.tables.specs.Tables as tables
 use Rattle.tables.specs.Tables.{bit, mentionsOf, endsFrom}
 use Rattle.held.specs.declared.Counts.{Counts}
 use Rattle.held.specs.Held.{Bound, Ruled, Graphed, Holds}
-use Rattle.mentions.specs.Lines.{Line, Writing}
+use Rattle.mentions.specs.Lines.{Writing}
 use Rattle.mentions.proofs.Limits.{mention-more}
 use Rattle.mentions.proofs.Closed.{numbers-low, length-numbers}
 use Rattle.steplines.specs.Lists.{listsOf}

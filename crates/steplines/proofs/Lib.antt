@@ -6,3 +6,4 @@ pub mod Fresh
 pub mod Closed
 pub mod Stepped
 pub mod Joined
+pub mod Outcomes

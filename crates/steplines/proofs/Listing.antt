@@ -1,5 +1,5 @@
 -- Lists of a line, one after another: what they come to, and one law for each answer.
-use Prim.Native.Nat.{ℕ, _+_, _*_, _≤_, _<_}
+use Prim.Native.Nat.{ℕ, _+_, _*_, _<_}
 use mathlib.Core.Bool.{true, false}
 use mathlib.Core.List.{List, [], _∷_, _++_, append-assoc, append-nil}
 use mathlib.Core.Path.{_≡_, refl, sym, _∙_, ap}
@@ -7,12 +7,9 @@ use native.Mathlib.Omega.{arith}
 use lib.ListN.{length, set, length-append}
 use Rattle.rules.specs.Basics.{concat}
 use Rattle.rules.specs.Limits.{maxSteps}
-use Rattle.rules.specs.Forms.{BuildLine}
-use Rattle.rules.specs.Reading.{Bound, Reading, Step}
+use Rattle.rules.specs.Reading.{Reading}
 use Rattle.rules.specs.Statements.{expanded, mentioned, overPaths}
 use Rattle.forms.specs.declared.BuildPlaces.{BuildPlaces}
-use Rattle.forms.specs.Paths.{PathsAt}
-use Rattle.forms.specs.Statements.{Stands}
 use Rattle.held.specs.declared.Counts.{Counts}
 use Rattle.mentions.specs.declared.Mentioned.{Mentioned}
 use Rattle.mentions.specs.declared.Mentioned.the-variants.{On, Over}

@@ -1,14 +1,14 @@
 -- The makers of a step's outputs, one file after another, and the step's other columns.
-use Prim.Native.Nat.{ℕ, zero, suc, _+_, _*_, _^_, _≤_, _<_}
-use mathlib.Core.List.{List, [], _∷_, _++_}
-use mathlib.Core.Path.{_≡_, refl, sym, _∙_, ap}
+use Prim.Native.Nat.{ℕ, zero, suc, _+_, _*_, _≤_, _<_}
+use mathlib.Core.List.{List, [], _∷_}
+use mathlib.Core.Path.{_≡_, refl, _∙_, ap}
 use native.Mathlib.Omega.{arith}
 use lib.ListN.{length, getD, set, length-set}
 use Rattle.lists.specs.Parts.{part, part-cons, part-none}
 use Rattle.mentions.specs.Lines.{Line, Columns}
 use Rattle.mentions.proofs.Columns.{graph-long, mentions-fit, made-fit, set-made, read-mention, read-end, push-phony, push-rule}
 use Rattle.held.specs.declared.Counts.{Counts}
-use Rattle.steplines.specs.Joins.{setAll, Laid, withMade, Part, MakeAsks, Makes, Ready, JoinAsks, outsEnd, phonyBit, withRule, countedStep, Joins}
+use Rattle.steplines.specs.Joins.{setAll, Laid, Part, MakeAsks, Makes, Ready, JoinAsks, outsEnd, phonyBit, withRule, countedStep, Joins}
 
 pub length-set-all : (v : ℕ) (fs made : List ℕ) → length (setAll v fs made) ≡ length made
 unfolding setAll

@@ -1,8 +1,8 @@
 -- The number of a step's rule.
-use Prim.Native.Nat.{ℕ, zero, suc, _+_, _≤_, _<_}
-use mathlib.Core.Bool.{Bool, true, false, _||_}
+use Prim.Native.Nat.{ℕ, zero, suc, _+_, _≤_}
+use mathlib.Core.Bool.{true, false}
 use mathlib.Core.List.{List, [], _∷_, map}
-use mathlib.Core.Path.{_≡_, refl, sym, _∙_, ap}
+use mathlib.Core.Path.{_≡_, refl, sym, _∙_}
 use native.Mathlib.Numerals.{add-one}
 use native.Mathlib.Omega.{arith}
 use borrow.Author.Tests.{eqb-true}
@@ -16,7 +16,6 @@ use Rattle.rules.specs.Reading.{Rule, Reading, isPhony}
 use Rattle.bindings.specs.declared.Found.{Found}
 use Rattle.bindings.specs.declared.Found.the-variants.{At, Missing}
 use Rattle.bindings.specs.Log.{Logged, ofRules, entryAt, isNamed, newest, isAt, rulesOf}
-use Rattle.bindings.specs.Held.{maxEntries, Holds}
 use Rattle.bindings.proofs.Lookups.{newest-below, entry-kept, entry-newest, declared-newest}
 use Rattle.held.specs.Held.{Ruled, phony, declared}
 use Rattle.steplines.specs.Joins.{entryNumber, ruleNumber, phonyBit}

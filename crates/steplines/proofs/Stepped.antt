@@ -1,41 +1,33 @@
 -- A line that is written whole: the buffers hold the reading with its step.
-use Prim.Native.Nat.{ℕ, _+_, _-_, _*_, _≤_, _<_}
-use mathlib.Core.Bool.{Bool, true, false, not, _||_}
-use mathlib.Core.Logic.{inl, inr}
-use mathlib.Core.List.{List, [], _∷_, _++_, map, append-assoc}
-use mathlib.Core.Path.{_≡_, refl, sym, _∙_, ap, subst}
+use Prim.Native.Nat.{ℕ, _+_, _-_, _*_, _<_}
+use mathlib.Core.List.{List, [], _∷_, _++_}
+use mathlib.Core.Path.{_≡_, sym, _∙_, ap}
 use native.Mathlib.Decide.{decLt}
 use native.Mathlib.Omega.{arith}
-use borrow.Author.Tests.{le-ltb, lt-leb}
 use lib.ListN.{length, getD, length-append, List·getD-append}
 use lib.Seq.{getD-append-seam, getD-append-add, take-append-seam, drop-append-seam}
-use Rattle.lists.specs.Members.{_∈_, in-at, in-append, place, any, has}
+use Rattle.lists.specs.Members.{in-at}
 use Rattle.lists.specs.Parts.{part}
 use Rattle.rules.specs.Basics.{concat}
-use Rattle.rules.specs.Limits.{maxSteps, maxFiles, maxBindings, maxMentions, maxWritten}
+use Rattle.rules.specs.Limits.{maxSteps}
 use Rattle.rules.specs.Forms.{BuildLine}
-use Rattle.rules.specs.Reading.{Step, Reading, isPhony, numbersOf, mention}
-use Rattle.rules.specs.Statements.{mentioned, inputsOfLine, badPaths, overCounts}
-use Rattle.rules.specs.Manifest.{withStep}
-use Rattle.rules.specs.Graph.{inputs, noStep, stepAt}
-use Rattle.bindings.specs.Log.{Logged, ofStep, boundBy}
-use Rattle.bindings.proofs.Lookups.{no-lines, owned-more}
+use Rattle.rules.specs.Reading.{Step, Reading, numbersOf, mention}
+use Rattle.rules.specs.Statements.{mentioned, inputsOfLine}
+use Rattle.rules.specs.Graph.{inputs}
+use Rattle.bindings.specs.Log.{Logged}
 use Rattle.tables.specs.Tables as tables
-use Rattle.tables.specs.Tables.{bit, mentionsOf, endsFrom}
+use Rattle.tables.specs.Tables.{mentionsOf, endsFrom}
 use Rattle.tables.proofs.Held.{held-steps}
 use Rattle.held.specs.declared.Counts.{Counts}
-use Rattle.held.specs.Held.{Bound, Ruled, Graphed, Holds}
+use Rattle.held.specs.Held.{Graphed, Holds}
 use Rattle.mentions.specs.Lines.{Line, Writing}
 use Rattle.mentions.proofs.Limits.{mention-more}
 use Rattle.mentions.proofs.Closed.{Among, among-all, numbers-append, numbers-low, length-numbers}
 use Rattle.steplines.specs.Lists.{withLists, listsOf}
-use Rattle.steplines.specs.Joins.{setAll, Laid, Ready, outsEnd, phonyBit, withRule, countedStep}
+use Rattle.steplines.specs.Joins.{Ready, outsEnd}
 use Rattle.steplines.proofs.Listing.{lists-reading}
 use Rattle.steplines.proofs.Closed.{lists-log, lists-phony, lists-ruled, lists-mentions, lists-ends, endsAfter, concat-lists}
-use Rattle.steplines.proofs.Making.{length-set-all}
-use Rattle.steplines.proofs.Numbered.{ruled-bit}
-use Rattle.steplines.proofs.Growing.{mentions-more, ends-more, length-ends, map-more, makes-more}
-use Rattle.steplines.proofs.Fresh.{line-fresh}
+use Rattle.steplines.proofs.Growing.{length-ends}
 
 -- ---- the line that is held, before its first path and after its last
 

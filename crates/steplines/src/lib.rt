@@ -1,10 +1,5 @@
 // A build line is written: its files are mentioned, and its step joins the graph's columns.
-ghost use mathlib.Core.Path.{_≡_};
-ghost use mathlib.Core.List.{List};
-ghost use Prim.Native.Nat.{ℕ, _≤_, _<_};
-ghost use lib.ListN.{length};
-ghost use Rattle.bindings.specs.Log.{Logged};
-ghost use Rattle.bindings.specs.Held.{Holds, Sound};
+ghost use Prim.Native.Nat.{_<_};
 ghost use Rattle.steplines.specs.Asks.{StepAsks, Writes};
 
 mod joins;

@@ -73,7 +73,20 @@ pub fn four(
     ensures { λ r. ⌜ Four (now (l .entry)) (now (names .entry)) (now (ends .entry)) (now (texts .entry)) (now (bind .entry)) (now (graph .entry)) c p (now (names .exit)) (now (ends .exit)) (now (graph .exit)) r ⌝ }
 {
     let e = 4 * c.steps;
-    match two(t, l, p.outs, p.ins, e, names, ends, texts, bind, graph, word, c) {
+    match two(
+        t,
+        l,
+        p.outs,
+        p.ins,
+        e,
+        names,
+        ends,
+        texts,
+        bind,
+        graph,
+        word,
+        c,
+    ) {
         Mentioned::On(d) => two(
             t,
             l,

@@ -1,13 +1,10 @@
+-- `steplines::joins::make` meets its contract.
 use Prim.Native.Nat.{_-_}
 use native.Mathlib.Omega.{arith}
-use Rattle.steplines.proofs.Making.{Making, make-begin, make-in, make-low, make-fits, make-on, make-end}
 use borrow.Author.Needs.{needs}
+use Rattle.steplines.proofs.Making.{Making, make-begin, make-in, make-low, make-fits, make-on, make-end}
 use Rattle.steplines.proofs.joins.make.Statement.{statement}
 use Rattle.steplines.proofs.joins.make.Tie as tie
-use Rattle.steplines.proofs.joins.make.Reads as reads
-use Rattle.steplines.proofs.joins.make.Lts as lts
-use Rattle.arena.proofs.put.Reads as put-reads
-use Rattle.lists.proofs.words.at.Reads as at-reads
 
 abbrev Inv-loop : tie.InvT-loop
 Inv-loop graph₀ from to v i₀ graph i = Making graph₀ from to v graph i
@@ -15,39 +12,30 @@ Inv-loop graph₀ from to v i₀ graph i = Making graph₀ from to v graph i
 abbrev μ-loop : tie.MeasureT-loop
 μ-loop graph₀ from to v i₀ graph i = to - i
 
--- src/joins.rt:34:5
 loop-holds : tie.Need-loop-holds Inv-loop μ-loop
 loop-holds c = make-begin (c .before .pre)
 
--- src/joins.rt:35:13
 at-requires : tie.Need-at-requires Inv-loop μ-loop
 at-requires c κs = make-in (c .before .before .loop .inv) (c .before .loop-test .taken)
 
--- src/joins.rt:36:20
 add-put : tie.Need-add-put Inv-loop μ-loop
 add-put c = omega (arith, make-low (c .before .before .before .before .loop .inv) (c .before .before .before .loop-test .taken) (c .before .at .ensures))
 
--- src/joins.rt:36:9
 put-requires : tie.Need-put-requires Inv-loop μ-loop
 put-requires c κs = (make-fits (c .before .before .before .before .loop .inv) (c .before .before .before .loop-test .taken) (c .before .at .ensures), c .before .before .before .before .before .before .pre .small)
 
--- src/joins.rt:37:9
 add-i : tie.Need-add-i Inv-loop μ-loop
 add-i c = omega arith
 
--- src/joins.rt:34:5
 loop-less : tie.Need-loop-less Inv-loop μ-loop
 loop-less c = omega (arith, c .before .before .before .before .before .before .loop-test .taken)
 
--- src/joins.rt:34:5
 loop-again : tie.Need-loop-again Inv-loop μ-loop
 loop-again c = make-on (c .before .before .before .before .before .before .before .loop .inv) (c .before .before .before .before .before .before .loop-test .taken) (c .before .before .before .before .at .ensures) (c .before .before .put .ensures)
 
--- src/joins.rt:29:1
 same-length : tie.Need-same-length Inv-loop μ-loop
 same-length c = search needs
 
--- src/joins.rt:29:1
 returns : tie.Need-returns Inv-loop μ-loop
 returns c = make-end (c .before .loop .inv) (c .loop-test .left)
 

@@ -1,54 +1,42 @@
+-- `steplines::joins::rule_number` meets its contract.
 use mathlib.Core.Path.{sym, _∙_}
 use native.Mathlib.Omega.{arith}
 use denote.Ref.{now}
+use borrow.Author.Needs.{needs}
 use Rattle.rules.specs.Reading.{isPhony}
 use Rattle.bindings.proofs.Lookups.{newest-below}
 use Rattle.steplines.proofs.Numbered.{number-phony, number-at, number-missing}
-use borrow.Author.Needs.{needs}
 use Rattle.steplines.proofs.joins.rule_number.Statement.{statement}
 use Rattle.steplines.proofs.joins.rule_number.Tie as tie
-use Rattle.steplines.proofs.joins.rule_number.Reads as reads
-use Rattle.steplines.proofs.joins.rule_number.Lts as lts
-use Rattle.bindings.proofs.newest.Reads as newest-reads
-use Rattle.lists.proofs.bytes.equal.Reads as equal-reads
 
--- src/joins.rt:19:20
 slice-aggregate-equal : tie.Need-slice-aggregate-equal
 slice-aggregate-equal c = search needs
 
--- src/joins.rt:19:8
 equal-requires : tie.Need-equal-requires
 equal-requires c κs = search needs
 
--- src/joins.rt:20:9
 returns : tie.Need-returns
 unfolding isPhony
 returns c = λ log h. number-phony _ log (sym (c .before .equal .ensures) ∙ c .if1 .taken)
 
--- src/joins.rt:22:11
 newest-requires : tie.Need-newest-requires
 newest-requires c κs = search needs
 
--- src/joins.rt:23:19
 enum-known-k : tie.Need-enum-known-k
 enum-known-k c = search needs
 
--- src/joins.rt:23:25
 add-result : tie.Need-add-result
 add-result c =
     let s = c .before .before .before .before .before .before .before .before .before .before .pre in
     omega (arith, newest-below 1 (now (c .before .before .before .before .before .before .before .before .before .before .args .name)) (s .log) _ (sym (c .before .before .before .newest .ensures (s .log) (s .held)) ∙ c .before .k .given .1), s .held .counted, s .held .few)
 
--- src/joins.rt:24:27
 enum-told : tie.Need-enum-told
 enum-told c = search needs
 
--- src/joins.rt:15:1
 returns-2 : tie.Need-returns-2
 unfolding isPhony
 returns-2 c = λ log h. number-at _ log (sym (c .before .before .before .before .before .equal .ensures) ∙ c .before .before .before .before .if1 .left) (sym (c .before .k .given .1) ∙ c .before .before .before .newest .ensures log h)
 
--- src/joins.rt:15:1
 returns-3 : tie.Need-returns-3
 unfolding isPhony
 returns-3 c = λ log h. number-missing _ log (sym (c .before .before .before .before .equal .ensures) ∙ c .before .before .before .if1 .left) (sym (c .enum-told .given .1) ∙ c .before .before .newest .ensures log h)

@@ -1,73 +1,55 @@
+-- `steplines::parts::four` meets its contract.
 use native.Mathlib.Omega.{arith}
-use Rattle.steplines.proofs.Listing.{four-first, four-second, four-on, four-over}
 use borrow.Author.Needs.{needs}
+use Rattle.steplines.proofs.Listing.{four-first, four-second, four-on, four-over}
 use Rattle.steplines.proofs.parts.four.Statement.{statement}
 use Rattle.steplines.proofs.parts.four.Tie as tie
-use Rattle.steplines.proofs.parts.four.Reads as reads
-use Rattle.steplines.proofs.parts.four.Lts as lts
-use Rattle.steplines.proofs.parts.two.Reads as two-reads
 
--- src/parts.rt:75:13
 mul-e : tie.Need-mul-e
 mul-e c = omega (arith, c .before .before .before .before .before .before .before .before .pre .few)
 
--- src/parts.rt:76:11
 two-requires : tie.Need-two-requires
 two-requires c κs = four-first (c .before .before .before .before .before .before .before .before .before .before .before .before .pre)
 
--- src/parts.rt:77:23
 enum-known-d : tie.Need-enum-known-d
 enum-known-d c = search needs
 
--- src/parts.rt:82:13
 add-two : tie.Need-add-two
 add-two c = omega (arith, c .before .before .before .before .before .before .before .before .before .before .before .before .before .before .before .before .before .before .before .before .before .before .before .before .pre .few)
 
--- src/parts.rt:77:29
 two-requires-2 : tie.Need-two-requires-2
 two-requires-2 c κs = four-second (c .before .before .before .before .before .before .before .before .before .before .before .before .before .before .before .before .before .before .before .before .before .before .before .before .before .before .before .before .pre) (search needs) (search needs) (search needs) (rw (c .before .before .before .before .before .d .given .1) at (c .before .before .before .before .before .before .before .before .before .before .before .before .before .before .before .two .ensures))
 
--- src/parts.rt:91:28
 enum-told : tie.Need-enum-told
 enum-told c = search needs
 
--- src/parts.rt:60:1
 same-length : tie.Need-same-length
 same-length c = search needs
 
--- src/parts.rt:60:1
 same-length-2 : tie.Need-same-length-2
 same-length-2 c = search needs
 
--- src/parts.rt:60:1
 same-length-3 : tie.Need-same-length-3
 same-length-3 c = search needs
 
--- src/parts.rt:60:1
 same-length-4 : tie.Need-same-length-4
 same-length-4 c = search needs
 
--- src/parts.rt:60:1
 returns : tie.Need-returns
 returns c = four-on (rw (c .before .before .before .before .before .before .before .before .before .before .before .before .before .before .d .given .1) at (c .before .before .before .before .before .before .before .before .before .before .before .before .before .before .before .before .before .before .before .before .before .before .before .before .two .ensures)) (c .before .before .before .before .before .before .before .before .two2 .ensures)
 
--- src/parts.rt:60:1
 same-length-5 : tie.Need-same-length-5
 same-length-5 c = search needs
 
--- src/parts.rt:60:1
 same-length-6 : tie.Need-same-length-6
 same-length-6 c = search needs
 
--- src/parts.rt:60:1
 same-length-7 : tie.Need-same-length-7
 same-length-7 c = search needs
 
--- src/parts.rt:60:1
 same-length-8 : tie.Need-same-length-8
 same-length-8 c = search needs
 
--- src/parts.rt:60:1
 returns-2 : tie.Need-returns-2
 returns-2 c = four-over (rw (c .enum-told .given .1) at (c .before .before .before .before .before .before .before .before .before .before .two .ensures))
 

@@ -1,69 +1,52 @@
+-- `steplines::parts::two` meets its contract.
 use native.Mathlib.Omega.{arith}
-use Rattle.steplines.proofs.Listing.{two-first, two-second, two-on, two-over}
 use borrow.Author.Needs.{needs}
+use Rattle.steplines.proofs.Listing.{two-first, two-second, two-on, two-over}
 use Rattle.steplines.proofs.parts.two.Statement.{statement}
 use Rattle.steplines.proofs.parts.two.Tie as tie
-use Rattle.steplines.proofs.parts.two.Reads as reads
-use Rattle.steplines.proofs.parts.two.Lts as lts
-use Rattle.steplines.proofs.parts.one.Reads as one-reads
 
--- src/parts.rt:53:11
 one-requires : tie.Need-one-requires
 one-requires c κs = two-first (c .before .before .before .before .before .before .before .before .before .before .before .pre)
 
--- src/parts.rt:54:23
 enum-known-d : tie.Need-enum-known-d
 enum-known-d c = search needs
 
--- src/parts.rt:54:45
 add-one : tie.Need-add-one
 add-one c = omega (arith, c .before .before .before .before .before .before .before .before .before .before .before .before .before .before .before .before .before .before .before .before .before .before .before .pre .low)
 
--- src/parts.rt:54:29
 one-requires-2 : tie.Need-one-requires-2
 one-requires-2 c κs = two-second (c .before .before .before .before .before .before .before .before .before .before .before .before .before .before .before .before .before .before .before .before .before .before .before .before .before .before .before .pre) (search needs) (search needs) (search needs) (rw (c .before .before .before .before .before .d .given .1) at (c .before .before .before .before .before .before .before .before .before .before .before .before .before .before .before .one .ensures))
 
--- src/parts.rt:55:28
 enum-told : tie.Need-enum-told
 enum-told c = search needs
 
--- src/parts.rt:36:1
 same-length : tie.Need-same-length
 same-length c = search needs
 
--- src/parts.rt:36:1
 same-length-2 : tie.Need-same-length-2
 same-length-2 c = search needs
 
--- src/parts.rt:36:1
 same-length-3 : tie.Need-same-length-3
 same-length-3 c = search needs
 
--- src/parts.rt:36:1
 same-length-4 : tie.Need-same-length-4
 same-length-4 c = search needs
 
--- src/parts.rt:36:1
 returns : tie.Need-returns
 returns c = two-on (rw (c .before .before .before .before .before .before .before .before .before .before .before .before .before .before .d .given .1) at (c .before .before .before .before .before .before .before .before .before .before .before .before .before .before .before .before .before .before .before .before .before .before .before .before .one .ensures)) (c .before .before .before .before .before .before .before .before .one2 .ensures)
 
--- src/parts.rt:36:1
 same-length-5 : tie.Need-same-length-5
 same-length-5 c = search needs
 
--- src/parts.rt:36:1
 same-length-6 : tie.Need-same-length-6
 same-length-6 c = search needs
 
--- src/parts.rt:36:1
 same-length-7 : tie.Need-same-length-7
 same-length-7 c = search needs
 
--- src/parts.rt:36:1
 same-length-8 : tie.Need-same-length-8
 same-length-8 c = search needs
 
--- src/parts.rt:36:1
 returns-2 : tie.Need-returns-2
 returns-2 c = two-over (rw (c .enum-told .given .1) at (c .before .before .before .before .before .before .before .before .before .before .one .ensures))
 
