@@ -126,7 +126,7 @@ module _ {names fileEnds graph path names′ fileEnds′ : List ℕ} {c : Counts
 
   pub path-full : maxWritten ≤ length names → maxFiles ≤ length fileEnds → r ≡ Full → {graph′ : List ℕ} → Marks names′ fileEnds′ texts bind graph′ h (path ∷ []) Over
   path-full n f e =
-      let x = after-full a (w .named) e f (omega (arith, w .bound .shared, l .low)) in
+      let x = after-full a (w .named) e (omega (arith, w .bound .shared, l .low)) in
       over (line-files path (h .reading) (x .0) (x .1))
 
   -- the number is low, for the store
