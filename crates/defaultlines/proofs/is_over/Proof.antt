@@ -1,4 +1,3 @@
-use native.Mathlib.Omega.{arith}
 use borrow.Author.Tests.{lt-ltb, le-ltb, le-leb, lt-leb}
 use Rattle.rules.specs.Limits.{maxMentions, maxPath}
 use Rattle.defaultlines.specs.Defaults.{overDefault}

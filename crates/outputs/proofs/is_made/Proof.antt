@@ -1,6 +1,5 @@
 use denote.Ref.{now}
 use mathlib.Core.Path.{sym}
-use native.Mathlib.Omega.{arith}
 use Rattle.outputs.proofs.Makers.{long-held, made-held, word-counted, files-held}
 use borrow.Author.Needs.{needs}
 use Rattle.outputs.proofs.is_made.Statement.{statement}
