@@ -1,7 +1,7 @@
 -- A walk over the paths of a default line without an 8: what is held now, and what is left of the line.
-use Prim.Native.Nat.{ℕ, suc, _+_, _≤_, _<_}
+use Prim.Native.Nat.{ℕ, _≤_}
 use mathlib.Core.Bool.{Bool, true, false, not, _||_}
-use mathlib.Core.List.{List, [], _∷_, _++_, map}
+use mathlib.Core.List.{List, [], _∷_}
 use mathlib.Core.Path.{_≡_, refl, sym, _∙_, ap}
 use borrow.Author.Tests.{not-false}
 use lib.ListN.{length}
@@ -10,7 +10,7 @@ use Rattle.lists.specs.Members.{any}
 use Rattle.lists.specs.Parts.{part}
 use Rattle.rules.specs.declared.Refusal.the-variants.{OverLimit}
 use Rattle.rules.specs.Reading.{Reading, numberOf, isMade}
-use Rattle.rules.specs.Statements.{expanded, refused, goesOn, noBlock}
+use Rattle.rules.specs.Statements.{expanded, refused}
 use Rattle.scan.specs.Texts.{PathNext}
 use Rattle.forms.specs.Paths.{PathsAt}
 use Rattle.forms.proofs.Walks.{walk-on}
@@ -23,7 +23,7 @@ use Rattle.held.specs.Adds.{Whole, Adds}
 use Rattle.outputs.specs.Asks.{pathOf, AnyPath}
 use Rattle.defaultlines.specs.declared.Named.{Named}
 use Rattle.defaultlines.specs.declared.Named.the-variants.{Added, Over}
-use Rattle.defaultlines.specs.Defaults.{overDefault, defaulted, soundDefaults, Named·is, Names}
+use Rattle.defaultlines.specs.Defaults.{defaulted, soundDefaults, Named·is, Names}
 use Rattle.defaultlines.proofs.Outcomes.{sound-over, sound-on, sound-end}
 
 -- The reading so far, and what is left of the line.

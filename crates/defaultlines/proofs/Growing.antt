@@ -1,8 +1,8 @@
 -- One default more is held.
-use Prim.Native.Nat.{ℕ, suc, _+_, _≤_, _<_}
-use mathlib.Core.Bool.{Bool, true, false, _||_}
+use Prim.Native.Nat.{ℕ, _+_, _≤_, _<_}
+use mathlib.Core.Bool.{false, _||_}
 use mathlib.Core.List.{List, [], _∷_, _++_}
-use mathlib.Core.Path.{_≡_, refl, sym, _∙_, ap}
+use mathlib.Core.Path.{_≡_, ap}
 use native.Mathlib.Decide.{decLt}
 use native.Mathlib.Omega.{arith}
 use borrow.Author.Tests.{leb-false, ltb-false}
@@ -11,7 +11,7 @@ use lib.ListN.{length, getD, set, length-append, List·getD-append}
 use lib.Seq.{getD-append-seam}
 use Rattle.lists.specs.Tests.{or-left, or-right}
 use Rattle.rules.specs.Limits.{maxMentions, maxPath, maxWritten}
-use Rattle.rules.specs.Reading.{Reading, numberOf, isMade}
+use Rattle.rules.specs.Reading.{Reading}
 use Rattle.arena.proofs.Laws.{lies-column, lies-push}
 use Rattle.bindings.specs.Log.{Logged}
 use Rattle.held.specs.declared.Counts.{Counts}

@@ -1,15 +1,15 @@
 -- A default line: its 8s, then what is left.
 use Prim.Native.Nat.{ℕ}
-use mathlib.Core.Bool.{Bool, true, false, not, _||_}
+use mathlib.Core.Bool.{Bool, true, false, not}
 use mathlib.Core.List.{List}
-use mathlib.Core.Path.{_≡_, refl, sym, _∙_, ap}
+use mathlib.Core.Path.{_≡_, sym, _∙_}
 use native.Mathlib.Omega.{arith}
 use lib.ListN.{length}
 use Rattle.lists.specs.Members.{any}
 use Rattle.rules.specs.declared.Refusal.the-variants.{BadPath}
 use Rattle.rules.specs.Basics.{isEmpty}
 use Rattle.rules.specs.Reading.{Reading, isMade}
-use Rattle.rules.specs.Statements.{refused, expanded, addDefaults}
+use Rattle.rules.specs.Statements.{expanded, addDefaults}
 use Rattle.forms.specs.Paths.{PathsAt}
 use Rattle.bindings.specs.Log.{Logged}
 use Rattle.held.specs.declared.Counts.{Counts}

@@ -1,19 +1,19 @@
 -- What the rules answer to a default line without an 8, path by path.
-use Prim.Native.Nat.{ℕ, suc, _+_, _≤_, _<_}
-use mathlib.Core.Bool.{Bool, true, false, not, _||_}
-use mathlib.Core.List.{List, [], _∷_, _++_, map, append-assoc, append-nil}
-use mathlib.Core.Path.{_≡_, refl, sym, _∙_, ap}
+use Prim.Native.Nat.{ℕ, suc, _+_, _<_}
+use mathlib.Core.Bool.{Bool, true, false, _||_}
+use mathlib.Core.List.{List, [], _∷_, map, append-assoc, append-nil}
+use mathlib.Core.Path.{_≡_, refl, sym}
 use native.Mathlib.Omega.{arith}
-use borrow.Author.Tests.{lt-ltb, le-ltb, leb-true, ltb-true, ltb-false}
+use borrow.Author.Tests.{lt-ltb, le-ltb, leb-true, ltb-true}
 use lib.Dec.{leb, ltb}
 use lib.ListN.{length}
-use Rattle.lists.specs.Tests.{split, differ, or-left, or-right}
+use Rattle.lists.specs.Tests.{split, differ, or-left}
 use Rattle.lists.specs.Members.{any}
 use Rattle.rules.specs.declared.Refusal.the-variants.{OverLimit}
 use Rattle.rules.specs.Basics.{among, sum}
 use Rattle.rules.specs.Limits.{maxFiles, maxBindings, maxMentions, maxPath, maxWritten}
 use Rattle.rules.specs.Reading.{Reading, numberOf, numbersOf, mention, isMade}
-use Rattle.rules.specs.Statements.{Outcome, goesOn, refused, noBlock, longerThan, mentioned, overPaths, overCounts, withDefaults}
+use Rattle.rules.specs.Statements.{goesOn, refused, noBlock, longerThan, mentioned, overPaths, overCounts, withDefaults}
 use Rattle.names.proofs.Numbers.{mention-old, mention-none, number-mention}
 use Rattle.bindings.specs.Log.{Logged}
 use Rattle.held.specs.declared.Counts.{Counts}

@@ -1,13 +1,11 @@
 -- What the functions on one path of a default line answer.
-use Prim.Native.Nat.{ℕ, _+_, _≤_, _<_}
-use mathlib.Core.Bool.{Bool, true, false}
+use Prim.Native.Nat.{ℕ, _+_, _≤_}
+use mathlib.Core.Bool.{true, false}
 use mathlib.Core.List.{List}
-use mathlib.Core.Path.{_≡_, refl, sym, _∙_, ap}
+use mathlib.Core.Path.{_≡_, sym, _∙_, ap}
 use native.Mathlib.Omega.{arith}
 use lib.ListN.{length, take, set}
 use Rattle.lists.specs.Tests.{differ}
-use Rattle.rules.specs.Limits.{maxWritten}
-use Rattle.rules.specs.Reading.{Reading, numberOf, isMade}
 use Rattle.names.specs.declared.Found.{Found}
 use Rattle.names.specs.declared.Found.the-variants.{At, Missing}
 use Rattle.names.specs.Table.{Finds}
@@ -17,12 +15,10 @@ use Rattle.bindings.specs.Held.{Holds as BindingsHold}
 use Rattle.expand.specs.Runs.{expanded, Written}
 use Rattle.expand.proofs.Callers.{written-long, written-whole}
 use Rattle.held.specs.declared.Counts.{Counts}
-use Rattle.held.specs.Held.{Holds}
-use Rattle.held.specs.Adds.{Whole}
 use Rattle.outputs.specs.Asks.{pathOf}
 use Rattle.outputs.proofs.Makers.{path-held}
 use Rattle.defaultlines.specs.declared.Named.the-variants.{Added, Over}
-use Rattle.defaultlines.specs.Defaults.{overDefault, defaulted, countedDefault, Puts, Named·is, Names}
+use Rattle.defaultlines.specs.Defaults.{overDefault, countedDefault, Puts, Named·is, Names}
 use Rattle.defaultlines.proofs.Outcomes.{made-among}
 use Rattle.defaultlines.proofs.Growing.{within, default-held}
 

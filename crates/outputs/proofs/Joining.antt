@@ -1,9 +1,8 @@
 -- The parts of a build line joined: what the passes over them say of the whole line.
-use Prim.Native.Nat.{ℕ, _+_, _≤_}
+use Prim.Native.Nat.{ℕ, _+_}
 use mathlib.Core.Bool.{Bool, true, false, _||_}
 use mathlib.Core.List.{List, _++_}
 use mathlib.Core.Path.{_≡_, refl, sym, _∙_, ap}
-use lib.ListN.{length}
 use Rattle.lists.specs.Members.{any}
 use Rattle.rules.specs.Basics.{isEmpty}
 use Rattle.rules.specs.Forms.{BuildLine}

@@ -1,10 +1,10 @@
 -- A path is made where its file's entry among the makers is not 0.
 use Prim.Native.Nat.{ℕ, zero, suc, _+_, _≤_, _<_}
-use mathlib.Core.Bool.{Bool, true, false, not, _||_}
-use mathlib.Core.List.{List, [], _∷_, _++_, map}
+use mathlib.Core.Bool.{Bool, true, false, not}
+use mathlib.Core.List.{List, [], _∷_}
 use mathlib.Core.Path.{_≡_, refl, sym, _∙_, ap}
 use native.Mathlib.Omega.{arith}
-use borrow.Author.Tests.{eq-eqb, ne-eqb}
+use borrow.Author.Tests.{ne-eqb}
 use lib.Dec.{eqb}
 use lib.ListN.{length, getD, take, length-append, List·getD-eq-default}
 use Rattle.lists.specs.Tests.{split, differ}
@@ -12,14 +12,13 @@ use Rattle.lists.specs.Bytes.{eqBytes, eqBytes-true}
 use Rattle.lists.specs.Members.{any, has}
 use Rattle.rules.specs.Basics.{isEmpty, among, concat}
 use Rattle.rules.specs.Limits.{maxFiles, maxWritten}
-use Rattle.rules.specs.Dollars.{expand}
-use Rattle.rules.specs.Reading.{Step, Reading, fileVar, numberOf, isOutput, isMade}
+use Rattle.rules.specs.Reading.{Step, Reading, numberOf, isOutput, isMade}
 use Rattle.rules.specs.Graph.{makers, makersFrom}
 use Rattle.arena.proofs.Laws.{lies-column, lies-read}
 use Rattle.names.specs.declared.Found.{Found}
 use Rattle.names.specs.declared.Found.the-variants.{At, Missing}
-use Rattle.names.specs.Table.{Finds, Sound}
-use Rattle.names.proofs.Numbers.{among-none, among-there, among-cons, number-missing}
+use Rattle.names.specs.Table.{Finds}
+use Rattle.names.proofs.Numbers.{among-none, among-there, number-missing}
 use Rattle.names.proofs.Laws.{find-at, find-missing}
 use Rattle.tables.specs.Tables.{madeBy, makerIn}
 use Rattle.tables.proofs.Held.{held-makers}
@@ -30,7 +29,7 @@ use Rattle.expand.proofs.Callers.{expanded-vars, written-long, written-whole}
 use Rattle.held.specs.declared.Counts.{Counts}
 use Rattle.held.specs.Held.{capacities, Bound, Graphed, Holds}
 use Rattle.held.specs.Adds.{Whole}
-use Rattle.outputs.specs.Asks.{pathOf, Filed, Files, MadeAsks}
+use Rattle.outputs.specs.Asks.{pathOf, Filed, Files}
 
 -- ---- makers
 

@@ -1,5 +1,5 @@
 -- Equal paths have equal marks, so a path whose mark does not come again does not come again itself.
-use Prim.Native.Nat.{ℕ, zero, suc, _+_, _-_, _≤_, _<_}
+use Prim.Native.Nat.{ℕ, suc, _+_, _-_, _≤_, _<_}
 use mathlib.Core.Bool.{Bool, true, false, _||_}
 use mathlib.Core.List.{List, [], _∷_, _++_, map, append-assoc, append-nil}
 use mathlib.Core.Path.{_≡_, refl, sym, _∙_, ap}
@@ -9,14 +9,13 @@ use borrow.Author.Tests.{eq-eqb, ne-eqb, eqb-false}
 use lib.Dec.{eqb}
 use lib.ListN.{length, take, drop, getD, set, length-set, length-append, length-take, length-drop, drop-of-length-le}
 use lib.Seq.{drop-cons, take-suc-set, take-at, drop-at, take-append-le, length-take-le}
-use Rattle.lists.specs.Tests.{split, or-left, or-right}
+use Rattle.lists.specs.Tests.{or-left, or-right}
 use Rattle.lists.specs.Bytes.{eqBytes}
 use Rattle.lists.specs.Members.{any, has}
 use Rattle.lists.specs.Parts.{part}
 use Rattle.rules.specs.Basics.{among}
 use Rattle.rules.specs.Limits.{maxManifest}
-use Rattle.rules.specs.Reading.{Reading, fileVar}
-use Rattle.rules.specs.Dollars.{expand}
+use Rattle.rules.specs.Reading.{Reading}
 use Rattle.rules.specs.Statements.{expanded, twice}
 use Rattle.scan.specs.Texts.{PathNext}
 use Rattle.forms.specs.Paths.{PathsAt}
@@ -30,7 +29,7 @@ use Rattle.expand.proofs.Digesting.{digest-small}
 use Rattle.held.specs.Held.{Bound}
 use Rattle.held.specs.declared.Counts.{Counts}
 use Rattle.outputs.specs.Asks.{pathOf, columnsEnd, AnyPath, Kept}
-use Rattle.outputs.specs.Marks.{markOf, NoteAsks, Noted, PlaceAsks, Again, TwiceAsks, MarkedAsks, Compared}
+use Rattle.outputs.specs.Marks.{markOf, Noted, PlaceAsks, Again, MarkedAsks, Compared}
 use Rattle.outputs.proofs.Walking.{any-map}
 use Rattle.outputs.proofs.Makers.{path-held}
 

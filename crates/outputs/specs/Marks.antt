@@ -1,10 +1,9 @@
 -- Equal outputs in a line, found by a mark for each: the digest of the path as it is expanded.
-use Prim.Native.Nat.{ℕ, suc, _+_, _≤_, _<_}
+use Prim.Native.Nat.{ℕ, _+_, _≤_, _<_}
 use mathlib.Core.Bool.{Bool}
 use mathlib.Core.List.{List, _∷_, map}
 use mathlib.Core.Path.{_≡_}
 use lib.ListN.{length, take, drop}
-use Rattle.lists.specs.Bytes.{eqBytes}
 use Rattle.lists.specs.Parts.{part}
 use Rattle.rules.specs.Basics.{among}
 use Rattle.rules.specs.Limits.{maxManifest}

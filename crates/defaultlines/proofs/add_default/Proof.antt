@@ -1,51 +1,40 @@
+-- `defaultlines::add_default` meets its contract.
 use mathlib.Core.Bool.{false}
 use mathlib.Core.Path.{_≡_, sym, _∙_}
 use native.Mathlib.Omega.{arith}
+use borrow.Author.Needs.{needs}
 use denote.Ref.{now}
 use Rattle.outputs.proofs.Makers.{word-counted, files-held}
 use Rattle.defaultlines.specs.Defaults.{overDefault}
 use Rattle.defaultlines.proofs.Growing.{within}
 use Rattle.defaultlines.proofs.Putting.{default-over, default-added}
-use borrow.Author.Needs.{needs}
 use Rattle.defaultlines.proofs.add_default.Statement.{statement}
 use Rattle.defaultlines.proofs.add_default.Tie as tie
-use Rattle.defaultlines.proofs.add_default.Reads as reads
-use Rattle.defaultlines.proofs.add_default.Lts as lts
-use Rattle.defaultlines.proofs.is_over.Reads as is-over-reads
-use Rattle.defaultlines.proofs.put_default.Reads as put-default-reads
-use Rattle.expand.proofs.expand.Reads as expand-reads
 
 -- past the limits
 inside : (s : tie.Else1) → overDefault (s .before .before .before .before .expand .result) (s .before .before .before .before .before .before .before .before .before .before .before .before .before .args .c) ≡ false
 inside s = sym (s .before .is-over .ensures) ∙ s .if1 .left
 
--- src/lib.rt:120:9
 expand-requires : tie.Need-expand-requires
 expand-requires c κs = search needs
 
--- src/lib.rt:121:8
 is-over-requires : tie.Need-is-over-requires
 is-over-requires c κs = c .before .before .before .before .before .before .before .before .before .before .before .pre .whole .holds .bound .few-written
 
--- src/lib.rt:122:9
 same-length : tie.Need-same-length
 same-length c = search needs
 
--- src/lib.rt:122:9
 returns : tie.Need-returns
 returns c = default-over (now (c .before .before .before .before .before .before .before .before .before .before .before .before .before .args .raw)) (c .before .before .before .before .expand .ensures) (sym (c .before .is-over .ensures) ∙ c .if1 .taken)
 
--- src/lib.rt:124:53
 slice-reshare-prefix-put-default : tie.Need-slice-reshare-prefix-put-default
 slice-reshare-prefix-put-default c = let w = within _ _ (inside (c .before)) in omega (arith, w .short, c .before .before .before .before .before .before .before .before .before .before .before .before .before .before .pre .room)
 
--- src/lib.rt:124:53
 slice-aggregate-put-default : tie.Need-slice-aggregate-put-default
 slice-aggregate-put-default c =
     let w = within _ _ (inside (c .before .before)) in
     sym (word-counted (now (c .before .before .before .before .before .before .before .before .before .before .before .before .before .before .before .args .raw)) (c .before .before .before .before .before .before .expand .ensures) (c .before .before .before .before .before .before .before .before .before .before .before .before .before .before .before .pre .whole) (omega (arith, w .short, c .before .before .before .before .before .before .before .before .before .before .before .before .before .before .before .pre .room)))
 
--- src/lib.rt:124:18
 put-default-requires : tie.Need-put-default-requires
 put-default-requires c κs =
     let w = within _ _ (inside (c .before .before)) in
@@ -54,15 +43,12 @@ put-default-requires c κs =
       within = rw (word-counted (now (c .before .before .before .before .before .before .before .before .before .before .before .before .before .before .before .args .raw)) (c .before .before .before .before .before .before .expand .ensures) (c .before .before .before .before .before .before .before .before .before .before .before .before .before .before .before .pre .whole) (omega (arith, w .short, c .before .before .before .before .before .before .before .before .before .before .before .before .before .before .before .pre .room))) (inside (c .before .before));
     }
 
--- src/lib.rt:106:1
 same-length-2 : tie.Need-same-length-2
 same-length-2 c = search needs
 
--- src/lib.rt:106:1
 same-length-3 : tie.Need-same-length-3
 same-length-3 c = search needs
 
--- src/lib.rt:106:1
 returns-2 : tie.Need-returns-2
 returns-2 c =
     let w = within _ _ (inside (c .before .before .before .before .before)) in

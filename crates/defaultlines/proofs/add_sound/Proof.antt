@@ -1,19 +1,16 @@
+-- `defaultlines::add_sound` meets its contract.
 use Prim.Native.Nat.{_-_}
 use mathlib.Core.Path.{_≡_, refl}
 use native.Mathlib.Omega.{arith}
-use lib.ListN.{length}
-use denote.Ref.{now}
-use Rattle.scan.specs.Texts.{PathNext}
-use Rattle.outputs.proofs.Walking.{goes-on, stops, ready-path}
-use Rattle.outputs.proofs.Makers.{table-held}
-use Rattle.defaultlines.proofs.Adding.{Adding, add-begin, add-whole, add-on, add-over, add-end}
 use borrow.Author.Needs.{needs}
+use denote.Ref.{now}
+use lib.ListN.{length}
+use Rattle.outputs.proofs.Makers.{table-held}
+use Rattle.outputs.proofs.Walking.{goes-on, stops, ready-path}
+use Rattle.scan.specs.Texts.{PathNext}
+use Rattle.defaultlines.proofs.Adding.{Adding, add-begin, add-whole, add-on, add-over, add-end}
 use Rattle.defaultlines.proofs.add_sound.Statement.{statement}
 use Rattle.defaultlines.proofs.add_sound.Tie as tie
-use Rattle.defaultlines.proofs.add_sound.Reads as reads
-use Rattle.defaultlines.proofs.add_sound.Lts as lts
-use Rattle.defaultlines.proofs.add_default.Reads as add-default-reads
-use Rattle.forms.proofs.paths.next_path.Reads as next-path-reads
 
 abbrev Inv-loop : tie.InvT-loop
 Inv-loop t start l at names ends texts bind graph₀ word₀ d₀ i₀ graph word d i = (length graph ≡ length graph₀) × (length word ≡ length word₀) × Adding l names ends texts bind graph₀ d₀ start at graph d i
@@ -25,78 +22,60 @@ abbrev μ-loop : tie.MeasureT-loop
 next : (s : tie.After-known-told Inv-loop μ-loop) → PathNext (now (s .before .before .before .before .before .before .before .before .before .before .before .before .args .l)) (s .before .before .before .before .loop .i) (s .before .from .given .0 .0) (s .before .from .given .0 .1 .0)
 next s = goes-on _ _ _ (s .before .before .before .next-path .ensures) (s .before .from .given .1)
 
--- src/lib.rt:146:5
 loop-holds : tie.Need-loop-holds Inv-loop μ-loop
 loop-holds c = (refl, refl, add-begin (c .before .before .before .before .before .before .before .args .start) (c .before .before .before .before .before .before .before .pre .made) (c .before .before .before .before .before .before .before .pre .asks .stands .within))
 
--- src/lib.rt:147:15
 next-path-requires : tie.Need-next-path-requires Inv-loop μ-loop
 next-path-requires c κs = search needs
 
--- src/lib.rt:148:24
 enum-known-from : tie.Need-enum-known-from Inv-loop μ-loop
 enum-known-from c = search needs
 
--- src/lib.rt:149:38
 sub-add-default : tie.Need-sub-add-default Inv-loop μ-loop
 sub-add-default c = omega (arith, next c .longer)
 
--- src/lib.rt:149:38
 part-add-default-start : tie.Need-part-add-default-start Inv-loop μ-loop
 part-add-default-start c = omega (arith, next c .longer, next c .within)
 
--- src/lib.rt:149:38
 part-add-default-end : tie.Need-part-add-default-end Inv-loop μ-loop
 part-add-default-end c = omega (arith, next c .within)
 
--- src/lib.rt:149:23
 add-default-requires : tie.Need-add-default-requires Inv-loop μ-loop
 add-default-requires c κs =
     let p = c .before .before .before .before .before .before .before .before .before .before .before .before .before .before .before .pre .asks in
     let w = add-whole (c .before .before .before .before .before .before .before .loop .inv .2) (p .stands) (p .whole) in
     record { ready = ready-path (p .table) (p .short) (table-held w) (next (c .before .before .before)); room = omega (arith, p .room, c .before .before .before .before .before .before .before .loop .inv .1); whole = w }
 
--- src/lib.rt:150:34
 enum-known-e : tie.Need-enum-known-e Inv-loop μ-loop
 enum-known-e c = search needs
 
--- src/lib.rt:146:5
 loop-less : tie.Need-loop-less Inv-loop μ-loop
 loop-less c = omega (arith, next (c .before .before .before .before .before .before .before .before .before .before .before) .longer, next (c .before .before .before .before .before .before .before .before .before .before .before) .within, next (c .before .before .before .before .before .before .before .before .before .before .before) .forward)
 
--- src/lib.rt:146:5
 loop-again : tie.Need-loop-again Inv-loop μ-loop
 loop-again c = (search needs, search needs, add-on (c .before .before .before .before .before .before .before .before .before .before .before .before .before .before .before .loop .inv .2) (next (c .before .before .before .before .before .before .before .before .before .before .before)) (c .before .before .before .before .before .before .before .add-default .ensures) (c .before .e .given .1))
 
--- src/lib.rt:155:52
 enum-told : tie.Need-enum-told Inv-loop μ-loop
 enum-told c = search needs
 
--- src/lib.rt:155:25
 same-length : tie.Need-same-length Inv-loop μ-loop
 same-length c = search needs
 
--- src/lib.rt:155:25
 same-length-2 : tie.Need-same-length-2 Inv-loop μ-loop
 same-length-2 c = search needs
 
--- src/lib.rt:155:25
 returns : tie.Need-returns Inv-loop μ-loop
 returns c = λ ps w. add-over (c .before .before .before .before .before .before .before .before .before .before .before .before .before .before .loop .inv .2) (next (c .before .before .before .before .before .before .before .before .before .before)) (c .before .before .before .before .before .before .add-default .ensures) (c .enum-told .given .1) w
 
--- src/lib.rt:160:44
 enum-told-2 : tie.Need-enum-told-2 Inv-loop μ-loop
 enum-told-2 c = search needs
 
--- src/lib.rt:160:17
 same-length-3 : tie.Need-same-length-3 Inv-loop μ-loop
 same-length-3 c = search needs
 
--- src/lib.rt:160:17
 same-length-4 : tie.Need-same-length-4 Inv-loop μ-loop
 same-length-4 c = search needs
 
--- src/lib.rt:160:17
 returns-2 : tie.Need-returns-2 Inv-loop μ-loop
 returns-2 c = λ ps w. add-end (c .before .before .before .loop .inv .2) (stops _ _ _ (c .before .before .next-path .ensures) (c .enum-told2 .given .1)) w
 

@@ -1,28 +1,22 @@
-use native.Mathlib.Omega.{arith}
+-- `defaultlines::is_over` meets its contract.
+use borrow.Author.Needs.{needs}
 use borrow.Author.Tests.{lt-ltb, le-ltb, le-leb, lt-leb}
 use Rattle.rules.specs.Limits.{maxMentions, maxPath}
 use Rattle.defaultlines.specs.Defaults.{overDefault}
-use borrow.Author.Needs.{needs}
 use Rattle.defaultlines.proofs.is_over.Statement.{statement}
 use Rattle.defaultlines.proofs.is_over.Tie as tie
-use Rattle.defaultlines.proofs.is_over.Reads as reads
-use Rattle.defaultlines.proofs.is_over.Lts as lts
 
--- src/lib.rt:73:9
 returns : tie.Need-returns
 unfolding overDefault
 returns c = rw (lt-ltb maxPath (c .before .args .n) (c .if1 .taken))
 
--- src/lib.rt:76:9
 returns-2 : tie.Need-returns-2
 unfolding overDefault
 returns-2 c = rw (le-ltb maxPath (c .before .before .before .args .n) (c .before .before .if1 .left), le-leb maxMentions (c .before .before .before .args .c .mentions) (c .if2 .taken))
 
--- src/lib.rt:78:13
 add-result : tie.Need-add-result
 add-result c = search needs
 
--- src/lib.rt:68:1
 returns-3 : tie.Need-returns-3
 unfolding overDefault
 returns-3 c = rw (le-ltb maxPath (c .before .before .before .before .args .n) (c .before .before .before .if1 .left), lt-leb maxMentions (c .before .before .before .before .args .c .mentions) (c .before .if2 .left))

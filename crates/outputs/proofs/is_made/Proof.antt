@@ -1,44 +1,32 @@
-use denote.Ref.{now}
+-- `outputs::is_made` meets its contract.
 use mathlib.Core.Path.{sym}
-use native.Mathlib.Omega.{arith}
-use Rattle.outputs.proofs.Makers.{long-held, made-held, word-counted, files-held}
 use borrow.Author.Needs.{needs}
+use denote.Ref.{now}
+use Rattle.outputs.proofs.Makers.{long-held, made-held, word-counted, files-held}
 use Rattle.outputs.proofs.is_made.Statement.{statement}
 use Rattle.outputs.proofs.is_made.Tie as tie
-use Rattle.outputs.proofs.is_made.Reads as reads
-use Rattle.outputs.proofs.is_made.Lts as lts
-use Rattle.expand.proofs.expand.Reads as expand-reads
-use Rattle.outputs.proofs.is_output.Reads as is-output-reads
 
--- src/lib.rt:87:9
 expand-requires : tie.Need-expand-requires
 expand-requires c κs = search needs
 
--- src/lib.rt:89:9
 same-length : tie.Need-same-length
 same-length c = search needs
 
--- src/lib.rt:89:9
 returns : tie.Need-returns
 returns c = long-held (now (c .before .before .before .before .before .before .before .before .before .before .before .before .args .raw)) (c .before .before .before .expand .ensures) (c .before .before .before .before .before .before .before .before .before .before .before .before .pre .room) (c .if1 .taken)
 
--- src/lib.rt:91:38
 slice-reshare-prefix-is-output : tie.Need-slice-reshare-prefix-is-output
 slice-reshare-prefix-is-output c = search needs
 
--- src/lib.rt:91:38
 slice-aggregate-is-output : tie.Need-slice-aggregate-is-output
 slice-aggregate-is-output c = sym (word-counted (now (c .before .before .before .before .before .before .before .before .before .before .before .before .before .args .raw)) (c .before .before .before .before .expand .ensures) (c .before .before .before .before .before .before .before .before .before .before .before .before .before .pre .whole) (c .before .if1 .left))
 
--- src/lib.rt:91:5
 is-output-requires : tie.Need-is-output-requires
 is-output-requires c κs = files-held (c .before .before .before .before .before .before .before .before .before .before .before .before .before .pre .whole)
 
--- src/lib.rt:73:1
 same-length-2 : tie.Need-same-length-2
 same-length-2 c = search needs
 
--- src/lib.rt:73:1
 returns-2 : tie.Need-returns-2
 returns-2 c = made-held (now (c .before .before .before .before .before .before .before .before .before .before .before .before .before .before .args .raw)) (c .before .before .before .before .before .expand .ensures) (c .before .before .if1 .left) (c .is-output .ensures)
 

@@ -1,38 +1,28 @@
+-- `outputs::is_output` meets its contract.
 use native.Mathlib.Omega.{arith}
-use Rattle.outputs.proofs.Makers.{entry-low, entry-within, found-made, missing-unmade}
 use borrow.Author.Needs.{needs}
+use Rattle.outputs.proofs.Makers.{entry-low, entry-within, found-made, missing-unmade}
 use Rattle.outputs.proofs.is_output.Statement.{statement}
 use Rattle.outputs.proofs.is_output.Tie as tie
-use Rattle.outputs.proofs.is_output.Reads as reads
-use Rattle.outputs.proofs.is_output.Lts as lts
-use Rattle.lists.proofs.words.at.Reads as at-reads
-use Rattle.names.proofs.find.Reads as find-reads
 
--- src/lib.rt:66:11
 find-requires : tie.Need-find-requires
 find-requires c κs = search needs
 
--- src/lib.rt:67:19
 enum-known-k : tie.Need-enum-known-k
 enum-known-k c = search needs
 
--- src/lib.rt:67:35
 add-at : tie.Need-add-at
 add-at c = let p = c .before .before .before .before .before .before .before .before .pre in record { fits = omega (arith, entry-low (p .filed) (c .before .before .before .find .ensures) (c .before .k .given .1)) }
 
--- src/lib.rt:67:25
 at-requires : tie.Need-at-requires
 at-requires c κs = let p = c .before .before .before .before .before .before .before .before .pre in entry-within (p .filed) (c .before .before .before .find .ensures) (c .before .k .given .1)
 
--- src/lib.rt:68:27
 enum-told : tie.Need-enum-told
 enum-told c = search needs
 
--- src/lib.rt:62:1
 returns : tie.Need-returns
 returns c = λ log rd h. found-made h (c .before .before .before .before .find .ensures) (c .before .before .k .given .1) (c .at .ensures)
 
--- src/lib.rt:62:1
 returns-2 : tie.Need-returns-2
 returns-2 c = λ log rd h. missing-unmade h (c .before .before .find .ensures) (c .enum-told .given .1)
 

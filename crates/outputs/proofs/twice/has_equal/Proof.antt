@@ -1,17 +1,14 @@
+-- `outputs::twice::has_equal` meets its contract.
 use Prim.Native.Nat.{_-_}
 use native.Mathlib.Omega.{arith}
-use lib.ListN.{length}
-use denote.Ref.{now}
-use Rattle.scan.specs.Texts.{PathNext}
-use Rattle.outputs.proofs.Walking.{goes-on, stops, ready-path}
-use Rattle.outputs.proofs.Marking.{Comparing, compare-begin, marked-here, compare-found, compare-on, compare-end, path-asks}
 use borrow.Author.Needs.{needs}
+use denote.Ref.{now}
+use lib.ListN.{length}
+use Rattle.scan.specs.Texts.{PathNext}
+use Rattle.outputs.proofs.Marking.{Comparing, compare-begin, marked-here, compare-found, compare-on, compare-end, path-asks}
+use Rattle.outputs.proofs.Walking.{goes-on, stops, ready-path}
 use Rattle.outputs.proofs.twice.has_equal.Statement.{statement}
 use Rattle.outputs.proofs.twice.has_equal.Tie as tie
-use Rattle.outputs.proofs.twice.has_equal.Reads as reads
-use Rattle.outputs.proofs.twice.has_equal.Lts as lts
-use Rattle.forms.proofs.paths.next_path.Reads as next-path-reads
-use Rattle.outputs.proofs.twice.is_again.Reads as is-again-reads
 
 abbrev Inv-loop : tie.InvT-loop
 Inv-loop t l start texts bind c marks k₀ i₀ k i = Comparing l texts bind c start marks k i
@@ -23,19 +20,15 @@ abbrev μ-loop : tie.MeasureT-loop
 next : (s : tie.After-known-told Inv-loop μ-loop) → PathNext (now (s .before .before .before .before .before .before .before .before .before .args .l)) (s .before .before .before .before .loop .i) (s .before .from .given .0 .0) (s .before .from .given .0 .1 .0)
 next s = goes-on _ _ _ (s .before .before .before .next-path .ensures) (s .before .from .given .1)
 
--- src/twice.rt:130:5
 loop-holds : tie.Need-loop-holds Inv-loop μ-loop
 loop-holds c = compare-begin (c .before .before .before .before .pre .list .stands .within)
 
--- src/twice.rt:131:15
 next-path-requires : tie.Need-next-path-requires Inv-loop μ-loop
 next-path-requires c κs = search needs
 
--- src/twice.rt:132:24
 enum-known-from : tie.Need-enum-known-from Inv-loop μ-loop
 enum-known-from c = search needs
 
--- src/twice.rt:133:20
 is-again-requires : tie.Need-is-again-requires Inv-loop μ-loop
 is-again-requires c κs =
     let p = c .before .before .before .before .before .before .before .before .before .pre in
@@ -44,27 +37,21 @@ is-again-requires c κs =
       marked = marked-here (c .before .before .before .before .loop .inv) (next c) p;
     }
 
--- src/twice.rt:134:21
 returns : tie.Need-returns Inv-loop μ-loop
 returns c = compare-found (c .before .before .before .before .before .before .loop .inv) (next (c .before .before)) (c .before .is-again .ensures) (marked-here (c .before .before .before .before .before .before .loop .inv) (next (c .before .before)) (c .before .before .before .before .before .before .before .before .before .before .before .pre)) (c .if1 .taken)
 
--- src/twice.rt:136:17
 add-k : tie.Need-add-k Inv-loop μ-loop
 add-k c = let z = marked-here (c .before .before .before .before .before .before .loop .inv) (next (c .before .before)) (c .before .before .before .before .before .before .before .before .before .before .before .pre) in search needs
 
--- src/twice.rt:130:5
 loop-less : tie.Need-loop-less Inv-loop μ-loop
 loop-less c = omega (arith, next (c .before .before) .longer, next (c .before .before) .within, next (c .before .before) .forward)
 
--- src/twice.rt:130:5
 loop-again : tie.Need-loop-again Inv-loop μ-loop
 loop-again c = compare-on (c .before .before .before .before .before .before .loop .inv) (next (c .before .before)) (c .before .is-again .ensures) (marked-here (c .before .before .before .before .before .before .loop .inv) (next (c .before .before)) (c .before .before .before .before .before .before .before .before .before .before .before .pre)) (c .if1 .left)
 
--- src/twice.rt:140:17
 enum-told : tie.Need-enum-told Inv-loop μ-loop
 enum-told c = search needs
 
--- src/twice.rt:140:17
 returns-2 : tie.Need-returns-2 Inv-loop μ-loop
 returns-2 c = compare-end (c .before .before .before .loop .inv) (stops _ _ _ (c .before .before .next-path .ensures) (c .enum-told .given .1))
 

@@ -1,57 +1,43 @@
+-- `outputs::twice::has_twice` meets its contract.
 use native.Mathlib.Omega.{arith}
+use borrow.Author.Needs.{needs}
 use denote.Ref.{now}
 use Rattle.outputs.proofs.Marking.{lent-kept, lent-marked}
-use borrow.Author.Needs.{needs}
 use Rattle.outputs.proofs.twice.has_twice.Statement.{statement}
 use Rattle.outputs.proofs.twice.has_twice.Tie as tie
-use Rattle.outputs.proofs.twice.has_twice.Reads as reads
-use Rattle.outputs.proofs.twice.has_twice.Lts as lts
-use Rattle.outputs.proofs.twice.has_equal.Reads as has-equal-reads
-use Rattle.outputs.proofs.twice.note.Reads as note-reads
 
--- src/twice.rt:159:47
 sub-note : tie.Need-sub-note
 sub-note c = search needs
 
--- src/twice.rt:159:47
 part-note-start : tie.Need-part-note-start
 part-note-start c = search needs
 
--- src/twice.rt:159:47
 part-note-end : tie.Need-part-note-end
 part-note-end c = search needs
 
--- src/twice.rt:159:9
 note-requires : tie.Need-note-requires
 note-requires c κs = search needs
 
--- src/twice.rt:160:15
 add-end : tie.Need-add-end
 add-end c = search needs
 
--- src/twice.rt:161:44
 sub-has-equal : tie.Need-sub-has-equal
 sub-has-equal c = search needs
 
--- src/twice.rt:161:44
 part-has-equal-start : tie.Need-part-has-equal-start
 part-has-equal-start c = search needs
 
--- src/twice.rt:161:44
 part-has-equal-end : tie.Need-part-has-equal-end
 part-has-equal-end c = search needs
 
--- src/twice.rt:161:5
 has-equal-requires : tie.Need-has-equal-requires
 has-equal-requires c κs =
     let p = c .before .before .before .before .before .before .before .before .before .before .pre in
     record { list = p .list; marked = lent-marked (now (c .before .before .before .before .before .before .before .before .before .before .args .graph)) (omega (arith, p .scratch)) (c .before .before .before .before .note .ensures) (p .list .raw) (p .list .stands) (p .list .log) (p .list .reading) (p .list .bound) }
 
--- src/twice.rt:147:1
 same-length : tie.Need-same-length
 same-length c = search needs
 
--- src/twice.rt:147:1
 returns : tie.Need-returns
 returns c =
     let p = c .before .before .before .before .before .before .before .before .before .before .before .pre in

@@ -1,19 +1,15 @@
+-- `outputs::twice::note` meets its contract.
 use Prim.Native.Nat.{_-_}
 use native.Mathlib.Omega.{arith}
-use lib.ListN.{length}
+use borrow.Author.Needs.{needs}
 use denote.Ref.{now}
+use lib.ListN.{length}
 use Rattle.lists.specs.Parts.{part}
 use Rattle.scan.specs.Texts.{PathNext}
-use Rattle.outputs.proofs.Walking.{goes-on, stops, ready-path}
 use Rattle.outputs.proofs.Marking.{Noting, note-begin, note-room, note-on, note-end, mark-small}
-use borrow.Author.Needs.{needs}
+use Rattle.outputs.proofs.Walking.{goes-on, stops, ready-path}
 use Rattle.outputs.proofs.twice.note.Statement.{statement}
 use Rattle.outputs.proofs.twice.note.Tie as tie
-use Rattle.outputs.proofs.twice.note.Reads as reads
-use Rattle.outputs.proofs.twice.note.Lts as lts
-use Rattle.arena.proofs.put.Reads as put-reads
-use Rattle.expand.proofs.digest.Reads as digest-reads
-use Rattle.forms.proofs.paths.next_path.Reads as next-path-reads
 
 abbrev Inv-loop : tie.InvT-loop
 Inv-loop t l start texts bind c marks₀ k₀ i₀ marks k i = Noting l texts bind c start marks₀ marks k i
@@ -25,64 +21,50 @@ abbrev μ-loop : tie.MeasureT-loop
 next : (s : tie.After-known-told Inv-loop μ-loop) → PathNext (now (s .before .before .before .before .before .before .before .before .before .args .l)) (s .before .before .before .before .loop .i) (s .before .from .given .0 .0) (s .before .from .given .0 .1 .0)
 next s = goes-on _ _ _ (s .before .before .before .next-path .ensures) (s .before .from .given .1)
 
--- src/twice.rt:34:5
 loop-holds : tie.Need-loop-holds Inv-loop μ-loop
 loop-holds c = note-begin (c .before .before .before .before .pre .within)
 
--- src/twice.rt:35:15
 next-path-requires : tie.Need-next-path-requires Inv-loop μ-loop
 next-path-requires c κs = search needs
 
--- src/twice.rt:36:24
 enum-known-from : tie.Need-enum-known-from Inv-loop μ-loop
 enum-known-from c = search needs
 
--- src/twice.rt:37:35
 sub-digest : tie.Need-sub-digest Inv-loop μ-loop
 sub-digest c = omega (arith, next c .longer)
 
--- src/twice.rt:37:35
 part-digest-start : tie.Need-part-digest-start Inv-loop μ-loop
 part-digest-start c = omega (arith, next c .longer, next c .within)
 
--- src/twice.rt:37:35
 part-digest-end : tie.Need-part-digest-end Inv-loop μ-loop
 part-digest-end c = omega (arith, next c .within)
 
--- src/twice.rt:37:21
 digest-requires : tie.Need-digest-requires Inv-loop μ-loop
 digest-requires c κs = let p = c .before .before .before .before .before .before .before .before .before .before .pre in ready-path (p .table) (p .short) (p .held) (next (c .before))
 
--- src/twice.rt:38:17
 put-requires : tie.Need-put-requires Inv-loop μ-loop
 put-requires c κs =
     let p = c .before .before .before .before .before .before .before .before .before .before .before .before .pre in
     let g = c .before .before .before .before .from .given .0 in
     (note-room (c .before .before .before .before .before .before .before .loop .inv) (next (c .before .before .before)) (p .short) (p .room), mark-small (part (now (c .before .before .before .before .before .before .before .before .before .before .before .before .args .l)) (g .0) (g .1 .0)) (p .held) (c .before .digest .ensures))
 
--- src/twice.rt:39:17
 add-k : tie.Need-add-k Inv-loop μ-loop
 add-k c = search needs
 
--- src/twice.rt:34:5
 loop-less : tie.Need-loop-less Inv-loop μ-loop
 loop-less c = omega (arith, next (c .before .before .before .before .before .before) .longer, next (c .before .before .before .before .before .before) .within, next (c .before .before .before .before .before .before) .forward)
 
--- src/twice.rt:34:5
 loop-again : tie.Need-loop-again Inv-loop μ-loop
 loop-again c =
     let p = c .before .before .before .before .before .before .before .before .before .before .before .before .before .before .before .pre in
     rw (c .before .before .put .ensures) (note-on (c .before .before .before .before .before .before .before .before .before .before .loop .inv) (next (c .before .before .before .before .before .before)) (note-room (c .before .before .before .before .before .before .before .before .before .before .loop .inv) (next (c .before .before .before .before .before .before)) (p .short) (p .room)) (c .before .before .before .before .digest .ensures))
 
--- src/twice.rt:43:17
 enum-told : tie.Need-enum-told Inv-loop μ-loop
 enum-told c = search needs
 
--- src/twice.rt:43:17
 same-length : tie.Need-same-length Inv-loop μ-loop
 same-length c = search needs
 
--- src/twice.rt:43:17
 returns : tie.Need-returns Inv-loop μ-loop
 returns c = let p = c .before .before .before .before .before .before .before .before .pre in note-end (c .before .before .before .loop .inv) (stops _ _ _ (c .before .before .next-path .ensures) (c .enum-told .given .1)) (p .short) (p .room)
 
