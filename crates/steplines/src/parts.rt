@@ -6,6 +6,9 @@ use held::Counts;
 use mentions::Mentioned;
 use mentions::mention_all;
 
+// where the column of ends starts
+const ENDS: usize = 4096;
+
 // One list; its end is number e of all ends.
 fn one(
     t: &[u8; 256],
@@ -25,7 +28,7 @@ fn one(
 {
     match mention_all(t, l, at, names, ends, texts, bind, graph, word, c) {
         Mentioned::On(d) => {
-            put(graph, 4096 + e, d.paths);
+            put(graph, ENDS + e, d.paths);
             Mentioned::On(d)
         }
         Mentioned::Over => Mentioned::Over,
