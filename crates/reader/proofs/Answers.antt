@@ -2,8 +2,10 @@
 use Prim.Native.Nat.{ℕ, _≤_, _<_}
 use mathlib.Core.List.{List, [], _∷_}
 use mathlib.Core.Path.{subst, _≡_, sym, _∙_, ap}
+use native.Mathlib.Omega.{arith}
 use borrow.Author.Tests.{lt-ltb, le-ltb}
 use lib.ListN.{length}
+use Rattle.lists.specs.Fill.{zeroed, length-zeroed}
 use Rattle.rules.specs.declared.Refusal.{Refusal}
 use Rattle.rules.specs.declared.Refusal.the-variants.{LongManifest, BadByte}
 use Rattle.rules.specs.Limits.{maxManifest}
@@ -15,13 +17,14 @@ use Rattle.rules.specs.Manifest.{badByte, close, andThen, readLine, readLines, 
 use Rattle.scan.specs.declared.FirstBad.{FirstBad}
 use Rattle.scan.specs.declared.FirstBad.the-variants.{Nowhere, At}
 use Rattle.scan.specs.Texts.{placeOf}
+use Rattle.names.proofs.Lies.{holds-none}
 use Rattle.held.specs.declared.Counts.{Counts}
 use Rattle.held.specs.declared.Open.{Open}
 use Rattle.held.specs.declared.LineAnswer.the-variants.{Goes, Refused}
 use Rattle.held.specs.Held.{joined}
 use Rattle.held.proofs.Agreement.{agreed-on, agreed-refused}
 use Rattle.filelines.proofs.Outcomes.{close-none}
-use Rattle.reader.specs.Manifests.{Roomy, LinesAsk, LinesRead, Held, IsRead}
+use Rattle.reader.specs.Manifests.{Roomy, LinesAsk, TopAsk, LinesRead, Held, IsRead}
 use Rattle.reader.specs.declared.ReadAnswer.{ReadAnswer}
 use Rattle.reader.specs.declared.ReadAnswer.the-variants.{Accepted, Refused as NotRead}
 
@@ -68,6 +71,28 @@ module _ (m : List ℕ) (f : FirstBad) (h : length m ≤ maxManifest) (e : place
 pub lines-ask : {t m names fileEnds texts bind graph word : List ℕ} → Roomy t names fileEnds texts bind graph word → length m ≤ maxManifest
     → LinesAsk t m names fileEnds texts bind graph word
 lines-ask a h = record { short = h; roomy = a }
+
+-- the names are cleared
+pub top-ask : {t m names fileEnds texts bind graph word cleared : List ℕ} → LinesAsk t m names fileEnds texts bind graph word → cleared ≡ zeroed fileEnds 2048 3072
+    → TopAsk t m names cleared texts bind graph word
+top-ask {names = names} {fileEnds = fileEnds} a e =
+    let r = a .roomy in
+    let l : length (zeroed fileEnds 2048 3072) ≡ length fileEnds = length-zeroed fileEnds 2048 3072 (omega arith) (omega (arith, r .numbers-room)) in
+    rw e
+    (record {
+      short = a .short;
+      roomy =
+          record {
+            table = r .table;
+            room =
+                record { names-room = r .room .names-room; ends-room = rw l (r .room .ends-room); scratch = r .room .scratch; word-room = r .room .word-room };
+            names-small = r .names-small;
+            numbers-room = rw l (r .numbers-room);
+            texts-room = r .texts-room;
+            bind-room = r .bind-room;
+          };
+      empty = holds-none names fileEnds (r .names-small) (r .numbers-room);
+    })
 
 -- ---- by the answer
 

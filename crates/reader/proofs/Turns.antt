@@ -25,7 +25,7 @@ use Rattle.held.specs.Binds.{Sound, Meets}
 use Rattle.held.proofs.Lift.{met, sound}
 use Rattle.held.proofs.Agreement.{noCounts, start-held, agreed-on, agreed-refused}
 use Rattle.filelines.specs.Asks.{Between, LineAsks, LineMeets}
-use Rattle.reader.specs.Manifests.{LinesAsk, LinesRead}
+use Rattle.reader.specs.Manifests.{TopAsk, LinesRead}
 
 -- the buffers have the lengths that they began with
 pub record Same (names₀ fileEnds₀ texts₀ bind₀ graph₀ word₀ names fileEnds texts bind graph word : List ℕ) : Type 0 where
@@ -45,7 +45,7 @@ pub record Turning (m names fileEnds texts bind graph : List ℕ) (c : Counts) (
   pub between : Between names fileEnds texts bind graph c o
   pub left : readLines (linesFrom i (drop i m)) (between .reading) (between .block) ≡ readLines (linesOf m) nothingRead noBlock
 
-pub turn-begin : {t m names fileEnds texts bind graph word : List ℕ} → LinesAsk t m names fileEnds texts bind graph word → Turning m names fileEnds texts bind graph noCounts Nothing 0
+pub turn-begin : {t m names fileEnds texts bind graph word : List ℕ} → TopAsk t m names fileEnds texts bind graph word → Turning m names fileEnds texts bind graph noCounts Nothing 0
 unfolding sum
 turn-begin {m = m} {names = names} {fileEnds = fileEnds} {texts = texts} {bind = bind} {graph = graph} a =
     record {
@@ -55,7 +55,7 @@ turn-begin {m = m} {names = names} {fileEnds = fileEnds} {texts = texts} {bind =
             log = [];
             reading = nothingRead;
             block = noBlock;
-            holds = start-held names fileEnds texts bind graph (a .roomy .names-small) (a .roomy .texts-room) (a .roomy .bind-room) (omega (arith, a .roomy .room .scratch));
+            holds = start-held names fileEnds texts bind graph (a .empty) (a .roomy .texts-room) (a .roomy .bind-room) (omega (arith, a .roomy .room .scratch));
             opens = nothing;
           };
       left = ap (λ (ls : List Line). readLines ls nothingRead noBlock) (sym (lines-begin m));
@@ -63,7 +63,7 @@ turn-begin {m = m} {names = names} {fileEnds = fileEnds} {texts = texts} {bind =
 
 module _ {m names fileEnds texts bind graph : List ℕ} {c : Counts} {o : Open} {i : ℕ} (w : Turning m names fileEnds texts bind graph c o i) where
   -- what a line asks
-  pub turn-asks : {t names₀ fileEnds₀ texts₀ bind₀ graph₀ word₀ word : List ℕ} {s : Span} → LinesAsk t m names₀ fileEnds₀ texts₀ bind₀ graph₀ word₀
+  pub turn-asks : {t names₀ fileEnds₀ texts₀ bind₀ graph₀ word₀ word : List ℕ} {s : Span} → TopAsk t m names₀ fileEnds₀ texts₀ bind₀ graph₀ word₀
       → Same names₀ fileEnds₀ texts₀ bind₀ graph₀ word₀ names fileEnds texts bind graph word → LineSpan m i s
       → LineAsks t i (part m i (s .end)) names fileEnds texts bind graph word c o
   turn-asks {s = s} a e l =

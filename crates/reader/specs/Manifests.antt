@@ -1,6 +1,6 @@
 -- What the reading of a whole manifest asks and answers.
 use Prim.Native.Nat.{ℕ, _^_, _≤_, _<_}
-use mathlib.Core.List.{List}
+use mathlib.Core.List.{List, []}
 use mathlib.Core.Path.{_≡_}
 use lib.ListN.{length}
 use Rattle.rules.specs.Limits.{maxManifest}
@@ -9,6 +9,7 @@ use Rattle.rules.specs.Lines.{linesOf}
 use Rattle.rules.specs.Statements.{noBlock}
 use Rattle.rules.specs.Manifest.{readLines, accepted, refusedWith, readManifest}
 use Rattle.classes.specs.Table.{classes}
+use Rattle.names.specs.Table.{maxNumbers, Holds as NamesHold}
 use Rattle.bindings.specs.Log.{Logged}
 use Rattle.bindings.specs.Held.{maxTexts, maxRows}
 use Rattle.held.specs.declared.Counts.{Counts}
@@ -23,6 +24,7 @@ pub record Roomy (t names fileEnds texts bind graph word : List ℕ) : Type 0 wh
   pub table : t ≡ classes
   pub room : Room names fileEnds graph word
   pub names-small : length names < 2 ^ 32
+  pub numbers-room : maxNumbers ≤ length fileEnds
   pub texts-room : maxTexts ≤ length texts
   pub bind-room : maxRows ≤ length bind
 
@@ -30,6 +32,12 @@ pub record Roomy (t names fileEnds texts bind graph word : List ℕ) : Type 0 wh
 pub record LinesAsk (t m names fileEnds texts bind graph word : List ℕ) : Type 0 where
   pub short : length m ≤ maxManifest
   pub roomy : Roomy t names fileEnds texts bind graph word
+
+-- the same, with no names held
+pub record TopAsk (t m names fileEnds texts bind graph word : List ℕ) : Type 0 where
+  pub short : length m ≤ maxManifest
+  pub roomy : Roomy t names fileEnds texts bind graph word
+  pub empty : NamesHold names fileEnds 0 []
 
 -- The answer agrees with the lines of the manifest, read from the top.
 pub record LinesRead (m names fileEnds texts bind graph : List ℕ) (r : LineAnswer) : Type 0 where

@@ -2,13 +2,14 @@
 ghost use Rattle.rules.specs.Manifest.{readLine};
 ghost use Rattle.lines.specs.Cuts.{lineOf};
 ghost use Rattle.filelines.specs.Asks.{LineAsks, LineMeets};
-ghost use Rattle.reader.specs.Manifests.{Roomy, LinesAsk, LinesRead, IsRead};
+ghost use Rattle.reader.specs.Manifests.{Roomy, LinesAsk, TopAsk, LinesRead, IsRead};
 use blocklines::read_indented;
 use filelines::read_file_line;
 use held::Counts;
 use held::LineAnswer;
 use held::Open;
 use lines::line_from;
+use names::clear;
 use rulelines::close;
 use rules::Refusal;
 use scan::FirstBad;
@@ -62,7 +63,7 @@ fn read_line(
 }
 
 // All lines, from the top. The end of the manifest closes a block.
-fn read_lines(
+fn read_from_top(
     t: &[u8; 256],
     m: &[u8],
     names: &mut [u8],
@@ -72,7 +73,7 @@ fn read_lines(
     graph: &mut [u32],
     word: &mut [u8],
 ) -> LineAnswer
-    requires { ⌜ LinesAsk (now t) (now m) (now names) (now ends) (now texts) (now bind) (now graph) (now word) ⌝ }
+    requires { ⌜ TopAsk (now t) (now m) (now names) (now ends) (now texts) (now bind) (now graph) (now word) ⌝ }
     ensures { λ r. ⌜ LinesRead (now (m .entry)) (now (names .exit)) (now (ends .exit)) (now (texts .exit)) (now (bind .exit)) (now (graph .exit)) r ⌝ }
 {
     let mut c = Counts {
@@ -116,6 +117,24 @@ fn read_lines(
         }
     }
     close(texts, bind, c, block)
+}
+
+// Lines from the top, whatever the buffers held before.
+fn read_lines(
+    t: &[u8; 256],
+    m: &[u8],
+    names: &mut [u8],
+    ends: &mut [u32],
+    texts: &mut [u8],
+    bind: &mut [u32],
+    graph: &mut [u32],
+    word: &mut [u8],
+) -> LineAnswer
+    requires { ⌜ LinesAsk (now t) (now m) (now names) (now ends) (now texts) (now bind) (now graph) (now word) ⌝ }
+    ensures { λ r. ⌜ LinesRead (now (m .entry)) (now (names .exit)) (now (ends .exit)) (now (texts .exit)) (now (bind .exit)) (now (graph .exit)) r ⌝ }
+{
+    clear(ends);
+    read_from_top(t, m, names, ends, texts, bind, graph, word)
 }
 
 // Reads a manifest into the buffers. "Order: 1, 2, 3; lines from the top."
