@@ -75,21 +75,10 @@ pub fn four(
     requires { ⌜ FourAsks (now t) (now l) (now names) (now ends) (now texts) (now bind) (now graph) (now word) c p ⌝ }
     ensures { λ r. ⌜ Four (now (l .entry)) (now (names .entry)) (now (ends .entry)) (now (texts .entry)) (now (bind .entry)) (now (graph .entry)) c p (now (names .exit)) (now (ends .exit)) (now (graph .exit)) r ⌝ }
 {
+    let outs = p.outs;
+    let ins = p.ins;
     let e = 4 * c.steps;
-    match two(
-        t,
-        l,
-        p.outs,
-        p.ins,
-        e,
-        names,
-        ends,
-        texts,
-        bind,
-        graph,
-        word,
-        c,
-    ) {
+    match two(t, l, outs, ins, e, names, ends, texts, bind, graph, word, c) {
         Mentioned::On(d) => two(
             t,
             l,
