@@ -12,6 +12,9 @@ use held::Counts;
 use names::Added;
 use names::add;
 
+// where the makers' column starts
+const MADE: usize = 6656;
+
 pub enum Mentioned {
     // The reading goes on with these counts.
     On(Counts),
@@ -61,7 +64,7 @@ fn note_first(graph: &mut [u32], c: Counts, k: usize, n: usize) -> Counts
     let files = c.files;
     let paths = c.paths;
     put(graph, paths, k);
-    put(graph, 6656 + files, 0);
+    put(graph, MADE + files, 0);
     Counts {
         files: files + 1,
         steps: c.steps,

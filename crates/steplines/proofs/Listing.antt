@@ -13,6 +13,8 @@ use Rattle.forms.specs.declared.BuildPlaces.{BuildPlaces}
 use Rattle.held.specs.declared.Counts.{Counts}
 use Rattle.mentions.specs.declared.Mentioned.{Mentioned}
 use Rattle.mentions.specs.declared.Mentioned.the-variants.{On, Over}
+use Rattle.arena.specs.Columns.{startOf}
+use Rattle.held.specs.Held.{capacities}
 use Rattle.mentions.specs.Lines.{Line, Writing, withPaths, overLine}
 use Rattle.mentions.specs.Asks as mentions
 use Rattle.mentions.specs.Asks.{Room, MentionsAll}
@@ -87,7 +89,7 @@ module _ {names fileEnds texts bind graph : List ℕ} (h : Line) (a b : List (Li
 -- ---- one list
 
 module _ {names fileEnds texts bind graph graph′ : List ℕ} {c : Counts} {h : Line} (w : Writing names fileEnds texts bind graph c h) where
-  ended-on : {e : ℕ} → length (h .ends) ≡ e → e < 4 * maxSteps → graph′ ≡ set graph (4096 + e) (c .paths) → Writing names fileEnds texts bind graph′ c (withEnd h)
+  ended-on : {e : ℕ} → length (h .ends) ≡ e → e < 4 * maxSteps → graph′ ≡ set graph (startOf capacities 1 + e) (c .paths) → Writing names fileEnds texts bind graph′ c (withEnd h)
   unfolding withEnd
   ended-on q b g =
       record {
@@ -108,7 +110,7 @@ concat-one ps = append-nil ps
 
 module _ {l : List ℕ} {at : ℕ} {names fileEnds texts bind graph : List ℕ} {c : Counts} {names′ fileEnds′ graph₁ : List ℕ} where
   pub one-on : {d : Counts} → MentionsAll l at names fileEnds texts bind graph c names′ fileEnds′ graph₁ (On d) → {e : ℕ} {graph′ : List ℕ} → e < 4 * maxSteps
-      → graph′ ≡ set graph₁ (4096 + e) (d .paths) → Lists l at e names fileEnds texts bind graph c names′ fileEnds′ graph′ (On d)
+      → graph′ ≡ set graph₁ (startOf capacities 1 + e) (d .paths) → Lists l at e names fileEnds texts bind graph c names′ fileEnds′ graph′ (On d)
   unfolding withLists
   one-on m b g =
       record {

@@ -5,6 +5,8 @@ use mathlib.Core.Path.{_≡_, refl, _∙_, ap}
 use native.Mathlib.Omega.{arith}
 use lib.ListN.{length, getD, set, length-set}
 use Rattle.lists.specs.Parts.{part, part-cons, part-none}
+use Rattle.arena.specs.Columns.{startOf}
+use Rattle.held.specs.Held.{capacities}
 use Rattle.mentions.specs.Lines.{Line, Columns}
 use Rattle.mentions.proofs.Columns.{graph-long, mentions-fit, made-fit, set-made, read-mention, read-end, push-phony, push-rule}
 use Rattle.held.specs.declared.Counts.{Counts}
@@ -58,15 +60,15 @@ module _ {graph₀ : List ℕ} {from to v : ℕ} {graph : List ℕ} {i : ℕ} (x
     pub make-low : f < 1024
     make-low = omega (arith, file-low (x .asks .line) (x .asks .laid) (x .asks .some), made-fit (x .asks .laid))
 
-    pub make-fits : 6656 + f < length graph
+    pub make-fits : startOf capacities 3 + f < length graph
     make-fits = omega (arith, make-low, graph-long (here .columns))
 
-    pub make-on : {graph′ : List ℕ} → graph′ ≡ set graph (6656 + f) v → Making graph₀ from to v graph′ (i + 1)
+    pub make-on : {graph′ : List ℕ} → graph′ ≡ set graph (startOf capacities 3 + f) v → Making graph₀ from to v graph′ (i + 1)
     unfolding setAll
     make-on g =
         record {
           asks = x .asks;
-          long = ap length g ∙ length-set graph (6656 + f) v ∙ x .long;
+          long = ap length g ∙ length-set graph (startOf capacities 3 + f) v ∙ x .long;
           begun = omega (arith, x .begun);
           within = omega arith;
           lines = λ h l p.
@@ -94,7 +96,7 @@ phony-low : (n : ℕ) → phonyBit n ≤ 1
 phony-low zero = omega arith
 phony-low (suc n) = omega arith
 
-module _ {graph : List ℕ} {from : ℕ} {c : Counts} {to : ℕ} (e : to ≡ getD graph (4096 + 4 * c .steps) 0) where
+module _ {graph : List ℕ} {from : ℕ} {c : Counts} {to : ℕ} (e : to ≡ getD graph (startOf capacities 1 + 4 * c .steps) 0) where
   -- where the outputs end is the same for all lines held
   join-end : (h : Line) → Laid graph h → Ready from c h → to ≡ outsEnd c h
   join-end h l r = e ∙ read-end l (4 * c .steps) (r .ended)
@@ -105,25 +107,25 @@ module _ {graph : List ℕ} {from : ℕ} {c : Counts} {to : ℕ} (e : to ≡ get
 
   module _ {n : ℕ} {graph₁ : List ℕ} (m : Makes graph from to (c .steps + 1) graph₁) {b : ℕ} (q : b ≡ phonyBit n) where
     -- the places are low, for the stores
-    pub join-first : JoinAsks graph from n c → (6144 + c .steps < length graph₁) × (b < 4294967296)
+    pub join-first : JoinAsks graph from n c → (startOf capacities 2 + c .steps < length graph₁) × (b < 4294967296)
     join-first a =
         let k = m .laid (a .line) (a .laid) (rw (join-end (a .line) (a .laid) (a .ready)) (a .ready .outs)) in
         (omega (arith, graph-long k, a .ready .few), omega (arith, q, phony-low n))
 
-    module _ {graph₂ : List ℕ} (g : graph₂ ≡ set graph₁ (6144 + c .steps) b) where
-      pub join-second : JoinAsks graph from n c → (7680 + c .steps < length graph₂) × (n < 4294967296)
+    module _ {graph₂ : List ℕ} (g : graph₂ ≡ set graph₁ (startOf capacities 2 + c .steps) b) where
+      pub join-second : JoinAsks graph from n c → (startOf capacities 4 + c .steps < length graph₂) × (n < 4294967296)
       join-second a =
           let k = m .laid (a .line) (a .laid) (rw (join-end (a .line) (a .laid) (a .ready)) (a .ready .outs)) in
-          (omega (arith, graph-long k, a .ready .few, ap length g ∙ length-set graph₁ (6144 + c .steps) b), omega (arith, a .small))
+          (omega (arith, graph-long k, a .ready .few, ap length g ∙ length-set graph₁ (startOf capacities 2 + c .steps) b), omega (arith, a .small))
 
-      pub join-done : {graph′ : List ℕ} → graph′ ≡ set graph₂ (7680 + c .steps) n → Joins graph from n c graph′ (countedStep c)
+      pub join-done : {graph′ : List ℕ} → graph′ ≡ set graph₂ (startOf capacities 4 + c .steps) n → Joins graph from n c graph′ (countedStep c)
       unfolding withRule
       join-done f =
           record {
             laid = λ h l r.
                 let z = join-end h l r in
                 let k = m .laid h l (rw z (r .outs)) in
-                let w = push-phony k b (6144 + c .steps) (omega (arith, r .phony)) (omega (arith, r .phony, r .few)) in
-                rw (f, g, ← z, ← q) (push-rule w n (7680 + c .steps) (omega (arith, r .ruled)) (omega (arith, r .ruled, r .few)));
+                let w = push-phony k b (startOf capacities 2 + c .steps) (omega (arith, r .phony)) (omega (arith, r .phony, r .few)) in
+                rw (f, g, ← z, ← q) (push-rule w n (startOf capacities 4 + c .steps) (omega (arith, r .ruled)) (omega (arith, r .ruled, r .few)));
             counted = refl;
           }

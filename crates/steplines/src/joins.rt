@@ -11,6 +11,15 @@ use held::Counts;
 use lists::bytes::equal;
 use lists::words::at;
 
+// where the columns start
+const ENDS: usize = 4096;
+
+const PHONY: usize = 6144;
+
+const MADE: usize = 6656;
+
+const RULES: usize = 7680;
+
 // 0 for phony, else the number of the rule's declaration and one more.
 pub fn rule_number(name: &[u8], texts: &[u8], bind: &[u32], count: usize) -> usize
     requires { ⌜ Sound (now texts) (now bind) count ⌝ }
@@ -33,7 +42,7 @@ fn make(graph: &mut [u32], from: usize, to: usize, v: usize)
     let mut i = from;
     while i < to {
         let f = at(graph, i);
-        put(graph, 6656 + f, v);
+        put(graph, MADE + f, v);
         i += 1;
     }
 }
@@ -50,10 +59,10 @@ pub fn join(graph: &mut [u32], from: usize, n: usize, c: Counts) -> Counts
     ensures { λ r. ⌜ Joins (now (graph .entry)) from n c (now (graph .exit)) r ⌝ }
 {
     let steps = c.steps;
-    let to = at(graph, 4096 + 4 * steps);
+    let to = at(graph, ENDS + 4 * steps);
     make(graph, from, to, steps + 1);
-    put(graph, 6144 + steps, phony_bit(n));
-    put(graph, 7680 + steps, n);
+    put(graph, PHONY + steps, phony_bit(n));
+    put(graph, RULES + steps, n);
     Counts {
         files: c.files,
         steps: steps + 1,

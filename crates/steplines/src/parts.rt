@@ -6,6 +6,9 @@ use held::Counts;
 use mentions::Mentioned;
 use mentions::mention_all;
 
+// where the column of ends starts
+const ENDS: usize = 4096;
+
 // One list; its end is number e of all ends.
 fn one(
     t: &[u8; 256],
@@ -25,7 +28,7 @@ fn one(
 {
     match mention_all(t, l, at, names, ends, texts, bind, graph, word, c) {
         Mentioned::On(d) => {
-            put(graph, 4096 + e, d.paths);
+            put(graph, ENDS + e, d.paths);
             Mentioned::On(d)
         }
         Mentioned::Over => Mentioned::Over,
@@ -72,21 +75,10 @@ pub fn four(
     requires { ⌜ FourAsks (now t) (now l) (now names) (now ends) (now texts) (now bind) (now graph) (now word) c p ⌝ }
     ensures { λ r. ⌜ Four (now (l .entry)) (now (names .entry)) (now (ends .entry)) (now (texts .entry)) (now (bind .entry)) (now (graph .entry)) c p (now (names .exit)) (now (ends .exit)) (now (graph .exit)) r ⌝ }
 {
+    let outs = p.outs;
+    let ins = p.ins;
     let e = 4 * c.steps;
-    match two(
-        t,
-        l,
-        p.outs,
-        p.ins,
-        e,
-        names,
-        ends,
-        texts,
-        bind,
-        graph,
-        word,
-        c,
-    ) {
+    match two(t, l, outs, ins, e, names, ends, texts, bind, graph, word, c) {
         Mentioned::On(d) => two(
             t,
             l,

@@ -6,10 +6,10 @@ use Rattle.steplines.proofs.write_step.Statement.{statement}
 use Rattle.steplines.proofs.write_step.Tie as tie
 
 returns : tie.Need-returns
-returns c = write-many (c .before .before .before .before .before .before .before .before .before .args .start) (c .if1 .taken)
+returns c = write-many (c .before .before .before .before .before .before .before .before .before .args .start) (omega (arith, c .if1 .taken))
 
 four-requires : tie.Need-four-requires
-four-requires c κs = write-four (c .before .before .before .before .before .before .before .before .before .before .before .before .before .pre) (c .before .before .before .before .if1 .left)
+four-requires c κs = write-four (c .before .before .before .before .before .before .before .before .before .before .before .before .before .pre) (omega (arith, c .before .before .before .before .if1 .left))
 
 enum-known-d : tie.Need-enum-known-d
 enum-known-d c = search needs
