@@ -1,6 +1,6 @@
 -- A walk over the paths of a default line without an 8: what is held now, and what is left of the line.
 use Prim.Native.Nat.{ℕ, _≤_}
-use mathlib.Core.Bool.{Bool, true, false, not, _||_}
+use mathlib.Core.Bool.{true, false, not, _||_}
 use mathlib.Core.List.{List, [], _∷_}
 use mathlib.Core.Path.{_≡_, refl, sym, _∙_, ap}
 use borrow.Author.Tests.{not-false}
@@ -21,6 +21,7 @@ use Rattle.held.specs.declared.LineAnswer.the-variants.{Goes, Refused}
 use Rattle.held.specs.Held.{joined, nothing, Holds, goes, refuses}
 use Rattle.held.specs.Adds.{Whole, Adds}
 use Rattle.outputs.specs.Asks.{pathOf, AnyPath}
+use Rattle.outputs.proofs.Walking.{any-cons}
 use Rattle.defaultlines.specs.declared.Named.{Named}
 use Rattle.defaultlines.specs.declared.Named.the-variants.{Added, Over}
 use Rattle.defaultlines.specs.Defaults.{defaulted, soundDefaults, Named·is, Names}
@@ -61,10 +62,6 @@ expanded-same k n rd qs = refl
 expanded-cons : (rd : Reading) (q : List ℕ) (qs : List (List ℕ)) → expanded rd (q ∷ qs) ≡ pathOf rd q ∷ expanded rd qs
 unfolding expanded pathOf
 expanded-cons rd q qs = refl
-
-any-cons : {A : Type 0} (p : A → Bool) (x : A) (l : List A) → any p (x ∷ l) ≡ p x || any p l
-unfolding any
-any-cons p x l = refl
 
 -- ---- a turn
 

@@ -1,16 +1,12 @@
 // Default lines: "`default PATHS`, one at least, each the output of an earlier step."
 ghost use mathlib.Core.Path.{_≡_};
-ghost use mathlib.Core.Bool.{not};
 ghost use mathlib.Core.List.{List};
 ghost use Prim.Native.Nat.{ℕ, _≤_};
-ghost use lib.ListN.{length};
 ghost use Rattle.rules.specs.Limits.{maxWritten};
-ghost use Rattle.rules.specs.Reading.{isMade};
 ghost use Rattle.rules.specs.Statements.{addDefaults, expanded};
 ghost use Rattle.forms.specs.Paths.{PathsAt};
-ghost use Rattle.held.specs.Held.{Holds};
 ghost use Rattle.held.specs.Adds.{Adds};
-ghost use Rattle.outputs.specs.Asks.{pathOf, MadeAsks, PathAsks, AnyPath};
+ghost use Rattle.outputs.specs.Asks.{MadeAsks};
 ghost use Rattle.defaultlines.specs.Asks.{DefaultAsks};
 ghost use Rattle.defaultlines.specs.Defaults.{overDefault, soundDefaults, PutAsks, Puts, Names, SoundAsks};
 use arena::put;
@@ -23,45 +19,13 @@ use held::Open;
 use names::Found;
 use names::find;
 use outputs::has_empty;
-use outputs::is_made;
+use outputs::has_made;
 use rules::Refusal;
 
 // What a path of a default line does: it is a default more, or over a limit.
 pub enum Named {
     Added(Counts),
     Over,
-}
-
-// "default that is no earlier output" (8)
-fn has_unmade(
-    t: &[u8; 256],
-    l: &[u8],
-    start: usize,
-    names: &[u8],
-    ends: &[u32],
-    texts: &[u8],
-    bind: &[u32],
-    graph: &[u32],
-    word: &mut [u8],
-    c: Counts,
-) -> bool
-    requires { ⌜ PathAsks (now t) (now l) (now names) (now ends) (now texts) (now bind) (now graph) (now word) c start ⌝ }
-    ensures { λ r. ⌜ AnyPath (λ log rd. Holds log (now (names .entry)) (now (ends .entry)) (now (texts .entry)) (now (bind .entry)) (now (graph .entry)) c rd) (λ rd raw. not (isMade (pathOf rd raw) rd)) (now (l .entry)) start r ⌝ }
-{
-    let mut i = start;
-    loop {
-        match next_path(t, l, i) {
-            Next::Path(from, to) => {
-                if !is_made(t, &l[from..to], names, ends, texts, bind, graph, word, c) {
-                    return true;
-                }
-                i = to;
-            }
-            Next::Stop => {
-                return false;
-            }
-        }
-    }
 }
 
 // "paths 255", "4,096 path mentions (build and default lines)", "all paths and values read so far .. 60,000 bytes together" (9)
@@ -183,7 +147,7 @@ pub fn add_defaults(
     if has_empty(t, l, at, texts, bind, c, word) {
         return LineAnswer::Refused(Refusal::BadPath(start));
     }
-    if has_unmade(t, l, at, names, ends, texts, bind, graph, word, c) {
+    if has_made(t, l, at, names, ends, texts, bind, graph, word, c, false) {
         return LineAnswer::Refused(Refusal::BadPath(start));
     }
     add_sound(t, start, l, at, names, ends, texts, bind, graph, word, c)

@@ -14,8 +14,8 @@ use Rattle.forms.specs.Statements.{Stands}
 use Rattle.bindings.specs.Log.{Logged}
 use Rattle.held.specs.declared.Counts.{Counts}
 use Rattle.held.specs.Held.{Bound, Holds}
-use Rattle.outputs.specs.Asks.{pathOf, AnyPath, Kept, Checked}
-use Rattle.outputs.specs.Marks.{Twice}
+use Rattle.outputs.specs.Asks.{pathOf, LineAsks, AnyPath, Kept, Checked}
+use Rattle.outputs.specs.Marks.{RoomAsks, Twice}
 use Rattle.outputs.proofs.Walking.{any-append, any-map}
 
 pub any-expanded : (q : List ℕ → Bool) (rd : Reading) (ps : List (List ℕ)) → any q (expanded rd ps) ≡ any (λ raw. q (pathOf rd raw)) ps
@@ -99,3 +99,20 @@ module _ {l names ends texts bind graph : List ℕ} {c : Counts} {p : BuildPlace
           kept = x .kept;
           answer = λ b w log rd h. sym (rw (sym (a b w log rd (h .bound)) ∙ e, made-outs b w log rd h ∙ f) (twice-outs x b w log rd (h .bound)));
         }
+
+-- what the search for equal outputs asks
+pub room-asks : {t l names ends texts bind graph word : List ℕ} {c : Counts} {p : BuildPlaces} → LineAsks t l names ends texts bind graph word c p → RoomAsks t l texts bind graph c (p .outs)
+room-asks a =
+    record {
+      list =
+          record {
+            table = a .table;
+            short = a .short;
+            raw = a .line .outs;
+            stands = a .stands .outs;
+            log = a .whole .log;
+            reading = a .whole .reading;
+            bound = a .whole .holds .bound;
+          };
+      scratch = a .scratch;
+    }

@@ -1,6 +1,6 @@
 -- A walk over a list of paths that looks for one that passes a test.
 use Prim.Native.Nat.{ℕ, _≤_}
-use mathlib.Core.Bool.{Bool, true, false, _||_}
+use mathlib.Core.Bool.{Bool, true, false, _||_, Bool·beq}
 use mathlib.Core.List.{List, [], _∷_, _++_, map}
 use mathlib.Core.Path.{_≡_, refl, sym, _∙_, ap}
 use native.Mathlib.Omega.{arith}
@@ -18,7 +18,7 @@ use Rattle.forms.specs.declared.Next.the-variants.{Path, Stop}
 use Rattle.forms.specs.Paths.{PathsAt, NextAt}
 use Rattle.forms.proofs.Walks.{walk-on}
 use Rattle.expand.specs.Runs.{Ready}
-use Rattle.outputs.specs.Asks.{AnyPath}
+use Rattle.outputs.specs.Asks.{sameBool, AnyPath}
 
 -- ---- what `next_path` answers
 
@@ -59,7 +59,7 @@ unfolding any
 any-map p f [] = refl
 any-map p f (x ∷ l) = ap (λ (b : Bool). p (f x) || b) (any-map p f l)
 
-any-cons : {A : Type 0} (p : A → Bool) (x : A) (l : List A) → any p (x ∷ l) ≡ p x || any p l
+pub any-cons : {A : Type 0} (p : A → Bool) (x : A) (l : List A) → any p (x ∷ l) ≡ p x || any p l
 unfolding any
 any-cons p x l = refl
 
@@ -106,3 +106,11 @@ module _ {Held : List Logged → Reading → Type 0} {test : Reading → List �
             let (qs, v, s) = x .rest ps w in
             sym (s log rd k ∙ ap (any (test rd)) (f qs v) ∙ any-none (test rd));
       }
+
+-- ---- a test that is compared with another
+
+pub beq-same : (a w : Bool) → Bool·beq a w ≡ sameBool w a
+beq-same true true = refl
+beq-same true false = refl
+beq-same false true = refl
+beq-same false false = refl

@@ -1,6 +1,6 @@
 -- What the pass over a line's paths asks and answers. It looks at each path expanded and changes nothing that is held.
 use Prim.Native.Nat.{ℕ, _+_, _≤_}
-use mathlib.Core.Bool.{Bool}
+use mathlib.Core.Bool.{Bool, true, false, not}
 use mathlib.Core.List.{List}
 use mathlib.Core.Path.{_≡_}
 use lib.ListN.{length, take}
@@ -26,6 +26,11 @@ use Rattle.held.specs.declared.Counts.{Counts}
 unfoldable pub pathOf : Reading → List ℕ → List ℕ
 unfolding expand fileVar
 pathOf rd raw = expand (fileVar (rd .vars)) raw
+
+-- do two tests agree
+abbrev pub sameBool : Bool → Bool → Bool
+sameBool true b = b
+sameBool false b = not b
 
 -- where the columns of the graph end, and the room for marks begins
 abbrev pub columnsEnd : ℕ

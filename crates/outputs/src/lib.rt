@@ -10,7 +10,7 @@ ghost use Rattle.forms.specs.Statements.{Stands};
 ghost use Rattle.bindings.specs.Log.{Logged};
 ghost use Rattle.expand.specs.Runs.{Ready};
 ghost use Rattle.held.specs.Held.{Bound, Holds};
-ghost use Rattle.outputs.specs.Asks.{pathOf, Filed, Files, ListAsks, MadeAsks, PathAsks, FormAsks, LineAsks, AnyPath, Checked};
+ghost use Rattle.outputs.specs.Asks.{pathOf, sameBool, Filed, Files, ListAsks, MadeAsks, PathAsks, FormAsks, LineAsks, AnyPath, Checked};
 
 mod twice;
 
@@ -100,8 +100,9 @@ pub fn is_made(
     is_output(names, ends, graph, c, &word[..n])
 }
 
-// "output made twice" (8), by an earlier step
-fn has_made(
+// Whether a path is the output of an earlier step ("output made twice"), or, with `wanted` false, whether one is not ("default that is no
+// earlier output"): both are 8s.
+pub fn has_made(
     t: &[u8; 256],
     l: &[u8],
     start: usize,
@@ -112,15 +113,16 @@ fn has_made(
     graph: &[u32],
     word: &mut [u8],
     c: Counts,
+    wanted: bool,
 ) -> bool
     requires { ⌜ PathAsks (now t) (now l) (now names) (now ends) (now texts) (now bind) (now graph) (now word) c start ⌝ }
-    ensures { λ r. ⌜ AnyPath (λ log rd. Holds log (now (names .entry)) (now (ends .entry)) (now (texts .entry)) (now (bind .entry)) (now (graph .entry)) c rd) (λ rd raw. isMade (pathOf rd raw) rd) (now (l .entry)) start r ⌝ }
+    ensures { λ r. ⌜ AnyPath (λ log rd. Holds log (now (names .entry)) (now (ends .entry)) (now (texts .entry)) (now (bind .entry)) (now (graph .entry)) c rd) (λ rd raw. sameBool wanted (isMade (pathOf rd raw) rd)) (now (l .entry)) start r ⌝ }
 {
     let mut i = start;
     loop {
         match next_path(t, l, i) {
             Next::Path(from, to) => {
-                if is_made(t, &l[from..to], names, ends, texts, bind, graph, word, c) {
+                if is_made(t, &l[from..to], names, ends, texts, bind, graph, word, c) == wanted {
                     return true;
                 }
                 i = to;
@@ -191,7 +193,7 @@ pub fn bad_paths(
     if has_empty_path(t, l, p, texts, bind, c, word) {
         return true;
     }
-    if has_made(t, l, p.outs, names, ends, texts, bind, graph, word, c) {
+    if has_made(t, l, p.outs, names, ends, texts, bind, graph, word, c, true) {
         return true;
     }
     has_twice(t, l, p.outs, texts, bind, graph, c)

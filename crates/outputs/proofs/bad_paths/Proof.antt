@@ -1,6 +1,6 @@
 -- `outputs::bad_paths` meets its contract.
 use borrow.Author.Needs.{needs}
-use Rattle.outputs.proofs.Joining.{line-empty, line-made, line-twice}
+use Rattle.outputs.proofs.Joining.{room-asks, line-empty, line-made, line-twice}
 use Rattle.outputs.proofs.bad_paths.Statement.{statement}
 use Rattle.outputs.proofs.bad_paths.Tie as tie
 
@@ -26,7 +26,7 @@ returns-2 : tie.Need-returns-2
 returns-2 c = line-made (c .before .before .before .before .before .before .before .before .before .has-empty-path .ensures) (c .before .before .before .before .before .before .if1 .left) (c .before .before .before .has-made .ensures) (c .if2 .taken)
 
 has-twice-requires : tie.Need-has-twice-requires
-has-twice-requires c κs = search needs
+has-twice-requires c κs = room-asks (c .before .before .before .before .before .before .before .before .before .before .before .before .before .before .before .before .before .before .before .pre)
 
 same-length-4 : tie.Need-same-length-4
 same-length-4 c = search needs

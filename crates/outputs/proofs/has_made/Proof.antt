@@ -1,6 +1,6 @@
 -- `outputs::has_made` meets its contract.
 use Prim.Native.Nat.{_-_}
-use mathlib.Core.Path.{_≡_, refl}
+use mathlib.Core.Path.{_≡_, refl, _∙_, ap}
 use native.Mathlib.Omega.{arith}
 use borrow.Author.Needs.{needs}
 use denote.Ref.{now}
@@ -8,17 +8,17 @@ use lib.ListN.{length}
 use Rattle.held.specs.Held.{Holds}
 use Rattle.rules.specs.Reading.{isMade}
 use Rattle.scan.specs.Texts.{PathNext}
-use Rattle.outputs.specs.Asks.{pathOf}
+use Rattle.outputs.specs.Asks.{pathOf, sameBool}
 use Rattle.outputs.proofs.Makers.{table-held}
-use Rattle.outputs.proofs.Walking.{goes-on, stops, ready-path, Looked, look-begin, look-more, look-found, look-end}
+use Rattle.outputs.proofs.Walking.{beq-same, goes-on, stops, ready-path, Looked, look-begin, look-more, look-found, look-end}
 use Rattle.outputs.proofs.has_made.Statement.{statement}
 use Rattle.outputs.proofs.has_made.Tie as tie
 
 abbrev Inv-loop : tie.InvT-loop
-Inv-loop t l start names ends texts bind graph word₀ c i₀ word i = (length word ≡ length word₀) × Looked (λ log rd. Holds log names ends texts bind graph c rd) (λ rd raw. isMade (pathOf rd raw) rd) l start i
+Inv-loop t l start names ends texts bind graph word₀ c wanted i₀ word i = (length word ≡ length word₀) × Looked (λ log rd. Holds log names ends texts bind graph c rd) (λ rd raw. sameBool wanted (isMade (pathOf rd raw) rd)) l start i
 
 abbrev μ-loop : tie.MeasureT-loop
-μ-loop t l start names ends texts bind graph word₀ c i₀ word i = length l - i
+μ-loop t l start names ends texts bind graph word₀ c wanted i₀ word i = length l - i
 
 -- the path of this turn
 next : (s : tie.After-known-told Inv-loop μ-loop) → PathNext (now (s .before .before .before .before .before .before .before .before .before .before .before .before .args .l)) (s .before .before .before .before .loop .i) (s .before .from .given .0 .0) (s .before .from .given .0 .1 .0)
@@ -51,13 +51,13 @@ same-length : tie.Need-same-length Inv-loop μ-loop
 same-length c = search needs
 
 returns : tie.Need-returns Inv-loop μ-loop
-returns c = look-found (c .before .before .before .before .before .before .before .before .before .before .loop .inv .1) (next (c .before .before .before .before .before .before)) (c .before .before .before .is-made .ensures) (c .if1 .taken)
+returns c = look-found (c .before .before .before .before .before .before .before .before .before .before .loop .inv .1) (next (c .before .before .before .before .before .before)) (λ log rd h. beq-same (c .before .before .before .is-made .result) (c .before .before .before .before .before .before .before .before .before .before .before .before .before .before .before .before .before .before .args .wanted) ∙ ap (sameBool (c .before .before .before .before .before .before .before .before .before .before .before .before .before .before .before .before .before .before .args .wanted)) (c .before .before .before .is-made .ensures log rd h)) (c .if1 .taken)
 
 loop-less : tie.Need-loop-less Inv-loop μ-loop
 loop-less c = omega (arith, next (c .before .before .before .before .before .before) .longer, next (c .before .before .before .before .before .before) .within, next (c .before .before .before .before .before .before) .forward)
 
 loop-again : tie.Need-loop-again Inv-loop μ-loop
-loop-again c = (search needs, look-more (c .before .before .before .before .before .before .before .before .before .before .loop .inv .1) (next (c .before .before .before .before .before .before)) (c .before .before .before .is-made .ensures) (c .if1 .left))
+loop-again c = (search needs, look-more (c .before .before .before .before .before .before .before .before .before .before .loop .inv .1) (next (c .before .before .before .before .before .before)) (λ log rd h. beq-same (c .before .before .before .is-made .result) (c .before .before .before .before .before .before .before .before .before .before .before .before .before .before .before .before .before .before .args .wanted) ∙ ap (sameBool (c .before .before .before .before .before .before .before .before .before .before .before .before .before .before .before .before .before .before .args .wanted)) (c .before .before .before .is-made .ensures log rd h)) (c .if1 .left))
 
 enum-told : tie.Need-enum-told Inv-loop μ-loop
 enum-told c = search needs
