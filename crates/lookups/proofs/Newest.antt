@@ -14,19 +14,20 @@ use Rattle.rules.specs.Text.{Found as Says, asIs, ofRule, ofStep, orRule, orBlo
 use Rattle.bindings.specs.declared.Found.{Found}
 use Rattle.bindings.specs.declared.Found.the-variants.{At, Missing}
 use Rattle.bindings.specs.Log.{Logged, ofFile, ofKeys, ofStep as ofBlock, entryAt, newest, valueOf, boundBy}
-use Rattle.bindings.specs.Held.{Holds, HasEntry}
+use Rattle.bindings.specs.Held.{Holds}
 use Rattle.bindings.proofs.Lookups.{newest-below, find-newest}
 use Rattle.lookups.specs.declared.Asked.{Asked}
 use Rattle.lookups.specs.declared.Source.{Source}
 use Rattle.lookups.specs.declared.Source.the-variants.{Inputs, InputLines, Outputs, Value, Text, Unset}
-use Rattle.lookups.specs.Scope.{Scope, InScope, meaning, fromFile, fromRule, fromBlock, Looks}
+use Rattle.lookups.specs.Scope.{Scope, InScope, meaning, fromFile, fromRule, fromBlock, There, Looks}
 
 -- f is the newest entry of a name for an owner
 module _ (o : ℕ) (n : List ℕ) (a : Asked) {texts bind : List ℕ} {f : Found} (q : (log : List Logged) → Holds log texts bind (a .entries) → f ≡ newest o n log) where
-  pub entry-there : {k : ℕ} → InScope texts bind a → f ≡ At k → HasEntry texts bind k
+  pub entry-there : {k : ℕ} → InScope texts bind a → f ≡ At k → There texts bind a k
   entry-there {k} w e =
       let b : k < length (w .log) = newest-below o n (w .log) k (sym (q (w .log) (w .scope .bound)) ∙ e) in
-      record { log = w .log; count = a .entries; held = w .scope .bound; below = omega (arith, w .scope .bound .counted) }
+      let m : k < a .entries = omega (arith, w .scope .bound .counted) in
+      record { entry = record { log = w .log; count = a .entries; held = w .scope .bound; below = m }; low = m }
 
   entry-found : {k : ℕ} (log : List Logged) → Holds log texts bind (a .entries) → f ≡ At k → find n (boundBy o log) ≡ some (entryAt k log .value)
   unfolding valueOf

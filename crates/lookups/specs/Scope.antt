@@ -61,8 +61,13 @@ fromRule n rd s = orBlock rd s n none
 abbrev pub fromBlock : List ℕ → Reading → Step → Found
 fromBlock n rd s = orStep rd s n none
 
+-- an entry of the table
+pub record There (texts bind : List ℕ) (a : Asked) (k : ℕ) : Type 0 where
+  pub entry : HasEntry texts bind k
+  pub low : k < a .entries
+
 -- The answer means what is found, whatever scope is held, and its entry is there.
 pub record Looks (texts bind : List ℕ) (a : Asked) (found : Reading → Step → Found) (r : Source) : Type 0 where
   pub means : (log : List Logged) (rd : Reading) (s : Step) → Scope texts bind a log rd s → found rd s ≡ meaning rd s log r
-  pub value : (k : ℕ) → r ≡ Value k → HasEntry texts bind k
-  pub text : (k : ℕ) → r ≡ Text k → HasEntry texts bind k
+  pub value : (k : ℕ) → r ≡ Value k → There texts bind a k
+  pub text : (k : ℕ) → r ≡ Text k → There texts bind a k
