@@ -91,7 +91,7 @@ fn put_again(buffer: &mut [u8], from: usize, to: usize, place: usize) -> usize
 }
 
 // The same draft at another place.
-fn moved(d: Draft, at: usize) -> Draft
+pub fn moved(d: Draft, at: usize) -> Draft
     ensures { λ r. ⌜ Moved d at r ⌝ }
 {
     let command = d.command;
