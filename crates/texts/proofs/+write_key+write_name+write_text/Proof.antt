@@ -1,4 +1,4 @@
--- `texts::+write_key+write_name+write_text` meets its contract.
+-- `texts::write_key`, `texts::write_name` and `texts::write_text`, which call one another, meet their contracts. Each rule text goes one less deep, and of one depth the text comes before its names, and a name before its key.
 use Prim.Native.Nat.{_+_, _*_, _-_}
 use mathlib.Core.List.{[], _∷_}
 use mathlib.Core.Logic.{inl, inr}
