@@ -1,3 +1,4 @@
 pub mod Picking
 pub mod Wanting
 pub mod Answering
+pub mod Reading
