@@ -7,7 +7,7 @@ use lib.ListN.{length, take, getD, length-take, List·getD-append}
 use lib.Seq.{length-take-le, getD-take}
 use Rattle.lists.specs.Parts.{part, part-none, part-snoc, part-append}
 use Rattle.rules.specs.Limits.{maxText}
-use Rattle.output.specs.Puts.{Open, Fits, Puts}
+use Rattle.output.specs.Puts.{Open, Puts}
 use Rattle.output.proofs.Parts.{puts-none, puts-over, puts-then, open-on}
 use Rattle.drafts.specs.Draft.{Behind}
 

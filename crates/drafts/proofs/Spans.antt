@@ -1,13 +1,13 @@
 -- What a draft remembers stays, and what is remembered more.
 use Prim.Native.Nat.{ℕ, _+_, _-_, _≤_, _<_}
-use mathlib.Core.List.{List, [], _∷_, _++_}
+use mathlib.Core.List.{List, [], _++_}
 use mathlib.Core.Bool.{true, false}
 use mathlib.Core.Logic.{_⊎_, inl, inr, ⊎-elim}
-use mathlib.Core.Path.{_≡_, refl, sym, _∙_, ap, subst}
+use mathlib.Core.Path.{_≡_, refl, sym, _∙_, ap}
 use native.Mathlib.Nat.{le-refl}
 use native.Mathlib.Omega.{arith}
-use lib.ListN.{length, take, drop, length-append, length-take}
-use lib.Seq.{length-take-le, take-take, take-append-le, take-append-seam, take-all, drop-at}
+use lib.ListN.{length, take, drop, length-take}
+use lib.Seq.{length-take-le, take-take, take-append-le, take-all, drop-at}
 use Rattle.lists.specs.Tests.{split}
 use Rattle.lists.specs.Text.{bytes}
 use Rattle.lists.specs.Bytes.{eqBytes, eqBytes-true}
@@ -15,9 +15,8 @@ use Rattle.lists.specs.Parts.{part, drop-take}
 use Rattle.rules.specs.Limits.{maxText}
 use Rattle.output.specs.Puts.{Open, Fits, Puts}
 use Rattle.output.proofs.Parts.{puts-none, puts-over, puts-then, open-on}
-use Rattle.drafts.specs.declared.Span.{Span}
 use Rattle.drafts.specs.declared.Draft.{Draft}
-use Rattle.drafts.specs.Draft.{span, spanFor, Remembered, Kept, Remembers, Drafted, Moved, Writes}
+use Rattle.drafts.specs.Draft.{span, spanFor, Remembered, Remembers, Drafted, Moved, Writes}
 
 -- ---- one more span
 

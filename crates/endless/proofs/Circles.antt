@@ -3,14 +3,14 @@ use Prim.Native.Nat.{ℕ, zero, suc}
 use mathlib.Core.List.{List, [], _∷_}
 use mathlib.Core.Bool.{Bool, true, false, _||_}
 use mathlib.Core.Logic.{_⊎_, inl, inr, ⊎-elim}
-use mathlib.Core.Path.{_≡_, refl, sym, _∙_, ap, subst}
+use mathlib.Core.Path.{_≡_, refl, sym, _∙_, subst}
 use Rattle.lists.specs.Members.{any}
-use Rattle.lists.specs.Tests.{ifB, split, differ, or-true}
+use Rattle.lists.specs.Tests.{split, differ, or-true}
 use Rattle.lists.specs.Bytes.{eqBytes, eqBytes-true, eq-eqBytes}
 use Rattle.rules.specs.Basics.{among}
 use Rattle.rules.specs.Dollars.{refs}
 use Rattle.rules.specs.Reading.{Step, Reading}
-use Rattle.rules.specs.Text.{Found, asIs, ofRule, onFound, lookup, leadsBack, deep}
+use Rattle.rules.specs.Text.{Found, asIs, ofRule, lookup, leadsBack, deep}
 use Rattle.endless.specs.Depth.{leadsTo, goesDeep}
 
 -- ---- names in a list of names

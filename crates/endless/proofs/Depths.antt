@@ -1,14 +1,14 @@
 -- A text that does not go k rule texts deep is whole after k expansions.
 use Prim.Native.Nat.{ℕ, zero, suc, _-_, _≤_}
-use mathlib.Core.List.{List, [], _∷_, _++_}
-use mathlib.Core.Bool.{Bool, true, false, _||_}
+use mathlib.Core.List.{List, [], _∷_}
+use mathlib.Core.Bool.{Bool, false}
 use mathlib.Core.Path.{_≡_, refl, sym, _∙_, ap}
 use native.Mathlib.Omega.{arith}
 use Rattle.lists.specs.Members.{any}
 use Rattle.lists.specs.Tests.{differ, or-left, or-right}
 use Rattle.rules.specs.Dollars.{Piece, byte, ref, pieces, fill, expand, refsOf, refs}
 use Rattle.rules.specs.Reading.{Step, Reading}
-use Rattle.rules.specs.Text.{Found, asIs, ofRule, onFound, lookup, textOf, deep}
+use Rattle.rules.specs.Text.{Found, asIs, ofRule, lookup, textOf, deep}
 use Rattle.endless.specs.Depth.{leadsTo, goesDeep}
 
 -- none of the names: not the first, and none of the others

@@ -1,20 +1,18 @@
 -- The marks are those of the names that go so deep: names that are no rule's key go nowhere.
-use Prim.Native.Nat.{ℕ, zero, suc, _+_, _≤_}
-use mathlib.Core.List.{List, [], _∷_}
+use Prim.Native.Nat.{ℕ, _+_, _≤_}
+use mathlib.Core.List.{List, []}
 use mathlib.Core.Bool.{Bool, true, false}
-use mathlib.Core.Option.{Option, none, some}
 use mathlib.Core.Path.{_≡_, refl, sym, _∙_, ap, fun-ext}
 use native.Mathlib.Numerals.{add-one}
 use native.Mathlib.Omega.{arith}
 use Rattle.lists.specs.Members.{any}
-use Rattle.lists.specs.Tests.{ifB, split, differ}
+use Rattle.lists.specs.Tests.{split, differ}
 use Rattle.lists.specs.Text.{bytes}
 use Rattle.lists.specs.Bytes.{eqBytes, eqBytes-true}
 use Rattle.rules.specs.Basics.{among}
-use Rattle.rules.specs.Dollars.{refs}
-use Rattle.rules.specs.Reading.{Step, Reading, find, keysOf}
+use Rattle.rules.specs.Reading.{Step, Reading, keysOf}
 use Rattle.rules.specs.Statements.{ruleKey}
-use Rattle.rules.specs.Text.{Found, asIs, ofRule, onFound, ofStep, orRule, orBlock, orStep, lookup, leadsBack, deep}
+use Rattle.rules.specs.Text.{Found, asIs, ofRule, lookup, leadsBack, deep}
 use Rattle.bindings.specs.Log.{Logged}
 use Rattle.lookups.specs.declared.Asked.{Asked}
 use Rattle.lookups.specs.Scope.{SoundKeys, Scope}

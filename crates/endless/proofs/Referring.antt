@@ -1,20 +1,16 @@
 -- The loop over the references of a raw text, and what a name leads to by what it stands for.
-use Prim.Native.Nat.{ℕ, _≤_, _<_}
+use Prim.Native.Nat.{ℕ, _≤_}
 use mathlib.Core.List.{List, [], _∷_}
-use mathlib.Core.Bool.{Bool, true, false, _||_}
-use mathlib.Core.Option.{none}
+use mathlib.Core.Bool.{Bool, true, false}
 use mathlib.Core.Path.{_≡_, refl, sym, _∙_, ap}
-use native.Mathlib.Omega.{arith}
 use lib.ListN.{length, drop, drop-of-length-le}
 use Rattle.lists.specs.Members.{any}
 use Rattle.lists.specs.Parts.{part}
-use Rattle.rules.specs.Dollars.{badDollar, ref, refs, refsOf}
+use Rattle.rules.specs.Dollars.{ref, refs, refsOf}
 use Rattle.rules.specs.Reading.{Step, Reading}
-use Rattle.rules.specs.Text.{asIs, ofRule, lookup}
+use Rattle.rules.specs.Text.{asIs, lookup}
 use Rattle.scan.proofs.Pieces.{pieces-end}
-use Rattle.bindings.specs.Log.{Logged, entryAt}
-use Rattle.bindings.specs.Held.{Holds, HasEntry}
-use Rattle.pieces.specs.declared.Piece.{Piece}
+use Rattle.bindings.specs.Log.{Logged}
 use Rattle.pieces.specs.Begins.{Ready, plainly, Stands}
 use Rattle.pieces.proofs.Turns.{refs-bytes, refs-name, ready-on}
 use Rattle.lookups.specs.declared.Asked.{Asked}

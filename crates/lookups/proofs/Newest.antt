@@ -1,16 +1,15 @@
 -- The newest entry of a name in each part of the scope is what the lookup finds there.
 use Prim.Native.Nat.{ℕ, _<_}
-use mathlib.Core.List.{List, []}
+use mathlib.Core.List.{List}
 use mathlib.Core.Bool.{true, false}
-use mathlib.Core.Option.{Option, none, some}
-use mathlib.Core.Path.{_≡_, refl, sym, _∙_, ap}
+use mathlib.Core.Option.{none, some}
+use mathlib.Core.Path.{_≡_, sym, _∙_, ap}
 use native.Mathlib.Omega.{arith}
 use lib.ListN.{length}
-use Rattle.lists.specs.Tests.{ifB}
 use Rattle.lists.specs.Text.{bytes}
 use Rattle.lists.specs.Bytes.{eqBytes}
-use Rattle.rules.specs.Reading.{Step, Reading, find, fileVar, orEmpty, keysOf}
-use Rattle.rules.specs.Text.{Found as Says, asIs, ofRule, ofStep, orRule, orBlock, orStep, lookup}
+use Rattle.rules.specs.Reading.{find, fileVar, orEmpty}
+use Rattle.rules.specs.Text.{asIs, ofStep, orRule, orBlock, orStep, lookup}
 use Rattle.bindings.specs.declared.Found.{Found}
 use Rattle.bindings.specs.declared.Found.the-variants.{At, Missing}
 use Rattle.bindings.specs.Log.{Logged, ofFile, ofKeys, ofStep as ofBlock, entryAt, newest, valueOf, boundBy}
@@ -19,7 +18,7 @@ use Rattle.bindings.proofs.Lookups.{newest-below, find-newest}
 use Rattle.lookups.specs.declared.Asked.{Asked}
 use Rattle.lookups.specs.declared.Source.{Source}
 use Rattle.lookups.specs.declared.Source.the-variants.{Inputs, InputLines, Outputs, Value, Text, Unset}
-use Rattle.lookups.specs.Scope.{Scope, InScope, meaning, fromFile, fromRule, fromBlock, There, Looks}
+use Rattle.lookups.specs.Scope.{InScope, meaning, fromFile, fromRule, fromBlock, There, Looks}
 
 -- f is the newest entry of a name for an owner
 module _ (o : ℕ) (n : List ℕ) (a : Asked) {texts bind : List ℕ} {f : Found} (q : (log : List Logged) → Holds log texts bind (a .entries) → f ≡ newest o n log) where

@@ -2,19 +2,18 @@
 use Prim.Native.Nat.{ℕ, _<_}
 use mathlib.Core.List.{List}
 use mathlib.Core.Option.{Option, none, some}
-use mathlib.Core.Path.{_≡_, refl, sym, _∙_, ap}
+use mathlib.Core.Path.{_≡_, refl, sym, _∙_}
 use native.Mathlib.Omega.{arith}
-use Rattle.rules.specs.Dollars.{badDollar}
 use Rattle.rules.specs.Reading.{Step, Reading, find, keysOf}
-use Rattle.rules.specs.Text.{Found, asIs, ofRule, ofStep, orRule, orBlock, orStep, lookup}
+use Rattle.rules.specs.Text.{asIs, ofRule, ofStep, orRule, orBlock, orStep, lookup}
 use Rattle.classes.specs.Table.{classes}
 use Rattle.bindings.specs.Log.{Logged, entryAt}
 use Rattle.bindings.specs.Held.{Holds}
 use Rattle.pieces.specs.Begins.{Ready}
 use Rattle.lookups.specs.declared.Asked.{Asked}
 use Rattle.lookups.specs.declared.Source.{Source}
-use Rattle.lookups.specs.declared.Source.the-variants.{Inputs, InputLines, Outputs, Value, Text, Unset}
-use Rattle.lookups.specs.Scope.{SoundKey, Scope, InScope, meaning, There, Looks}
+use Rattle.lookups.specs.declared.Source.the-variants.{Value, Text}
+use Rattle.lookups.specs.Scope.{Scope, InScope, meaning, There, Looks}
 
 module _ (rd : Reading) (s : Step) (n : List ℕ) where
   rule-text : (o b k : Option (List ℕ)) (raw : List ℕ) → orStep rd s n o ≡ ofRule raw → b ≡ find n (s .block) → k ≡ find n (keysOf (s .rule) (rd .rules)) → k ≡ some raw

@@ -6,9 +6,9 @@ use native.Mathlib.Nat.{le-refl}
 use native.Mathlib.Numerals.{add-one}
 use native.Mathlib.Omega.{arith}
 use lib.ListN.{length, take, drop, set, length-append, length-take, length-set}
-use lib.Seq.{length-take-le, take-all, take-append-le, take-append-seam, take-suc-set, paste, length-paste}
+use lib.Seq.{length-take-le, take-all, take-append-seam, take-suc-set, paste, length-paste}
 use Rattle.rules.specs.Limits.{maxText}
-use Rattle.output.specs.Puts.{Open, Fits, Puts}
+use Rattle.output.specs.Puts.{Open, Puts}
 
 pub puts-none : {buffer : List ℕ} {place : ℕ} → Open buffer place → Puts buffer place [] buffer place
 puts-none {buffer} {place} o =

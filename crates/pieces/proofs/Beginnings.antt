@@ -21,7 +21,7 @@ use Rattle.scan.proofs.Pieces.{pieces-byte, pieces-literal, pieces-join, pieces
 use Rattle.expand.proofs.Pieces.{sound-run, literal-here}
 use Rattle.pieces.specs.declared.Piece.{Piece}
 use Rattle.pieces.specs.declared.Piece.the-variants.{Bytes, Name}
-use Rattle.pieces.specs.Begins.{plainly, Stands, Begins}
+use Rattle.pieces.specs.Begins.{plainly, Begins}
 
 -- the bytes up to the first `$`
 pieces-run : (s : List ℕ) → pieces s ≡ plainly (run (isNot dollar) s) ++ pieces (afterRun (isNot dollar) s)

@@ -1,10 +1,10 @@
 -- For callers: what a piece gives of an expansion and of the names referred to.
 use Prim.Native.Nat.{ℕ}
-use mathlib.Core.List.{List, [], _∷_, _++_, append-nil, append-assoc}
-use mathlib.Core.Path.{_≡_, refl, sym, _∙_, ap}
+use mathlib.Core.List.{List, [], _∷_, _++_}
+use mathlib.Core.Path.{_≡_, refl, _∙_, ap}
 use lib.ListN.{drop}
 use Rattle.lists.specs.Parts.{part}
-use Rattle.rules.specs.Dollars.{byte, ref, fill, expand, refsOf, refs, pieces}
+use Rattle.rules.specs.Dollars.{ref, fill, expand, refsOf, refs, pieces}
 use Rattle.rules.specs.Dollars as rules
 use Rattle.pieces.specs.declared.Piece.{Piece}
 use Rattle.pieces.specs.declared.Piece.the-variants.{Bytes, Name}

@@ -2,15 +2,13 @@
 use Prim.Native.Nat.{ℕ, _+_, _-_, _≤_, _<_}
 use mathlib.Core.List.{List, [], _++_, append-nil}
 use mathlib.Core.Bool.{Bool, true, false, _||_}
-use mathlib.Core.Path.{_≡_, refl, sym, _∙_, ap, subst}
+use mathlib.Core.Path.{_≡_, refl, sym, _∙_}
 use native.Mathlib.Omega.{arith}
 use borrow.Author.Tests.{lt-ltb, le-ltb, lt-leb}
-use lib.Dec.{ltb, leb, eqb}
-use lib.ListN.{length, take, replicate, length-append}
+use lib.Dec.{ltb, leb}
+use lib.ListN.{length, take}
 use lib.Seq.{drop-length}
-use Rattle.lists.specs.Tests.{ifB}
 use Rattle.lists.specs.Fill.{zeros, zeroed, zeroed-all}
-use Rattle.rules.specs.declared.Refusal.{Refusal}
 use Rattle.rules.specs.declared.Refusal.the-variants.{EndlessText, LongText, NoCommand}
 use Rattle.rules.specs.declared.TextAnswer.{TextAnswer}
 use Rattle.rules.specs.declared.TextAnswer.the-variants.{Written, Refused}
@@ -21,7 +19,7 @@ use Rattle.rules.specs.Promises.{filled, leftBy, TextMeets}
 use Rattle.rules.specs.Reading.{Step, Reading, isPhony}
 use Rattle.rules.specs.Graph.{stepAt}
 use Rattle.rules.specs.Text.{leadsBack, textOf, deep}
-use Rattle.rules.specs.TextAsk.{TextOutcome, text, noText, wantedName, textOfStep}
+use Rattle.rules.specs.TextAsk.{text, noText, wantedName, textOfStep}
 use Rattle.bindings.specs.Log.{Logged}
 use Rattle.held.specs.declared.Counts.{Counts}
 use Rattle.held.specs.Held.{Bound, Graphed, Holds}
@@ -29,7 +27,7 @@ use Rattle.lookups.specs.declared.Asked.{Asked}
 use Rattle.lookups.specs.Scope.{Scope}
 use Rattle.output.specs.Puts.{Puts}
 use Rattle.texts.specs.Here.{Here}
-use Rattle.textask.specs.Steps.{Picked, Picks, Reads}
+use Rattle.textask.specs.Steps.{Picks, Reads}
 use Rattle.textask.specs.Asks.{SoundRules, InAsk, WritesWanted, StepAsk, textOfIn, TextIn, TextAsk, TextOf}
 
 -- ---- the buffer

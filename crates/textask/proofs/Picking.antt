@@ -1,21 +1,20 @@
 -- A step by its number: its rule's declaration, and its files among the mentions.
-use Prim.Native.Nat.{ℕ, zero, suc, _+_, _*_, _-_, _≤_, _<_}
+use Prim.Native.Nat.{ℕ, suc, _+_, _*_, _-_, _≤_, _<_}
 use mathlib.Core.List.{List, [], _∷_}
-use mathlib.Core.Bool.{Bool, true, false, _&&_, _||_}
-use mathlib.Core.Path.{_≡_, refl, sym, _∙_, ap, subst}
+use mathlib.Core.Bool.{Bool, true, false, _||_}
+use mathlib.Core.Path.{_≡_, refl, sym, _∙_, ap}
 use native.Mathlib.Decide.{ℕ-discrete}
 use native.Mathlib.Omega.{arith}
-use borrow.Author.Tests.{eq-eqb, ne-eqb, le-leb, lt-leb}
-use lib.Dec.{eqb, leb}
+use borrow.Author.Tests.{eq-eqb, ne-eqb, le-leb}
+use lib.Dec.{leb}
 use lib.ListN.{length, take, drop, getD}
 use lib.Seq.{take-take, getD-take}
-use Rattle.lists.specs.Tests.{ifB, split}
-use Rattle.lists.specs.Bytes.{eqBytes, eq-eqBytes}
+use Rattle.lists.specs.Tests.{split}
+use Rattle.lists.specs.Bytes.{eq-eqBytes}
 use Rattle.lists.specs.Members.{in-at}
 use Rattle.lists.specs.Parts.{part, drop-take}
 use Rattle.rules.specs.Reading.{Reading, isPhony, keysOf}
 use Rattle.rules.specs.Graph.{stepAt}
-use Rattle.arena.specs.Columns.{startOf, column}
 use Rattle.arena.proofs.Laws.{lies-column, lies-read}
 use Rattle.tables.specs.Tables.{outsIn, startIn}
 use Rattle.tables.proofs.Places.{start-zero, start-suc, read-ins, read-ins-placed}
@@ -23,7 +22,7 @@ use Rattle.tables.proofs.Held.{held-outs, held-sound}
 use Rattle.bindings.specs.declared.Found.{Found}
 use Rattle.bindings.specs.declared.Found.the-variants.{At, Missing}
 use Rattle.bindings.specs.Log.{Logged, ofRules, ofKeys, entryAt, isNamed, newest, keysAt, boundBy}
-use Rattle.bindings.specs.Held.{maxEntries, Holds, HasEntry, Sound}
+use Rattle.bindings.specs.Held.{Holds, HasEntry, Sound}
 use Rattle.bindings.proofs.Lookups.{newest-below, entry-kept, entry-newest, keys-newest}
 use Rattle.held.specs.declared.Counts.{Counts}
 use Rattle.held.specs.Held.{capacities, Ruled, phony, declared, Bound, Graphed}

@@ -2,21 +2,20 @@
 use Prim.Native.Nat.{ℕ, _≤_}
 use mathlib.Core.List.{List, []}
 use mathlib.Core.Bool.{false}
-use mathlib.Core.Path.{_≡_, refl, sym, _∙_, ap}
+use mathlib.Core.Path.{_≡_, refl, sym, _∙_}
 use borrow.Author.Tests.{le-ltb}
-use lib.Dec.{eqb, ltb}
+use lib.Dec.{ltb}
 use lib.ListN.{length}
-use Rattle.lists.specs.Tests.{ifB}
 use Rattle.rules.specs.declared.Refusal.{Refusal}
 use Rattle.rules.specs.declared.TextAnswer.{TextAnswer}
 use Rattle.rules.specs.declared.TextAnswer.the-variants.{Refused}
 use Rattle.rules.specs.declared.Wanted.{Wanted}
 use Rattle.rules.specs.Limits.{maxText}
-use Rattle.rules.specs.Answers.{numberOfRefusal, textSays}
+use Rattle.rules.specs.Answers.{textSays}
 use Rattle.rules.specs.Promises.{filled, leftBy, TextMeets, TextPromise}
 use Rattle.rules.specs.Manifest.{accepted, refusedWith, readManifest}
 use Rattle.rules.specs.Reading.{Reading}
-use Rattle.rules.specs.TextAsk.{wantedName, textRead, textAsk}
+use Rattle.rules.specs.TextAsk.{textRead, textAsk}
 use Rattle.classes.specs.Table.{classes}
 use Rattle.bindings.specs.Log.{Logged}
 use Rattle.held.specs.declared.Counts.{Counts}

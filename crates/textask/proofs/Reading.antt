@@ -3,11 +3,11 @@ use Prim.Native.Nat.{ℕ}
 use mathlib.Core.List.{List, [], _∷_, _++_}
 use mathlib.Core.Bool.{Bool, true, false, not, _||_}
 use mathlib.Core.Option.{Option, none, some}
-use mathlib.Core.Path.{_≡_, refl, sym, _∙_, ap, subst}
+use mathlib.Core.Path.{_≡_, refl, sym, subst}
 use native.Mathlib.Omega.{arith}
 use lib.Dec.{eqb, leb, ltb}
 use lib.ListN.{length}
-use Rattle.lists.specs.Tests.{ifB, split, differ, or-left, or-right}
+use Rattle.lists.specs.Tests.{split, or-left}
 use Rattle.lists.specs.Text.{bytes}
 use Rattle.lists.specs.Bytes.{eqBytes, eqBytes-true}
 use Rattle.lists.specs.Members.{any}
@@ -23,7 +23,7 @@ use Rattle.rules.specs.Lines.{Line, linesOf, isComment, isBlank, isIndented, is
 use Rattle.rules.specs.Forms.{Fault, noForm, wrongDollar, notYet, Cut, fits, fails, then, checked, Form, ruleForm, buildForm, defaultForm, bindingForm, BuildLine, keyWord, nameOf, afterName, gap, rawValue, cutValue, cutBinding, cutIndented, cutStatement}
 use Rattle.rules.specs.Reading.{Bound, Rule, Step, Reading, nothingRead, find, fileVar, hasKey, keysOf, declared, isMade}
 use Rattle.rules.specs.Statements.{Block, noBlock, ruleBlock, buildBlock, Outcome, goesOn, refused, ruleKey, startRule, addKey, countBinding, addStep, stepOf, mentioned, expandedLine, addToBlock, setVar, addVar, withDefaults, addDefaults, statement, blockLine, longerThan, overCounts, badPaths, inputsOfLine, overPaths, overBinding, wrongVersion, expanded}
-use Rattle.rules.specs.Manifest.{badByte, withRule, withStep, close, andThen, faultOf, ifCut, indented, readIndented, readStatement, readLine, readLines, Read, accepted, refusedWith, readOf, ifSound, readManifest}
+use Rattle.rules.specs.Manifest.{badByte, withRule, withStep, close, andThen, faultOf, ifCut, indented, readIndented, readStatement, readLine, readLines, accepted, refusedWith, readOf, ifSound, readManifest}
 use Rattle.lookups.specs.Scope.{SoundKey, SoundKeys}
 use Rattle.textask.specs.Asks.{SoundRules}
 

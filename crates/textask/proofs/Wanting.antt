@@ -2,7 +2,7 @@
 use Prim.Native.Nat.{ℕ, _≤_}
 use mathlib.Core.List.{List, []}
 use mathlib.Core.Bool.{true, false}
-use mathlib.Core.Path.{_≡_, refl, sym, _∙_, ap}
+use mathlib.Core.Path.{_≡_, sym, _∙_}
 use native.Mathlib.Nat.{le-refl}
 use native.Mathlib.Omega.{arith}
 use lib.ListN.{length}
@@ -14,14 +14,12 @@ use Rattle.rules.specs.Limits.{maxText}
 use Rattle.rules.specs.Reading.{Step, Reading}
 use Rattle.rules.specs.Text.{leadsBack, textOf, deep}
 use Rattle.rules.specs.TextAsk.{wantedName}
-use Rattle.bindings.specs.Log.{Logged}
 use Rattle.lookups.specs.declared.Asked.{Asked}
 use Rattle.endless.specs.Depth.{goesDeep}
 use Rattle.endless.specs.Depth as depth
 use Rattle.endless.proofs.Circles.{leads-back-deep}
 use Rattle.drafts.specs.declared.Draft.{Draft}
-use Rattle.drafts.specs.Draft.{span, spanFor, Remembers, Drafted}
-use Rattle.texts.specs.Here.{Here}
+use Rattle.drafts.specs.Draft.{span, spanFor, Remembers}
 use Rattle.texts.specs.Asks.{NameAsk, WritesName}
 use Rattle.textask.specs.Asks.{InAsk, WritesWanted, StepAsk}
 

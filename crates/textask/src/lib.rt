@@ -128,17 +128,6 @@ pub fn text_of(
             zero_from(buffer, 0);
             TextAnswer::Refused(Refusal::NoCommand(step))
         }
-        StepAsked::Step(a) => text_in(
-            t,
-            names,
-            ends,
-            texts,
-            bind,
-            graph,
-            a,
-            step,
-            wanted,
-            buffer,
-        ),
+        StepAsked::Step(a) => text_in(t, names, ends, texts, bind, graph, a, step, wanted, buffer),
     }
 }

@@ -1,29 +1,25 @@
 -- The text of a name: as it is, once more where it stands already, or a rule's text expanded.
-use Prim.Native.Nat.{ℕ, _-_, _≤_, _<_}
+use Prim.Native.Nat.{ℕ, _-_, _≤_}
 use mathlib.Core.List.{List}
-use mathlib.Core.Bool.{false}
 use mathlib.Core.Path.{_≡_, refl, sym, _∙_, ap}
 use native.Mathlib.Omega.{arith}
-use Rattle.lists.specs.Members.{any}
 use Rattle.lists.specs.Parts.{part}
-use Rattle.rules.specs.Dollars.{expand, refs}
+use Rattle.rules.specs.Dollars.{expand}
 use Rattle.rules.specs.Reading.{Step, Reading}
 use Rattle.rules.specs.Text.{asIs, ofRule, lookup, textOf, deep}
-use Rattle.bindings.specs.Log.{Logged, entryAt}
-use Rattle.pieces.specs.Begins.{Ready}
+use Rattle.bindings.specs.Log.{Logged}
 use Rattle.lookups.specs.declared.Asked.{Asked}
 use Rattle.lookups.specs.declared.Source.{Source}
 use Rattle.lookups.specs.declared.Source.the-variants.{Inputs, InputLines, Outputs, Value, Text, Unset}
-use Rattle.lookups.specs.Scope.{InScope, meaning, There, Looks}
+use Rattle.lookups.specs.Scope.{InScope, meaning, Looks}
 use Rattle.lookups.proofs.Standing.{found-key, ValueOf}
-use Rattle.endless.specs.Depth.{goesDeep}
 use Rattle.endless.proofs.Depths.{not-zero, text-shallow, text-whole, text-as-is}
 use Rattle.drafts.specs.declared.Span.{Span}
 use Rattle.drafts.specs.declared.Draft.{Draft}
 use Rattle.drafts.specs.Draft.{spanFor, Remembered, Behind, Remembers, Drafted, Writes}
 use Rattle.drafts.proofs.Spans.{drafted-name}
 use Rattle.texts.specs.Here.{Here}
-use Rattle.texts.specs.Asks.{PlainAsk, WritesPlain, Asking, TextAsk, WritesText, NameAsk, WritesName, KeyAsk}
+use Rattle.texts.specs.Asks.{PlainAsk, WritesPlain, TextAsk, WritesText, NameAsk, WritesName, KeyAsk}
 
 -- ---- a name
 

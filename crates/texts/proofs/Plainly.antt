@@ -1,7 +1,7 @@
 -- Texts that are written as they are.
-use Prim.Native.Nat.{ℕ, _+_, _≤_, _<_}
+use Prim.Native.Nat.{ℕ, _+_}
 use mathlib.Core.List.{List, []}
-use mathlib.Core.Path.{_≡_, refl, sym, _∙_, ap}
+use mathlib.Core.Path.{_≡_, sym, _∙_, ap}
 use native.Mathlib.Omega.{arith}
 use lib.ListN.{length, getD}
 use Rattle.lists.specs.Parts.{part, length-part, getD-part}
@@ -15,10 +15,10 @@ use Rattle.lookups.specs.declared.Source.{Source}
 use Rattle.lookups.specs.declared.Source.the-variants.{Inputs, InputLines, Outputs, Value, Text, Unset}
 use Rattle.lookups.specs.Scope.{meaning}
 use Rattle.lookups.proofs.Standing.{ValueOf}
-use Rattle.output.specs.Puts.{Open, Puts, namesIn} 
+use Rattle.output.specs.Puts.{Puts, namesIn}
 use Rattle.output.specs.Puts as output
 use Rattle.drafts.specs.declared.Draft.{Draft}
-use Rattle.drafts.specs.Draft.{Remembers, Drafted, Moved, Writes}
+use Rattle.drafts.specs.Draft.{Moved, Writes}
 use Rattle.drafts.proofs.Spans.{drafted-none, moved-writes}
 use Rattle.texts.specs.Here.{Files, Here}
 use Rattle.texts.specs.Asks.{FilesAsk, PlainAsk, WritesPlain}

@@ -3,7 +3,6 @@ use Prim.Native.Nat.{ℕ, _≤_, _<_}
 use mathlib.Core.List.{List, [], _∷_, _++_, append-nil, append-assoc}
 use mathlib.Core.Bool.{false}
 use mathlib.Core.Path.{_≡_, refl, sym, _∙_, ap}
-use native.Mathlib.Omega.{arith}
 use lib.ListN.{length, drop, drop-of-length-le}
 use Rattle.lists.specs.Members.{any}
 use Rattle.lists.specs.Parts.{part}
@@ -24,7 +23,7 @@ use Rattle.drafts.specs.declared.Draft.{Draft}
 use Rattle.drafts.specs.Draft.{Remembers, Drafted, Writes}
 use Rattle.drafts.proofs.Spans.{drafted-none, drafted-then, drafted-over}
 use Rattle.texts.specs.Here.{Here}
-use Rattle.texts.specs.Asks.{Asking, TextAsk, WritesText, NameAsk, WritesName}
+use Rattle.texts.specs.Asks.{TextAsk, WritesText, NameAsk, WritesName}
 
 expand-none : (look : List ℕ → List ℕ) → expand look [] ≡ []
 unfolding expand fill
@@ -64,7 +63,7 @@ module _ {t names ends texts bind graph raw before now : List ℕ} {a : Asked} {
   module _ {next : ℕ} {after : List ℕ} {r : Draft} (ready : Ready t raw next) (u : Reading → Step → List ℕ)
       (e : (rd : Reading) (s : Step) → expand (textOf rd s deep) (drop i raw) ≡ u rd s ++ expand (textOf rd s deep) (drop next raw))
       (f : (log : List Logged) (rd : Reading) (s : Step) → Here names ends texts bind graph a log rd s → any (goesDeep rd s depth) (refs (drop i raw)) ≡ false
-          → Remembers (textOf rd s deep) now x → Drafted (textOf rd s deep) now x (u rd s) after r)
+      → Remembers (textOf rd s deep) now x → Drafted (textOf rd s deep) now x (u rd s) after r)
       (g : (rd : Reading) (s : Step) → any (goesDeep rd s depth) (refs (drop i raw)) ≡ false → any (goesDeep rd s depth) (refs (drop next raw)) ≡ false) where
     turn : (log : List Logged) (rd : Reading) (s : Step) → Here names ends texts bind graph a log rd s → Progress rd s raw depth before d now x i → Remembers (textOf rd s deep) before d
         → Drafted (textOf rd s deep) now x (u rd s) after r

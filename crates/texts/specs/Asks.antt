@@ -15,7 +15,7 @@ use Rattle.lookups.specs.declared.Source.{Source}
 use Rattle.lookups.specs.declared.Source.the-variants.{Value}
 use Rattle.lookups.specs.Scope.{meaning, There}
 use Rattle.endless.specs.Depth.{goesDeep}
-use Rattle.output.specs.Puts.{Open, Puts}
+use Rattle.output.specs.Puts.{Open}
 use Rattle.drafts.specs.declared.Draft.{Draft}
 use Rattle.drafts.specs.Draft.{Remembers, Drafted}
 use Rattle.texts.specs.Here.{Files, Here}

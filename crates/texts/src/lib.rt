@@ -87,7 +87,20 @@ pub fn write_name(
 {
     let source = lookup(texts, bind, a, name);
     if let Source::Text(k) = source {
-        return write_key(t, names, ends, texts, bind, graph, a, name, k, depth, buffer, d);
+        return write_key(
+            t,
+            names,
+            ends,
+            texts,
+            bind,
+            graph,
+            a,
+            name,
+            k,
+            depth,
+            buffer,
+            d,
+        );
     }
     write_plain(names, ends, texts, bind, graph, a, source, buffer, d)
 }
@@ -117,6 +130,18 @@ fn write_key(
         return write_again(buffer, d, from, to);
     }
     let raw = value(texts, bind, k);
-    let x = write_text(t, names, ends, texts, bind, graph, a, raw, depth - 1, buffer, d);
+    let x = write_text(
+        t,
+        names,
+        ends,
+        texts,
+        bind,
+        graph,
+        a,
+        raw,
+        depth - 1,
+        buffer,
+        d,
+    );
     remember(x, name, d.at)
 }

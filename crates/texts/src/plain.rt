@@ -27,7 +27,15 @@ fn put_inputs(
 {
     let from = a.ins;
     let to = a.rest;
-    put_files(names, ends, a.files, &graph[from..to], separator, buffer, place)
+    put_files(
+        names,
+        ends,
+        a.files,
+        &graph[from..to],
+        separator,
+        buffer,
+        place,
+    )
 }
 
 // "`$out` the outputs"
@@ -45,7 +53,15 @@ fn put_outputs(
 {
     let from = a.outs;
     let to = a.ins;
-    put_files(names, ends, a.files, &graph[from..to], separator, buffer, place)
+    put_files(
+        names,
+        ends,
+        a.files,
+        &graph[from..to],
+        separator,
+        buffer,
+        place,
+    )
 }
 
 // Whatever a name stands for, but for a rule's text.

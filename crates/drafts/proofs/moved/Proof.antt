@@ -1,6 +1,5 @@
 -- `drafts::moved` meets its contract.
 use Rattle.drafts.proofs.Spans.{moved-to}
-use borrow.Author.Needs.{needs}
 use Rattle.drafts.proofs.moved.Statement.{statement}
 use Rattle.drafts.proofs.moved.Tie as tie
 

@@ -1,7 +1,6 @@
 -- `endless::leads_back` meets its contract.
 use denote.Ref.{now}
 use Prim.Native.Nat.{_-_}
-use mathlib.Core.Path.{_∙_}
 use native.Mathlib.Omega.{arith}
 use Rattle.rules.specs.TextAsk.{wantedName}
 use Rattle.endless.proofs.Levels.{Level, level-begin, level-on, level-command, level-description}
