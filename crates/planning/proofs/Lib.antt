@@ -1,2 +1,4 @@
 pub mod Missing
 pub mod Outcomes
+pub mod Choosing
+pub mod Laws

@@ -2,9 +2,9 @@
 -- own definitions without the manifest and the card that they are read from (`Laws` shows it).
 use Prim.Native.Nat.{ℕ, _≤_, _<_}
 use mathlib.Core.Path.{_≡_}
-use mathlib.Core.Bool.{Bool, not, _&&_}
+use mathlib.Core.Bool.{not, _&&_}
 use mathlib.Core.Option.{Option, none, some}
-use mathlib.Core.List.{List}
+use mathlib.Core.List.{List, []}
 use lib.Dec.{eqb}
 use lib.ListN.{length, getD}
 use Rattle.lists.specs.Fill.{zeros}
@@ -17,12 +17,13 @@ use Rattle.rules.specs.declared.PlanAnswer.{PlanAnswer}
 use Rattle.rules.specs.Basics.{isEmpty}
 use Rattle.rules.specs.Limits.{leastList}
 use Rattle.rules.specs.Reading.{Step}
+use Rattle.rules.specs.Card.{cardEntries, timeIn}
 use Rattle.rules.specs.Graph.{tops, isNeededSource, hasOrder}
 use Rattle.rules.specs.Stale.{listOf}
 use Rattle.rules.specs.Answers.{planSays}
 use Rattle.rules.specs.PlanAsk.{PlanOutcome, listed, circular, noPlan}
 use Rattle.rules.specs.Promises.{PlanMeets}
-use Rattle.tables.specs.Tables.{beforeIn, neededIn, Holds, Sound, Files}
+use Rattle.tables.specs.Tables.{beforeIn, neededIn, Holds, Sound}
 use Rattle.stale.specs.Judge.{timeAt}
 
 -- "a needed source is missing": "lowest file number" (15)
@@ -47,12 +48,15 @@ rootsOf steps defaults targets =
     ifB (not (isEmpty targets)) (λ _. targets) λ _.
     ifB (not (isEmpty defaults)) (λ _. defaults) λ _. tops steps
 
+-- "steps exist, no target, no default, every output is some input" (13), then 14, 15 and the list
+unfoldable pub planRooted : List Step → ℕ → (ℕ → ℕ) → List ℕ → PlanOutcome
+unfolding planOf
+planRooted steps files card rs = ifB (not (isEmpty steps) && isEmpty rs) (λ _. noPlan NoRoot) (λ _. planOf steps files card rs)
+
 -- 13 to 15, then the list
 unfoldable pub planGraph : List Step → ℕ → (ℕ → ℕ) → List ℕ → List ℕ → PlanOutcome
-unfolding rootsOf planOf
-planGraph steps files card defaults targets =
-    ifB (not (isEmpty steps) && isEmpty (rootsOf steps defaults targets))
-    (λ _. noPlan NoRoot) (λ _. planOf steps files card (rootsOf steps defaults targets))
+unfolding rootsOf planRooted
+planGraph steps files card defaults targets = planRooted steps files card (rootsOf steps defaults targets)
 
 -- ------------------------------------------------------------------ what the functions promise, for whatever steps the tables hold
 
@@ -65,6 +69,17 @@ abbrev pub Plans : List ℕ → List ℕ → List ℕ → List ℕ → List ℕ 
 Plans mentions ends phony made times roots list answer exit =
     (steps : List Step) (files : ℕ) → Holds steps files mentions ends phony made
     → PlanMeets (planOf steps files (timeAt times) roots) list (planSays answer) exit
+
+abbrev pub PlansRooted : List ℕ → List ℕ → List ℕ → List ℕ → List ℕ → List ℕ → List ℕ → PlanAnswer → List ℕ → Type 0
+PlansRooted mentions ends phony made times roots list answer exit =
+    (steps : List Step) (files : ℕ) → Holds steps files mentions ends phony made
+    → PlanMeets (planRooted steps files (timeAt times) roots) list (planSays answer) exit
+
+-- where neither targets nor defaults are named
+abbrev pub PlansTops : List ℕ → List ℕ → List ℕ → List ℕ → List ℕ → List ℕ → PlanAnswer → List ℕ → Type 0
+PlansTops mentions ends phony made times list answer exit =
+    (steps : List Step) (files : ℕ) → Holds steps files mentions ends phony made
+    → PlanMeets (planRooted steps files (timeAt times) (tops steps)) list (planSays answer) exit
 
 abbrev pub PlansGraph : List ℕ → List ℕ → List ℕ → List ℕ → List ℕ → List ℕ → List ℕ → List ℕ → PlanAnswer → List ℕ → Type 0
 PlansGraph mentions ends phony made times defaults targets list answer exit =
@@ -107,3 +122,8 @@ pub record PlanAsked (mentions ends phony made times defaults targets list : Lis
   pub asked : GraphAsked mentions ends phony made times list
   pub defaults-low : Numbers defaults made
   pub targets-low : Numbers targets made
+
+-- the card's time of each file, by number
+pub record Timed (card : List ℕ) (names : List (List ℕ)) (times : List ℕ) : Type 0 where
+  pub long : length times ≡ length names
+  pub timed : (f : ℕ) → f < length names → getD times f 0 ≡ timeIn (cardEntries card) (getD names f [])

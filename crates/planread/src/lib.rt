@@ -1,0 +1,91 @@
+// The plan ask from what has been read of the manifest on: 11, 12, then the plan of the graph.
+ghost use Rattle.planread.specs.Asked.{ColumnsAsked, PlansColumns, TablesAsked, ReadAsked, PlansRead};
+use card::sound;
+use held::Counts;
+use lists::words::zero_from;
+use planning::plan_graph;
+use rules::PlanAnswer;
+use rules::Refusal;
+use targetfiles::Numbered;
+use targetfiles::number_targets;
+use times::fill_times;
+
+// The plan of the columns, where the times of the files and the targets' numbers are known.
+fn plan_columns(
+    graph: &[u32],
+    c: Counts,
+    times: &[u64],
+    targets: &[u32],
+    list: &mut [u32],
+) -> PlanAnswer
+    requires { ⌜ ColumnsAsked (now graph) c (now times) (now targets) (now list) ⌝ }
+    ensures { λ r. ⌜ PlansColumns (now (graph .entry)) c (now (times .entry)) (now (targets .entry)) (now (list .entry)) r (now (list .exit)) ⌝ }
+{
+    let steps = c.steps;
+    let mentions = &graph[..c.paths];
+    let ends = &graph[4096..4096 + 4 * steps];
+    let phony = &graph[6144..6144 + steps];
+    let made = &graph[6656..6656 + c.files];
+    let defaults = &graph[8192..8192 + c.defaults];
+    plan_graph(mentions, ends, phony, made, times, defaults, targets, list)
+}
+
+// "then 11 to 15 for a plan"; `times` and `numbers` are working space.
+fn plan_tables(
+    card: &[u8],
+    targets: &[u8],
+    names: &[u8],
+    ends: &[u32],
+    graph: &[u32],
+    c: Counts,
+    times: &mut [u64],
+    numbers: &mut [u32],
+    list: &mut [u32],
+) -> PlanAnswer
+    requires { ⌜ TablesAsked (now names) (now ends) (now graph) c (now times) (now numbers) (now list) ⌝ }
+    ensures { λ r. ⌜ PlansRead (now (card .entry)) (now (targets .entry)) (now (names .entry)) (now (ends .entry)) (now (graph .entry)) c (now (list .entry)) r (now (list .exit)) ⌝ }
+{
+    if !sound(card) {
+        zero_from(list, 0);
+        return PlanAnswer::Refused(Refusal::BadCard);
+    }
+    let files = c.files;
+    match number_targets(targets, names, ends, files, numbers) {
+        Numbered::Bad(place) => {
+            zero_from(list, 0);
+            PlanAnswer::Refused(Refusal::BadTarget(place))
+        }
+        Numbered::All(n) => {
+            fill_times(card, names, ends, files, times);
+            plan_columns(graph, c, &times[..files], &numbers[..n], list)
+        }
+    }
+}
+
+// The same, with the working space.
+pub fn plan_read(
+    card: &[u8],
+    targets: &[u8],
+    names: &[u8],
+    ends: &[u32],
+    graph: &[u32],
+    c: Counts,
+    list: &mut [u32],
+) -> PlanAnswer
+    requires { ⌜ ReadAsked (now names) (now ends) (now graph) c (now list) ⌝ }
+    ensures { λ r. ⌜ PlansRead (now (card .entry)) (now (targets .entry)) (now (names .entry)) (now (ends .entry)) (now (graph .entry)) c (now (list .entry)) r (now (list .exit)) ⌝ }
+{
+    let mut times = [0u64; 1024];
+    let mut numbers = [0u32; 4096];
+    plan_tables(
+        card,
+        targets,
+        names,
+        ends,
+        graph,
+        c,
+        &mut times,
+        &mut numbers,
+        list,
+    )
+}
