@@ -28,6 +28,7 @@ use Rattle.lookups.specs.Scope.{Scope}
 use Rattle.output.specs.Puts.{Puts}
 use Rattle.texts.specs.Here.{Here}
 use Rattle.textask.specs.Steps.{Picks, Reads}
+use Rattle.textask.proofs.One.{sound-any}
 use Rattle.textask.specs.Asks.{SoundRules, InAsk, WritesWanted, StepAsk, textOfIn, TextIn, TextAsk, TextOf}
 
 -- ---- the buffer
@@ -121,7 +122,7 @@ module _ {t names ends texts bind graph before : List ℕ} {c : Counts} (w : Tex
       → exit ≡ zeroed before 0 (length before) → TextOf names ends texts bind graph c step wanted before exit (Refused (NoCommand step))
   unfolding textOfStep
   no-command {step} wanted q z =
-      record { meets = λ log rd h y. rw (q log rd (h .bound) (h .graphed)) (meets-none step before before refl z) }
+      record { meets = λ log rd h. rw (q log rd (h .bound) (h .graphed)) (meets-none step before before refl z) }
 
 -- the step that was picked, in any reading
 module _ {names ends texts bind graph : List ℕ} {c : Counts} {step : ℕ} {a : Asked} (p : Picks texts bind graph c step a) where
@@ -162,13 +163,13 @@ module _ {names ends texts bind graph : List ℕ} {c : Counts} {step : ℕ} {a :
         here = picked-here (w .holds) (w .sound);
       }
 
-  pub step-text : {wanted : Wanted} {before exit : List ℕ} {r : TextAnswer} → TextIn names ends texts bind graph a step wanted before exit r
+  pub step-text : {t before exit : List ℕ} {wanted : Wanted} {r : TextAnswer} → TextAsk t names ends texts bind graph c before → TextIn names ends texts bind graph a step wanted before exit r
       → TextOf names ends texts bind graph c step wanted before exit r
   unfolding textOfStep textOfIn
-  step-text {wanted} {before} {exit} {r} q =
+  step-text w q =
       record {
-        meets = λ log rd h y.
+        meets = λ log rd h.
             let x = p .picked log rd (h .bound) (h .graphed) in
             let f : leb (length (rd .steps)) step ≡ false = lt-leb (length (rd .steps)) step (x .there) in
-            rw (f, x .command) (q .meets log rd (stepAt (rd .steps) step) (picked-here h y));
+            rw (f, x .command) (q .meets log rd (stepAt (rd .steps) step) (picked-here h (sound-any (w .holds .bound) (w .sound) (h .bound))));
       }

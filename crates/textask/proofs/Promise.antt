@@ -36,7 +36,7 @@ module _ (manifest before : List ℕ) (h : maxText ≤ length before) where
     pub text-promised : {step : ℕ} {wanted : Wanted} {r : TextAnswer} {after : List ℕ} → TextOf names ends texts bind graph c step wanted before after r
         → TextPromise manifest step wanted before r after
     unfolding textAsk textRead
-    text-promised p = rw (enough, e) (p .meets log rd k (accepted-sound manifest rd e))
+    text-promised p = rw (enough, e) (p .meets log rd k)
 
   -- a manifest that was refused, and a buffer of zeros
   pub refusal-promised : (step : ℕ) (wanted : Wanted) {r : Refusal} {after : List ℕ} → readManifest manifest ≡ refusedWith r → after ≡ filled [] before

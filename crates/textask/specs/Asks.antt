@@ -75,5 +75,5 @@ pub record TextAsk (t names ends texts bind graph : List ℕ) (c : Counts) (buff
 
 -- The answer and the whole buffer are what document 01 says, whatever reading is held.
 pub record TextOf (names ends texts bind graph : List ℕ) (c : Counts) (step : ℕ) (wanted : Wanted) (before after : List ℕ) (r : TextAnswer) : Type 0 where
-  pub meets : (log : List Logged) (rd : Reading) → Holds log names ends texts bind graph c rd → SoundRules rd
+  pub meets : (log : List Logged) (rd : Reading) → Holds log names ends texts bind graph c rd
       → TextMeets (textOfStep step (wantedName wanted) rd) before (textSays r) after

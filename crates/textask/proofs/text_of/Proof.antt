@@ -31,7 +31,7 @@ same-length-2 : tie.Need-same-length-2
 same-length-2 c = search needs
 
 returns-2 : tie.Need-returns-2
-returns-2 c = let a = c .before .before .before .before .before .before .before .before .before .before .before .before .before .before .args in step-text (asked-step (now (a .texts)) (now (a .bind)) (now (a .graph)) (a .c) (a .step) (c .before .before .before .before .before .before .before .asked .ensures) (c .before .before .before .before .before .a .given .1)) (c .before .before .text-in .ensures)
+returns-2 c = let a = c .before .before .before .before .before .before .before .before .before .before .before .before .before .before .args in step-text (asked-step (now (a .texts)) (now (a .bind)) (now (a .graph)) (a .c) (a .step) (c .before .before .before .before .before .before .before .asked .ensures) (c .before .before .before .before .before .a .given .1)) (c .before .before .before .before .before .before .before .before .before .before .before .before .before .before .pre) (c .before .before .text-in .ensures)
 
 pub text-of-spec : {M : Type 1} → statement M
 text-of-spec =
