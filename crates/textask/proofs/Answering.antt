@@ -26,7 +26,7 @@ use Rattle.held.specs.Held.{Bound, Graphed, Holds}
 use Rattle.lookups.specs.declared.Asked.{Asked}
 use Rattle.lookups.specs.Scope.{Scope}
 use Rattle.output.specs.Puts.{Puts}
-use Rattle.texts.specs.Here.{Here}
+use Rattle.steptexts.specs.Here.{Here}
 use Rattle.textask.specs.Steps.{Picks, Reads}
 use Rattle.textask.proofs.One.{sound-any}
 use Rattle.textask.specs.Asks.{SoundRules, InAsk, WritesWanted, StepAsk, textOfIn, TextIn, TextAsk, TextOf}
