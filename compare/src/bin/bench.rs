@@ -1,5 +1,5 @@
 //! The proved leaves and the plan of a read graph against the second planner's own: median and minimum of a call, and the ratios of both. Nothing is
-//! cleared before a call but the name table, whose count goes back to 0. Where the linker puts a
+//! cleared before a call but the name table. Where the linker puts a
 //! short loop can double its time, so run it with aligned loops too, which gives the second planner its best:
 //! `RUSTFLAGS="-C llvm-args=-align-loops=64" cargo run --release --target-dir target/aligned --bin bench`.
 
@@ -129,7 +129,7 @@ fn paths() -> Vec<Vec<u8>> {
 
 fn names() {
     let paths = paths();
-    let mut table = Names::new(60_000, 1_024);
+    let mut table = Names::new(60_000);
     // as the second planner has it: a map from the path to its number
     let (ours, theirs) = both(
         || {
