@@ -26,7 +26,7 @@ use Rattle.held.specs.Held.{Bound, Graphed, Holds}
 use Rattle.lookups.specs.declared.Asked.{Asked}
 use Rattle.lookups.specs.Scope.{Scope}
 use Rattle.output.specs.Puts.{Puts}
-use Rattle.texts.specs.Here.{Here}
+use Rattle.steptexts.specs.Here.{Here}
 use Rattle.textask.specs.Steps.{Picks, Reads}
 use Rattle.textask.proofs.One.{sound-any}
 use Rattle.textask.specs.Asks.{SoundRules, InAsk, WritesWanted, StepAsk, textOfIn, TextIn, TextAsk, TextOf}
@@ -34,7 +34,7 @@ use Rattle.textask.specs.Asks.{SoundRules, InAsk, WritesWanted, StepAsk,
 -- ---- the buffer
 
 -- "A refusal leaves output buffers all zero"
-all-zero : (before after exit : List ℕ) → length after ≡ length before → exit ≡ zeroed after 0 (length after) → exit ≡ filled [] before
+pub all-zero : (before after exit : List ℕ) → length after ≡ length before → exit ≡ zeroed after 0 (length after) → exit ≡ filled [] before
 unfolding filled
 all-zero before after exit k e =
     let z : length before - 0 ≡ length before = omega arith in

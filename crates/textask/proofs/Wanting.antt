@@ -20,7 +20,7 @@ use Rattle.endless.specs.Depth as depth
 use Rattle.endless.proofs.Circles.{leads-back-deep}
 use Rattle.drafts.specs.declared.Draft.{Draft}
 use Rattle.drafts.specs.Draft.{span, spanFor, Remembers}
-use Rattle.texts.specs.Asks.{NameAsk, WritesName}
+use Rattle.steptexts.specs.Asks.{NameAsk, WritesName}
 use Rattle.textask.specs.Asks.{InAsk, WritesWanted, StepAsk}
 
 -- nothing is written

@@ -22,7 +22,7 @@ use Rattle.held.specs.Held.{Holds}
 use Rattle.lookups.specs.declared.Asked.{Asked}
 use Rattle.lookups.specs.Scope.{SoundKeys}
 use Rattle.output.specs.Puts.{Puts}
-use Rattle.texts.specs.Here.{Here}
+use Rattle.steptexts.specs.Here.{Here}
 
 -- The keys of every rule are as their lines were read: one of the three, with no bad `$`. It holds of what any manifest is read into.
 abbrev pub SoundRules : Reading → Type 0

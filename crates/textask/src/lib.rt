@@ -10,7 +10,7 @@ use rules::Refusal;
 use rules::TextAnswer;
 use rules::Wanted;
 use steps::asked;
-use texts::write_name;
+use steptexts::write_name;
 
 pub mod steps;
 

@@ -1,8 +1,8 @@
--- `texts::plain::put_outputs` meets its contract.
-use Rattle.texts.proofs.Plainly.{outputs-ask, outputs-put}
+-- `steptexts::plain::put_outputs` meets its contract.
+use Rattle.steptexts.proofs.Plainly.{outputs-ask, outputs-put}
 use borrow.Author.Needs.{needs}
-use Rattle.texts.proofs.plain.put_outputs.Statement.{statement}
-use Rattle.texts.proofs.plain.put_outputs.Tie as tie
+use Rattle.steptexts.proofs.plain.put_outputs.Statement.{statement}
+use Rattle.steptexts.proofs.plain.put_outputs.Tie as tie
 
 mul-put-files : tie.Need-mul-put-files
 mul-put-files c = search needs

@@ -2,8 +2,8 @@
 ghost use Rattle.rules.specs.Text.{joinedBy, namesOf};
 ghost use Rattle.rules.specs.Reading.{Step, Reading};
 ghost use Rattle.output.specs.Puts.{Puts};
-ghost use Rattle.texts.specs.Asks.{FilesAsk, PlainAsk, WritesPlain};
-ghost use Rattle.texts.specs.Here.{Files};
+ghost use Rattle.steptexts.specs.Asks.{FilesAsk, PlainAsk, WritesPlain};
+ghost use Rattle.steptexts.specs.Here.{Files};
 use bindings::value;
 use drafts::Draft;
 use drafts::moved;

@@ -18,7 +18,7 @@ use Rattle.endless.specs.Depth.{goesDeep}
 use Rattle.output.specs.Puts.{Open}
 use Rattle.drafts.specs.declared.Draft.{Draft}
 use Rattle.drafts.specs.Draft.{Remembers, Drafted}
-use Rattle.texts.specs.Here.{Files, Here}
+use Rattle.steptexts.specs.Here.{Files, Here}
 
 pub record FilesAsk (names ends graph : List ℕ) (a : Asked) (buffer : List ℕ) (place : ℕ) : Type 0 where
   pub reading : Reading

@@ -1,4 +1,4 @@
--- `texts::write_key`, `texts::write_name` and `texts::write_text`, which call one another, meet their contracts. Each rule text goes one less deep, and of one depth the text comes before its names, and a name before its key.
+-- `steptexts::write_key`, `steptexts::write_name` and `steptexts::write_text`, which call one another, meet their contracts. Each rule text goes one less deep, and of one depth the text comes before its names, and a name before its key.
 use Prim.Native.Nat.{_+_, _*_, _-_, _<_}
 use mathlib.Core.List.{[], _∷_}
 use mathlib.Core.Logic.{inl, inr}
@@ -11,21 +11,21 @@ use Rattle.lookups.specs.declared.Source.{Source}
 use Rattle.lookups.specs.declared.Source.the-variants.{Text}
 use Rattle.lookups.proofs.Source as source-type
 use Rattle.pieces.proofs.Turns.{as-bytes, as-name}
-use Rattle.texts.proofs.Writing.{Writing, write-begin, bytes-on, bytes-over, name-asked, name-on, name-over, write-end}
-use Rattle.texts.proofs.Keys.{in-scope, key-asked, plain-asked, plain-written, again-behind, again-written, depth-left, text-asked, key-written}
+use Rattle.steptexts.proofs.Writing.{Writing, write-begin, bytes-on, bytes-over, name-asked, name-on, name-over, write-end}
+use Rattle.steptexts.proofs.Keys.{in-scope, key-asked, plain-asked, plain-written, again-behind, again-written, depth-left, text-asked, key-written}
 use borrow.Author.Needs.{needs}
 use Prim.Native.Nat.{ℕ}
 use borrow.Fn.Kinds.{In}
 use borrow.Fn.PlainCycle.{Measures, is, falls, and}
-use Rattle.texts.proofs.write_key.Reads as write-key
-use Rattle.texts.proofs.write_key.Kinds as write-key-kinds
-use Rattle.texts.proofs.+write_key+write_name+write_text.Lts-write_key as write-key-lts
-use Rattle.texts.proofs.write_name.Reads as write-name
-use Rattle.texts.proofs.write_name.Kinds as write-name-kinds
-use Rattle.texts.proofs.+write_key+write_name+write_text.Lts-write_name as write-name-lts
-use Rattle.texts.proofs.write_text.Reads as write-text
-use Rattle.texts.proofs.write_text.Kinds as write-text-kinds
-use Rattle.texts.proofs.+write_key+write_name+write_text.Lts-write_text as write-text-lts
+use Rattle.steptexts.proofs.write_key.Reads as write-key
+use Rattle.steptexts.proofs.write_key.Kinds as write-key-kinds
+use Rattle.steptexts.proofs.+write_key+write_name+write_text.Lts-write_key as write-key-lts
+use Rattle.steptexts.proofs.write_name.Reads as write-name
+use Rattle.steptexts.proofs.write_name.Kinds as write-name-kinds
+use Rattle.steptexts.proofs.+write_key+write_name+write_text.Lts-write_name as write-name-lts
+use Rattle.steptexts.proofs.write_text.Reads as write-text
+use Rattle.steptexts.proofs.write_text.Kinds as write-text-kinds
+use Rattle.steptexts.proofs.+write_key+write_name+write_text.Lts-write_text as write-text-lts
 use Rattle.bindings.proofs.value.Reads as value-reads
 use Rattle.drafts.proofs.remember.Reads as remember-reads
 use Rattle.drafts.proofs.span_of.Reads as span-of-reads
@@ -33,9 +33,9 @@ use Rattle.drafts.proofs.write.Reads as write-reads
 use Rattle.drafts.proofs.write_again.Reads as write-again-reads
 use Rattle.lookups.proofs.lookup.Reads as lookup-reads
 use Rattle.pieces.proofs.piece_at.Reads as piece-at-reads
-use Rattle.texts.proofs.plain.write_plain.Reads as write-plain-reads
-use Rattle.texts.proofs.+write_key+write_name+write_text.{statement}
-use Rattle.texts.proofs.+write_key+write_name+write_text.Tie.{close}
+use Rattle.steptexts.proofs.plain.write_plain.Reads as write-plain-reads
+use Rattle.steptexts.proofs.+write_key+write_name+write_text.{statement}
+use Rattle.steptexts.proofs.+write_key+write_name+write_text.Tie.{close}
 
 none-of : OneOf (0 ∷ 1 ∷ 2 ∷ 3 ∷ 5 ∷ []) 4 → ⊥
 none-of (inl e) = omega arith

@@ -1,8 +1,8 @@
--- `texts::plain::put_inputs` meets its contract.
-use Rattle.texts.proofs.Plainly.{inputs-ask, inputs-put}
+-- `steptexts::plain::put_inputs` meets its contract.
+use Rattle.steptexts.proofs.Plainly.{inputs-ask, inputs-put}
 use borrow.Author.Needs.{needs}
-use Rattle.texts.proofs.plain.put_inputs.Statement.{statement}
-use Rattle.texts.proofs.plain.put_inputs.Tie as tie
+use Rattle.steptexts.proofs.plain.put_inputs.Statement.{statement}
+use Rattle.steptexts.proofs.plain.put_inputs.Tie as tie
 
 mul-put-files : tie.Need-mul-put-files
 mul-put-files c = search needs

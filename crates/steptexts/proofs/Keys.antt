@@ -18,8 +18,8 @@ use Rattle.drafts.specs.declared.Span.{Span}
 use Rattle.drafts.specs.declared.Draft.{Draft}
 use Rattle.drafts.specs.Draft.{spanFor, Remembered, Behind, Remembers, Drafted, Writes}
 use Rattle.drafts.proofs.Spans.{drafted-name}
-use Rattle.texts.specs.Here.{Here}
-use Rattle.texts.specs.Asks.{PlainAsk, WritesPlain, TextAsk, WritesText, NameAsk, WritesName, KeyAsk}
+use Rattle.steptexts.specs.Here.{Here}
+use Rattle.steptexts.specs.Asks.{PlainAsk, WritesPlain, TextAsk, WritesText, NameAsk, WritesName, KeyAsk}
 
 -- ---- a name
 

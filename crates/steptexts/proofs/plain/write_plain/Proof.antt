@@ -1,8 +1,8 @@
--- `texts::plain::write_plain` meets its contract.
-use Rattle.texts.proofs.Plainly.{files-ask, plain-inputs, plain-lines, plain-outputs, plain-value, plain-text, plain-unset}
+-- `steptexts::plain::write_plain` meets its contract.
+use Rattle.steptexts.proofs.Plainly.{files-ask, plain-inputs, plain-lines, plain-outputs, plain-value, plain-text, plain-unset}
 use borrow.Author.Needs.{needs}
-use Rattle.texts.proofs.plain.write_plain.Statement.{statement}
-use Rattle.texts.proofs.plain.write_plain.Tie as tie
+use Rattle.steptexts.proofs.plain.write_plain.Statement.{statement}
+use Rattle.steptexts.proofs.plain.write_plain.Tie as tie
 
 enum-told : tie.Need-enum-told
 enum-told c = search needs

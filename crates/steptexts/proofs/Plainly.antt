@@ -20,8 +20,8 @@ use Rattle.output.specs.Puts as output
 use Rattle.drafts.specs.declared.Draft.{Draft}
 use Rattle.drafts.specs.Draft.{Moved, Writes}
 use Rattle.drafts.proofs.Spans.{drafted-none, moved-writes}
-use Rattle.texts.specs.Here.{Files, Here}
-use Rattle.texts.specs.Asks.{FilesAsk, PlainAsk, WritesPlain}
+use Rattle.steptexts.specs.Here.{Files, Here}
+use Rattle.steptexts.specs.Asks.{FilesAsk, PlainAsk, WritesPlain}
 
 -- ---- files
 

@@ -22,8 +22,8 @@ use Rattle.output.proofs.Parts.{open-on}
 use Rattle.drafts.specs.declared.Draft.{Draft}
 use Rattle.drafts.specs.Draft.{Remembers, Drafted, Writes}
 use Rattle.drafts.proofs.Spans.{drafted-none, drafted-then, drafted-over}
-use Rattle.texts.specs.Here.{Here}
-use Rattle.texts.specs.Asks.{TextAsk, WritesText, NameAsk, WritesName}
+use Rattle.steptexts.specs.Here.{Here}
+use Rattle.steptexts.specs.Asks.{TextAsk, WritesText, NameAsk, WritesName}
 
 expand-none : (look : List ℕ → List ℕ) → expand look [] ≡ []
 unfolding expand fill
