@@ -1,6 +1,6 @@
 //! Links the static libraries that `rt staticlib` writes of the crates at the boundary.
 
-const LIBRARIES: [&str; 2] = ["leaves", "graphs"];
+const LIBRARIES: [&str; 3] = ["leaves", "graphs", "readings"];
 
 fn main() {
     let folder = format!("{}/../target/staticlib", env!("CARGO_MANIFEST_DIR"));

@@ -5,5 +5,6 @@ pub mod card;
 pub mod graphs;
 pub mod measure;
 pub mod names;
+pub mod readings;
 pub mod scan;
 pub mod targets;

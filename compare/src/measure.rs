@@ -18,9 +18,14 @@ fn sorted(mut times: Vec<Duration>) -> Times {
 }
 
 /// Measures two functions against each other, a call of each in every round.
-pub fn both<A, B>(mut ours: impl FnMut() -> A, mut theirs: impl FnMut() -> B) -> (Times, Times) {
+pub fn both<A, B>(ours: impl FnMut() -> A, theirs: impl FnMut() -> B) -> (Times, Times) {
+    rounds(ROUNDS, ours, theirs)
+}
+
+/// The same in so many rounds.
+pub fn rounds<A, B>(rounds: usize, mut ours: impl FnMut() -> A, mut theirs: impl FnMut() -> B) -> (Times, Times) {
     let (mut a, mut b) = (Vec::new(), Vec::new());
-    for _ in 0..ROUNDS {
+    for _ in 0..rounds {
         let began = Instant::now();
         black_box(ours());
         a.push(began.elapsed());

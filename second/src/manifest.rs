@@ -36,6 +36,16 @@ impl<'a> Manifest<'a> {
         self.variables.get(name).map_or(b"", |value| value)
     }
 
+    /// The file's variables with their values as they now stand, in no order.
+    pub fn variables(&self) -> impl Iterator<Item = (&[u8], &[u8])> {
+        self.variables.iter().map(|(&name, value)| (name, &**value))
+    }
+
+    /// The number of a declared rule; that of `phony` is 0.
+    pub fn rule_number(&self, name: &[u8]) -> Option<usize> {
+        self.rule_numbers.get(name).copied()
+    }
+
     /// Expands a raw path or value with the file's variables as they now stand.
     fn expand(&self, raw: &'a [u8]) -> Cow<'a, [u8]> {
         expand(raw, |name| self.variable(name))

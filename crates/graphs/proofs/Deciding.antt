@@ -14,8 +14,9 @@ use Rattle.tables.specs.Tables.{startIn, Placed, Sound}
 use Rattle.planning.specs.Plan.{PlanAsked, PlansGraph}
 use Rattle.rules.specs.declared.PlanAnswer.{PlanAnswer}
 use Rattle.rules.specs.Answers.{planSays}
-use Rattle.graphs.specs.declared.PlanNumbers.{PlanNumbers}
-use Rattle.graphs.specs.Checks.{Decides, Below, Rising, said, unsound, Answers}
+use Rattle.answers.specs.declared.Numbers.{Numbers}
+use Rattle.answers.specs.Numbers.{said}
+use Rattle.graphs.specs.Checks.{Decides, Below, Rising, unsound, Answers}
 
 pub holds-so : {P : Type 0} → P → Decides P true
 holds-so p = record { yes = λ e. p; no = λ e. differ refl e }
@@ -151,6 +152,6 @@ module _ {mentions ends phony made times defaults targets list : List ℕ} {b : 
   pub answer-unsound : b ≡ false → Answers mentions ends phony made times defaults targets list unsound list
   answer-unsound e = record { planned = λ p. absurd (d .no e p); refused = λ n. (refl, refl) }
 
-  pub answer-planned : b ≡ true → (a : PlanAnswer) {x : PlanNumbers} {exit : List ℕ} → PlansGraph mentions ends phony made times defaults targets list a exit → said x ≡ planSays a
+  pub answer-planned : b ≡ true → (a : PlanAnswer) {x : Numbers} {exit : List ℕ} → PlansGraph mentions ends phony made times defaults targets list a exit → said x ≡ planSays a
       → Answers mentions ends phony made times defaults targets list x exit
   answer-planned e a p q = record { planned = λ z steps files h. rw q (p steps files h); refused = λ n. absurd (n (d .yes e)) }

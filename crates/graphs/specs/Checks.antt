@@ -5,12 +5,12 @@ use mathlib.Core.Bool.{Bool, true, false}
 use mathlib.Core.List.{List}
 use lib.ListN.{length, getD}
 use Rattle.rules.specs.Reading.{Step}
-use Rattle.rules.specs.Answers.{Said}
 use Rattle.rules.specs.Promises.{PlanMeets}
 use Rattle.tables.specs.Tables.{Holds}
 use Rattle.stale.specs.Judge.{timeAt}
 use Rattle.planning.specs.Plan.{planGraph, PlanAsked}
-use Rattle.graphs.specs.declared.PlanNumbers.{PlanNumbers}
+use Rattle.answers.specs.declared.Numbers.{Numbers}
+use Rattle.answers.specs.Numbers.{said}
 
 -- a test that is true exactly where P holds
 pub record Decides (P : Type 0) (r : Bool) : Type 0 where
@@ -26,16 +26,12 @@ pub record Rising (a b c d e : ℕ) : Type 0 where
   pub third : c ≤ d
   pub fourth : d ≤ e
 
--- what the two numbers say
-abbrev pub said : PlanNumbers → Said
-said x = record { number = x .number; value = x .value }
-
 -- the answer for tables that no plan can be asked of
-abbrev pub unsound : PlanNumbers
+abbrev pub unsound : Numbers
 unsound = record { number = 255; value = 0 }
 
 -- The plan of whatever steps the tables hold; or, where no plan can be asked of the tables, 255 and the list as it was.
-pub record Answers (mentions ends phony made times defaults targets list : List ℕ) (r : PlanNumbers) (exit : List ℕ) : Type 0 where
+pub record Answers (mentions ends phony made times defaults targets list : List ℕ) (r : Numbers) (exit : List ℕ) : Type 0 where
   pub planned : PlanAsked mentions ends phony made times defaults targets list → (steps : List Step) (files : ℕ) → Holds steps files mentions ends phony made
       → PlanMeets (planGraph steps files (timeAt times) defaults targets) list (said r) exit
   pub refused : (PlanAsked mentions ends phony made times defaults targets list → ⊥) → (r ≡ unsound) × (exit ≡ list)

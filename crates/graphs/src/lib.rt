@@ -2,21 +2,13 @@
 ghost use mathlib.Core.Path.{_≡_};
 ghost use Prim.Native.Nat.{ℕ, _+_, _*_, _≤_, _<_};
 ghost use lib.ListN.{length, getD};
-ghost use Rattle.rules.specs.Answers.{refusalSays, planSays};
 ghost use Rattle.tables.specs.Tables.{startIn, Placed, Sound};
 ghost use Rattle.planning.specs.Plan.{PlanAsked};
-ghost use Rattle.graphs.specs.Checks.{Decides, Below, Rising, said, Answers};
+ghost use Rattle.graphs.specs.Checks.{Decides, Below, Rising, Answers};
+use answers::Numbers;
+use answers::of_plan;
 use lists::words::at;
 use planning::plan_graph;
-use rules::PlanAnswer;
-use rules::Refusal;
-
-// What is answered: 0 and the number of steps listed; or a refusal's number and place; or 255 for tables that no plan can be asked of.
-#[repr(C)]
-pub struct PlanNumbers {
-    pub number: usize,
-    pub value: usize,
-}
 
 // Are all numbers below n.
 fn all_below(l: &[u32], n: usize) -> bool
@@ -132,99 +124,7 @@ fn is_askable(
     all_below(targets, made.len())
 }
 
-// A refusal as document 01's number and place.
-fn refusal_numbers(r: Refusal) -> PlanNumbers
-    ensures { λ x. ⌜ said x ≡ refusalSays r ⌝ }
-{
-    match r {
-        Refusal::ShortBuffer => PlanNumbers {
-            number: 1,
-            value: 0,
-        },
-        Refusal::LongManifest => PlanNumbers {
-            number: 2,
-            value: 0,
-        },
-        Refusal::BadByte(p) => PlanNumbers {
-            number: 3,
-            value: p,
-        },
-        Refusal::BadLine(p) => PlanNumbers {
-            number: 4,
-            value: p,
-        },
-        Refusal::BadDollar(p) => PlanNumbers {
-            number: 5,
-            value: p,
-        },
-        Refusal::NotYet(p) => PlanNumbers {
-            number: 6,
-            value: p,
-        },
-        Refusal::BadRule(p) => PlanNumbers {
-            number: 7,
-            value: p,
-        },
-        Refusal::BadPath(p) => PlanNumbers {
-            number: 8,
-            value: p,
-        },
-        Refusal::OverLimit(p) => PlanNumbers {
-            number: 9,
-            value: p,
-        },
-        Refusal::BadVersion(p) => PlanNumbers {
-            number: 10,
-            value: p,
-        },
-        Refusal::BadCard => PlanNumbers {
-            number: 11,
-            value: 0,
-        },
-        Refusal::BadTarget(p) => PlanNumbers {
-            number: 12,
-            value: p,
-        },
-        Refusal::NoRoot => PlanNumbers {
-            number: 13,
-            value: 0,
-        },
-        Refusal::Circle(n) => PlanNumbers {
-            number: 14,
-            value: n,
-        },
-        Refusal::MissingSource(f) => PlanNumbers {
-            number: 15,
-            value: f,
-        },
-        Refusal::EndlessText(s) => PlanNumbers {
-            number: 16,
-            value: s,
-        },
-        Refusal::LongText(s) => PlanNumbers {
-            number: 17,
-            value: s,
-        },
-        Refusal::NoCommand(s) => PlanNumbers {
-            number: 18,
-            value: s,
-        },
-    }
-}
-
-fn plan_numbers(a: PlanAnswer) -> PlanNumbers
-    ensures { λ x. ⌜ said x ≡ planSays a ⌝ }
-{
-    match a {
-        PlanAnswer::Listed(n) => PlanNumbers {
-            number: 0,
-            value: n,
-        },
-        PlanAnswer::Refused(r) => refusal_numbers(r),
-    }
-}
-
-// The plan from tables of any numbers. Tables that no plan can be asked of are answered with 255, and the list is not touched.
+// The plan from tables of any numbers: 0 and the number of steps listed, or a refusal's number and place. Tables that no plan can be asked of are answered with 255, and the list is not touched.
 #[no_mangle]
 pub extern "C" fn kestrenyo_plan_graph(
     mentions: &[u32],
@@ -235,14 +135,14 @@ pub extern "C" fn kestrenyo_plan_graph(
     defaults: &[u32],
     targets: &[u32],
     list: &mut [u32],
-) -> PlanNumbers
+) -> Numbers
     ensures { λ r. ⌜ Answers (now (mentions .entry)) (now (ends .entry)) (now (phony .entry)) (now (made .entry)) (now (times .entry)) (now (defaults .entry)) (now (targets .entry)) (now (list .entry)) r (now (list .exit)) ⌝ }
 {
     if !is_askable(mentions, ends, phony, made, times, defaults, targets, list) {
-        return PlanNumbers {
+        return Numbers {
             number: 255,
             value: 0,
         };
     }
-    plan_numbers(plan_graph(mentions, ends, phony, made, times, defaults, targets, list))
+    of_plan(plan_graph(mentions, ends, phony, made, times, defaults, targets, list))
 }

@@ -6,7 +6,7 @@ use Rattle.graphs.proofs.kestrenyo_plan_graph.Tie as tie
 use Rattle.graphs.proofs.kestrenyo_plan_graph.Reads as reads
 use Rattle.graphs.proofs.kestrenyo_plan_graph.Lts as lts
 use Rattle.graphs.proofs.is_askable.Reads as is-askable-reads
-use Rattle.graphs.proofs.plan_numbers.Reads as plan-numbers-reads
+use Rattle.answers.proofs.of_plan.Reads as of-plan-reads
 use Rattle.planning.proofs.plan_graph.Reads as plan-graph-reads
 
 -- src/lib.rt:241:9
@@ -26,8 +26,8 @@ plan-graph-requires : tie.Need-plan-graph-requires
 plan-graph-requires c κs = c .before .before .is-askable .ensures .yes (not-false _ (c .before .if1 .left))
 
 -- src/lib.rt:247:5
-plan-numbers-requires : tie.Need-plan-numbers-requires
-plan-numbers-requires c κs = search needs
+of-plan-requires : tie.Need-of-plan-requires
+of-plan-requires c κs = search needs
 
 -- src/lib.rt:228:1
 same-length-2 : tie.Need-same-length-2
@@ -35,7 +35,7 @@ same-length-2 c = search needs
 
 -- src/lib.rt:228:1
 returns-2 : tie.Need-returns-2
-returns-2 c = answer-planned (c .before .before .before .before .before .before .is-askable .ensures) (not-false _ (c .before .before .before .before .before .if1 .left)) _ (c .before .before .before .plan-graph .ensures) (c .plan-numbers .ensures)
+returns-2 c = answer-planned (c .before .before .before .before .before .before .is-askable .ensures) (not-false _ (c .before .before .before .before .before .if1 .left)) _ (c .before .before .before .plan-graph .ensures) (c .of-plan .ensures)
 
 pub kestrenyo-plan-graph-spec : {M : Type 1} → statement M
 kestrenyo-plan-graph-spec =
@@ -45,6 +45,6 @@ kestrenyo-plan-graph-spec =
     same-length
     returns
     plan-graph-requires
-    plan-numbers-requires
+    of-plan-requires
     same-length-2
     returns-2)

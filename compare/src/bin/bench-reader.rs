@@ -1,0 +1,180 @@
+//! The proved reader against the second planner's reading: on the large shapes, and on manifests that are made to take long.
+//! The buffers are made once and nothing is cleared before a call.
+
+use compare::measure::{rounds, row};
+use compare::readings::Buffers;
+use second::manifest;
+use std::collections::HashSet;
+use std::fmt::Write;
+use std::time::{Duration, Instant};
+
+/// The most bytes of a manifest.
+const MOST: usize = second::limits::MANIFEST;
+
+fn main() {
+    let mut worst = (Duration::ZERO, String::new());
+    let mut buffers = Buffers::default();
+    let shapes = second::shapes::all(512).map(|shape| (shape.name.to_string(), shape.manifest));
+    let hard = hard();
+    for (name, manifest) in shapes.iter().chain(&hard) {
+        assert!(manifest.len() <= MOST, "{name}: {} bytes", manifest.len());
+        let began = Instant::now();
+        let said = buffers.read(manifest);
+        let count = if began.elapsed() < Duration::from_millis(10) { 201 } else { 3 };
+        let theirs = manifest::read(manifest).map_or_else(|refusal| (usize::from(refusal.number), refusal.place), |_| (0, 0));
+        assert_eq!((said.number, said.place), theirs, "{name}");
+        let (ours, theirs) = rounds(count, || buffers.read(manifest), || manifest::read(manifest).is_ok());
+        row(&format!("{name} ({})", said.number), ours, theirs);
+        if ours.median > worst.0 {
+            worst = (ours.median, name.clone());
+        }
+    }
+    println!("longest: {:?}, {}", worst.0, worst.1);
+}
+
+/// As many pieces as a manifest has room for, between a front and a back.
+fn filled(front: &str, back: &str, mut piece: impl FnMut(usize) -> String) -> Vec<u8> {
+    let mut manifest = front.to_string();
+    for k in 0.. {
+        let next = piece(k);
+        if manifest.len() + next.len() + back.len() > MOST {
+            break;
+        }
+        manifest += &next;
+    }
+    (manifest + back).into_bytes()
+}
+
+const DIGITS: &[u8; 64] = b"0123456789abcdefghijklmnopqrstuvwxyzABCDEFGHIJKLMNOPQRSTUVWXYZ_-";
+
+/// A number in digits of which there are 64, the lowest first.
+fn short(mut number: usize) -> String {
+    let mut shown = String::new();
+    loop {
+        shown.push(DIGITS[number % 64] as char);
+        number /= 64;
+        if number == 0 {
+            return shown;
+        }
+    }
+}
+
+/// `v` of 2,048 bytes, by way of `w` of 128.
+fn long_variable() -> String {
+    format!("w={}\nv={}\n", "x".repeat(128), "$w".repeat(16))
+}
+
+fn hard() -> Vec<(String, Vec<u8>)> {
+    let long = long_variable();
+    let many: String = (0..1_000).fold(String::from("vvv=x\n"), |mut lines, k| {
+        writeln!(lines, "{}=", short(k)).unwrap();
+        lines
+    });
+    let mut hard: Vec<(&str, Vec<u8>)> = vec![
+        ("one line of distinct short outputs", filled("build", ":phony\n", |k| format!(" {}", short(k)))),
+        ("one line of distinct long outputs by $v", filled(&format!("{long}build"), ":phony\n", |k| format!(" {}$v", short(k)))),
+        ("outputs by $v that differ at the end", filled(&format!("{long}build"), ":phony\n", |k| format!(" ${{v}}{}", short(k)))),
+        ("one input of $v everywhere", filled(&format!("{long}build o:phony "), "\n", |_| "$v".to_string())),
+        ("inputs of $v each", filled(&format!("{long}build o:phony"), "\n", |_| " $v".to_string())),
+        ("inputs of nothing behind $v", filled(&format!("{long}build o:phony"), " $u\n", |_| " $v".to_string())),
+        ("one value of $v everywhere", filled(&format!("{long}x="), "\n", |_| "$v".to_string())),
+        ("1,001 bindings, looked up by 4,095 inputs", filled(&format!("{many}build o:phony"), "\n", |k| if k < 4_095 { " $vvv" } else { " " }.to_string())),
+        ("1,001 bindings, looked up everywhere", filled(&format!("{many}build o:phony "), "\n", |_| "$vvv".to_string())),
+        ("1,001 bindings, an empty one everywhere", filled(&format!("{many}build o:phony x"), "\n", |_| "$0".to_string())),
+        ("bindings that double", doubling()),
+        ("empty lines", filled("", "", |_| "\n".to_string())),
+        ("comments", filled("", "", |_| "#\n".to_string())),
+        ("one path of joins", filled("build o:phony ", "x\n", |_| "$\n".to_string())),
+        ("bindings of every line", filled("", "", |_| "a=\n".to_string())),
+    ];
+    let bucket = one_bucket();
+    hard.push(("1,023 outputs in a bucket, then others", bucketed(&bucket, ":phony\n", "build", 1_023)));
+    hard.push(("defaults of 1,023 outputs in a bucket", defaults(&bucket)));
+    let equal = equal_digests();
+    println!("{} texts of 7 bytes with one digest", equal.len());
+    let text = |k: usize| String::from_utf8(equal[k].clone()).unwrap();
+    hard.push(("outputs with one digest", filled("build", ":phony\n", |k| format!(" {}", text(k)))));
+    hard.push(("outputs by $v with one digest", filled(&format!("{long}build"), ":phony\n", |k| format!(" ${{v}}{}", text(k)))));
+    hard.push(("outputs by an old $v with one digest", filled(&format!("{long}{}build", "a=\n".repeat(1_022)), ":phony\n", |k| format!(" ${{v}}{}", text(k)))));
+    hard.into_iter().map(|(name, manifest)| (name.to_string(), manifest)).collect()
+}
+
+/// Values that double up to the most bytes, and a path of them all.
+fn doubling() -> Vec<u8> {
+    let mut front = "a0=xx\n".to_string();
+    for k in 1..11 {
+        writeln!(front, "a{k}=$a{}$a{}", k - 1, k - 1).unwrap();
+    }
+    filled(&format!("{front}build o:phony "), "\n", |_| "$a10".to_string())
+}
+
+/// The bucket of a name in the table of names.
+fn bucket(name: &str) -> usize {
+    name.bytes().fold(0, |h, byte| (h * 403 + usize::from(byte)) % 1_024)
+}
+
+/// Texts of four bytes that are, behind fifty others, all in one bucket.
+fn one_bucket() -> Vec<String> {
+    let digit = |k: usize| DIGITS[k % 64] as char;
+    let texts = (0..40 << 18).map(|k| [digit(k), digit(k >> 6), digit(k >> 12), digit(k >> 18)].iter().collect::<String>());
+    texts.filter(|text| bucket(&format!("{}{text}", "x".repeat(50))) == 0).collect()
+}
+
+/// A step with so many outputs in one bucket, each of them with a long front, and another step with outputs in it.
+fn bucketed(names: &[String], back: &str, next: &str, count: usize) -> Vec<u8> {
+    let front = format!("p={}\nbuild", "x".repeat(50));
+    let first: String = names[..count].iter().fold(front, |line, name| line + " ${p}" + name);
+    filled(&format!("{first}:phony\n{next}"), back, |k| match names.get(count + k) {
+        Some(name) => format!(" ${{p}}{name}"),
+        None => " ".to_string(),
+    })
+}
+
+/// The first of the outputs that are in one bucket, as a default many times.
+fn defaults(names: &[String]) -> Vec<u8> {
+    let front = format!("p={}\nq=${{p}}{}\nbuild", "x".repeat(50), names[0]);
+    let first: String = names[..1_023].iter().fold(front, |line, name| line + " ${p}" + name);
+    filled(&format!("{first}:phony\ndefault"), "\n", |_| " $q".to_string())
+}
+
+/// Texts of 7 bytes whose digests are the same: for each text of 4 bytes the 3 bytes that go before it are looked up.
+fn equal_digests() -> Vec<Vec<u8>> {
+    const BY: u32 = 2_654_435_761;
+    let digest = |text: &[u8]| text.iter().fold(0u32, |h, &byte| h.wrapping_mul(BY).wrapping_add(byte.into()));
+    let bytes: Vec<u8> = (b'!'..=b'~').filter(|byte| !b"$:|#".contains(byte)).collect();
+    let by_four = BY.wrapping_pow(4);
+    // the inverse modulo 2^32, by Newton's steps
+    let inverse = (0..5).fold(by_four, |x, _| x.wrapping_mul(2u32.wrapping_sub(by_four.wrapping_mul(x))));
+    assert_eq!(inverse.wrapping_mul(by_four), 1);
+    let mut fronts = std::collections::HashMap::new();
+    let mut seen = vec![false; 1 << 24];
+    for &a in &bytes {
+        for &b in &bytes {
+            for &c in &bytes {
+                let front = digest(&[a, b, c]);
+                seen[(front >> 8) as usize] = true;
+                fronts.insert(front, [a, b, c]);
+            }
+        }
+    }
+    let mut texts = HashSet::new();
+    let wanted = 123_456_789u32;
+    for &a in &bytes {
+        for &b in &bytes {
+            for &c in &bytes {
+                for &d in &bytes {
+                    let front = wanted.wrapping_sub(digest(&[a, b, c, d])).wrapping_mul(inverse);
+                    if seen[(front >> 8) as usize] {
+                        if let Some(front) = fronts.get(&front) {
+                            texts.insert([front.as_slice(), &[a, b, c, d]].concat());
+                        }
+                    }
+                }
+            }
+        }
+    }
+    let mut texts: Vec<Vec<u8>> = texts.into_iter().collect();
+    texts.sort();
+    assert!(texts.iter().all(|text| digest(text) == wanted));
+    texts
+}

@@ -1,0 +1,192 @@
+//! The proved manifest reader: the buffers that it fills, and what they hold.
+
+use second::graph::{Graph, Step};
+
+/// What is answered: 0, 0 and how much the buffers hold; a refusal's number and place; or 255 where a buffer is too short.
+#[repr(C)]
+#[derive(Debug, Clone, Copy, Default, PartialEq, Eq)]
+pub struct Numbers {
+    pub number: usize,
+    pub place: usize,
+    pub files: usize,
+    pub steps: usize,
+    pub paths: usize,
+    pub defaults: usize,
+    pub entries: usize,
+    pub rules: usize,
+    pub bindings: usize,
+    pub mentions: usize,
+    pub written: usize,
+}
+
+extern "C" {
+    fn kestrenyo_read(
+        manifest: *const u8,
+        manifest_len: usize,
+        names: *mut u8,
+        names_len: usize,
+        ends: *mut u32,
+        ends_len: usize,
+        texts: *mut u8,
+        texts_len: usize,
+        bind: *mut u32,
+        bind_len: usize,
+        graph: *mut u32,
+        graph_len: usize,
+        word: *mut u8,
+        word_len: usize,
+    ) -> Numbers;
+}
+
+/// The lengths that do for any manifest, in the order of the buffers.
+pub const LENGTHS: [usize; 6] = [60_000, 3_072, 133_728, 3_456, 61_440, 60_000];
+
+/// The reader's buffers. What they held before is of no matter to a reading.
+#[derive(Clone, PartialEq, Eq)]
+pub struct Buffers {
+    names: Vec<u8>,
+    ends: Vec<u32>,
+    texts: Vec<u8>,
+    bind: Vec<u32>,
+    graph: Vec<u32>,
+    word: Vec<u8>,
+}
+
+impl Default for Buffers {
+    fn default() -> Self {
+        Buffers::new(LENGTHS)
+    }
+}
+
+impl Buffers {
+    pub fn new([names, ends, texts, bind, graph, word]: [usize; 6]) -> Self {
+        Buffers {
+            names: vec![7; names],
+            ends: vec![7; ends],
+            texts: vec![7; texts],
+            bind: vec![7; bind],
+            graph: vec![7; graph],
+            word: vec![7; word],
+        }
+    }
+
+    pub fn read(&mut self, manifest: &[u8]) -> Numbers {
+        let Buffers { names, ends, texts, bind, graph, word } = self;
+        // SAFETY: the function is total, reads the manifest and writes the buffers alone.
+        unsafe {
+            kestrenyo_read(
+                manifest.as_ptr(),
+                manifest.len(),
+                names.as_mut_ptr(),
+                names.len(),
+                ends.as_mut_ptr(),
+                ends.len(),
+                texts.as_mut_ptr(),
+                texts.len(),
+                bind.as_mut_ptr(),
+                bind.len(),
+                graph.as_mut_ptr(),
+                graph.len(),
+                word.as_mut_ptr(),
+                word.len(),
+            )
+        }
+    }
+
+    /// What the buffers hold after a manifest has been accepted with these numbers.
+    pub fn reading(&self, numbers: &Numbers) -> Reading<'_> {
+        let mut reading = Reading { files: self.files(numbers), ..Reading::default() };
+        self.bindings(numbers, &mut reading);
+        self.steps(numbers, &mut reading);
+        reading.defaults = self.column(8_192, numbers.defaults).to_vec();
+        reading.makers = self.column(6_656, numbers.files).iter().map(|&maker| maker.checked_sub(1)).collect();
+        reading
+    }
+
+    /// The first numbers of the graph's column that starts at a place.
+    fn column(&self, start: usize, length: usize) -> &[u32] {
+        &self.graph[start..start + length]
+    }
+
+    fn files(&self, numbers: &Numbers) -> Vec<&[u8]> {
+        let mut start = 0;
+        let ends = self.ends[..numbers.files].iter().map(|&end| end as usize);
+        ends.map(|end| &self.names[std::mem::replace(&mut start, end)..end]).collect()
+    }
+
+    /// The table of bindings: file variables, rules with their keys, and the lines of blocks, by their owners.
+    fn bindings<'b>(&'b self, numbers: &Numbers, reading: &mut Reading<'b>) {
+        reading.blocks = vec![Vec::new(); numbers.steps];
+        let mut rule_at = vec![None; numbers.entries];
+        let mut start = 0;
+        for (entry, row) in self.bind.chunks_exact(3).take(numbers.entries).enumerate() {
+            let [middle, end, owner] = [row[0], row[1], row[2]].map(|number| number as usize);
+            let (name, value) = (&self.texts[start..middle], &self.texts[middle..end]);
+            start = end;
+            match owner {
+                0 => reading.variables.push((name, value)),
+                1 => {
+                    assert!(value.is_empty(), "a declaration with a value");
+                    rule_at[entry] = Some(reading.rules.len());
+                    reading.rules.push(Rule { name, keys: Vec::new() });
+                }
+                _ if owner % 2 == 0 => {
+                    let rule = rule_at[owner / 2 - 1].expect("a key of a declared rule");
+                    reading.rules[rule].keys.push((name, value));
+                }
+                _ => reading.blocks[owner / 2 - 1].push((name, value)),
+            }
+        }
+        let rule = |&number: &u32| match number {
+            0 => None,
+            _ => Some(rule_at[number as usize - 1].expect("a declared rule")),
+        };
+        reading.rule_of = self.column(7_680, numbers.steps).iter().map(rule).collect();
+    }
+
+    fn steps(&self, numbers: &Numbers, reading: &mut Reading) {
+        let mentions = self.column(0, numbers.paths);
+        let mut start = 0;
+        let mut part = |end: u32| mentions[std::mem::replace(&mut start, end as usize)..end as usize].to_vec();
+        let ends = self.column(4_096, 4 * numbers.steps).chunks_exact(4);
+        for (ends, &phony) in ends.zip(self.column(6_144, numbers.steps)) {
+            assert!(phony < 2, "phony or not: {phony}");
+            reading.graph.steps.push(Step {
+                outputs: part(ends[0]),
+                explicit: part(ends[1]),
+                implicit: part(ends[2]),
+                order_only: part(ends[3]),
+                phony: phony == 1,
+            });
+        }
+        reading.graph.files = numbers.files;
+        assert_eq!(start, numbers.paths, "mentions behind the last step's");
+    }
+}
+
+/// A name and its value.
+pub type Binding<'b> = (&'b [u8], &'b [u8]);
+
+/// A rule's keys with their raw texts, in line order.
+#[derive(Debug, Clone, PartialEq, Eq)]
+pub struct Rule<'b> {
+    pub name: &'b [u8],
+    pub keys: Vec<Binding<'b>>,
+}
+
+/// An accepted manifest.
+#[derive(Debug, Clone, Default, PartialEq, Eq)]
+pub struct Reading<'b> {
+    pub files: Vec<&'b [u8]>,
+    pub graph: Graph,
+    pub makers: Vec<Option<u32>>,
+    pub defaults: Vec<u32>,
+    /// The file's variables in line order, so that the last of a name stands.
+    pub variables: Vec<Binding<'b>>,
+    /// Rules in line order, without `phony`.
+    pub rules: Vec<Rule<'b>>,
+    /// For each step its place among the rules, unless it is phony.
+    pub rule_of: Vec<Option<usize>>,
+    /// For each step the lines of its block.
+    pub blocks: Vec<Vec<Binding<'b>>>,
+}

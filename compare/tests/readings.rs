@@ -1,0 +1,177 @@
+//! The proved reader against the second planner's reading: answers, places, and all that the buffers hold of an accepted
+//! manifest. `MANIFESTS` in the environment runs another number of manifests, from seed `FROM` on.
+
+use compare::readings::{Binding, Buffers, Numbers, Reading, LENGTHS};
+use second::generate::{ask, damage, draft::Draft, edges, small_ask};
+use second::manifest::{self, Key, Manifest};
+use second::rng::Rng;
+use second::Refusal;
+use std::collections::BTreeMap;
+
+const MANIFESTS: u64 = 120_000;
+
+fn setting(name: &str, otherwise: u64) -> u64 {
+    std::env::var(name).map_or(otherwise, |value| value.parse().expect("a number"))
+}
+
+/// A manifest of any kind; the edges of limits, and damaged bytes, are more frequent than among the random asks.
+fn manifest(seed: u64) -> Vec<u8> {
+    let rng = &mut Rng::new(seed);
+    let mut manifest = match seed % 16 {
+        0..=5 => return small_ask(seed).manifest().to_vec(),
+        6..=9 => return ask(seed).manifest().to_vec(),
+        10 => return edges::full(rng),
+        11 => edges::small(rng),
+        12 => too_much(rng),
+        13 => versions(rng),
+        _ => Draft::new(rng).mixed(400),
+    };
+    damage::edit(rng, &mut manifest);
+    manifest
+}
+
+/// A manifest of about the most bytes that it may have.
+fn too_much(rng: &mut Rng) -> Vec<u8> {
+    let mut manifest = Draft::new(rng).mixed(200);
+    manifest.push(b'#');
+    manifest.resize(second::limits::MANIFEST - 3 + rng.below(8), b' ');
+    manifest.push(b'\n');
+    manifest
+}
+
+/// A manifest that requires a version, mostly a sound one.
+fn versions(rng: &mut Rng) -> Vec<u8> {
+    let number = |rng: &mut Rng| rng.pick(&["0", "1", "1", "01", "12", "13", "14", "4294967296", "", "x"]);
+    let version: Vec<&str> = (0..rng.between(1, 4)).map(|_| number(rng)).collect();
+    let mut manifest = format!("ninja_required_version = {}\n", version.join(".")).into_bytes();
+    manifest.extend(Draft::new(rng).mixed(200));
+    manifest
+}
+
+/// The numbers that answer a refusal.
+fn refused(refusal: Refusal) -> Numbers {
+    Numbers { number: refusal.number.into(), place: refusal.place, ..Numbers::default() }
+}
+
+/// The numbers that answer an accepted manifest, from what the second planner read and our bindings' values.
+fn counts(theirs: &Manifest, ours: &Reading) -> Numbers {
+    let parts = theirs.graph.steps.iter().flat_map(|step| [&step.outputs, &step.explicit, &step.implicit, &step.order_only]);
+    let paths: Vec<u32> = parts.flatten().copied().collect();
+    let path_bytes: usize = paths.iter().chain(&theirs.defaults).map(|&file| theirs.files.names[file as usize].len()).sum();
+    let keys = ours.rules.iter().flat_map(|rule| &rule.keys);
+    let bindings = ours.variables.iter().chain(keys).chain(ours.blocks.iter().flatten());
+    let values: Vec<usize> = bindings.map(|(_, value)| value.len()).collect();
+    let rules = theirs.rules.len() - 1;
+    Numbers {
+        number: 0,
+        place: 0,
+        files: theirs.files.names.len(),
+        steps: theirs.graph.steps.len(),
+        paths: paths.len(),
+        defaults: theirs.defaults.len(),
+        entries: rules + values.len(),
+        rules,
+        bindings: values.len(),
+        mentions: paths.len() + theirs.defaults.len(),
+        written: path_bytes + values.iter().sum::<usize>(),
+    }
+}
+
+/// All tables of an accepted manifest are the same.
+fn compare_tables(ours: &Reading, theirs: &Manifest, shown: &str) {
+    assert!(ours.files.iter().copied().eq(theirs.files.names.iter().map(|name| &**name)), "files of {shown}");
+    assert_eq!(ours.graph, theirs.graph, "{shown}");
+    assert_eq!(ours.makers, theirs.graph.makers(), "{shown}");
+    assert_eq!(ours.defaults, theirs.defaults, "{shown}");
+    let standing: BTreeMap<&[u8], &[u8]> = ours.variables.iter().copied().collect();
+    assert_eq!(standing, theirs.variables().collect(), "{shown}");
+    assert_eq!(ours.rules.len() + 1, theirs.rules.len(), "{shown}");
+    for (rule, raw) in ours.rules.iter().zip(&theirs.rules[1..]) {
+        let keys = [(Key::Command, "command"), (Key::Description, "description"), (Key::Generator, "generator")];
+        let theirs = keys.iter().filter_map(|&(key, name)| Some((name.as_bytes(), raw.text(key)?)));
+        let mut ours = rule.keys.clone();
+        ours.sort();
+        assert_eq!(ours, theirs.collect::<Vec<Binding>>(), "{shown}");
+    }
+    for (step, scope) in theirs.scopes.iter().enumerate() {
+        let rule = ours.rule_of[step].map_or(&b"phony"[..], |rule| ours.rules[rule].name);
+        assert_eq!(ours.rule_of[step].map_or(0, |rule| rule + 1), scope.rule, "{shown}");
+        assert_eq!(theirs.rule_number(rule), Some(scope.rule), "{shown}");
+        let block: Vec<Binding> = scope.bindings.iter().map(|(name, value)| (*name, &**value)).collect();
+        assert_eq!(ours.blocks[step], block, "{shown}");
+    }
+}
+
+/// The number of the refusal, or 0, after checking that both agree on all.
+fn compare(buffers: &mut Buffers, manifest: &[u8]) -> usize {
+    let numbers = buffers.read(manifest);
+    let shown = &String::from_utf8_lossy(&manifest[..manifest.len().min(1_000)]);
+    match manifest::read(manifest) {
+        Err(refusal) => assert_eq!(numbers, refused(refusal), "{shown}"),
+        Ok(theirs) => {
+            assert_eq!((numbers.number, numbers.place), (0, 0), "{shown}");
+            let ours = buffers.reading(&numbers);
+            compare_tables(&ours, &theirs, shown);
+            assert_eq!(numbers, counts(&theirs, &ours), "{shown}");
+        }
+    }
+    numbers.number
+}
+
+#[test]
+fn manifests_agree() {
+    let (manifests, from) = (setting("MANIFESTS", MANIFESTS), setting("FROM", 0));
+    let mut buffers = Buffers::default();
+    let mut answers: BTreeMap<usize, u64> = BTreeMap::new();
+    for seed in from..from + manifests {
+        *answers.entry(compare(&mut buffers, &manifest(seed))).or_default() += 1;
+    }
+    println!("{manifests} manifests, by answer: {answers:?}");
+    assert_eq!(answers.keys().copied().collect::<Vec<_>>(), [0, 2, 3, 4, 5, 6, 7, 8, 9, 10], "{answers:?}");
+    assert!(answers.values().all(|&count| count > manifests / 200), "{answers:?}");
+}
+
+#[test]
+fn cases_agree() {
+    let cases = second::cases::read(&second::cases::files(&second::cases::folder()).unwrap()).unwrap();
+    let mut buffers = Buffers::default();
+    let mut refusals: BTreeMap<usize, u64> = BTreeMap::new();
+    for case in &cases {
+        compare(&mut buffers, &case.manifest);
+        for (_, answer) in &case.asks {
+            let Some((number, place)) = answer.strip_prefix("refused ").and_then(|refusal| refusal.split_once(" at ")) else {
+                continue;
+            };
+            let (number, place) = (number.parse().unwrap(), place.parse().unwrap());
+            if (2..=10).contains(&number) {
+                let said = buffers.read(&case.manifest);
+                assert_eq!((said.number, said.place), (number, place), "{} {}", case.origin, case.name);
+                *refusals.entry(number).or_default() += 1;
+            }
+        }
+    }
+    println!("{} cases, by refusal: {refusals:?}", cases.len());
+    assert_eq!(refusals.keys().copied().collect::<Vec<_>>(), [2, 3, 4, 5, 6, 7, 8, 9, 10], "{refusals:?}");
+}
+
+#[test]
+fn shapes_agree() {
+    let mut buffers = Buffers::default();
+    for shape in second::shapes::all(512) {
+        assert_eq!(compare(&mut buffers, &shape.manifest), 0, "{}", shape.name);
+    }
+}
+
+#[test]
+fn short_buffers_are_answered() {
+    let small = Numbers { number: 255, ..Numbers::default() };
+    for buffer in 0..LENGTHS.len() {
+        let mut lengths = LENGTHS;
+        lengths[buffer] -= 1;
+        let mut buffers = Buffers::new(lengths);
+        assert_eq!(buffers.read(b"build a: phony\n"), small);
+        assert!(buffers == Buffers::new(lengths), "a buffer of {lengths:?} was touched");
+    }
+    let longer = LENGTHS.map(|length| length + 1);
+    assert_eq!(Buffers::new(longer).read(b"build a: phony\n").number, 0);
+}
