@@ -2,9 +2,13 @@
 use Prim.Native.Nat.{ℕ, _≤_}
 use mathlib.Core.List.{List}
 use lib.ListN.{length}
-use Rattle.rules.specs.Limits.{leastList}
+use Rattle.rules.specs.Limits.{leastList, maxText}
 use Rattle.reader.specs.Manifests.{Roomy}
 
 pub record PlanAsked (t names ends texts bind graph word list : List ℕ) : Type 0 where
   pub roomy : Roomy t names ends texts bind graph word
   pub room : leastList ≤ length list
+
+pub record TextAsked (t names ends texts bind graph word buffer : List ℕ) : Type 0 where
+  pub roomy : Roomy t names ends texts bind graph word
+  pub room : maxText ≤ length buffer
