@@ -39,11 +39,11 @@ impl Kind {
 impl Display for Kind {
     fn fmt(&self, f: &mut Formatter) -> fmt::Result {
         match self {
-            Kind::List => f.write_str("list"),
-            Kind::EmptyList => f.write_str("empty list"),
-            Kind::Text => f.write_str("text"),
-            Kind::EmptyText => f.write_str("empty text"),
-            Kind::Refused(number) => write!(f, "refused {number}"),
+            Kind::List => f.pad("list"),
+            Kind::EmptyList => f.pad("empty list"),
+            Kind::Text => f.pad("text"),
+            Kind::EmptyText => f.pad("empty text"),
+            Kind::Refused(number) => f.pad(&format!("refused {number}")),
         }
     }
 }
