@@ -1,0 +1,193 @@
+//! Asks that are meant to be slow: what a manifest of 49,152 bytes can make a reader or a planner do most often.
+
+use second::ask::Ask;
+use second::{card, limits, shapes, Wanted};
+use std::collections::HashMap;
+
+/// A slow ask and what makes it so.
+pub struct Slow {
+    pub name: &'static str,
+    pub ask: Ask,
+}
+
+/// All of them.
+pub fn all() -> Vec<Slow> {
+    let mut all = lines();
+    all.extend(bindings());
+    all.extend(files());
+    all.extend(outputs());
+    all.extend(graphs());
+    all.extend(texts());
+    for slow in &all {
+        assert!(slow.ask.manifest().len() <= limits::MANIFEST, "{}", slow.name);
+    }
+    all
+}
+
+fn plan(name: &'static str, manifest: Vec<u8>) -> Slow {
+    with_card(name, manifest, card::write(&[]), Vec::new())
+}
+
+fn with_card(name: &'static str, manifest: Vec<u8>, card: Vec<u8>, targets: Vec<u8>) -> Slow {
+    Slow { name, ask: Ask::Plan { manifest, card, targets, list_len: limits::LIST } }
+}
+
+fn text(name: &'static str, manifest: Vec<u8>) -> Slow {
+    Slow { name, ask: Ask::Text { manifest, step: 0, wanted: Wanted::Command, buf_len: limits::TEXT } }
+}
+
+/// As many of these as fit between the two.
+fn filled(before: &str, part: &str, after: &str) -> Vec<u8> {
+    let room = limits::MANIFEST - before.len() - after.len();
+    let manifest = before.to_string() + &part.repeat(room / part.len()) + after;
+    manifest.into_bytes()
+}
+
+/// As many of these words as fit, each behind a space.
+fn words<'a>(before: &str, words: impl Iterator<Item = &'a [u8]>, after: &str) -> Vec<u8> {
+    let mut manifest = before.as_bytes().to_vec();
+    for word in words {
+        if manifest.len() + 1 + word.len() + after.len() > limits::MANIFEST {
+            break;
+        }
+        manifest.push(b' ');
+        manifest.extend_from_slice(word);
+    }
+    manifest.extend_from_slice(after.as_bytes());
+    manifest
+}
+
+fn lines() -> Vec<Slow> {
+    vec![
+        plan("lines: 49,152 empty ones", filled("", "\n", "")),
+        plan("lines: 24,576 comments", filled("", "#\n", "")),
+        plan("lines: one of 24,573 joins", filled("a = ", "$\n", "\n")),
+        plan("lines: a path of 24,000 escapes", filled("build a: phony ", "$$", "\n")),
+    ]
+}
+
+/// 1,023 bindings of a name that nothing refers to.
+fn many_bindings() -> String {
+    "v=\n".repeat(1_023)
+}
+
+fn bindings() -> Vec<Slow> {
+    let many = many_bindings();
+    vec![
+        plan("1,024 bindings, 23,000 unset names in a value", filled(&format!("{many}w="), "$u", "\n")),
+        plan("  in an output", filled(&format!("{many}build a"), "$u", ": phony\n")),
+        plan("  in the only default", filled(&format!("{many}build a: phony\ndefault a"), "$u", "\n")),
+    ]
+}
+
+/// Paths that the proved table of names keeps in one bucket.
+fn one_bucket() -> Vec<Vec<u8>> {
+    let bucket = |path: &[u8]| path.iter().fold(0, |h, &b| (h * 403 + u32::from(b)) % 1_024);
+    strings(4).filter(|path| bucket(path) == 0).take(limits::FILES).collect()
+}
+
+/// The strings of so many letters and digits.
+fn strings(length: u32) -> impl Iterator<Item = Vec<u8>> {
+    const LETTERS: &[u8] = b"abcdefghijklmnopqrstuvwxyz0123456789ABCDEFGHIJKLMNOPQRSTUVWXYZ";
+    let count = LETTERS.len() as u64;
+    (0..count.pow(length)).map(move |number| (0..length).map(|place| LETTERS[(number / count.pow(place) % count) as usize]).collect())
+}
+
+fn files() -> Vec<Slow> {
+    let paths = one_bucket();
+    let borrowed = || paths.iter().map(Vec::as_slice);
+    let mut sorted: Vec<(&[u8], u64)> = borrowed().map(|path| (path, 5)).collect();
+    sorted.sort();
+    let card = card::write(&sorted);
+    let manifest = words("build a: phony", borrowed().skip(1).cycle().take(4_095), "\n");
+    let targets: Vec<u8> = borrowed().skip(1).flat_map(|path| [path, b"\n"].concat()).take(4_095 / 5 * 5).collect();
+    let long: Vec<Vec<u8>> = (0..180).map(|number| format!("{number:0255}").into_bytes()).collect();
+    let records: Vec<(&[u8], u64)> = long.iter().map(|name| (name.as_slice(), 5)).collect();
+    vec![
+        with_card("1,024 files of one bucket, 4,096 mentions", manifest.clone(), card.clone(), Vec::new()),
+        with_card("  and 819 targets", manifest, card, targets),
+        with_card(
+            "180 files of 255 bytes that differ at their ends",
+            words("build a: phony", long.iter().map(Vec::as_slice), "\n"),
+            card::write(&records),
+            Vec::new(),
+        ),
+    ]
+}
+
+/// The proved digest of a path.
+fn digest(path: &[u8]) -> u32 {
+    path.iter().fold(0, |h: u32, &b| h.wrapping_mul(2_654_435_761).wrapping_add(u32::from(b)))
+}
+
+/// So many strings of 7 bytes with one digest: the digests of their first 4 bytes and of their last 3 add up.
+fn one_digest(count: usize) -> Vec<Vec<u8>> {
+    let shift = 2_654_435_761u32.wrapping_pow(3);
+    let lasts: HashMap<u32, Vec<u8>> = strings(3).map(|last| (digest(&last), last)).collect();
+    let whole = |first: Vec<u8>| {
+        let rest = 0u32.wrapping_sub(digest(&first).wrapping_mul(shift));
+        lasts.get(&rest).map(|last| [first, last.clone()].concat())
+    };
+    strings(4).filter_map(whole).take(count).collect()
+}
+
+fn outputs() -> Vec<Slow> {
+    let short: Vec<Vec<u8>> = strings(2).chain(strings(3)).collect();
+    let colliding = one_digest(500);
+    assert!(colliding.iter().all(|path| digest(path) == 0));
+    // 16 variables with values of one digest, and all paths of three of them; 3 dollars a path
+    let many = "v=\n".repeat(1_000);
+    let names: Vec<u8> = (b'A'..=b'P').collect();
+    let bound: String = names.iter().zip(&colliding).map(|(&name, value)| format!("{}={}\n", name as char, String::from_utf8_lossy(value))).collect();
+    let triples = || {
+        let paths = (0..4_096).map(|number| [number / 256, number / 16 % 16, number % 16]);
+        paths.map(|places| places.iter().flat_map(|&place| [b'$', names[place]]).collect::<Vec<u8>>())
+    };
+    let some: Vec<Vec<u8>> = triples().take(500).collect();
+    vec![
+        plan("13,000 outputs in a line, all different", words("build", short.iter().map(Vec::as_slice), ": phony\n")),
+        plan("500 outputs of one digest", words("build", colliding.iter().map(Vec::as_slice), ": phony\n")),
+        plan("  by variables, before 1,000 bindings", words(&format!("{bound}{many}build"), some.iter().map(Vec::as_slice), ": phony\n")),
+    ]
+}
+
+fn graphs() -> Vec<Slow> {
+    let reversed: String = (0..512).map(|step| format!("build o{step}: r o{}\n", step + 1)).collect();
+    let dense: String = (0..512)
+        .map(|step| {
+            let inputs: Vec<String> = (1..=7).map(|far| format!("o{}", (step + far * far).min(512))).collect();
+            format!("build o{step}: r {}\n", inputs.join(" "))
+        })
+        .collect();
+    let circle = reversed.replace("build o511: r o512", "build o511: r o0");
+    let rules: String = (0..128).map(|rule| format!("rule r{rule:03}\n  command = c\n  description = d\n")).collect();
+    let used: String = (0..512).map(|step| format!("build o{step}: r000 o512\n")).collect();
+    let rule = "rule r\n  command = c\n";
+    let source = card::write(&[(b"o512", 5)]);
+    vec![
+        with_card("a chain of 512, the last step first", format!("{rule}{reversed}").into_bytes(), source.clone(), Vec::new()),
+        with_card("512 steps with 7 inputs, the last step first", format!("{rule}{dense}").into_bytes(), source.clone(), Vec::new()),
+        with_card("a circle of 512", format!("{rule}{circle}").into_bytes(), source.clone(), b"o7\n".to_vec()),
+        with_card("512 steps by the first of 128 rules", format!("{rules}{used}").into_bytes(), source.clone(), Vec::new()),
+        with_card("2,048 targets", b"build a: phony\n".to_vec(), source, b"a\n".repeat(2_048)),
+    ]
+}
+
+fn texts() -> Vec<Slow> {
+    let many = "v=\n".repeat(1_000);
+    let unset = "$u".repeat(1_024);
+    let inner = "$generator".repeat(204);
+    let outer = "$description".repeat(170);
+    let files: Vec<String> = (0..1_000).map(|number| format!("{number}")).collect();
+    let all = files.join(" ");
+    let wide = shapes::fan(512);
+    vec![
+        text("a text of 1,024 unset names, 1,000 bindings", format!("{many}rule r\n  command = {unset}\nbuild a: r\n").into_bytes()),
+        text(
+            "a text of texts of texts of unset names",
+            format!("{many}rule r\n  command = {outer}\n  description = {inner}\n  generator = {unset}\nbuild a: r\n").into_bytes(),
+        ),
+        text("a text of 680 times 1,000 files (17)", format!("rule r\n  command = {}\nbuild a: r {all}\n", "$in".repeat(680)).into_bytes()),
+        text("the first text of a fan of 512", wide.manifest),
+    ]
+}

@@ -1,0 +1,98 @@
+/*
+ * Kestrenyo: a build planner whose every answer is proved. From a ninja manifest, a card of file times and a list of targets
+ * it decides which steps to run, in which order, and what each one's command says. It runs nothing itself.
+ *
+ * The library is libboundary.a (`rt staticlib boundary`), for x86-64 Linux. It needs memcpy and memset alone, keeps nothing
+ * between calls, allocates nothing, opens nothing and never fails to return: any bytes get an answer.
+ *
+ * Stack: a call takes KESTRENYO_STACK bytes of the calling thread's stack at most. On a smaller stack it ends in a fault at
+ * the guard page, not in a wrong answer.
+ *
+ * Threads: calls share nothing, so any number of threads may call at a time, each with buffers of its own.
+ *
+ * Pointers: each points to as many bytes or numbers as the length after it says. An input of length 0 is not read. The lent
+ * buffer overlaps no input.
+ */
+#ifndef KESTRENYO_H
+#define KESTRENYO_H
+
+#include <stddef.h>
+#include <stdint.h>
+
+#ifdef __cplusplus
+extern "C" {
+#endif
+
+/* The least list buffer, in numbers, and the least text buffer, in bytes. */
+#define KESTRENYO_LIST 512
+#define KESTRENYO_TEXT 8192
+
+/* The stack that a call may take, in bytes. */
+#define KESTRENYO_STACK (640 * 1024)
+
+/* Which text is wanted of a step. */
+#define KESTRENYO_COMMAND 0
+#define KESTRENYO_DESCRIPTION 1
+
+/*
+ * What a call says. number 0: value is the count of steps listed, or of bytes written. Any other number is a refusal, and
+ * value its place:
+ *
+ *    1  the lent buffer is below KESTRENYO_LIST numbers or KESTRENYO_TEXT bytes (place 0)
+ *    2  the manifest has over 49,152 bytes (place 0)
+ *    3  a forbidden byte (0, tab, carriage return): its place; or no newline at the end: the length
+ *    4  a line fits no form: where it starts, as for all up to 10 but 5
+ *    5  a bad `$`: its place
+ *    6  a keyword or key that is not yet in this edition
+ *    7  an unknown rule, a rule declared twice, a key twice or unknown in a rule, no `command`
+ *    8  an empty path, an output made twice, a default that is no earlier output
+ *    9  over a limit: 512 steps, 1,024 files, 128 rules, 1,024 bindings, 4,096 path mentions, names of 64 bytes, paths of 255,
+ *       values of 2,048, all paths and values 60,000 bytes together
+ *   10  the required version is malformed or above 1.5.0
+ *   11  the time card is not sound (place 0)
+ *   12  the target list is malformed, or has a name that the manifest never mentions: where it starts in the list
+ *   13  steps exist, but no target, no default, and every output is some input (place 0)
+ *   14  the needed steps have no order: the length of the circle that the list buffer shows
+ *   15  a needed source is missing: its file number, counted from 0 by first mention
+ *   16  a rule's text leads back to itself: the step
+ *   17  the text has over 8,192 bytes: the step
+ *   18  there is no such step, or it is phony: the step
+ */
+struct kestrenyo_said {
+    size_t number;
+    size_t value;
+};
+
+/*
+ * The plan: the numbers of the steps to run, counted from 0 as written, in their order. Refusals 1 to 15.
+ *
+ * card: numbers are little-endian. Four of 4 bytes: the count n of files (1,024 at most), 16, 16 + 16n, the card's whole
+ * length (49,152 at most). Then a record for each file: where its name starts in the names (4 bytes), the name's length, 1 to
+ * 255 (4 bytes), its time, 1 to 2^63 - 1 (8 bytes). Then the names, end to end, rising by bytes. A file that is not on the
+ * card is missing.
+ *
+ * targets: names of files, each ended by a newline, 4,096 bytes at most. With none, the manifest's defaults, and without
+ * those every output that is no step's input.
+ *
+ * list: after an answer it starts with the steps, after a 14 with those of a circle, each of which has an input that the next
+ * makes, and the last one that the first makes; all beyond is zero. After another refusal all of it is zero, but 1 touches
+ * nothing.
+ */
+struct kestrenyo_said kestrenyo_plan(const uint8_t *manifest, size_t manifest_len, const uint8_t *card, size_t card_len,
+                                     const uint8_t *targets, size_t targets_len, uint32_t *list, size_t list_len);
+
+/*
+ * A text of a step: its command where wanted is KESTRENYO_COMMAND, its description where it is any other number. Refusals 1
+ * to 10 and 16 to 18.
+ *
+ * buffer: after an answer it starts with the text, which no 0 ends, and all beyond is zero. After a refusal all of it is zero,
+ * but 1 touches nothing.
+ */
+struct kestrenyo_said kestrenyo_text(const uint8_t *manifest, size_t manifest_len, size_t step, size_t wanted,
+                                     uint8_t *buffer, size_t buffer_len);
+
+#ifdef __cplusplus
+}
+#endif
+
+#endif

@@ -1,0 +1,80 @@
+/*
+ * Plans the bench example of document 01 and prints what the program prints:
+ * cc -I ../../include bench.c ../../target/staticlib/libboundary.a -o bench && ./bench
+ */
+#include "kestrenyo.h"
+
+#include <stdio.h>
+#include <string.h>
+
+static const char MANIFEST[] = "cflags = -O1\n"
+                               "rule cc\n"
+                               "  command = cc $cflags -c $in -o $out\n"
+                               "build b.o: cc b.c\n"
+                               "build a.o: cc a.c | t.h\n"
+                               "  cflags = -O2\n"
+                               "build axis: phony a.o b.o\n"
+                               "default axis\n";
+
+struct file {
+    const char *name;
+    uint64_t time;
+};
+
+static uint8_t *number(uint8_t *to, uint64_t value, int bytes)
+{
+    for (int i = 0; i < bytes; i++)
+        *to++ = (uint8_t)(value >> (8 * i));
+    return to;
+}
+
+/* Writes the card of files that rise by name; says its length. */
+static size_t write_card(uint8_t *card, const struct file *files, size_t count)
+{
+    size_t total = 16 + 16 * count, offset = 0;
+    for (size_t i = 0; i < count; i++)
+        total += strlen(files[i].name);
+    uint8_t *to = number(card, count, 4);
+    to = number(to, 16, 4);
+    to = number(to, 16 + 16 * count, 4);
+    to = number(to, total, 4);
+    for (size_t i = 0; i < count; i++) {
+        to = number(to, offset, 4);
+        to = number(to, strlen(files[i].name), 4);
+        to = number(to, files[i].time, 8);
+        offset += strlen(files[i].name);
+    }
+    for (size_t i = 0; i < count; i++) {
+        memcpy(to, files[i].name, strlen(files[i].name));
+        to += strlen(files[i].name);
+    }
+    return total;
+}
+
+static int refused(struct kestrenyo_said said)
+{
+    printf("refused %zu at %zu\n", said.number, said.value);
+    return 1;
+}
+
+int main(void)
+{
+    static const struct file files[] = {{"a.c", 5}, {"a.o", 7}, {"b.c", 5}, {"t.h", 9}};
+    const uint8_t *manifest = (const uint8_t *)MANIFEST;
+    const size_t length = sizeof MANIFEST - 1;
+    uint8_t card[256];
+    uint32_t list[KESTRENYO_LIST];
+    uint8_t text[KESTRENYO_TEXT];
+
+    size_t card_length = write_card(card, files, sizeof files / sizeof *files);
+    struct kestrenyo_said plan = kestrenyo_plan(manifest, length, card, card_length, NULL, 0, list, KESTRENYO_LIST);
+    if (plan.number != 0)
+        return refused(plan);
+    for (size_t i = 0; i < plan.value; i++) {
+        struct kestrenyo_said said = kestrenyo_text(manifest, length, list[i], KESTRENYO_COMMAND, text, KESTRENYO_TEXT);
+        if (said.number != 0)
+            return refused(said);
+        printf("[%zu/%zu] %.*s\n", i + 1, plan.value, (int)said.value, (const char *)text);
+    }
+    return 0;
+}

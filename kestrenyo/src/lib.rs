@@ -1,0 +1,97 @@
+//! A build planner whose every answer is proved: from a ninja manifest, a card of file times and a
+//! list of targets it decides which steps to run, in which order, and what each one's command
+//! says. It runs nothing itself.
+//!
+//! ```
+//! use kestrenyo::{card, plan, text, Wanted};
+//!
+//! let manifest = b"rule cc\n  command = cc -c $in -o $out\nbuild a.o: cc a.c\n";
+//! let times = card(&[("a.c", 9), ("a.o", 7)]);
+//! let steps = plan(manifest, &times, b"")?;
+//! assert_eq!(steps, [0]);
+//! assert_eq!(text(manifest, 0, Wanted::Command)?, b"cc -c a.c -o a.o");
+//! # Ok::<(), kestrenyo::Refusal>(())
+//! ```
+//!
+//! Any input gets an answer: a list, a text, or a [`Refusal`] with its number and place. Nothing
+//! panics and nothing is read or written but what is lent.
+//!
+//! An ask takes [`STACK`] bytes of the calling thread's stack at most, and allocates nothing on
+//! the heap but what it returns ([`lent`] not even that). Threads of Rust's standard library have
+//! 2 MiB. Asks share nothing, so any number of threads may ask at a time.
+//!
+//! What is proved is the static library behind this crate. The declarations in [`lent`] and the
+//! conversions here are plain Rust, tested and not proved.
+
+pub mod lent;
+mod refusal;
+
+pub use lent::Wanted;
+pub use refusal::Refusal;
+
+/// The least list buffer, in numbers: as many as there may be steps.
+pub const LIST: usize = 512;
+
+/// The least text buffer, in bytes: as many as a text may have.
+pub const TEXT: usize = 8_192;
+
+/// The stack that an ask may take, in bytes.
+pub const STACK: usize = 640 << 10;
+
+/// The steps to run, in order: the stale ones of those that the targets need.
+///
+/// `card` is a time card (see [`card()`]), `targets` the names of files, each ended by a newline;
+/// with none, the manifest's defaults, and without those every output that is no step's input.
+/// Steps are numbered from 0 as written.
+///
+/// # Errors
+///
+/// Refusals 2 to 15; 1 can't come, since the buffer is this function's own.
+pub fn plan(manifest: &[u8], card: &[u8], targets: &[u8]) -> Result<Vec<u32>, Refusal> {
+    let mut list = [0; LIST];
+    let said = lent::plan(manifest, card, targets, &mut list);
+    match said.number {
+        0 => Ok(list[..said.value].to_vec()),
+        _ => Err(Refusal::of(said, &list)),
+    }
+}
+
+/// The text of a step: its `command` or its `description`, expanded.
+///
+/// # Errors
+///
+/// Refusals 2 to 10 and 16 to 18; 1 can't come, since the buffer is this function's own.
+pub fn text(manifest: &[u8], step: usize, wanted: Wanted) -> Result<Vec<u8>, Refusal> {
+    let mut buffer = [0; TEXT];
+    let said = lent::text(manifest, step, wanted, &mut buffer);
+    match said.number {
+        0 => Ok(buffer[..said.value].to_vec()),
+        _ => Err(Refusal::of(said, &[])),
+    }
+}
+
+/// A time card of these files, in any order, each with its time.
+///
+/// A file's time is any number from 1 to 2^63 - 1 that rises with it; a file that is missing is
+/// left out. What makes no sound card (a name twice, a time of 0, more than 1,024 files) makes a
+/// card that [`plan`] refuses with 11.
+pub fn card<N: AsRef<[u8]>>(files: &[(N, u64)]) -> Vec<u8> {
+    let mut records: Vec<(&[u8], u64)> =
+        files.iter().map(|(n, time)| (n.as_ref(), *time)).collect();
+    records.sort_unstable();
+    let names = 16 + 16 * records.len();
+    let total = names + records.iter().map(|(name, _)| name.len()).sum::<usize>();
+    let mut card = Vec::with_capacity(total);
+    for number in [records.len(), 16, names, total] {
+        card.extend((number as u32).to_le_bytes());
+    }
+    let mut offset = 0;
+    for (name, time) in &records {
+        card.extend((offset as u32).to_le_bytes());
+        card.extend((name.len() as u32).to_le_bytes());
+        card.extend(time.to_le_bytes());
+        offset += name.len();
+    }
+    records.iter().for_each(|(name, _)| card.extend_from_slice(name));
+    card
+}

@@ -1,0 +1,130 @@
+//! The refusals of document 01 as an enum.
+
+use crate::lent::Said;
+use std::error::Error;
+use std::fmt::{self, Display, Formatter};
+
+/// What the planner says no with: document 01's table, row by row. A place in the manifest or in
+/// the target list is an offset in bytes; 4 and 6 to 10 tell where the line starts.
+#[derive(Debug, Clone, PartialEq, Eq)]
+pub enum Refusal {
+    /// 1: a lent buffer is too short.
+    ShortBuffer,
+    /// 2: the manifest has over 49,152 bytes.
+    LongManifest,
+    /// 3: a forbidden byte (0, tab, carriage return), or no newline at the manifest's end.
+    BadByte(usize),
+    /// 4: a line fits no form.
+    BadLine(usize),
+    /// 5: a bad `$`.
+    BadDollar(usize),
+    /// 6: a keyword or key that is not yet in this edition.
+    NotYet(usize),
+    /// 7: an unknown rule, a rule declared twice, a key twice or unknown in a rule, no `command`.
+    BadRule(usize),
+    /// 8: an empty path, an output made twice, a default that is no earlier output.
+    BadPath(usize),
+    /// 9: over one of the limits: 512 steps, 1,024 files and so on.
+    OverLimit(usize),
+    /// 10: the required version is malformed or above 1.5.0.
+    BadVersion(usize),
+    /// 11: the time card is not sound.
+    BadCard,
+    /// 12: the target list is malformed, or has a name that the manifest never mentions.
+    BadTarget(usize),
+    /// 13: steps exist, but no target, no default, and every output is some input.
+    NoRoot,
+    /// 14: the needed steps have no order. These steps go round in a circle: each has an input that
+    /// the next one makes, and the last one that the first makes. The place is their number.
+    Circle(Vec<u32>),
+    /// 15: a needed source is missing: the file with this number, counted from 0 by first mention.
+    MissingSource(usize),
+    /// 16: the text of this step leads back to itself.
+    EndlessText(usize),
+    /// 17: the text of this step has over 8,192 bytes.
+    LongText(usize),
+    /// 18: there is no step of this number, or it is a phony one.
+    NoCommand(usize),
+}
+
+impl Refusal {
+    /// The refusal that an ask told, whose number is not 0; `list` is the list buffer afterwards.
+    pub(crate) fn of(said: Said, list: &[u32]) -> Self {
+        let place = said.value;
+        match said.number {
+            1 => Refusal::ShortBuffer,
+            2 => Refusal::LongManifest,
+            3 => Refusal::BadByte(place),
+            4 => Refusal::BadLine(place),
+            5 => Refusal::BadDollar(place),
+            6 => Refusal::NotYet(place),
+            7 => Refusal::BadRule(place),
+            8 => Refusal::BadPath(place),
+            9 => Refusal::OverLimit(place),
+            10 => Refusal::BadVersion(place),
+            11 => Refusal::BadCard,
+            12 => Refusal::BadTarget(place),
+            13 => Refusal::NoRoot,
+            14 => Refusal::Circle(list[..place].to_vec()),
+            15 => Refusal::MissingSource(place),
+            16 => Refusal::EndlessText(place),
+            17 => Refusal::LongText(place),
+            18 => Refusal::NoCommand(place),
+            number => unreachable!("refusals have the numbers 1 to 18, not {number}"),
+        }
+    }
+
+    /// Document 01's number, 1 to 18.
+    pub fn number(&self) -> usize {
+        match self {
+            Refusal::ShortBuffer => 1,
+            Refusal::LongManifest => 2,
+            Refusal::BadByte(_) => 3,
+            Refusal::BadLine(_) => 4,
+            Refusal::BadDollar(_) => 5,
+            Refusal::NotYet(_) => 6,
+            Refusal::BadRule(_) => 7,
+            Refusal::BadPath(_) => 8,
+            Refusal::OverLimit(_) => 9,
+            Refusal::BadVersion(_) => 10,
+            Refusal::BadCard => 11,
+            Refusal::BadTarget(_) => 12,
+            Refusal::NoRoot => 13,
+            Refusal::Circle(_) => 14,
+            Refusal::MissingSource(_) => 15,
+            Refusal::EndlessText(_) => 16,
+            Refusal::LongText(_) => 17,
+            Refusal::NoCommand(_) => 18,
+        }
+    }
+
+    /// Document 01's place.
+    pub fn place(&self) -> usize {
+        match self {
+            Refusal::ShortBuffer | Refusal::LongManifest | Refusal::BadCard | Refusal::NoRoot => 0,
+            Refusal::Circle(steps) => steps.len(),
+            Refusal::BadByte(place)
+            | Refusal::BadLine(place)
+            | Refusal::BadDollar(place)
+            | Refusal::NotYet(place)
+            | Refusal::BadRule(place)
+            | Refusal::BadPath(place)
+            | Refusal::OverLimit(place)
+            | Refusal::BadVersion(place)
+            | Refusal::BadTarget(place)
+            | Refusal::MissingSource(place)
+            | Refusal::EndlessText(place)
+            | Refusal::LongText(place)
+            | Refusal::NoCommand(place) => *place,
+        }
+    }
+}
+
+/// `refused 4 at 17`, as the program writes it.
+impl Display for Refusal {
+    fn fmt(&self, f: &mut Formatter) -> fmt::Result {
+        write!(f, "refused {} at {}", self.number(), self.place())
+    }
+}
+
+impl Error for Refusal {}
