@@ -34,7 +34,7 @@ use Rattle.textask.specs.Asks.{SoundRules, InAsk, WritesWanted, StepAsk,
 -- ---- the buffer
 
 -- "A refusal leaves output buffers all zero"
-pub all-zero : (before after exit : List ℕ) → length after ≡ length before → exit ≡ zeroed after 0 (length after) → exit ≡ filled [] before
+all-zero : (before after exit : List ℕ) → length after ≡ length before → exit ≡ zeroed after 0 (length after) → exit ≡ filled [] before
 unfolding filled
 all-zero before after exit k e =
     let z : length before - 0 ≡ length before = omega arith in

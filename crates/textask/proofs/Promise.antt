@@ -1,15 +1,13 @@
 -- For the text ask: from the manifest to the promise, once the manifest was read.
-use Prim.Native.Nat.{ℕ, _≤_, _<_}
-use mathlib.Core.List.{List}
+use Prim.Native.Nat.{ℕ, _≤_}
+use mathlib.Core.List.{List, []}
 use mathlib.Core.Bool.{false}
 use mathlib.Core.Path.{_≡_, refl, sym, _∙_}
 use native.Mathlib.Omega.{arith}
-use borrow.Author.Tests.{lt-ltb, le-ltb, ne-eqb}
+use borrow.Author.Tests.{le-ltb, ne-eqb}
 use lib.Dec.{ltb}
 use lib.ListN.{length}
-use Rattle.lists.specs.Fill.{zeroed}
 use Rattle.rules.specs.declared.Refusal.{Refusal}
-use Rattle.rules.specs.declared.Refusal.the-variants.{ShortBuffer}
 use Rattle.rules.specs.declared.TextAnswer.{TextAnswer}
 use Rattle.rules.specs.declared.TextAnswer.the-variants.{Refused}
 use Rattle.rules.specs.declared.Wanted.{Wanted}
@@ -25,7 +23,6 @@ use Rattle.bindings.specs.Log.{Logged}
 use Rattle.held.specs.declared.Counts.{Counts}
 use Rattle.held.specs.Held.{Holds}
 use Rattle.textask.specs.Asks.{TextAsk, TextOf}
-use Rattle.textask.proofs.Answering.{all-zero}
 use Rattle.textask.proofs.Reading.{accepted-sound}
 
 module _ (manifest before : List ℕ) (h : maxText ≤ length before) where
@@ -44,15 +41,10 @@ module _ (manifest before : List ℕ) (h : maxText ≤ length before) where
     text-promised p = rw (enough, e) (p .meets log rd k)
 
   -- 2 to 10, and a cleared buffer
-  pub refusal-promised : (step : ℕ) (wanted : Wanted) {r : Refusal} {after : List ℕ} → readManifest manifest ≡ refusedWith r → after ≡ zeroed before 0 (length before)
+  pub refusal-promised : (step : ℕ) (wanted : Wanted) {r : Refusal} {after : List ℕ} → readManifest manifest ≡ refusedWith r → after ≡ filled [] before
       → TextPromise manifest step wanted before (Refused r) after
   unfolding textAsk textRead TextMeets textSays leftBy
-  refusal-promised step wanted {r} {after} e z =
+  refusal-promised step wanted {r} e z =
       let b = of-reading manifest e in
       let n = ne-eqb (numberOfRefusal r) 1 (λ (q : numberOfRefusal r ≡ 1). omega (arith, q, b .least)) in
-      rw (enough, e, n) (record { says = refl; leaves = all-zero before before after refl z })
-
--- 1
-pub short-promised : (manifest : List ℕ) (step : ℕ) (wanted : Wanted) (before : List ℕ) → length before < maxText → TextPromise manifest step wanted before (Refused ShortBuffer) before
-unfolding textAsk TextMeets textSays leftBy numberOfRefusal
-short-promised manifest step wanted before h = rw (lt-ltb (length before) maxText h) (record { says = refl; leaves = refl })
+      rw (enough, e, n) (record { says = refl; leaves = z })
