@@ -1,5 +1,5 @@
 //! The proved reader against the second planner's reading: on the large shapes, and on manifests that are made to take long.
-//! The buffers are made once and nothing is cleared before a call.
+//! The buffers are made once and nothing is cleared before a call. A word behind the command runs only what has it in its name.
 
 use compare::measure::{rounds, row};
 use compare::readings::Buffers;
@@ -16,11 +16,16 @@ fn main() {
     let mut buffers = Buffers::default();
     let shapes = second::shapes::all(512).map(|shape| (shape.name.to_string(), shape.manifest));
     let hard = hard();
-    for (name, manifest) in shapes.iter().chain(&hard) {
+    let word = std::env::args().nth(1).unwrap_or_default();
+    for (name, manifest) in shapes.iter().chain(&hard).filter(|(name, _)| name.contains(&word)) {
         assert!(manifest.len() <= MOST, "{name}: {} bytes", manifest.len());
         let began = Instant::now();
         let said = buffers.read(manifest);
-        let count = if began.elapsed() < Duration::from_millis(10) { 201 } else { 3 };
+        let count = match began.elapsed().as_millis() {
+            0..10 => 201,
+            10..1_000 => 3,
+            _ => 1,
+        };
         let theirs = manifest::read(manifest).map_or_else(|refusal| (usize::from(refusal.number), refusal.place), |_| (0, 0));
         assert_eq!((said.number, said.place), theirs, "{name}");
         let (ours, theirs) = rounds(count, || buffers.read(manifest), || manifest::read(manifest).is_ok());
