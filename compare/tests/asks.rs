@@ -1,6 +1,7 @@
 //! Both asks, whole, against the second planner's. `ASKS` in the environment runs another number of asks, from seed `FROM` on;
 //! `cargo run --release --bin differ SEED COUNT` runs millions.
 
+use compare::adversary;
 use compare::asks::{asks, compare, judge, ours, run, Kind, Ours};
 use compare::minimise::minimise;
 use second::ask::{Answer, Ask};
@@ -77,6 +78,15 @@ fn circles_are_true_ones() {
         longer.value += 1;
         assert!(judge(&ask, &Ours::Plan(longer, more), &theirs).is_err(), "{ask}");
     }
+}
+
+/// A thread with no more stack than an ask is said to take, and 16 KiB for what asks it, comes through all of these.
+#[test]
+fn asks_take_no_more_stack() {
+    let asks: Vec<Ask> = (0..1_000).flat_map(asks).chain(adversary::all().into_iter().map(|slow| slow.ask)).collect();
+    let thread = std::thread::Builder::new().stack_size(kestrenyo::STACK + (16 << 10));
+    let asked = thread.spawn(move || asks.iter().map(ours).count()).expect("a thread");
+    assert!(asked.join().expect("no panic") > 1_000);
 }
 
 /// The smaller ask keeps what it was made smaller for, and little else.
