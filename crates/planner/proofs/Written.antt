@@ -1,7 +1,7 @@
 -- What the text ask answers by what the reader answers.
 use Prim.Native.Nat.{ℕ, _≤_, _<_}
 use mathlib.Core.List.{List}
-use mathlib.Core.Path.{_≡_, refl}
+use mathlib.Core.Path.{_≡_, refl, _∙_}
 use borrow.Author.Tests.{lt-ltb}
 use lib.ListN.{length}
 use Rattle.lists.specs.Fill.{zeroed}
@@ -15,6 +15,7 @@ use Rattle.rules.specs.Answers.{numberOfRefusal, textSays}
 use Rattle.rules.specs.TextAsk.{textAsk}
 use Rattle.rules.specs.Manifest.{refusedWith, readManifest}
 use Rattle.rules.specs.Promises.{leftBy, TextMeets, TextPromise}
+use Rattle.planning.proofs.Outcomes.{cleared}
 use Rattle.classes.specs.Table.{classes}
 use Rattle.held.specs.declared.Counts.{Counts}
 use Rattle.reader.specs.Manifests.{Held}
@@ -30,7 +31,7 @@ module _ (manifest buffer : List ℕ) (room : maxText ≤ length buffer) where
   -- 2 to 10
   pub unread : (step : ℕ) (wanted : Wanted) {r : Refusal} {exit : List ℕ} → readManifest manifest ≡ refusedWith r → exit ≡ zeroed buffer 0 (length buffer)
       → TextPromise manifest step wanted buffer (Refused r) exit
-  unread step wanted e z = refusal-promised manifest buffer room step wanted e z
+  unread step wanted e z = refusal-promised manifest buffer room step wanted e (z ∙ cleared buffer)
 
   module _ {names ends texts bind graph : List ℕ} {c : Counts} (h : Held manifest names ends texts bind graph c) where
     pub askable : {t : List ℕ} → t ≡ classes → TextAsk t names ends texts bind graph c buffer
