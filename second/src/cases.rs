@@ -78,6 +78,31 @@ pub fn allows(expected: &str, answer: &str) -> bool {
     }
 }
 
+/// What the program may write for a case: what the case gives, or else what the second planner's
+/// program writes, with any expected circle, begun at any of its steps.
+pub fn outputs(case: &Case) -> Vec<Vec<u8>> {
+    let expected =
+        |asked: Ask| case.asks.iter().find(|(ask, _)| *ask == asked).map(|(_, line)| line);
+    if let Some(prints) = expected(Ask::Program) {
+        return vec![unhex(prints.strip_prefix("text ").unwrap_or(prints))];
+    }
+    let circles = expected(Ask::Plan).and_then(|line| line.strip_prefix("circle "));
+    match circles {
+        Some(circles) => circles.split(" or ").flat_map(shown).collect(),
+        None => vec![output(&case.manifest, &case.card, &case.targets)],
+    }
+}
+
+/// The lines for a circle, begun at each of its steps.
+fn shown(circle: &str) -> Vec<Vec<u8>> {
+    let mut steps: Vec<_> = circle.split(' ').collect();
+    let lines = (0..steps.len()).map(|_| {
+        steps.rotate_left(1);
+        format!("refused 14 at {}\ncircle {}\n", steps.len(), steps.join(" ")).into_bytes()
+    });
+    lines.collect()
+}
+
 /// What the second planner answers otherwise than expected.
 pub fn check(case: &Case) -> Vec<String> {
     let mut differences = Vec::new();
@@ -103,11 +128,13 @@ pub fn packed(case: &Case, programs: bool) -> Vec<String> {
 
 /// An answer's line with its bytes, if it has any, in readable form.
 fn readable(line: &str) -> String {
-    let bytes = line.strip_prefix("text ").map(|hex| {
-        let digits = hex.as_bytes().chunks_exact(2).map(String::from_utf8_lossy);
-        digits.filter_map(|two| u8::from_str_radix(&two, 16).ok()).collect::<Vec<u8>>()
-    });
+    let bytes = line.strip_prefix("text ").map(unhex);
     bytes.map_or(line.to_string(), |bytes| format!("text {}", bytes.escape_ascii()))
+}
+
+fn unhex(hex: &str) -> Vec<u8> {
+    let digits = hex.as_bytes().chunks_exact(2).map(String::from_utf8_lossy);
+    digits.filter_map(|two| u8::from_str_radix(&two, 16).ok()).collect()
 }
 
 fn show_wanted(wanted: Wanted) -> &'static str {

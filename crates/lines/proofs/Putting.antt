@@ -124,3 +124,11 @@ pub said-circle : (l : List ℕ) {d e f g h : List ℕ} {i j m r : ℕ} → leng
 unfolding circleOutput refusedLine circleLine
 said-circle l k p w q t =
     rw (regroup (refusedText (refused14 (length l))) (10 ∷ []) (bytes "circle") (spaced l)) at (ended-law k (puts-then (puts-then (p .puts) w) (q .puts)) t)
+
+-- What is left in the lent buffer lies within it.
+pub leaves-within : {out lent exit : List ℕ} {n : ℕ} → length exit ≡ length lent → Leaves out lent n exit → n ≤ length exit
+unfolding filled
+leaves-within {out} {lent} {exit} {n} k l =
+    let a : length exit ≡ length out + length (replicate {0} {A = ℕ} (length lent - length out) 0) =
+      ap length (l .left) ∙ length-append out (replicate (length lent - length out) 0) in
+    omega (arith, l .count)
