@@ -1,11 +1,11 @@
--- `lines::put_steps` meets its contract.
+-- `printing::put_steps` meets its contract.
 use native.Mathlib.Omega.{arith}
 use Prim.Native.Nat.{_-_}
 use lib.ListN.{length}
-use Rattle.lines.proofs.Putting.{Spaced, spaced-start, spaced-more, spaced-end}
+use Rattle.printing.proofs.Putting.{Spaced, spaced-start, spaced-more, spaced-end}
 use borrow.Author.Needs.{needs}
-use Rattle.lines.proofs.put_steps.Statement.{statement}
-use Rattle.lines.proofs.put_steps.Tie as tie
+use Rattle.printing.proofs.put_steps.Statement.{statement}
+use Rattle.printing.proofs.put_steps.Tie as tie
 
 abbrev Inv-loop : tie.InvT-loop
 Inv-loop line₀ from steps behind₀ i₀ t6 line behind i = Spaced steps line₀ from line behind i

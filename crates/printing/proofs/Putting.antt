@@ -11,9 +11,9 @@ use Rattle.lists.specs.Fill.{zeroed}
 use Rattle.lists.specs.Text.{bytes}
 use Rattle.rules.specs.Answers.{Said}
 use Rattle.rules.specs.Promises.{filled, refused14}
-use Rattle.lines.specs.Lines.{decimal, worded, refusedText, refusedLine, spaced, circleLine, circleOutput, headOf}
-use Rattle.lines.specs.Writes.{Puts, PutsUpTo, Leaves}
-use Rattle.lines.proofs.Digits.{decimal-of}
+use Rattle.printing.specs.Lines.{decimal, worded, refusedText, refusedLine, spaced, circleLine, circleOutput, headOf}
+use Rattle.printing.specs.Writes.{Puts, PutsUpTo, Leaves}
+use Rattle.printing.proofs.Digits.{decimal-of}
 
 pub put-law : (s d e : List ℕ) (at r : ℕ) → at + length s ≤ length d → e ≡ paste d at s (length s) → r ≡ at + length s → Puts s d at e r
 put-law s d e at r h w n =

@@ -1,10 +1,10 @@
--- `lines::say_circle` meets its contract.
+-- `printing::say_circle` meets its contract.
 use mathlib.Core.Path.{_∙_}
 use denote.Ref.{now}
-use Rattle.lines.proofs.Putting.{said-circle}
+use Rattle.printing.proofs.Putting.{said-circle}
 use borrow.Author.Needs.{needs}
-use Rattle.lines.proofs.say_circle.Statement.{statement}
-use Rattle.lines.proofs.say_circle.Tie as tie
+use Rattle.printing.proofs.say_circle.Statement.{statement}
+use Rattle.printing.proofs.say_circle.Tie as tie
 
 put-refused-requires : tie.Need-put-refused-requires
 put-refused-requires c κs = search needs

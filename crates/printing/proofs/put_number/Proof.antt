@@ -1,10 +1,10 @@
--- `lines::put_number` meets its contract.
-use Rattle.lines.proofs.Digits.{few-digits}
+-- `printing::put_number` meets its contract.
+use Rattle.printing.proofs.Digits.{few-digits}
 use native.Mathlib.Omega.{arith}
-use Rattle.lines.proofs.Putting.{number-law}
+use Rattle.printing.proofs.Putting.{number-law}
 use borrow.Author.Needs.{needs}
-use Rattle.lines.proofs.put_number.Statement.{statement}
-use Rattle.lines.proofs.put_number.Tie as tie
+use Rattle.printing.proofs.put_number.Statement.{statement}
+use Rattle.printing.proofs.put_number.Tie as tie
 
 decimal-requires : tie.Need-decimal-requires
 decimal-requires c κs = search needs

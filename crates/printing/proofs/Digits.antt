@@ -8,7 +8,7 @@ use borrow.Author.Tests.{lt-ltb, le-ltb, leb-true, leb-false}
 use lib.Dec.{leb}
 use Rattle.lists.specs.Tests.{split}
 use Rattle.io.specs.Digits.{digits, glyph, Fewest}
-use Rattle.lines.specs.Lines.{decimal, decimalUp}
+use Rattle.printing.specs.Lines.{decimal, decimalUp}
 
 glyph-digit : (d : ℕ) → d < 10 → glyph d ≡ 48 + d
 glyph-digit d h = rw (lt-ltb d 10 h)

@@ -1,8 +1,8 @@
--- `lines::say_no_work` meets its contract.
-use Rattle.lines.proofs.Putting.{ended-law}
+-- `printing::say_no_work` meets its contract.
+use Rattle.printing.proofs.Putting.{ended-law}
 use borrow.Author.Needs.{needs}
-use Rattle.lines.proofs.say_no_work.Statement.{statement}
-use Rattle.lines.proofs.say_no_work.Tie as tie
+use Rattle.printing.proofs.say_no_work.Statement.{statement}
+use Rattle.printing.proofs.say_no_work.Tie as tie
 
 slice-aggregate-put : tie.Need-slice-aggregate-put
 slice-aggregate-put c = search needs

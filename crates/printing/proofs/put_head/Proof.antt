@@ -1,8 +1,8 @@
--- `lines::put_head` meets its contract.
-use Rattle.lines.proofs.Putting.{head-law}
+-- `printing::put_head` meets its contract.
+use Rattle.printing.proofs.Putting.{head-law}
 use borrow.Author.Needs.{needs}
-use Rattle.lines.proofs.put_head.Statement.{statement}
-use Rattle.lines.proofs.put_head.Tie as tie
+use Rattle.printing.proofs.put_head.Statement.{statement}
+use Rattle.printing.proofs.put_head.Tie as tie
 
 slice-aggregate-put-worded : tie.Need-slice-aggregate-put-worded
 slice-aggregate-put-worded c = search needs

@@ -1,9 +1,9 @@
--- `lines::say_refused` meets its contract.
+-- `printing::say_refused` meets its contract.
 use Rattle.answers.specs.Numbers.{said}
-use Rattle.lines.proofs.Putting.{said-refused}
+use Rattle.printing.proofs.Putting.{said-refused}
 use borrow.Author.Needs.{needs}
-use Rattle.lines.proofs.say_refused.Statement.{statement}
-use Rattle.lines.proofs.say_refused.Tie as tie
+use Rattle.printing.proofs.say_refused.Statement.{statement}
+use Rattle.printing.proofs.say_refused.Tie as tie
 
 put-refused-requires : tie.Need-put-refused-requires
 put-refused-requires c κs = search needs

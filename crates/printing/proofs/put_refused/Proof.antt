@@ -1,8 +1,8 @@
--- `lines::put_refused` meets its contract.
-use Rattle.lines.proofs.Putting.{refused-law}
+-- `printing::put_refused` meets its contract.
+use Rattle.printing.proofs.Putting.{refused-law}
 use borrow.Author.Needs.{needs}
-use Rattle.lines.proofs.put_refused.Statement.{statement}
-use Rattle.lines.proofs.put_refused.Tie as tie
+use Rattle.printing.proofs.put_refused.Statement.{statement}
+use Rattle.printing.proofs.put_refused.Tie as tie
 
 slice-aggregate-put-worded : tie.Need-slice-aggregate-put-worded
 slice-aggregate-put-worded c = search needs

@@ -1,11 +1,11 @@
--- `lines::end_line` meets its contract.
+-- `printing::end_line` meets its contract.
 use mathlib.Core.Path.{refl, _∙_}
 use denote.Ref.{now}
 use lib.ListN.{length-set}
-use Rattle.lines.proofs.Putting.{end-law}
+use Rattle.printing.proofs.Putting.{end-law}
 use borrow.Author.Needs.{needs}
-use Rattle.lines.proofs.end_line.Statement.{statement}
-use Rattle.lines.proofs.end_line.Tie as tie
+use Rattle.printing.proofs.end_line.Statement.{statement}
+use Rattle.printing.proofs.end_line.Tie as tie
 
 slice-write-line : tie.Need-slice-write-line
 slice-write-line c = search needs

@@ -1,8 +1,8 @@
--- `lines::put_worded` meets its contract.
-use Rattle.lines.proofs.Putting.{worded-law}
+-- `printing::put_worded` meets its contract.
+use Rattle.printing.proofs.Putting.{worded-law}
 use borrow.Author.Needs.{needs}
-use Rattle.lines.proofs.put_worded.Statement.{statement}
-use Rattle.lines.proofs.put_worded.Tie as tie
+use Rattle.printing.proofs.put_worded.Statement.{statement}
+use Rattle.printing.proofs.put_worded.Tie as tie
 
 put-requires : tie.Need-put-requires
 put-requires c κs = search needs

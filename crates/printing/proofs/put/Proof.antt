@@ -1,9 +1,9 @@
--- `lines::put` meets its contract.
+-- `printing::put` meets its contract.
 use mathlib.Core.Path.{refl}
-use Rattle.lines.proofs.Putting.{put-law}
+use Rattle.printing.proofs.Putting.{put-law}
 use borrow.Author.Needs.{needs}
-use Rattle.lines.proofs.put.Statement.{statement}
-use Rattle.lines.proofs.put.Tie as tie
+use Rattle.printing.proofs.put.Statement.{statement}
+use Rattle.printing.proofs.put.Tie as tie
 
 copy-at-requires : tie.Need-copy-at-requires
 copy-at-requires c κs = search needs
