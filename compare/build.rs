@@ -1,8 +1,12 @@
-//! Links the static library that `rt staticlib leaves` writes.
+//! Links the static libraries that `rt staticlib` writes of the crates at the boundary.
+
+const LIBRARIES: [&str; 2] = ["leaves", "graphs"];
 
 fn main() {
     let folder = format!("{}/../target/staticlib", env!("CARGO_MANIFEST_DIR"));
     println!("cargo:rustc-link-search=native={folder}");
-    println!("cargo:rustc-link-lib=static=leaves");
-    println!("cargo:rerun-if-changed={folder}/libleaves.a");
+    for library in LIBRARIES {
+        println!("cargo:rustc-link-lib=static={library}");
+        println!("cargo:rerun-if-changed={folder}/lib{library}.a");
+    }
 }

@@ -2,6 +2,7 @@
 //! sources, so they are few; slices pass as a pointer and a length.
 
 pub mod card;
+pub mod graphs;
 pub mod measure;
 pub mod names;
 pub mod scan;

@@ -41,13 +41,14 @@ pub struct Names {
 }
 
 impl Names {
-    /// Room for so many bytes, below 2^32, and so many names.
-    pub fn new(bytes: usize, names: usize) -> Self {
+    /// Room for so many bytes, below 2^32, and 1,024 names.
+    pub fn new(bytes: usize) -> Self {
         assert!(bytes < 1 << 32, "the ends of names are 32-bit numbers");
-        Names { names: vec![0; bytes], ends: vec![0; names], count: 0 }
+        Names { names: vec![0; bytes], ends: vec![0; 3_072], count: 0 }
     }
 
     pub fn clear(&mut self) {
+        self.ends.fill(0);
         self.count = 0;
     }
 

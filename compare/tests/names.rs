@@ -17,15 +17,15 @@ fn tables_agree() {
     for seed in 0..TABLES {
         let rng = &mut Rng::new(seed);
         let long = rng.chance(1);
-        let (bytes, entries) = if long { (60_000, rng.between(1_000, 1_050)) } else { (rng.below(400), rng.below(40)) };
-        let mut names = Names::new(bytes, entries);
+        let bytes = if long { 60_000 } else { rng.below(400) };
+        let mut names = Names::new(bytes);
         let mut map: HashMap<Vec<u8>, usize> = HashMap::new();
         let mut written = 0;
         for turn in 0..if long { 1_500 } else { 60 } {
             let path = if long && rng.chance(80) { format!("{turn}").into_bytes() } else { path(rng) };
             let known = map.get(&path).copied();
             assert_eq!(names.find(&path), known, "seed {seed}");
-            let room = map.len() < entries.min(1_024) && written + path.len() <= bytes;
+            let room = map.len() < 1_024 && written + path.len() <= bytes;
             let expected = match known {
                 Some(number) => Added::Old(number),
                 None if room => Added::New(map.len()),

@@ -1,9 +1,10 @@
-//! The proved leaves against the second planner's own: median and minimum of a call, and the ratios of both. Nothing is
-//! cleared before a call but the name table, whose count goes back to 0. Where the linker puts a
+//! The proved leaves and the plan of a read graph against the second planner's own: median and minimum of a call, and the ratios of both. Nothing is
+//! cleared before a call but the name table. Where the linker puts a
 //! short loop can double its time, so run it with aligned loops too, which gives the second planner its best:
 //! `RUSTFLAGS="-C llvm-args=-align-loops=64" cargo run --release --target-dir target/aligned --bin bench`.
 
 use compare::card::{self, Card};
+use compare::graphs::{self, Tables};
 use compare::measure::{both, row};
 use compare::names::{Added, Names};
 use compare::scan::{self, Classes};
@@ -16,6 +17,7 @@ fn main() {
     scanners();
     names();
     cards();
+    plans();
 }
 
 /// A manifest of some 49 KB: rules, variables, steps with blocks, comments.
@@ -127,7 +129,7 @@ fn paths() -> Vec<Vec<u8>> {
 
 fn names() {
     let paths = paths();
-    let mut table = Names::new(60_000, 1_024);
+    let mut table = Names::new(60_000);
     // as the second planner has it: a map from the path to its number
     let (ours, theirs) = both(
         || {
@@ -175,4 +177,29 @@ fn cards() {
         },
     );
     row("card of 1,024: 1,024 lookups", ours, theirs);
+}
+
+/// Planning alone, from tables that are made before.
+fn plans() {
+    for shape in second::shapes::all(512) {
+        let manifest = second::manifest::read(&shape.manifest).expect("a sound manifest");
+        let tables = Tables::of(&manifest.graph);
+        for (age, card) in [("fresh", &shape.fresh), ("stale", &shape.stale)] {
+            let mut times = vec![0; manifest.files.names.len()];
+            for (name, time) in second::card::read(card).expect("a sound card") {
+                times[manifest.files.number(name).expect("a mentioned file") as usize] = time;
+            }
+            let mut list = [0; 512];
+            let said = graphs::plan(&tables, &times, &manifest.defaults, &[], &mut list);
+            let second::PlanAnswer::List(theirs) = second::plan::plan_graph(&manifest.graph, &times, &[], &manifest.defaults) else {
+                panic!("no list")
+            };
+            assert_eq!((said.number, &list[..said.value]), (0, theirs.as_slice()));
+            let (ours, theirs) = both(
+                || graphs::plan(&tables, &times, &manifest.defaults, &[], &mut list),
+                || second::plan::plan_graph(&manifest.graph, &times, &[], &manifest.defaults),
+            );
+            row(&format!("plan of 512 steps: {}, {age}", shape.name), ours, theirs);
+        }
+    }
 }

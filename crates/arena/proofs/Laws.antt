@@ -5,8 +5,8 @@ use native.Mathlib.Omega.{arith}
 use mathlib.Core.Path.{_≡_, refl, sym, ap, _∙_}
 use mathlib.Core.List.{List, [], _∷_, _++_}
 use lib.ListN.{length, take, drop, getD, set, length-set, length-append, length-drop}
-use lib.Seq.{take-set-le, take-set-lt, drop-set-lt, drop-set-add, take-suc-set, getD-take, getD-drop, drop-drop}
-use Rattle.lists.specs.Parts.{part}
+use lib.Seq.{take-take, take-set-le, take-set-lt, drop-set-lt, drop-set-add, take-suc-set, getD-take, getD-drop, drop-drop}
+use Rattle.lists.specs.Parts.{part, drop-take}
 use Rattle.arena.specs.Columns.{Lies, startOf, column}
 
 -- a column within its list
@@ -83,3 +83,23 @@ module _ (ns a : List ℕ) (xs : List (List ℕ)) (c : ℕ) (h : Lies ns a xs) (
   lies-part =
       let e : startOf ns c + length (column xs c) - startOf ns c ≡ length (column xs c) = omega arith in
       rw e (lies-column ns a xs c h b .is)
+
+-- What lies behind the last region is no part of any column.
+pub lies-kept : (ns a b : List ℕ) (xs : List (List ℕ)) → Lies ns a xs → length b ≡ length a → take (startOf ns (length ns)) b ≡ take (startOf ns (length ns)) a → Lies ns b xs
+unfolding Lies
+lies-kept [] a b [] h l e = tt
+lies-kept [] a b (x ∷ xs) h l e = absurd h
+lies-kept (n ∷ ns) a b [] h l e = absurd h
+lies-kept (n ∷ ns) a b (x ∷ xs) h l e =
+    let m = startOf ns (length ns) in
+    let z : n + m - n ≡ m = omega arith in
+    let front : take (length x) b ≡ take (length x) a =
+    sym (take-take (length x) (n + m) b (omega (arith, h .0)))
+    ∙ ap (take (length x)) e
+    ∙ take-take (length x) (n + m) a (omega (arith, h .0)) in
+    let back : take m (drop n b) ≡ take m (drop n a) = rw (drop-take n (n + m) b, drop-take n (n + m) a, z) at (ap (drop n) e) in (
+      h .0,
+      rw l (h .1),
+      front ∙ h .2,
+      lies-kept ns (drop n a) (drop n b) xs (h .3) (length-drop n b ∙ ap (λ (k : ℕ). k - n) l ∙ sym (length-drop n a)) back,
+    )

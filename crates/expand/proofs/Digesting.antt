@@ -19,7 +19,7 @@ unfolding digestFrom
 digest-append h [] t = refl
 digest-append h (b ∷ s) t = digest-append ((h * 2654435761 + b) % 4294967296) s t
 
-digest-small : (h : ℕ) (s : List ℕ) → h < 4294967296 → digestFrom h s < 4294967296
+pub digest-small : (h : ℕ) (s : List ℕ) → h < 4294967296 → digestFrom h s < 4294967296
 unfolding digestFrom
 digest-small h [] b = b
 digest-small h (x ∷ s) b = digest-small ((h * 2654435761 + x) % 4294967296) s (omega arith)

@@ -1,5 +1,5 @@
 -- What an agreement says of the outcome, by the answer; and what is held before the first line.
-use Prim.Native.Nat.{ℕ, _^_, _≤_, _<_}
+use Prim.Native.Nat.{ℕ, _≤_}
 use mathlib.Core.List.{List, [], _∷_, map}
 use mathlib.Core.Path.{_≡_, refl}
 use native.Mathlib.Nat.{not-suc-le-zero}
@@ -12,7 +12,7 @@ use Rattle.rules.specs.Reading.{Reading, nothingRead}
 use Rattle.rules.specs.Graph.{makers, makersFrom}
 use Rattle.rules.specs.Statements.{Block, noBlock, Outcome, goesOn, refused}
 use Rattle.arena.specs.Columns.{Lies}
-use Rattle.names.specs.Table.{endsFrom}
+use Rattle.names.specs.Table.{Holds as NamesHold}
 use Rattle.bindings.specs.Log.{Logged, boundBy, rulesIn, rulesOf}
 use Rattle.bindings.specs.Held.{maxTexts, maxRows, valuesIn}
 use Rattle.bindings.proofs.Entries.{held-none}
@@ -51,12 +51,12 @@ none-lies [] a h = tt
 none-lies (n ∷ ns) a h = (omega arith, omega arith, refl, none-lies ns (drop n a) (omega (arith, length-drop n a)))
 
 module _ (names fileEnds texts bind graph : List ℕ) where
-  pub start-held : length names < 2 ^ 32 → maxTexts ≤ length texts → maxRows ≤ length bind → sum capacities ≤ length graph
+  pub start-held : NamesHold names fileEnds 0 [] → maxTexts ≤ length texts → maxRows ≤ length bind → sum capacities ≤ length graph
       → Holds [] names fileEnds texts bind graph noCounts (joined nothingRead noBlock)
-  unfolding joined boundBy rulesOf rulesIn valuesIn concat endsFrom makers makersFrom madeBy Rattle.tables.specs.Tables.endsFrom
+  unfolding joined boundBy rulesOf rulesIn valuesIn concat makers makersFrom madeBy Rattle.tables.specs.Tables.endsFrom
   start-held n t b g =
       record {
-        named = record { counted = refl; few = omega arith; room = omega arith; small = n; within = omega arith; bytes = refl; column = refl };
+        named = n;
         bound =
             record {
               held = held-none texts bind t b;

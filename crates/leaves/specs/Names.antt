@@ -24,6 +24,6 @@ pub record FindsNumber (names ends : List ℕ) (count : ℕ) (path : List ℕ) (
   pub answer : (files : List (List ℕ)) → Holds names ends count files → r ≡ foundNumber (found path files)
 
 pub record AddsNumber (names ends : List ℕ) (count : ℕ) (path names′ ends′ : List ℕ) (r : ℕ) : Type 0 where
-  pub answer : (files : List (List ℕ)) → Holds names ends count files → r ≡ addedNumber (added (length names) (length ends) path files)
+  pub answer : (files : List (List ℕ)) → Holds names ends count files → r ≡ addedNumber (added (length names) path files)
   pub after : (files : List (List ℕ)) → Holds names ends count files →
-      let a = added (length names) (length ends) path files in Holds names′ ends′ (countAfter a count) (filesAfter a path files)
+      let a = added (length names) path files in Holds names′ ends′ (countAfter a count) (filesAfter a path files)

@@ -1,4 +1,4 @@
-// The table of names in lent buffers. Both functions ask for buffers that hold a table: a caller starts with a count of 0 and buffers of less than 2^32
+// The table of names in lent buffers. Both functions ask for buffers that hold a table: a caller starts with a count of 0, 3,072 zeros and less than 2^32
 // bytes, and keeps what `kestrenyo_names_add` leaves.
 ghost use Rattle.names.specs.Table.{Sound};
 ghost use Rattle.leaves.specs.Names.{FindsNumber, AddsNumber};

@@ -1,5 +1,5 @@
 -- What a caller learns from each answer, said of the list of names alone.
-use Prim.Native.Nat.{ℕ, _+_, _≤_, _<_, min}
+use Prim.Native.Nat.{ℕ, _+_, _≤_, _<_}
 use mathlib.Core.Bool.{true, false}
 use mathlib.Core.List.{List, [], _∷_, _++_}
 use mathlib.Core.Path.{_≡_, sym, _∙_}
@@ -38,41 +38,41 @@ pub record Mentioned (files : List (List ℕ)) (p : List ℕ) (k : ℕ) (names e
   pub number : k ≡ numberOf p (mention files (p ∷ []))
   pub below : k < count
 
-added-old : (b n : ℕ) (p : List ℕ) (files : List (List ℕ)) (k : ℕ) → Old k ≡ added b n p files → (among p files ≡ true) × (k ≡ numberOf p files)
+added-old : (b : ℕ) (p : List ℕ) (files : List (List ℕ)) (k : ℕ) → Old k ≡ added b p files → (among p files ≡ true) × (k ≡ numberOf p files)
 unfolding added
-added-old b n p files k e =
+added-old b p files k e =
     split (among p files)
     (λ (h : among p files ≡ true). (h, (let q : Old k ≡ Old (numberOf p files) = rw h at e in cc)))
     (λ (h : among p files ≡ false).
-    split (fits b n p files)
-    (λ (g : fits b n p files ≡ true). let q : Old k ≡ New (length files) = rw (h, g) at e in clash (cc))
-    (λ (g : fits b n p files ≡ false). let q : Old k ≡ Full = rw (h, g) at e in clash (cc)))
+    split (fits b p files)
+    (λ (g : fits b p files ≡ true). let q : Old k ≡ New (length files) = rw (h, g) at e in clash (cc))
+    (λ (g : fits b p files ≡ false). let q : Old k ≡ Full = rw (h, g) at e in clash (cc)))
 
-added-new : (b n : ℕ) (p : List ℕ) (files : List (List ℕ)) (k : ℕ) → New k ≡ added b n p files → (among p files ≡ false) × (k ≡ length files)
+added-new : (b : ℕ) (p : List ℕ) (files : List (List ℕ)) (k : ℕ) → New k ≡ added b p files → (among p files ≡ false) × (k ≡ length files)
 unfolding added
-added-new b n p files k e =
+added-new b p files k e =
     split (among p files)
     (λ (h : among p files ≡ true). let q : New k ≡ Old (numberOf p files) = rw h at e in clash (cc))
     (λ (h : among p files ≡ false).
-    split (fits b n p files)
-    (λ (g : fits b n p files ≡ true). (h, (let q : New k ≡ New (length files) = rw (h, g) at e in cc)))
-    (λ (g : fits b n p files ≡ false). let q : New k ≡ Full = rw (h, g) at e in clash (cc)))
+    split (fits b p files)
+    (λ (g : fits b p files ≡ true). (h, (let q : New k ≡ New (length files) = rw (h, g) at e in cc)))
+    (λ (g : fits b p files ≡ false). let q : New k ≡ Full = rw (h, g) at e in clash (cc)))
 
-added-full : (b n : ℕ) (p : List ℕ) (files : List (List ℕ)) → Full ≡ added b n p files → (among p files ≡ false) × (fits b n p files ≡ false)
+added-full : (b : ℕ) (p : List ℕ) (files : List (List ℕ)) → Full ≡ added b p files → (among p files ≡ false) × (fits b p files ≡ false)
 unfolding added
-added-full b n p files e =
+added-full b p files e =
     split (among p files)
     (λ (h : among p files ≡ true). let q : Full ≡ Old (numberOf p files) = rw h at e in clash (cc))
     (λ (h : among p files ≡ false).
-    split (fits b n p files)
-    (λ (g : fits b n p files ≡ true). let q : Full ≡ New (length files) = rw (h, g) at e in clash (cc))
-    (λ (g : fits b n p files ≡ false). (h, g)))
+    split (fits b p files)
+    (λ (g : fits b p files ≡ true). let q : Full ≡ New (length files) = rw (h, g) at e in clash (cc))
+    (λ (g : fits b p files ≡ false). (h, g)))
 
 module _ {names ends : List ℕ} {count : ℕ} {p names′ ends′ : List ℕ} {r : Added} (a : Adds names ends count p names′ ends′ r) {files : List (List ℕ)} (h : Holds names ends count files) where
   pub after-old : {k : ℕ} → r ≡ Old k → Mentioned files p k names′ ends′ count
   unfolding countAfter filesAfter
   after-old {k} e =
-      let (m, q) = added-old (length names) (length ends) p files k (sym e ∙ a .answer files h) in
+      let (m, q) = added-old (length names) p files k (sym e ∙ a .answer files h) in
       let w : mention files (p ∷ []) ≡ files = mention-old files p [] m ∙ mention-none files in
       record {
         holds = rw w (rw e at (a .after files h));
@@ -83,7 +83,7 @@ module _ {names ends : List ℕ} {count : ℕ} {p names′ ends′ : List ℕ} {
   pub after-new : {k : ℕ} → r ≡ New k → Mentioned files p k names′ ends′ (count + 1)
   unfolding countAfter filesAfter
   after-new {k} e =
-      let (m, q) = added-new (length names) (length ends) p files k (sym e ∙ a .answer files h) in
+      let (m, q) = added-new (length names) p files k (sym e ∙ a .answer files h) in
       let w : mention files (p ∷ []) ≡ files ++ (p ∷ []) = mention-new files p [] m ∙ mention-none (files ++ (p ∷ [])) in
       record {
         holds = rw w (rw e at (a .after files h));
@@ -92,16 +92,16 @@ module _ {names ends : List ℕ} {count : ℕ} {p names′ ends′ : List ℕ} {
       }
 
   -- With room for its bytes, a new path is refused only where there are as many files as there may be.
-  pub after-full : r ≡ Full → maxFiles ≤ length ends → length (concat files) + length p ≤ length names → (among p files ≡ false) × (maxFiles ≤ length files) × Holds names′ ends′ count files
+  pub after-full : r ≡ Full → length (concat files) + length p ≤ length names → (among p files ≡ false) × (maxFiles ≤ length files) × Holds names′ ends′ count files
   unfolding countAfter filesAfter fits
-  after-full e l b =
-      let (m, g) = added-full (length names) (length ends) p files (sym e ∙ a .answer files h) in
+  after-full e b =
+      let (m, g) = added-full (length names) p files (sym e ∙ a .answer files h) in
       let n : maxFiles ≤ length files =
       elim (decLt (length files) maxFiles) [
         | yes k ↦
             differ
             (rw
-            (lt-ltb (length files) (min maxFiles (length ends)) (omega arith), le-leb (length (concat files) + length p) (length names) b))
+            (lt-ltb (length files) maxFiles (omega arith), le-leb (length (concat files) + length p) (length names) b))
             g
         | no k ↦ omega arith
       ] in

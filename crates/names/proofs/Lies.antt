@@ -1,17 +1,20 @@
 -- Where name k lies in the buffers, and that they hold one list of names only.
 use Prim.Native.Nat.{ℕ, zero, suc, _+_, _-_, _^_, _≤_, _<_}
+use mathlib.Core.Bool.{false}
 use mathlib.Core.List.{List, [], _∷_, _++_, append-nil, append-assoc}
 use mathlib.Core.Path.{_≡_, refl, sym, _∙_, ap}
 use native.Mathlib.Nat.{not-suc-le-zero, le-of-suc-le-suc}
+use native.Mathlib.Decide.{decLt}
 use native.Mathlib.Omega.{arith}
 use lib.ListN.{length, take, drop, getD, set, length-append, length-set}
 use native.Mathlib.Numerals.{add-one}
-use lib.Seq.{take-append-seam, drop-append-add, take-take, take-all, getD-take, ext-getD, paste, take-suc-set, length-paste, take-paste, take-length}
-use Rattle.lists.specs.Fill.{zeros}
+use lib.Seq.{take-append-seam, drop-append-add, take-take, take-all, getD-take, ext-getD, paste, take-suc-set, take-set-le, getD-set-same, getD-set-other, length-paste, take-paste, take-length}
+use Rattle.lists.specs.Fill.{zeroed, length-zeroed, getD-zeroed-in}
 use Rattle.lists.specs.Parts.{part, drop-take}
 use Rattle.rules.specs.Limits.{maxFiles}
-use Rattle.rules.specs.Basics.{concat}
-use Rattle.names.specs.Table.{endsFrom, Holds, Names, startIn}
+use Rattle.rules.specs.Basics.{among, concat}
+use Rattle.names.specs.Table.{endsFrom, bucketOf, lastIn, maxNumbers, Holds, Names, startIn, linked}
+use Rattle.names.proofs.Buckets.{bucket-small, name-old, name-new, last-none, last-old, last-new, last-other, nowhere}
 
 -- ---- names end to end
 
@@ -139,24 +142,97 @@ start-one ends (suc k) h = let z : suc k - 1 ≡ k = omega arith in rw z
 
 -- ---- no name, and one name more
 
-pub holds-none : (names : List ℕ) (n : ℕ) → length names < 2 ^ 32 → Holds names (zeros n) 0 []
+pub holds-none : (names ends : List ℕ) → length names < 2 ^ 32 → maxNumbers ≤ length ends → Holds names (zeroed ends 2048 3072) 0 []
 unfolding endsFrom concat
-holds-none names n h =
-    record { counted = refl; few = omega arith; room = omega arith; small = h; within = omega arith; bytes = refl; column = refl }
+holds-none names ends h r =
+    record {
+      counted = refl;
+      few = omega arith;
+      room = rw (length-zeroed ends 2048 3072 (omega arith) (omega (arith, r))) r;
+      small = h;
+      within = omega arith;
+      bytes = refl;
+      column = refl;
+      once = λ i j l k. absurd (not-suc-le-zero k);
+      links = λ k l. absurd (not-suc-le-zero l);
+      heads = λ b l.
+          getD-zeroed-in ends 2048 3072 (omega arith) (omega (arith, r)) (2048 + b) (omega arith) (omega (arith, l)) ∙ sym (last-none b []);
+    }
 
-pub holds-more : {names ends : List ℕ} {count : ℕ} {files : List (List ℕ)} (p : List ℕ) → Holds names ends count files → count < maxFiles → count < length ends → length (concat files) + length p ≤ length names →
-    Holds (paste names (length (concat files)) p (length p)) (set ends count (length (concat files) + length p)) (count + 1) (files ++ (p ∷ []))
-holds-more {names} {ends} {count} {files} p h a b c =
+module _ {names ends : List ℕ} {count : ℕ} {files : List (List ℕ)} (p : List ℕ) (h : Holds names ends count files) (a : count < maxFiles) (b : ℕ) (to : ℕ) where
+  -- the numbers that are as they were
+  kept : (i : ℕ) → (i ≡ count → ⊥) → (i ≡ 1024 + count → ⊥) → (i ≡ 2048 + b → ⊥) → getD (linked ends count b to) i 0 ≡ getD ends i 0
+  unfolding linked
+  kept i x y z =
+      getD-set-other (set (set ends count to) (1024 + count) (getD ends (2048 + b) 0)) (2048 + b) i (count + 1) 0 z
+      ∙ getD-set-other (set ends count to) (1024 + count) i (getD ends (2048 + b) 0) 0 y ∙ getD-set-other ends count i to 0 x
+
+  length-linked : length (linked ends count b to) ≡ length ends
+  unfolding linked
+  length-linked = simp length-set refl
+
+  head-now : b < 1024 → getD (linked ends count b to) (2048 + b) 0 ≡ count + 1
+  unfolding linked
+  head-now l = getD-set-same (set (set ends count to) (1024 + count) (getD ends (2048 + b) 0)) (2048 + b) (count + 1) 0 (simp length-set (omega (arith, h .room)))
+
+  link-now : b < 1024 → getD (linked ends count b to) (1024 + count) 0 ≡ getD ends (2048 + b) 0
+  unfolding linked
+  link-now l =
+      getD-set-other (set (set ends count to) (1024 + count) (getD ends (2048 + b) 0)) (2048 + b) (1024 + count) (count + 1) 0 (λ (q : 1024 + count ≡ 2048 + b). omega (arith, q))
+      ∙ getD-set-same (set ends count to) (1024 + count) (getD ends (2048 + b) 0) 0 (simp length-set (omega (arith, h .room)))
+
+  column-now : take (suc count) (linked ends count b to) ≡ take count ends ++ (to ∷ [])
+  unfolding linked
+  column-now =
+      take-set-le (suc count) (set (set ends count to) (1024 + count) (getD ends (2048 + b) 0)) (2048 + b) (count + 1) (omega arith)
+      ∙ take-set-le (suc count) (set ends count to) (1024 + count) (getD ends (2048 + b) 0) (omega arith) ∙ take-suc-set ends count to (omega (arith, h .room))
+
+-- the head of another bucket
+other : {names ends : List ℕ} {count : ℕ} {files : List (List ℕ)} (p : List ℕ) (h : Holds names ends count files) (a : count < maxFiles) (to b : ℕ) → b < 1024
+    → (bucketOf p ≡ b → ⊥) → getD (linked ends count (bucketOf p) to) (2048 + b) 0 ≡ lastIn b (files ++ (p ∷ [])) (count + 1)
+other {count = count} {files = files} p h a to b l d =
+    let f : count ≡ length files = h .counted in
+    let s = bucket-small p in
+    kept p h a (bucketOf p) to (2048 + b) (λ (q : 2048 + b ≡ count). omega (arith, q)) (λ (q : 2048 + b ≡ 1024 + count). omega (arith, q)) (λ (q : 2048 + b ≡ 2048 + bucketOf p). d (omega arith))
+    ∙ h .heads b l ∙ rw f (sym (last-other files p b d))
+
+pub holds-more : {names ends : List ℕ} {count : ℕ} {files : List (List ℕ)} (p : List ℕ) → Holds names ends count files → count < maxFiles → among p files ≡ false
+    → length (concat files) + length p ≤ length names
+    → Holds (paste names (length (concat files)) p (length p)) (linked ends count (bucketOf p) (length (concat files) + length p)) (count + 1) (files ++ (p ∷ []))
+holds-more {names} {ends} {count} {files} p h a m c =
     let n = length (concat files) in
     let e : length (concat (files ++ (p ∷ []))) ≡ n + length p = ap length (concat-snoc files p) ∙ length-append (concat files) p in
     let z : 0 + (n + length p) ≡ n + length p = omega arith in
     let w : length (paste names n p (length p)) ≡ length names = length-paste names n p (length p) c (omega arith) in
+    let s = bucket-small p in
+    let f : count ≡ length files = h .counted in
     record {
       counted = omega (arith, length-append files (p ∷ []), h .counted);
       few = omega arith;
-      room = rw (length-set ends count (n + length p)) (omega arith);
+      room = rw (length-linked p h a (bucketOf p) (n + length p)) (h .room);
       small = omega (arith, h .small);
       within = omega arith;
       bytes = rw (e, take-paste names n p (length p) (h .within) (omega arith), h .bytes, take-length p) (sym (concat-snoc files p));
-      column = rw (add-one count, take-suc-set ends count (n + length p) b, h .column) (sym (rw z at (ends-snoc 0 files p)));
+      column = rw (add-one count, column-now p h a (bucketOf p) (n + length p), h .column) (sym (rw z at (ends-snoc 0 files p)));
+      once = λ i j l k q. elim (decLt j count) [
+        | yes d ↦ h .once i j l d (sym (name-old files p i (omega (arith, f))) ∙ q ∙ name-old files p j (omega (arith, f)))
+        | no d ↦ (let v : j ≡ length files = omega (arith, f) in
+            nowhere p files m i (omega (arith, f)) (sym (name-old files p i (omega (arith, f))) ∙ q ∙ rw v (name-new files p)))
+      ];
+      links = λ k l. elim (decLt k count) [
+        | yes d ↦
+            rw (name-old files p k (omega (arith, f)), last-old files p (bucketOf (getD files k [])) k (omega (arith, f)))
+            (kept p h a (bucketOf p) (n + length p) (1024 + k) (λ (q : 1024 + k ≡ count). omega (arith, q)) (λ (q : 1024 + k ≡ 1024 + count). omega (arith, q)) (λ (q : 1024 + k ≡ 2048 + bucketOf p). omega (arith, q)) ∙ h .links k d)
+        | no d ↦ (let v : k ≡ count = omega arith in
+            rw (v, f, name-new files p, last-old files p (bucketOf p) (length files) (omega arith), ← f)
+            (link-now p h a (bucketOf p) (n + length p) s ∙ h .heads (bucketOf p) s))
+      ];
+      heads = λ b l. elim (decLt b (bucketOf p)) [
+        | yes d ↦ other p h a (n + length p) b l (λ (q : bucketOf p ≡ b). omega (arith, q))
+        | no d ↦ elim (decLt (bucketOf p) b) [
+          | yes g ↦ other p h a (n + length p) b l (λ (q : bucketOf p ≡ b). omega (arith, q))
+          | no g ↦ (let v : b ≡ bucketOf p = omega arith in
+              rw (v, f, last-new files p (bucketOf p) refl, ← f) (head-now p h a (bucketOf p) (n + length p) s))
+        ]
+      ];
     }

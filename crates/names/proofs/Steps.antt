@@ -1,88 +1,94 @@
 -- A turn of the search through the names, and what each way out of a function gives.
-use Prim.Native.Nat.{ℕ, suc, _+_, _-_, _≤_, _<_, min}
+use Prim.Native.Nat.{ℕ, _+_, _-_, _≤_, _<_}
 use mathlib.Core.Bool.{true, false}
-use mathlib.Core.List.{List, [], _∷_}
-use mathlib.Core.Path.{_≡_, refl, sym, _∙_}
-use native.Mathlib.Numerals.{add-one}
+use mathlib.Core.List.{List, []}
+use mathlib.Core.Path.{_≡_, sym, _∙_, ap}
+use native.Mathlib.Decide.{decLt}
 use native.Mathlib.Omega.{arith}
 use borrow.Author.Tests.{lt-ltb, le-ltb, le-leb, lt-leb}
-use lib.ListN.{length, drop, getD, set, drop-of-length-le}
-use lib.Seq.{drop-cons, paste}
-use Rattle.lists.specs.Tests.{ifB, split}
-use Rattle.lists.specs.Bytes.{eqBytes}
-use Rattle.lists.specs.Parts.{part}
+use lib.ListN.{length, getD}
+use lib.Seq.{paste}
+use Rattle.lists.specs.Tests.{split}
+use Rattle.lists.specs.Bytes.{eqBytes, eqBytes-true, eqBytes-false}
 use Rattle.rules.specs.Limits.{maxFiles}
 use Rattle.rules.specs.Basics.{among, concat}
 use Rattle.rules.specs.Reading.{numberOf}
 use Rattle.names.specs.declared.Found.{Found}
 use Rattle.names.specs.declared.Found.the-variants.{At, Missing}
 use Rattle.names.specs.declared.Added.the-variants.{Old, New, Full}
-use Rattle.names.specs.Table.{Holds, Sound, found, fits, added, filesAfter, countAfter, Finds, Adds, startIn}
-use Rattle.names.proofs.Numbers.{among-none, among-here, among-there, number-here, number-there}
-use Rattle.names.proofs.Lies.{holds-one, holds-more, name-held, used-held}
+use Rattle.names.specs.Table.{bucketOf, lastIn, Holds, Sound, found, fits, added, filesAfter, countAfter, Finds, Adds, Names, startIn, linked}
+use Rattle.names.proofs.Buckets.{bucket-small, last-low, last-is, last-behind, first-stands, among-nowhere}
+use Rattle.names.proofs.Lies.{holds-one, holds-more, used-held}
 
 -- ---- the search
 
--- what is left to find, from name k on
-unfoldable pub foundFrom : ℕ → List ℕ → List (List ℕ) → Found
-foundFrom k p l = ifB (among p l) (λ _. At (k + numberOf p l)) (λ _. Missing)
-
-found-here : (k : ℕ) (p f : List ℕ) (l : List (List ℕ)) → eqBytes p f ≡ true → foundFrom k p (f ∷ l) ≡ At k
-unfolding foundFrom
-found-here k p f l e = let z : k + 0 ≡ k = omega arith in rw (among-here p f l e, number-here p f l e, z)
-
-found-there : (k : ℕ) (p f : List ℕ) (l : List (List ℕ)) → eqBytes p f ≡ false → foundFrom k p (f ∷ l) ≡ foundFrom (k + 1) p l
-unfolding foundFrom
-found-there k p f l e =
-    let z : k + suc (numberOf p l) ≡ k + 1 + numberOf p l = omega arith in
-    rw (among-there p f l e, number-there p f l e, z)
-
-found-none : (k : ℕ) (p : List ℕ) → foundFrom k p [] ≡ Missing
-unfolding foundFrom
-found-none k p = rw (among-none p)
-
--- the state of the search
-pub record Finding (names ends : List ℕ) (count : ℕ) (path : List ℕ) (from k : ℕ) : Type 0 where
+-- the state of the search: no name from j on is the path, and the one before j is in its bucket
+pub record Finding (names ends : List ℕ) (count : ℕ) (path : List ℕ) (j : ℕ) : Type 0 where
   pub files : List (List ℕ)
   pub holds : Holds names ends count files
-  pub within : k ≤ count
-  pub start : from ≡ startIn ends k
-  pub rest : found path files ≡ foundFrom k path (drop k files)
+  pub within : j ≤ count
+  pub bucket : 0 < j → bucketOf (getD files (j - 1) []) ≡ bucketOf path
+  pub passed : (k : ℕ) → j ≤ k → k < count → getD files k [] ≡ path → ⊥
 
-pub find-begin : {names ends : List ℕ} {count : ℕ} {path : List ℕ} → Sound names ends count → Finding names ends count path 0 0
-unfolding startIn found foundFrom
-find-begin {path = path} s =
-    let z : 0 + numberOf path (s .files) ≡ numberOf path (s .files) = omega arith in
-    record { files = s .files; holds = s .holds; within = omega arith; start = refl; rest = rw z }
+module _ {names ends : List ℕ} {count : ℕ} {path : List ℕ} where
+  pub find-begin : {b : ℕ} → Sound names ends count → b ≡ bucketOf path → Finding names ends count path (getD ends (2048 + b) 0)
+  find-begin {b} s e =
+      let q : b < 1024 = rw e (bucket-small path) in
+      let h : getD ends (2048 + b) 0 ≡ lastIn b (s .files) count = s .holds .heads b q in
+      record {
+        files = s .files;
+        holds = s .holds;
+        within = rw h (last-low b (s .files) count);
+        bucket = λ d. rw h (last-is b (s .files) count (rw h at d)) ∙ e;
+        passed = λ k l d f. last-behind b (s .files) count k (rw h at l) d (ap bucketOf f ∙ sym e);
+      }
 
-module _ {names ends : List ℕ} {count : ℕ} {path : List ℕ} {from k : ℕ} (r : Finding names ends count path from k) where
-  -- whatever they hold, it is what the search goes through
-  finds : {a : Found} → found path (r .files) ≡ a → Finds names ends count path a
-  finds e = record { answer = λ files h. rw (← holds-one (r .holds) h) (sym e) }
+  module _ {j : ℕ} (r : Finding names ends count path j) where
+    -- whatever they hold, it is what the search goes through
+    finds : {a : Found} → found path (r .files) ≡ a → Finds names ends count path a
+    finds e = record { answer = λ files h. rw (← holds-one (r .holds) h) (sym e) }
 
-  pub find-end : count ≤ k → Finds names ends count path Missing
-  find-end h = finds (r .rest ∙ rw (drop-of-length-le (r .files) {i = k} (omega (arith, r .holds .counted))) (found-none k path))
+    pub find-end : j ≤ 0 → Finds names ends count path Missing
+    unfolding found
+    find-end l =
+        finds (rw (among-nowhere path (r .files) (λ k d. r .passed k (omega arith) (omega (arith, r .holds .counted)))))
 
-  module _ (l : k < count) where
-    here : drop k (r .files) ≡ getD (r .files) k [] ∷ drop (k + 1) (r .files)
-    here = rw (add-one k) (drop-cons (r .files) k [] (omega (arith, r .holds .counted)))
+    module _ (l : 0 < j) {n : List ℕ} (a : Names names ends count (j - 1) n) where
+      name : n ≡ getD (r .files) (j - 1) []
+      name = a .answer (r .files) (r .holds)
 
-    name : part names from (getD ends k 0) ≡ getD (r .files) k []
-    name = rw (r .start) (name-held (r .holds) k l)
+      pub find-here : eqBytes path n ≡ true → Finds names ends count path (At (j - 1))
+      unfolding found
+      find-here e =
+          let q : getD (r .files) (j - 1) [] ≡ path = sym (eqBytes-true path n e ∙ name) in
+          let w : j - 1 < count = omega (arith, r .within) in
+          let (x, y) = first-stands path (r .files) (j - 1) (omega (arith, r .holds .counted)) q (λ i d f. r .holds .once i (j - 1) d w (f ∙ sym q)) in
+          finds (rw (x, y))
 
-    pub find-here : eqBytes path (part names from (getD ends k 0)) ≡ true → Finds names ends count path (At k)
-    find-here e = finds (r .rest ∙ rw here (found-here k path (getD (r .files) k []) (drop (k + 1) (r .files)) (rw name at e)))
+      pub find-more : eqBytes path n ≡ false → Finding names ends count path (getD ends (1024 + (j - 1)) 0)
+      find-more e =
+          let w : j - 1 < count = omega (arith, r .within) in
+          let b = bucketOf (getD (r .files) (j - 1) []) in
+          let h : getD ends (1024 + (j - 1)) 0 ≡ lastIn b (r .files) (j - 1) = r .holds .links (j - 1) w in
+          let u : b ≡ bucketOf path = r .bucket l in
+          record {
+            files = r .files;
+            holds = r .holds;
+            within = omega (arith, h, last-low b (r .files) (j - 1));
+            bucket = λ d. rw h (last-is b (r .files) (j - 1) (rw h at d)) ∙ u;
+            passed = λ k g d f. elim (decLt k (j - 1)) [
+              | yes v ↦ last-behind b (r .files) (j - 1) k (rw h at g) v (ap bucketOf f ∙ sym u)
+              | no v ↦ elim (decLt (j - 1) k) [
+                | yes x ↦ r .passed k (omega arith) d f
+                | no x ↦ (let z : k ≡ j - 1 = omega arith in eqBytes-false e (sym (name ∙ (rw z at f))))
+              ]
+            ];
+          }
 
-    pub find-more : eqBytes path (part names from (getD ends k 0)) ≡ false → Finding names ends count path (getD ends k 0) (k + 1)
-    unfolding startIn
-    find-more e =
-        record {
-          files = r .files;
-          holds = r .holds;
-          within = omega arith;
-          start = rw (add-one k);
-          rest = r .rest ∙ rw here (found-there k path (getD (r .files) k []) (drop (k + 1) (r .files)) (rw name at e));
-        }
+      pub less : getD ends (1024 + (j - 1)) 0 < j
+      less =
+          let h = r .holds .links (j - 1) (omega (arith, r .within)) in
+          omega (arith, h, last-low (bucketOf (getD (r .files) (j - 1) [])) (r .files) (j - 1))
 
 -- ---- what the answers of `find` say
 
@@ -119,33 +125,29 @@ module _ {names ends : List ℕ} {count : ℕ} {p : List ℕ} {r : Found} (f : F
     absent : (files : List (List ℕ)) → Holds names ends count files → among p files ≡ false
     absent files h = found-missing p files (sym e ∙ f .answer files h)
 
-    pub add-full : ((files : List (List ℕ)) → Holds names ends count files → fits (length names) (length ends) p files ≡ false) → Adds names ends count p names ends Full
+    pub add-full : ((files : List (List ℕ)) → Holds names ends count files → fits (length names) p files ≡ false) → Adds names ends count p names ends Full
     unfolding added countAfter filesAfter
     add-full n = record { answer = λ files h. rw (absent files h, n files h); after = λ files h. h }
 
     pub full-files : maxFiles ≤ count → Adds names ends count p names ends Full
     unfolding fits
-    full-files l = add-full (λ files h. rw (le-ltb (length files) (min maxFiles (length ends)) (omega (arith, h .counted))))
+    full-files l = add-full (λ files h. rw (le-ltb (length files) maxFiles (omega (arith, h .counted))))
 
-    pub full-column : length ends ≤ count → Adds names ends count p names ends Full
-    unfolding fits
-    full-column l = add-full (λ files h. rw (le-ltb (length files) (min maxFiles (length ends)) (omega (arith, h .counted))))
-
-    module _ (a : count < maxFiles) (b : count < length ends) {from : ℕ} (s : from ≡ startIn ends count) where
+    module _ (a : count < maxFiles) {from : ℕ} (s : from ≡ startIn ends count) where
       pub full-bytes : length names - from < length p → Adds names ends count p names ends Full
       unfolding fits
       full-bytes l =
           add-full
           (λ files h.
-          rw
-          (lt-ltb (length files) (min maxFiles (length ends)) (omega (arith, h .counted)), lt-leb (length (concat files) + length p) (length names) (omega (arith, used-held h))))
+          rw (lt-ltb (length files) maxFiles (omega (arith, h .counted)), lt-leb (length (concat files) + length p) (length names) (omega (arith, used-held h))))
 
-      pub add-new : length p ≤ length names - from → Adds names ends count p (paste names from p (length p)) (set ends count (from + length p)) (New count)
+      pub add-new : length p ≤ length names - from → {b : ℕ} → b ≡ bucketOf p
+          → Adds names ends count p (paste names from p (length p)) (linked ends count b (from + length p)) (New count)
       unfolding added fits countAfter filesAfter
-      add-new l =
+      add-new l e =
           record {
             answer = λ files h.
                 rw
-                (absent files h, lt-ltb (length files) (min maxFiles (length ends)) (omega (arith, h .counted)), le-leb (length (concat files) + length p) (length names) (omega (arith, used-held h, h .within)), h .counted);
-            after = λ files h. rw (s ∙ used-held h) (holds-more p h a b (omega (arith, used-held h, h .within)));
+                (absent files h, lt-ltb (length files) maxFiles (omega (arith, h .counted)), le-leb (length (concat files) + length p) (length names) (omega (arith, used-held h, h .within)), h .counted);
+            after = λ files h. rw (e, s ∙ used-held h) (holds-more p h a (absent files h) (omega (arith, used-held h, h .within)));
           }

@@ -1,10 +1,10 @@
 -- What a table of names holds, and what its functions answer. Nothing but this file says how names lie in the two buffers.
-use Prim.Native.Nat.{ℕ, zero, suc, _+_, _^_, _≤_, _<_, min}
+use Prim.Native.Nat.{ℕ, zero, suc, _+_, _*_, _%_, _^_, _≤_, _<_}
 use mathlib.Core.Bool.{Bool, _&&_}
 use mathlib.Core.List.{List, [], _∷_, _++_}
 use mathlib.Core.Path.{_≡_}
-use lib.Dec.{ltb, leb}
-use lib.ListN.{length, take, getD}
+use lib.Dec.{eqb, ltb, leb}
+use lib.ListN.{length, take, getD, set}
 use Rattle.lists.specs.Tests.{ifB}
 use Rattle.rules.specs.Limits.{maxFiles}
 use Rattle.rules.specs.Basics.{among, concat}
@@ -21,18 +21,38 @@ unfoldable pub endsFrom : ℕ → List (List ℕ) → List ℕ
 endsFrom at [] = []
 endsFrom at (f ∷ l) = (at + length f) ∷ endsFrom (at + length f) l
 
--- how many names there is room for with so many numbers beside them
-unfoldable pub entriesFor : ℕ → ℕ
-entriesFor n = min maxFiles n
+-- the bucket of a name, of 1,024, by its bytes
+unfoldable pub bucketFrom : ℕ → List ℕ → ℕ
+bucketFrom h [] = h
+bucketFrom h (b ∷ s) = bucketFrom ((h * 403 + b) % 1024) s
+
+unfoldable pub bucketOf : List ℕ → ℕ
+unfolding bucketFrom
+bucketOf p = bucketFrom 0 p
+
+-- the last of the first n names that is in bucket b, by its number and one more, or 0
+unfoldable pub lastIn : ℕ → List (List ℕ) → ℕ → ℕ
+unfolding bucketOf
+lastIn b files zero = 0
+lastIn b files (suc n) = ifB (eqb (bucketOf (getD files n [])) b) (λ _. suc n) (λ _. lastIn b files n)
+
+-- how many numbers a table has beside its bytes: ends, a link for each name, and the head of each bucket
+abbrev pub maxNumbers : ℕ
+maxNumbers = 3 * maxFiles
 
 pub record Holds (names ends : List ℕ) (count : ℕ) (files : List (List ℕ)) : Type 0 where
   pub counted : count ≡ length files
   pub few : count ≤ maxFiles
-  pub room : count ≤ length ends
+  pub room : maxNumbers ≤ length ends
   pub small : length names < 2 ^ 32
   pub within : length (concat files) ≤ length names
   pub bytes : take (length (concat files)) names ≡ concat files
   pub column : take count ends ≡ endsFrom 0 files
+  -- no name is there twice
+  pub once : (i j : ℕ) → i < j → j < count → getD files i [] ≡ getD files j [] → ⊥
+  -- each name's link is the one before it in its bucket
+  pub links : (k : ℕ) → k < count → getD ends (1024 + k) 0 ≡ lastIn (bucketOf (getD files k [])) files k
+  pub heads : (b : ℕ) → b < 1024 → getD ends (2048 + b) 0 ≡ lastIn b files count
 
 -- the buffers hold some table
 pub record Sound (names ends : List ℕ) (count : ℕ) : Type 0 where
@@ -44,15 +64,14 @@ pub record Sound (names ends : List ℕ) (count : ℕ) : Type 0 where
 unfoldable pub found : List ℕ → List (List ℕ) → Found
 found p files = ifB (among p files) (λ _. At (numberOf p files)) (λ _. Missing)
 
--- is there room for one more: so many bytes, and so many numbers beside them
-unfoldable pub fits : ℕ → ℕ → List ℕ → List (List ℕ) → Bool
-unfolding entriesFor
-fits bytes numbers p files = ltb (length files) (entriesFor numbers) && leb (length (concat files) + length p) bytes
+-- is there room for one more, with so many bytes
+unfoldable pub fits : ℕ → List ℕ → List (List ℕ) → Bool
+fits bytes p files = ltb (length files) maxFiles && leb (length (concat files) + length p) bytes
 
-unfoldable pub added : ℕ → ℕ → List ℕ → List (List ℕ) → Added
+unfoldable pub added : ℕ → List ℕ → List (List ℕ) → Added
 unfolding fits
-added bytes numbers p files =
-    ifB (among p files) (λ _. Old (numberOf p files)) λ _. ifB (fits bytes numbers p files) (λ _. New (length files)) (λ _. Full)
+added bytes p files =
+    ifB (among p files) (λ _. Old (numberOf p files)) λ _. ifB (fits bytes p files) (λ _. New (length files)) (λ _. Full)
 
 -- the names and their count after an answer
 unfoldable pub filesAfter : Added → List ℕ → List (List ℕ) → List (List ℕ)
@@ -69,7 +88,7 @@ pub record Finds (names ends : List ℕ) (count : ℕ) (path : List ℕ) (r : Fo
   pub answer : (files : List (List ℕ)) → Holds names ends count files → r ≡ found path files
 
 pub record Adds (names ends : List ℕ) (count : ℕ) (path names′ ends′ : List ℕ) (r : Added) : Type 0 where
-  pub answer : (files : List (List ℕ)) → Holds names ends count files → r ≡ added (length names) (length ends) path files
+  pub answer : (files : List (List ℕ)) → Holds names ends count files → r ≡ added (length names) path files
   pub after : (files : List (List ℕ)) → Holds names ends count files → Holds names′ ends′ (countAfter r count) (filesAfter r path files)
 
 pub record Names (names ends : List ℕ) (count k : ℕ) (r : List ℕ) : Type 0 where
@@ -79,3 +98,7 @@ pub record Names (names ends : List ℕ) (count k : ℕ) (r : List ℕ) : Type 0
 unfoldable pub startIn : List ℕ → ℕ → ℕ
 startIn ends zero = 0
 startIn ends (suc k) = getD ends k 0
+
+-- the three numbers of a name more: its end, its link, and the head of its bucket
+unfoldable pub linked : List ℕ → ℕ → ℕ → ℕ → List ℕ
+linked ends count b to = set (set (set ends count to) (1024 + count) (getD ends (2048 + b) 0)) (2048 + b) (count + 1)

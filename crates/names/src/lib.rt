@@ -1,11 +1,15 @@
-// The table of file names: a number for each path, by first mention. The bytes of the names lie end to end in `names`, and `ends` has where each ends.
+// The table of file names: a number for each path, by first mention. The bytes of the names lie end to end in `names`; `ends` has where each
+// ends, then a link for each to the one before it in its bucket, then the last name of each bucket.
 ghost use mathlib.Core.Path.{_≡_};
-ghost use Prim.Native.Nat.{_≤_, _<_};
+ghost use Prim.Native.Nat.{_^_, _≤_, _<_};
 ghost use lib.ListN.{length};
-ghost use Rattle.names.specs.Table.{Sound, Finds, Adds, Names, startIn};
+ghost use Rattle.lists.specs.Fill.{zeroed};
+ghost use Rattle.rules.specs.Limits.{maxFiles};
+ghost use Rattle.names.specs.Table.{bucketOf, maxNumbers, Sound, Finds, Adds, Names, startIn, linked};
 use lists::bytes::copy_at;
 use lists::bytes::equal;
 use lists::words::at;
+use lists::words::zero_part;
 
 pub enum Found {
     At(usize),
@@ -21,22 +25,58 @@ pub enum Added {
     Full,
 }
 
-// The number of a path.
+fn wide(b: u8) -> usize
+    ensures { λ r. ⌜ r ≡ b ⌝ }
+{
+    b as usize
+}
+
+// The bucket of a path.
+fn bucket(path: &[u8]) -> usize
+    ensures { λ r. ⌜ r ≡ bucketOf (now (path .entry)) ⌝ }
+{
+    let mut h = 0;
+    let mut i = 0;
+    while i < path.len() {
+        h = (h * 403 + wide(path[i])) % 1024;
+        i += 1;
+    }
+    h
+}
+
+// Makes the table one of no names.
+pub fn clear(ends: &mut [u32])
+    requires { ⌜ maxNumbers ≤ length (now ends) ⌝ }
+    ensures { λ _. ⌜ now (ends .exit) ≡ zeroed (now (ends .entry)) 2048 3072 ⌝ }
+{
+    zero_part(ends, 2048, 3072);
+}
+
+// The number of a path, by the names of its bucket from the last to the first.
 pub fn find(names: &[u8], ends: &[u32], count: usize, path: &[u8]) -> Found
     requires { ⌜ Sound (now names) (now ends) count ⌝ }
     ensures { λ r. ⌜ Finds (now (names .entry)) (now (ends .entry)) count (now (path .entry)) r ⌝ }
 {
-    let mut from = 0;
-    let mut k = 0;
-    while k < count {
-        let to = at(ends, k);
-        if equal(path, &names[from..to]) {
+    let mut j = at(ends, 2048 + bucket(path));
+    while 0 < j {
+        let k = j - 1;
+        if equal(path, name(names, ends, count, k)) {
             return Found::At(k);
         }
-        from = to;
-        k += 1;
+        j = at(ends, 1024 + k);
     }
     Found::Missing
+}
+
+// Puts down the numbers of a name more.
+fn link(ends: &mut [u32], count: usize, b: usize, to: usize)
+    requires { ⌜ (maxNumbers ≤ length (now ends)) × (count < maxFiles) × (b < 1024) × (to < 2 ^ 32) ⌝ }
+    ensures { λ _. ⌜ now (ends .exit) ≡ linked (now (ends .entry)) count b to ⌝ }
+{
+    let head = ends[2048 + b];
+    ends[count] = to as u32;
+    ends[1024 + count] = head;
+    ends[2048 + b] = (count + 1) as u32;
 }
 
 // The number of a path, which is added where it is not there yet.
@@ -51,15 +91,12 @@ pub fn add(names: &mut [u8], ends: &mut [u32], count: usize, path: &[u8]) -> Add
     if 1024 <= count {
         return Added::Full;
     }
-    if ends.len() <= count {
-        return Added::Full;
-    }
     let from = start(ends, count);
     if names.len() - from < path.len() {
         return Added::Full;
     }
     copy_at(names, from, path);
-    ends[count] = (from + path.len()) as u32;
+    link(ends, count, bucket(path), from + path.len());
     Added::New(count)
 }
 

@@ -1,5 +1,5 @@
 -- The plan of a read graph is the rules' own plan of the reading and the card.
-use Prim.Native.Nat.{ℕ, _+_, _-_, _≤_}
+use Prim.Native.Nat.{ℕ, _+_, _-_, _≤_, _<_}
 use native.Mathlib.Decide.{decLt}
 use native.Mathlib.Nat.{not-suc-le-zero}
 use native.Mathlib.Omega.{arith}
@@ -10,11 +10,12 @@ use mathlib.Core.List.{List, [], _∷_}
 use borrow.Author.Tests.{eqb-true, leb-true}
 use lib.Dec.{eqb, leb}
 use lib.Seq.{drop-drop}
-use lib.ListN.{length, take, drop, length-take, length-drop, List·getD-eq-default}
-use Rattle.lists.specs.Tests.{split, differ, and-left, and-right}
+use lib.ListN.{length, getD, take, drop, length-take, length-drop, List·getD-eq-default}
+use Rattle.lists.specs.Tests.{ifB, split, differ, and-left, and-right}
 use Rattle.lists.specs.Bytes.{eqBytes}
 use Rattle.lists.specs.Members.{find, upTo}
 use Rattle.rules.specs.declared.PlanAnswer.{PlanAnswer}
+use Rattle.rules.specs.declared.Refusal.the-variants.{NoRoot}
 use Rattle.rules.specs.Limits.{maxPath, maxTime, leastList}
 use Rattle.rules.specs.Reading.{Reading}
 use Rattle.rules.specs.Manifest.{accepted}
@@ -22,12 +23,12 @@ use Rattle.rules.specs.Card.{CardRecord, soundRecord, soundRecords, soundHeader
 use Rattle.rules.specs.Targets.{badTarget}
 use Rattle.rules.specs.Graph.{roots, noRoot, isNeededSource}
 use Rattle.rules.specs.Answers.{planSays}
-use Rattle.rules.specs.PlanAsk.{cardTime, targetFiles, missingSource, listedOr15, planFrom, planRoots, planRead}
+use Rattle.rules.specs.PlanAsk.{noPlan, cardTime, targetFiles, missingSource, listedOr15, planFrom, planRoots, planRead}
 use Rattle.rules.specs.Promises.{PlanMeets}
 use Rattle.tables.specs.Tables.{Holds}
 use Rattle.tables.proofs.Held.{held-steps, held-sound}
 use Rattle.stale.specs.Judge.{timeAt}
-use Rattle.planning.specs.Plan.{missingOf, listedOr, planOf, planRooted, rootsOf, planGraph, PlansGraph, Numbers, PlanAsked, Timed}
+use Rattle.planning.specs.Plan.{missingOf, listedOr, planOf, planRooted, rootsOf, planGraph, PlansGraph, PlanAsked, Timed}
 
 -- ---- a sound card has no empty name
 
@@ -103,27 +104,35 @@ module _ (card : List ℕ) (sound : soundCard card ≡ true) where
     unfolding rootsOf roots
     roots-are ts = refl
 
-    pub plan-of-roots : (targets : List ℕ) → planGraph (rd .steps) (length (rd .files)) (timeAt times) (rd .defaults) (targetFiles targets rd) ≡ planRoots card targets rd none
-    unfolding planGraph planRooted planRoots noRoot
-    plan-of-roots targets = rw (roots-are (targetFiles targets rd), plan-of-reading (roots rd (targetFiles targets rd)))
+    -- 13 to 15 and the list, with the targets by number
+    pub plan-of-targets : (ts : List ℕ) → planGraph (rd .steps) (length (rd .files)) (timeAt times) (rd .defaults) ts ≡ ifB (noRoot rd ts) (λ _. noPlan NoRoot) (λ _. planFrom card rd (roots rd ts))
+    unfolding planGraph planRooted noRoot
+    plan-of-targets ts = rw (roots-are ts, plan-of-reading (roots rd ts))
 
-    pub plan-of-read : (targets : List ℕ) → badTarget (rd .files) targets ≡ none
-        → planGraph (rd .steps) (length (rd .files)) (timeAt times) (rd .defaults) (targetFiles targets rd) ≡ planRead card targets (accepted rd)
-    unfolding planRead
-    plan-of-read targets b = rw (sound, b) (plan-of-roots targets)
+    module _ (targets : List ℕ) (ts : List ℕ) (e : ts ≡ targetFiles targets rd) where
+      pub plan-of-roots : planGraph (rd .steps) (length (rd .files)) (timeAt times) (rd .defaults) ts ≡ planRoots card targets rd none
+      unfolding planRoots
+      plan-of-roots = rw e (plan-of-targets (targetFiles targets rd))
 
-    -- what the planning function promises is what the ask does, past 1 to 12
-    pub plan-promised : (targets : List ℕ) → badTarget (rd .files) targets ≡ none → {mentions ends phony made : List ℕ} (list exit : List ℕ) (answer : PlanAnswer)
-        → Holds (rd .steps) (length (rd .files)) mentions ends phony made → PlansGraph mentions ends phony made times (rd .defaults) (targetFiles targets rd) list answer exit
-        → PlanMeets (planRead card targets (accepted rd)) list (planSays answer) exit
-    plan-promised targets b list exit answer h p = rw (plan-of-read targets b) at (p (rd .steps) (length (rd .files)) h)
+      pub plan-of-read : badTarget (rd .files) targets ≡ none → planGraph (rd .steps) (length (rd .files)) (timeAt times) (rd .defaults) ts ≡ planRead card targets (accepted rd)
+      unfolding planRead
+      plan-of-read b = rw (sound, b) plan-of-roots
+
+      -- what the planning function promises is what the ask does, past 1 to 12
+      pub plan-promised : badTarget (rd .files) targets ≡ none → {mentions ends phony made : List ℕ} (list exit : List ℕ) (answer : PlanAnswer)
+          → Holds (rd .steps) (length (rd .files)) mentions ends phony made → PlansGraph mentions ends phony made times (rd .defaults) ts list answer exit
+          → PlanMeets (planRead card targets (accepted rd)) list (planSays answer) exit
+      plan-promised b list exit answer h p = rw (plan-of-read b) at (p (rd .steps) (length (rd .files)) h)
 
 -- ---- what is read can be planned
 
+abbrev Low : List ℕ → ℕ → Type 0
+Low fs n = (i : ℕ) → i < length fs → getD fs i 0 < n
+
 pub plan-askable : (rd : Reading) {card times mentions ends phony made ts list : List ℕ} → Timed card (rd .files) times → Holds (rd .steps) (length (rd .files)) mentions ends phony made
-    → Numbers (rd .defaults) made → Numbers ts made → leastList ≤ length list → PlanAsked mentions ends phony made times (rd .defaults) ts list
+    → Low (rd .defaults) (length (rd .files)) → Low ts (length (rd .files)) → leastList ≤ length list → PlanAsked mentions ends phony made times (rd .defaults) ts list
 plan-askable rd t h d g r = record {
   asked = record { sound = rw (held-steps h) (held-sound h); timed = t .long ∙ sym (h .counted); room = r };
-  defaults-low = d;
-  targets-low = g;
+  defaults-low = rw (h .counted) d;
+  targets-low = rw (h .counted) g;
 }

@@ -95,7 +95,7 @@ module _ {card targets names ends graph : List ℕ} {c : Counts} (s : soundCard 
     pub meets : {answer : PlanAnswer} {list exit : List ℕ} → PlansColumns graph c (take (c .files) times) (take k numbers) list answer exit
         → PlanMeets (planRead card targets (accepted rd)) list (planSays answer) exit
     meets {answer} {list} {exit} p =
-        subst (λ (o : PlanOutcome). PlanMeets o list (planSays answer) exit) (plan-of-read card s rd (take (c .files) times) timed targets (numbered .good)) (rw targets-are at (p .plans rd (tabled h)))
+        subst (λ (o : PlanOutcome). PlanMeets o list (planSays answer) exit) (plan-of-read card s rd (take (c .files) times) timed targets (take k numbers) targets-are (numbered .good)) (p .plans rd (tabled h))
 
   pub plans : {answer : PlanAnswer} {list exit : List ℕ} → PlansColumns graph c (take (c .files) times) (take k numbers) list answer exit
       → PlansRead card targets names ends graph c list answer exit

@@ -33,7 +33,7 @@ fn has_line(texts: &[u8], bind: &[u32], count: usize, owner: usize, name: &[u8])
 }
 
 // "`phony` is declared from the start."
-fn is_declared(texts: &[u8], bind: &[u32], c: Counts, name: &[u8]) -> bool
+pub fn is_declared(texts: &[u8], bind: &[u32], c: Counts, name: &[u8]) -> bool
     requires { ⌜ Table (now texts) (now bind) (c .entries) ⌝ }
     ensures { λ r. ⌜ ((log : List Logged) (rd : Reading) → Bound log (now (texts .entry)) (now (bind .entry)) c rd → r ≡ declared (now (name .entry)) rd) ⌝ }
 {

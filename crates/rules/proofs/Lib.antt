@@ -7,3 +7,4 @@ pub mod Promises
 pub mod Marked
 pub mod WrongPlanners
 pub mod Answers
+pub mod Refusals

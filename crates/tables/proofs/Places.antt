@@ -168,3 +168,32 @@ module _ (steps : List Step) where
         inputs = r .inputs;
         mentioned = omega (arith, r .mentioned);
       }
+
+-- ---- the explicit inputs alone
+
+first-ins : (pre : List ℕ) (x : Step) (rest : List ℕ) → part (pre ++ (mentionsOf x ++ rest)) (length pre + length (x .outs)) (length pre + length (x .outs) + length (x .ins)) ≡ x .ins
+unfolding mentionsOf inputs
+first-ins pre x rest =
+    rw (append-assoc (x .outs) (inputs x) rest, ← append-assoc pre (x .outs) (inputs x ++ rest), append-assoc (x .ins) (x .implicit ++ x .orderOnly) rest)
+    (part-mid (pre ++ x .outs) (x .ins) ((x .implicit ++ x .orderOnly) ++ rest) (length pre + length (x .outs)) (length pre + length (x .outs) + length (x .ins))
+    (sym (length-append pre (x .outs))) (simp length-append (omega arith)))
+
+ins-at : (pre : List ℕ) (steps : List Step) (s : ℕ) → part (pre ++ concat (map mentionsOf steps)) (endOf (length pre) steps s 0) (endOf (length pre) steps s 1) ≡ stepAt steps s .ins
+unfolding endsFrom concat
+ins-at pre [] s = refl
+ins-at pre (x ∷ l) zero = first-ins pre x (concat (map mentionsOf l))
+ins-at pre (x ∷ l) (suc s) =
+    rw (end-next (length pre) x l s 0, end-next (length pre) x l s 1, ← moved pre x l, ← length-after pre x) (ins-at (pre ++ mentionsOf x) l s)
+
+ins-ordered : (k : ℕ) (steps : List Step) (s : ℕ) → s < length steps → (endOf k steps s 0 ≤ endOf k steps s 1) × (endOf k steps s 1 ≤ endOf k steps s 2)
+unfolding endsFrom after
+ins-ordered k [] s b = absurd (not-suc-le-zero b)
+ins-ordered k (x ∷ l) zero b = (omega arith, omega arith)
+ins-ordered k (x ∷ l) (suc s) b = rw (end-next k x l s 0, end-next k x l s 1, end-next k x l s 2) (ins-ordered (after k x) l s (le-of-suc-le-suc b))
+
+module _ (steps : List Step) where
+  pub read-ins : (s : ℕ) → part (concat (map mentionsOf steps)) (getD (endsFrom 0 steps) (4 * s) 0) (getD (endsFrom 0 steps) (4 * s + 1) 0) ≡ stepAt steps s .ins
+  read-ins s = rw add-zero at (ins-at [] steps s)
+
+  pub read-ins-placed : (s : ℕ) → s < length steps → (getD (endsFrom 0 steps) (4 * s) 0 ≤ getD (endsFrom 0 steps) (4 * s + 1) 0) × (getD (endsFrom 0 steps) (4 * s + 1) 0 ≤ getD (endsFrom 0 steps) (4 * s + 2) 0)
+  read-ins-placed s b = rw add-zero at (ins-ordered 0 steps s b)

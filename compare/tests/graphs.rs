@@ -1,0 +1,98 @@
+//! The proved plan of a read graph against the second planner's planning and against its naive transcription of the rules.
+//! `GRAPHS` in the environment runs another number of graphs, from seed `FROM` on.
+
+use compare::graphs::{plan, Said, Tables};
+use second::generate::graphs::{graph_ask, GraphAsk};
+use second::naive::{self, Verdict};
+use second::plan::plan_graph;
+use second::rng::Rng;
+use second::PlanAnswer;
+use std::collections::BTreeMap;
+
+const GRAPHS: u64 = 200_000;
+
+fn setting(name: &str, otherwise: u64) -> u64 {
+    std::env::var(name).map_or(otherwise, |value| value.parse().expect("a number"))
+}
+
+/// The list buffer's numbers up to `length`, where all beyond are zero.
+fn shown(list: &[u32], length: usize) -> &[u32] {
+    assert!(list[length..].iter().all(|&number| number == 0), "beyond {length}: {list:?}");
+    &list[..length]
+}
+
+/// The kind of outcome, after checking that all three agree on it, and the buffer with them.
+fn compare(ask: &GraphAsk) -> &'static str {
+    let GraphAsk { graph, times, targets, defaults } = ask;
+    let mut list = [7; 600];
+    let said = plan(&Tables::of(graph), times, defaults, targets, &mut list);
+    let fast = plan_graph(graph, times, targets, defaults);
+    match naive::plan(graph, times, targets, defaults) {
+        Verdict::NoOrder => {
+            assert!(matches!(fast, PlanAnswer::Circle(_)), "{ask:?}");
+            assert_eq!(said.number, 14, "{ask:?}");
+            let needed = naive::needed(graph, &naive::roots(graph, targets, defaults));
+            let circle = shown(&list, said.value);
+            assert!(naive::is_circle(graph, &needed, circle), "{circle:?} {ask:?}");
+            "circle"
+        }
+        Verdict::Refused(refusal) => {
+            assert_eq!(fast, PlanAnswer::Refused(refusal), "{ask:?}");
+            assert_eq!(said, Said { number: refusal.number as usize, value: refusal.place }, "{ask:?}");
+            shown(&list, 0);
+            if refusal.number == 13 { "13" } else { "15" }
+        }
+        Verdict::List(steps) => {
+            assert_eq!(fast, PlanAnswer::List(steps.clone()), "{ask:?}");
+            assert_eq!(said, Said { number: 0, value: steps.len() }, "{ask:?}");
+            assert_eq!(shown(&list, said.value), steps, "{ask:?}");
+            match steps.len() {
+                0 => "empty list",
+                _ if steps.is_sorted() => "rising list",
+                _ => "other list",
+            }
+        }
+    }
+}
+
+#[test]
+fn graphs_agree() {
+    let (graphs, from) = (setting("GRAPHS", GRAPHS), setting("FROM", 0));
+    let mut kinds: BTreeMap<&str, u64> = BTreeMap::new();
+    for seed in from..from + graphs {
+        let most_steps = match seed % 100 {
+            0 => 40,
+            _ => 3 + (seed % 8) as usize,
+        };
+        *kinds.entry(compare(&graph_ask(&mut Rng::new(seed), most_steps))).or_default() += 1;
+    }
+    println!("{kinds:?}");
+    assert_eq!(kinds.len(), 6, "{kinds:?}");
+    assert!(kinds.values().all(|&count| count > graphs / 200), "{kinds:?}");
+}
+
+#[test]
+fn tables_out_of_range_are_answered() {
+    let ask = graph_ask(&mut Rng::new(1), 8);
+    let sound = Tables::of(&ask.graph);
+    let files = sound.made.len() as u32;
+    assert!(files > 0 && !sound.ends.is_empty(), "{sound:?}");
+    let broken = [
+        Tables { mentions: vec![files; sound.mentions.len()], ..sound.clone() },
+        Tables { ends: sound.ends.iter().map(|end| end + 1).collect(), ..sound.clone() },
+        Tables { ends: sound.ends.iter().rev().copied().collect(), ..sound.clone() },
+        Tables { ends: sound.ends[1..].to_vec(), ..sound.clone() },
+        Tables { made: vec![sound.phony.len() as u32 + 1; sound.made.len()], ..sound.clone() },
+        Tables { phony: vec![0; 513], ..sound.clone() },
+    ];
+    let mut list = [7; 512];
+    let unsound = Said { number: 255, value: 0 };
+    for tables in &broken {
+        assert_eq!(plan(tables, &ask.times, &[], &[], &mut list), unsound, "{tables:?}");
+    }
+    assert_eq!(plan(&sound, &ask.times[1..], &[], &[], &mut list), unsound);
+    assert_eq!(plan(&sound, &ask.times, &[files], &[], &mut list), unsound);
+    assert_eq!(plan(&sound, &ask.times, &[], &[files], &mut list), unsound);
+    assert_eq!(plan(&sound, &ask.times, &[], &[], &mut list[..511]), unsound);
+    assert_eq!(list, [7; 512]);
+}

@@ -1,0 +1,25 @@
+-- What a build line asks: where its parts stand, all that is held, and room.
+use Prim.Native.Nat.{ℕ, _+_, _≤_}
+use mathlib.Core.List.{List}
+use mathlib.Core.Path.{_≡_}
+use lib.ListN.{length}
+use Rattle.rules.specs.Limits.{maxFiles, maxManifest, maxWritten}
+use Rattle.rules.specs.Forms.{BuildLine}
+use Rattle.classes.specs.Table.{classes}
+use Rattle.forms.specs.Statements.{Stands}
+use Rattle.forms.specs.declared.BuildPlaces.{BuildPlaces}
+use Rattle.held.specs.Adds.{Whole}
+use Rattle.held.specs.declared.Counts.{Counts}
+use Rattle.outputs.specs.Asks.{columnsEnd}
+
+-- The word buffer has room for as many bytes as all names that are held, and behind the columns of the graph is room for a mark for each output.
+pub record BuildAsks (t l names fileEnds texts bind graph word : List ℕ) (c : Counts) (p : BuildPlaces) : Type 0 where
+  pub table : t ≡ classes
+  pub short : length l ≤ maxManifest
+  pub line : BuildLine
+  pub stands : Stands l p line
+  pub room : maxWritten ≤ length word
+  pub scratch : columnsEnd + maxManifest ≤ length graph
+  pub names-room : maxWritten ≤ length names
+  pub ends-room : maxFiles ≤ length fileEnds
+  pub whole : Whole names fileEnds texts bind graph c

@@ -1,0 +1,5 @@
+pub mod Outcomes
+pub mod Growing
+pub mod Adding
+pub mod Putting
+pub mod Lines

@@ -1,0 +1,10 @@
+-- `drafts::moved` meets its contract.
+use Rattle.drafts.proofs.Spans.{moved-to}
+use Rattle.drafts.proofs.moved.Statement.{statement}
+use Rattle.drafts.proofs.moved.Tie as tie
+
+returns : tie.Need-returns
+returns c = moved-to (c .before .before .before .args .d) (c .before .before .before .args .at)
+
+pub moved-spec : {M : Type 1} → statement M
+moved-spec = tie.close (tie.spec returns)

@@ -1,0 +1,4 @@
+pub mod Circles
+pub mod Levels
+pub mod Referring
+pub mod Depths

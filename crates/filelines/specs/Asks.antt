@@ -1,0 +1,40 @@
+-- What a line asks of all the reader's buffers, and what it is held to.
+use Prim.Native.Nat.{ℕ, _+_, _≤_}
+use mathlib.Core.List.{List}
+use lib.ListN.{length}
+use Rattle.rules.specs.Limits.{maxFiles, maxManifest, maxWritten}
+use Rattle.rules.specs.Reading.{Reading}
+use Rattle.rules.specs.Statements.{Block, Outcome}
+use Rattle.bindings.specs.Log.{Logged}
+use Rattle.lines.specs.Cuts.{CutAsks}
+use Rattle.held.specs.declared.Counts.{Counts}
+use Rattle.held.specs.declared.Open.{Open}
+use Rattle.held.specs.declared.LineAnswer.{LineAnswer}
+use Rattle.held.specs.Held.{joined, Opens, Holds, Agrees}
+use Rattle.outputs.specs.Asks.{columnsEnd}
+
+-- room that no line uses up: for all names and their ends, for one word, and behind the columns of the graph
+pub record Room (names fileEnds graph word : List ℕ) : Type 0 where
+  pub names-room : maxWritten ≤ length names
+  pub ends-room : maxFiles ≤ length fileEnds
+  pub scratch : columnsEnd + maxManifest ≤ length graph
+  pub word-room : maxWritten ≤ length word
+
+-- the buffers hold some reading and its open block
+pub record Between (names fileEnds texts bind graph : List ℕ) (c : Counts) (o : Open) : Type 0 where
+  pub log : List Logged
+  pub reading : Reading
+  pub block : Block
+  pub holds : Holds log names fileEnds texts bind graph c (joined reading block)
+  pub opens : Opens log block o
+
+pub record LineAsks (t : List ℕ) (start : ℕ) (l names fileEnds texts bind graph word : List ℕ) (c : Counts) (o : Open) : Type 0 where
+  pub cut : CutAsks t start l
+  pub room : Room names fileEnds graph word
+  pub between : Between names fileEnds texts bind graph c o
+
+-- The line's answer agrees with its outcome, whatever reading and block were held.
+pub record LineMeets (names fileEnds texts bind graph : List ℕ) (c : Counts) (o : Open) (line : Reading → Block → Outcome)
+    (names′ fileEnds′ texts′ bind′ graph′ : List ℕ) (r : LineAnswer) : Type 0 where
+  pub agrees : (log : List Logged) (rd : Reading) (b : Block) → Holds log names fileEnds texts bind graph c (joined rd b) → Opens log b o
+      → Agrees names′ fileEnds′ texts′ bind′ graph′ (line rd b) r

@@ -1,0 +1,79 @@
+-- What is said of a line: where it lies in the manifest, and its cut.
+use Prim.Native.Nat.{ℕ, _+_, _≤_, _<_}
+use mathlib.Core.Bool.{Bool, true}
+use mathlib.Core.List.{List, _∷_}
+use mathlib.Core.Option.{none}
+use mathlib.Core.Path.{_≡_}
+use lib.ListN.{length, drop}
+use Rattle.lists.specs.Parts.{part}
+use Rattle.rules.specs.declared.Refusal.{Refusal}
+use Rattle.rules.specs.declared.Refusal.the-variants.{BadLine, BadDollar, NotYet}
+use Rattle.rules.specs.Limits.{maxManifest}
+use Rattle.rules.specs.Lines.{Line}
+use Rattle.rules.specs.Dollars.{badDollar}
+use Rattle.rules.specs.Forms.{Cut, Form, cutStatement, cutIndented}
+use Rattle.rules.specs.Statements.{Outcome, refused}
+use Rattle.rules.specs.Manifest.{ifCut}
+use Rattle.classes.specs.Table.{classes}
+use Rattle.scan.specs.Endings.{linesFrom}
+use Rattle.forms.specs.declared.Fault.{Fault}
+use Rattle.forms.specs.declared.Fault.the-variants.{NoForm, BadDollar as WrongDollar, NotYet as Later}
+use Rattle.forms.specs.Statements.{RuleAt, BuildAt, DefaultAt, BindingAt}
+use Rattle.lines.specs.declared.Span.{Span}
+use Rattle.lines.specs.declared.FileLine.{FileLine}
+use Rattle.lines.specs.declared.FileLine.the-variants.{Rule, Build, Default, Binding, Refused}
+use Rattle.lines.specs.declared.BlockLine.{BlockLine}
+use Rattle.lines.specs.declared.BlockLine.the-variants.{Binding as Setting, Refused as NoSetting}
+
+-- a line of the manifest by its start, its bytes without the newline that ends it, and whether such a newline is there
+abbrev pub lineOf : ℕ → List ℕ → Bool → Line
+lineOf at s b = record { start = at; text = s; ended = b }
+
+-- The line that starts at place i, and the lines behind it.
+pub record LineSpan (m : List ℕ) (i : ℕ) (s : Span) : Type 0 where
+  pub forward : i ≤ s .end
+  pub within : s .end ≤ length m
+  pub on : i < s .next
+  pub most : s .next ≤ length m
+  pub lines : linesFrom i (drop i m) ≡ lineOf i (part m i (s .end)) (s .ended) ∷ linesFrom (s .next) (drop (s .next) m)
+
+-- ---- faults
+
+-- the refusal of a fault in the line that starts here
+unfoldable pub refusalOf : ℕ → Fault → Refusal
+refusalOf start NoForm = BadLine start
+refusalOf start (WrongDollar p) = BadDollar (start + p)
+refusalOf start Later = NotYet start
+
+-- its place lies in a manifest
+unfoldable pub Near : ℕ → Fault → Type 0
+Near start NoForm = Unit {0}
+Near start (WrongDollar p) = start + p ≤ maxManifest
+Near start Later = Unit {0}
+
+-- ---- cuts
+
+pub record CutAsks (t : List ℕ) (start : ℕ) (l : List ℕ) : Type 0 where
+  pub table : t ≡ classes
+  pub near : start + length l ≤ maxManifest
+
+-- the line's fault in its bytes, or that the manifest ends inside it, whatever its form would do
+abbrev pub Wrong : Line → Cut Form → Refusal → Type 0
+Wrong l x r = (f : Form → Outcome) → ifCut l x f ≡ refused r
+
+-- `NAME = value`, whose dollars are sound
+pub record SoundBinding (l : Line) (x : Cut Form) (from to at : ℕ) : Type 0 where
+  pub ended : l .ended ≡ true
+  pub places : BindingAt (l .text) x from to at
+  pub dollars : badDollar (drop at (l .text)) ≡ none
+
+unfoldable pub FileLineAt : Line → FileLine → Type 0
+FileLineAt l (Rule from to) = (l .ended ≡ true) × RuleAt (l .text) (cutStatement (l .text)) from to
+FileLineAt l (Build p) = (l .ended ≡ true) × BuildAt (l .text) (cutStatement (l .text)) p
+FileLineAt l (Default at) = (l .ended ≡ true) × DefaultAt (l .text) (cutStatement (l .text)) at
+FileLineAt l (Binding from to at) = SoundBinding l (cutStatement (l .text)) from to at
+FileLineAt l (Refused r) = Wrong l (cutStatement (l .text)) r
+
+unfoldable pub BlockLineAt : Line → BlockLine → Type 0
+BlockLineAt l (Setting from to at) = SoundBinding l (cutIndented (l .text)) from to at
+BlockLineAt l (NoSetting r) = Wrong l (cutIndented (l .text)) r

@@ -1,0 +1,6 @@
+pub mod Columns
+pub mod Limits
+pub mod Marking
+pub mod Mentioning
+pub mod Passing
+pub mod Closed

@@ -1,0 +1,140 @@
+-- A path is made where its file's entry among the makers is not 0.
+use Prim.Native.Nat.{ℕ, zero, suc, _+_, _≤_, _<_}
+use mathlib.Core.Bool.{Bool, true, false, not}
+use mathlib.Core.List.{List, [], _∷_}
+use mathlib.Core.Path.{_≡_, refl, sym, _∙_, ap}
+use native.Mathlib.Omega.{arith}
+use borrow.Author.Tests.{ne-eqb}
+use lib.Dec.{eqb}
+use lib.ListN.{length, getD, take, length-append, List·getD-eq-default}
+use Rattle.lists.specs.Tests.{split, differ}
+use Rattle.lists.specs.Bytes.{eqBytes, eqBytes-true}
+use Rattle.lists.specs.Members.{any, has}
+use Rattle.rules.specs.Basics.{isEmpty, among, concat}
+use Rattle.rules.specs.Limits.{maxFiles, maxWritten}
+use Rattle.rules.specs.Reading.{Step, Reading, numberOf, isOutput, isMade}
+use Rattle.rules.specs.Graph.{makers, makersFrom}
+use Rattle.arena.proofs.Laws.{lies-column, lies-read}
+use Rattle.names.specs.declared.Found.{Found}
+use Rattle.names.specs.declared.Found.the-variants.{At, Missing}
+use Rattle.names.specs.Table.{Finds}
+use Rattle.names.proofs.Numbers.{among-none, among-there, number-missing}
+use Rattle.names.proofs.Laws.{find-at, find-missing}
+use Rattle.tables.specs.Tables.{madeBy, makerIn}
+use Rattle.tables.proofs.Held.{held-makers}
+use Rattle.bindings.specs.Log.{Logged}
+use Rattle.bindings.specs.Held.{Holds as BindingsHold, Sound as BindingsSound}
+use Rattle.expand.specs.Runs.{expanded, Written}
+use Rattle.expand.proofs.Callers.{expanded-vars, written-long, written-whole}
+use Rattle.held.specs.declared.Counts.{Counts}
+use Rattle.held.specs.Held.{capacities, Bound, Graphed, Holds}
+use Rattle.held.specs.Adds.{Whole}
+use Rattle.outputs.specs.Asks.{pathOf, Filed, Files}
+
+-- ---- makers
+
+made-from : (k : ℕ) (steps : List Step) (f : ℕ) → isOutput f steps ≡ not (isEmpty (makersFrom k steps f))
+unfolding isOutput any makersFrom
+made-from k [] f = refl
+made-from k (s ∷ l) f =
+    split (has f (s .outs))
+    (λ (e : has f (s .outs) ≡ true). rw e)
+    (λ (e : has f (s .outs) ≡ false). rw e (made-from (suc k) l f))
+
+entry-made : (n : ℕ) → not (isEmpty (madeBy n)) ≡ not (eqb n 0)
+unfolding madeBy
+entry-made zero = refl
+entry-made (suc n) = sym (ap not (ne-eqb (suc n) 0 (λ e. omega arith)))
+
+-- the entry of the file with this number
+output-entry : {log : List Logged} {graph : List ℕ} {c : Counts} {rd : Reading} (g : Graphed log graph c rd) (f : ℕ) → isOutput f (rd .steps) ≡ not (eqb (getD (g .made) f 0) 0)
+unfolding makers makerIn
+output-entry {rd = rd} g f =
+    made-from 0 (rd .steps) f
+    ∙ ap (λ (h : ℕ → List ℕ). not (isEmpty (h f))) (sym (held-makers (g .tables)))
+    ∙ entry-made (getD (g .made) f 0)
+
+-- ---- the search among the names
+
+module _ {log : List Logged} {names ends graph : List ℕ} {c : Counts} {rd : Reading} (h : Filed log names ends graph c rd) {path : List ℕ} {r : Found}
+    (f : Finds names ends (c .files) path r) where
+  module _ {k : ℕ} (e : r ≡ At k) where
+    pub entry-low : k < maxFiles
+    entry-low = let (a, q, b) = find-at f (h .named) e in omega (arith, h .named .few)
+
+    pub entry-within : 6656 + k < length graph
+    entry-within =
+        let (a, q, b) = find-at f (h .named) e in
+        omega (arith, lies-column capacities graph _ 3 (h .graphed .lies) (omega arith) .within, h .named .few)
+
+    pub found-made : {v : ℕ} → v ≡ getD graph (6656 + k) 0 → not (eqb v 0) ≡ isMade path rd
+    unfolding isMade
+    found-made w =
+        let (a, q, b) = find-at f (h .named) e in
+        let l : k < length (h .graphed .made) = omega (arith, h .graphed .tables .counted, h .named .counted) in
+        rw (w, lies-read capacities graph _ 3 (h .graphed .lies) (omega arith) k l, q) (sym (output-entry (h .graphed) (numberOf path (rd .files))))
+
+-- A path that is not among the files has no maker.
+pub unknown-unmade : {log : List Logged} {graph : List ℕ} {c : Counts} {rd : Reading} → Graphed log graph c rd → (path : List ℕ) → among path (rd .files) ≡ false → false ≡ isMade path rd
+unfolding isMade
+unknown-unmade {rd = rd} g path m =
+    let z : getD (g .made) (length (rd .files)) 0 ≡ 0 = List·getD-eq-default (g .made) 0 {n = length (rd .files)} (omega (arith, g .tables .counted)) in
+    sym (output-entry g (numberOf path (rd .files)) ∙ rw (number-missing path (rd .files) m, z))
+
+pub missing-unmade : {log : List Logged} {names ends graph : List ℕ} {c : Counts} {rd : Reading} (h : Filed log names ends graph c rd) {path : List ℕ} {r : Found}
+    → Finds names ends (c .files) path r → r ≡ Missing → false ≡ isMade path rd
+missing-unmade h {path} f e = unknown-unmade (h .graphed) path (find-missing f (h .named) e)
+
+-- ---- a path in the word buffer
+
+-- A name that is there is no longer than all names together.
+among-short : (p : List ℕ) (l : List (List ℕ)) → among p l ≡ true → length p ≤ length (concat l)
+unfolding concat
+among-short p [] h = differ h (among-none p)
+among-short p (f ∷ l) h =
+    split (eqBytes p f)
+    (λ (e : eqBytes p f ≡ true). rw (eqBytes-true p f e) (omega (arith, length-append f (concat l))))
+    (λ (e : eqBytes p f ≡ false). omega (arith, length-append f (concat l), among-short p l (sym (among-there p f l e) ∙ h)))
+
+pub long-unmade : {log : List Logged} {names ends texts bind graph : List ℕ} {c : Counts} {rd : Reading} → Holds log names ends texts bind graph c rd → (path : List ℕ)
+    → maxWritten < length path → false ≡ isMade path rd
+long-unmade {rd = rd} h path b =
+    split (among path (rd .files))
+    (λ (e : among path (rd .files) ≡ true). absurd (omega (arith, among-short path (rd .files) e, h .bound .shared, h .bound .few-written)))
+    (λ (e : among path (rd .files) ≡ false). unknown-unmade (h .graphed) path e)
+
+-- A path as it is expanded.
+pub path-held : {log : List Logged} {texts bind : List ℕ} {c : Counts} {rd : Reading} → Bound log texts bind c rd → (raw : List ℕ) → pathOf rd raw ≡ expanded log raw
+unfolding pathOf
+path-held {log} {rd = rd} b raw = expanded-vars log (rd .vars) raw (b .vars)
+
+pub filed : {log : List Logged} {names ends texts bind graph : List ℕ} {c : Counts} {rd : Reading} → Holds log names ends texts bind graph c rd → Filed log names ends graph c rd
+filed h = record { named = h .named; graphed = h .graphed }
+
+pub files-held : {names ends texts bind graph : List ℕ} {c : Counts} → Whole names ends texts bind graph c → Files names ends graph c
+files-held w = record { log = w .log; reading = w .reading; filed = filed (w .holds) }
+
+-- ---- what the functions on one path answer
+
+none-long : (s : List ℕ) → eqb (length s) 0 ≡ isEmpty s
+none-long [] = refl
+none-long (b ∷ s) = ne-eqb (suc (length s)) 0 (λ e. omega arith)
+
+module _ (raw : List ℕ) {texts bind word word′ : List ℕ} {c : Counts} {n : ℕ}
+    (x : (log : List Logged) → BindingsHold log texts bind (c .entries) → Written word (expanded log raw) word′ n) where
+  pub empty-held : (log : List Logged) (rd : Reading) → Bound log texts bind c rd → eqb n 0 ≡ isEmpty (pathOf rd raw)
+  empty-held log rd b = rw (path-held b raw, x log (b .held) .count) (none-long (expanded log raw))
+
+  module _ {names ends graph : List ℕ} where
+    pub long-held : maxWritten ≤ length word → length word′ < n → (log : List Logged) (rd : Reading) → Holds log names ends texts bind graph c rd → false ≡ isMade (pathOf rd raw) rd
+    long-held r l log rd h = rw (path-held (h .bound) raw) (long-unmade h (expanded log raw) (omega (arith, x log (h .bound .held) .count, written-long (x log (h .bound .held)))))
+
+    pub made-held : n ≤ length word′ → {r : Bool} → ((log : List Logged) (rd : Reading) → Filed log names ends graph c rd → r ≡ isMade (take n word′) rd)
+        → (log : List Logged) (rd : Reading) → Holds log names ends texts bind graph c rd → r ≡ isMade (pathOf rd raw) rd
+    made-held l e log rd h = e log rd (filed h) ∙ ap (λ (p : List ℕ). isMade p rd) (written-whole (x log (h .bound .held)) (rw (written-long (x log (h .bound .held))) at l) ∙ sym (path-held (h .bound) raw))
+
+    pub word-counted : Whole names ends texts bind graph c → n ≤ length word′ → length (take n word′) ≡ n
+    word-counted w l = let k = x (w .log) (w .holds .bound .held) in ap length (written-whole k (rw (written-long k) at l)) ∙ sym (k .count)
+
+pub table-held : {names ends texts bind graph : List ℕ} {c : Counts} → Whole names ends texts bind graph c → BindingsSound texts bind (c .entries)
+table-held w = record { log = w .log; held = w .holds .bound .held }

@@ -1,0 +1,31 @@
+// The pieces of a raw text, one after another: bytes of its own, and references to names.
+ghost use mathlib.Core.Path.{_≡_};
+ghost use Prim.Native.Nat.{_<_};
+ghost use lib.ListN.{length};
+ghost use Rattle.pieces.specs.Begins.{Ready, Begins};
+use lists::bytes::find;
+use scan::Dollar;
+use scan::dollars::dollar;
+
+// A piece from place to place of the raw text, and where the text goes on behind it.
+pub enum Piece {
+    Bytes(usize, usize, usize),
+    Name(usize, usize, usize),
+}
+
+// The piece that begins at place i.
+pub fn piece_at(t: &[u8; 256], raw: &[u8], i: usize) -> Piece
+    requires { ⌜ (i < length (now raw)) × Ready (now t) (now raw) i ⌝ }
+    ensures { λ r. ⌜ Begins (now (raw .entry)) i r ⌝ }
+{
+    if raw[i] != b'$' {
+        let end = find(raw, i, b'$');
+        return Piece::Bytes(i, end, end);
+    }
+    match dollar(t, raw, i + 1) {
+        Dollar::Byte(_, next) => Piece::Bytes(i + 1, i + 2, next),
+        Dollar::Join(next) => Piece::Bytes(next, next, next),
+        Dollar::Name(from, to, next) => Piece::Name(from, to, next),
+        Dollar::Bad => Piece::Bytes(i, i, raw.len()),
+    }
+}

@@ -1,0 +1,69 @@
+-- What the plan ask answers by what the reader answers.
+use Prim.Native.Nat.{ℕ, _≤_, _<_}
+use mathlib.Core.Bool.{false}
+use mathlib.Core.List.{List}
+use mathlib.Core.Path.{_≡_, refl, sym, _∙_}
+use native.Mathlib.Omega.{arith}
+use borrow.Author.Tests.{lt-ltb, le-ltb, ne-eqb}
+use lib.Dec.{ltb}
+use lib.ListN.{length}
+use Rattle.lists.specs.Fill.{zeroed}
+use Rattle.rules.specs.declared.Refusal.{Refusal}
+use Rattle.rules.specs.declared.Refusal.the-variants.{ShortBuffer}
+use Rattle.rules.specs.declared.PlanAnswer.{PlanAnswer}
+use Rattle.rules.specs.declared.PlanAnswer.the-variants.{Refused}
+use Rattle.rules.specs.Limits.{leastList}
+use Rattle.rules.specs.Manifest.{refusedWith, readManifest}
+use Rattle.rules.specs.Answers.{numberOfRefusal, planSays}
+use Rattle.rules.specs.PlanAsk.{planRead, planAsk}
+use Rattle.rules.specs.Promises.{leftBy, PlanMeets, PlanPromise}
+use Rattle.rules.proofs.Refusals.{of-reading}
+use Rattle.planning.proofs.Outcomes.{cleared}
+use Rattle.planread.specs.Asked.{ReadAsked, PlansRead}
+use Rattle.held.specs.declared.Counts.{Counts}
+use Rattle.classes.specs.Table.{classes}
+use Rattle.reader.specs.Manifests.{Roomy, Held}
+
+-- 1
+pub short : (manifest card targets list : List ℕ) → length list < leastList → PlanPromise manifest card targets list (Refused ShortBuffer) list
+unfolding planAsk PlanMeets planSays leftBy numberOfRefusal
+short manifest card targets list h = rw (lt-ltb (length list) leastList h) (record { says = refl; leaves = refl })
+
+module _ (manifest card targets list : List ℕ) (room : leastList ≤ length list) where
+  long : ltb (length list) leastList ≡ false
+  long = le-ltb (length list) leastList room
+
+  -- 2 to 10
+  pub unread : {r : Refusal} {exit : List ℕ} → readManifest manifest ≡ refusedWith r → exit ≡ zeroed list 0 (length list)
+      → PlanPromise manifest card targets list (Refused r) exit
+  unfolding planAsk planRead PlanMeets planSays leftBy
+  unread {r} e z =
+      let b = of-reading manifest e in
+      let n = ne-eqb (numberOfRefusal r) 1 (λ (q : numberOfRefusal r ≡ 1). omega (arith, q, b .least)) in
+      rw (long, e, n) (record { says = refl; leaves = z ∙ cleared list })
+
+  -- 11 to 15, and the list
+  pub planned : {names ends texts bind graph : List ℕ} {c : Counts} {r : PlanAnswer} {exit : List ℕ} → Held manifest names ends texts bind graph c
+      → PlansRead card targets names ends graph c list r exit → PlanPromise manifest card targets list r exit
+  unfolding planAsk
+  planned {texts = texts} {bind = bind} h p = rw (long, h .is) (p .plans (h .log) texts bind (h .reading) (h .holds))
+
+pub askable : {manifest names ends texts bind graph : List ℕ} {c : Counts} {list : List ℕ} → leastList ≤ length list → Held manifest names ends texts bind graph c
+    → ReadAsked names ends graph c list
+askable {texts = texts} {bind = bind} r h =
+    record { texts = texts; bind = bind; whole = record { log = h .log; reading = h .reading; holds = h .holds }; room = r }
+
+-- ---- buffers of the asks' own
+
+module _ {t names ends texts bind graph word : List ℕ} (e : t ≡ classes) (n : length names ≡ 60000) (f : length ends ≡ 3072) (x : length texts ≡ 133728)
+    (b : length bind ≡ 3456) (g : length graph ≡ 61440) (w : length word ≡ 60000) where
+  pub roomy : Roomy t names ends texts bind graph word
+  roomy =
+      record {
+        table = e;
+        room = record { names-room = omega (arith, n); ends-room = omega (arith, f); scratch = omega (arith, g); word-room = omega (arith, w) };
+        names-small = omega (arith, n);
+        numbers-room = omega (arith, f);
+        texts-room = omega (arith, x);
+        bind-room = omega (arith, b);
+      }

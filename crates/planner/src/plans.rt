@@ -1,0 +1,65 @@
+// The plan ask: the manifest is read into buffers of the ask's own, and the list is planned from them.
+ghost use Prim.Native.Nat.{_≤_};
+ghost use lib.ListN.{length};
+ghost use Rattle.rules.specs.Limits.{leastList};
+ghost use Rattle.rules.specs.Promises.{PlanPromise};
+ghost use Rattle.planner.specs.Asked.{PlanAsked};
+use classes::table;
+use lists::words::zero_from;
+use planread::plan_read;
+use reader::ReadAnswer;
+use reader::read;
+use rules::PlanAnswer;
+
+// With the reader's buffers lent.
+fn plan_in(
+    t: &[u8; 256],
+    manifest: &[u8],
+    card: &[u8],
+    targets: &[u8],
+    names: &mut [u8],
+    ends: &mut [u32],
+    texts: &mut [u8],
+    bind: &mut [u32],
+    graph: &mut [u32],
+    word: &mut [u8],
+    list: &mut [u32],
+) -> PlanAnswer
+    requires { ⌜ PlanAsked (now t) (now names) (now ends) (now texts) (now bind) (now graph) (now word) (now list) ⌝ }
+    ensures { λ r. ⌜ PlanPromise (now (manifest .entry)) (now (card .entry)) (now (targets .entry)) (now (list .entry)) r (now (list .exit)) ⌝ }
+{
+    match read(t, manifest, names, ends, texts, bind, graph, word) {
+        ReadAnswer::Accepted(c) => plan_read(card, targets, names, ends, graph, c, list),
+        ReadAnswer::Refused(r) => {
+            zero_from(list, 0);
+            PlanAnswer::Refused(r)
+        }
+    }
+}
+
+// With a list buffer of 512 numbers at least.
+pub fn plan_buffered(manifest: &[u8], card: &[u8], targets: &[u8], list: &mut [u32]) -> PlanAnswer
+    requires { ⌜ leastList ≤ length (now list) ⌝ }
+    ensures { λ r. ⌜ PlanPromise (now (manifest .entry)) (now (card .entry)) (now (targets .entry)) (now (list .entry)) r (now (list .exit)) ⌝ }
+{
+    let t = table();
+    let mut names = [0u8; 60000];
+    let mut ends = [0u32; 3072];
+    let mut texts = [0u8; 133728];
+    let mut bind = [0u32; 3456];
+    let mut graph = [0u32; 61440];
+    let mut word = [0u8; 60000];
+    plan_in(
+        &t,
+        manifest,
+        card,
+        targets,
+        &mut names,
+        &mut ends,
+        &mut texts,
+        &mut bind,
+        &mut graph,
+        &mut word,
+        list,
+    )
+}

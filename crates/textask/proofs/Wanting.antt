@@ -1,0 +1,70 @@
+-- The text that is wanted, from an empty draft on.
+use Prim.Native.Nat.{ℕ, _≤_}
+use mathlib.Core.List.{List, []}
+use mathlib.Core.Bool.{true, false}
+use mathlib.Core.Path.{_≡_, sym, _∙_}
+use native.Mathlib.Nat.{le-refl}
+use native.Mathlib.Omega.{arith}
+use lib.ListN.{length}
+use Rattle.lists.specs.Tests.{split}
+use Rattle.lists.specs.Text.{bytes}
+use Rattle.lists.specs.Bytes.{eqBytes}
+use Rattle.rules.specs.declared.Wanted.{Wanted}
+use Rattle.rules.specs.Limits.{maxText}
+use Rattle.rules.specs.Reading.{Step, Reading}
+use Rattle.rules.specs.Text.{leadsBack, textOf, deep}
+use Rattle.rules.specs.TextAsk.{wantedName}
+use Rattle.lookups.specs.declared.Asked.{Asked}
+use Rattle.endless.specs.Depth.{goesDeep}
+use Rattle.endless.specs.Depth as depth
+use Rattle.endless.proofs.Circles.{leads-back-deep}
+use Rattle.drafts.specs.declared.Draft.{Draft}
+use Rattle.drafts.specs.Draft.{span, spanFor, Remembers}
+use Rattle.texts.specs.Asks.{NameAsk, WritesName}
+use Rattle.textask.specs.Asks.{InAsk, WritesWanted, StepAsk}
+
+-- nothing is written
+abbrev pub blank : Draft
+blank = record { at = 0; command = span 1 0; description = span 1 0; generator = span 1 0 }
+
+blank-span : (n : List ℕ) → spanFor blank n ≡ span 1 0
+unfolding spanFor
+blank-span n =
+    split (eqBytes n (bytes "command")) (λ (a : eqBytes n (bytes "command") ≡ true). rw a)
+    (λ (a : eqBytes n (bytes "command") ≡ false).
+    split (eqBytes n (bytes "description")) (λ (b : eqBytes n (bytes "description") ≡ true). rw (a, b))
+    (λ (b : eqBytes n (bytes "description") ≡ false).
+    split (eqBytes n (bytes "generator")) (λ (c : eqBytes n (bytes "generator") ≡ true). rw (a, b, c)) (λ (c : eqBytes n (bytes "generator") ≡ false). rw (a, b, c))))
+
+blank-remembers : (text : List ℕ → List ℕ) (buffer : List ℕ) → maxText ≤ length buffer → Remembers text buffer blank
+blank-remembers text buffer h =
+    record {
+      free = record { room = h; low = omega arith };
+      kept = λ n b. absurd (omega (arith, rw (blank-span n) at b));
+    }
+
+shallow : (rd : Reading) (s : Step) (n : List ℕ) → leadsBack rd s deep [] n ≡ false → goesDeep rd s deep n ≡ false
+shallow rd s n e = sym (leads-back-deep rd s n) ∙ e
+
+module _ {t names ends texts bind graph buffer : List ℕ} {a : Asked} {wanted : Wanted} (w : InAsk t names ends texts bind graph a wanted buffer) {n : List ℕ} (e : wantedName wanted ≡ n) where
+  pub wanted-asked : NameAsk t names ends texts bind graph a n 4 buffer blank
+  wanted-asked =
+      record {
+        table = w .table;
+        low = le-refl 4;
+        asking = record { log = w .log; reading = w .reading; step = w .step; here = w .here; remembers = blank-remembers (textOf (w .reading) (w .step) deep) buffer (w .room) };
+        shallow = shallow (w .reading) (w .step) n (rw e at (w .ended));
+      }
+
+  pub wanted-written : {after : List ℕ} {r : Draft} → WritesName names ends texts bind graph a n 4 buffer blank after r → WritesWanted names ends texts bind graph a wanted buffer after (r .at)
+  wanted-written {after} {r} p =
+      record {
+        writes = λ log rd s h q.
+            rw e (p .writes log rd s h (shallow rd s n (rw e at q)) (blank-remembers (textOf rd s deep) buffer (w .room)) .puts);
+      }
+
+-- ---- what the functions ask
+
+module _ {t names ends texts bind graph buffer : List ℕ} {a : Asked} (w : StepAsk t names ends texts bind graph a buffer) where
+  pub leads-asked : depth.Asks t texts bind a
+  leads-asked = record { table = w .table; within = record { log = w .log; reading = w .reading; step = w .step; scope = w .here .scope } }

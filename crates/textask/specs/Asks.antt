@@ -1,0 +1,79 @@
+-- What the text of a step asks of what was read, and what it promises.
+use Prim.Native.Nat.{ℕ, _≤_}
+use mathlib.Core.List.{List, []}
+use mathlib.Core.Bool.{false}
+use mathlib.Core.Path.{_≡_}
+use lib.Dec.{ltb}
+use lib.ListN.{length}
+use Rattle.lists.specs.Tests.{ifB}
+use Rattle.rules.specs.declared.Refusal.the-variants.{EndlessText, LongText}
+use Rattle.rules.specs.declared.TextAnswer.{TextAnswer}
+use Rattle.rules.specs.declared.Wanted.{Wanted}
+use Rattle.rules.specs.Limits.{maxText}
+use Rattle.rules.specs.Answers.{textSays}
+use Rattle.rules.specs.Promises.{TextMeets}
+use Rattle.rules.specs.Reading.{Step, Reading, keysOf}
+use Rattle.rules.specs.Text.{leadsBack, textOf, deep}
+use Rattle.rules.specs.TextAsk.{TextOutcome, text, noText, wantedName, textOfStep}
+use Rattle.classes.specs.Table.{classes}
+use Rattle.bindings.specs.Log.{Logged}
+use Rattle.held.specs.declared.Counts.{Counts}
+use Rattle.held.specs.Held.{Holds}
+use Rattle.lookups.specs.declared.Asked.{Asked}
+use Rattle.lookups.specs.Scope.{SoundKeys}
+use Rattle.output.specs.Puts.{Puts}
+use Rattle.texts.specs.Here.{Here}
+
+-- The keys of every rule are as their lines were read: one of the three, with no bad `$`. It holds of what any manifest is read into.
+abbrev pub SoundRules : Reading → Type 0
+SoundRules rd = (rule : List ℕ) → SoundKeys (keysOf rule (rd .rules))
+
+-- ------------------------------------------------------------------ one step
+
+pub record InAsk (t names ends texts bind graph : List ℕ) (a : Asked) (wanted : Wanted) (buffer : List ℕ) : Type 0 where
+  pub table : t ≡ classes
+  pub room : maxText ≤ length buffer
+  pub log : List Logged
+  pub reading : Reading
+  pub step : Step
+  pub here : Here names ends texts bind graph a log reading step
+  pub ended : leadsBack reading step deep [] (wantedName wanted) ≡ false
+
+pub record WritesWanted (names ends texts bind graph : List ℕ) (a : Asked) (wanted : Wanted) (before after : List ℕ) (r : ℕ) : Type 0 where
+  pub writes : (log : List Logged) (rd : Reading) (s : Step) → Here names ends texts bind graph a log rd s → leadsBack rd s deep [] (wantedName wanted) ≡ false
+      → Puts before 0 (textOf rd s deep (wantedName wanted)) after r
+
+pub record StepAsk (t names ends texts bind graph : List ℕ) (a : Asked) (buffer : List ℕ) : Type 0 where
+  pub table : t ≡ classes
+  pub room : maxText ≤ length buffer
+  pub log : List Logged
+  pub reading : Reading
+  pub step : Step
+  pub here : Here names ends texts bind graph a log reading step
+
+-- "16, 17 for a text", once 18 is out
+unfoldable pub textOfIn : ℕ → List ℕ → Reading → Step → TextOutcome
+unfolding leadsBack textOf
+textOfIn k n rd s =
+    ifB (leadsBack rd s deep [] n) (λ _. noText (EndlessText k)) λ _.
+    ifB (ltb maxText (length (textOf rd s deep n))) (λ _. noText (LongText k)) λ _.
+    text (textOf rd s deep n)
+
+pub record TextIn (names ends texts bind graph : List ℕ) (a : Asked) (k : ℕ) (wanted : Wanted) (before after : List ℕ) (r : TextAnswer) : Type 0 where
+  pub meets : (log : List Logged) (rd : Reading) (s : Step) → Here names ends texts bind graph a log rd s → TextMeets (textOfIn k (wantedName wanted) rd s) before (textSays r) after
+
+-- ------------------------------------------------------------------ the ask
+
+-- Some reading is held, as a manifest gives it, and the buffer is long enough.
+pub record TextAsk (t names ends texts bind graph : List ℕ) (c : Counts) (buffer : List ℕ) : Type 0 where
+  pub table : t ≡ classes
+  pub room : maxText ≤ length buffer
+  pub log : List Logged
+  pub reading : Reading
+  pub holds : Holds log names ends texts bind graph c reading
+  pub sound : SoundRules reading
+
+-- The answer and the whole buffer are what document 01 says, whatever reading is held.
+pub record TextOf (names ends texts bind graph : List ℕ) (c : Counts) (step : ℕ) (wanted : Wanted) (before after : List ℕ) (r : TextAnswer) : Type 0 where
+  pub meets : (log : List Logged) (rd : Reading) → Holds log names ends texts bind graph c rd
+      → TextMeets (textOfStep step (wantedName wanted) rd) before (textSays r) after

@@ -1,0 +1,70 @@
+// The step that a text is asked of: its rule and its files.
+ghost use mathlib.Core.Path.{_≡_};
+ghost use mathlib.Core.List.{List};
+ghost use Prim.Native.Nat.{ℕ, _<_};
+ghost use lib.ListN.{length};
+ghost use Rattle.bindings.specs.Log.{Logged};
+ghost use Rattle.textask.specs.Steps.{HasRule, Declares, outputsFrom, InGraph, PickAsk, Picks, Reads, Asks};
+use crate::StepAsked;
+use bindings::Found;
+use bindings::name;
+use bindings::newest;
+use held::Counts;
+use lists::words::at;
+use lookups::Asked;
+
+// The declaration that a rule's name stands for, where entry k declares a rule of that name.
+fn declaration(texts: &[u8], bind: &[u32], count: usize, k: usize) -> usize
+    requires { ⌜ HasRule (now texts) (now bind) count k ⌝ }
+    ensures { λ r. ⌜ Declares (now (texts .entry)) (now (bind .entry)) count k r ⌝ }
+{
+    match newest(texts, bind, count, 1, name(texts, bind, k)) {
+        Found::At(j) => j,
+        Found::Missing => k,
+    }
+}
+
+// Where the mentions of a step start: where those of the step before it end.
+fn outputs_from(graph: &[u32], step: usize) -> usize
+    requires { ⌜ InGraph (now graph) step ⌝ }
+    ensures { λ r. ⌜ r ≡ outputsFrom (now (graph .entry)) step ⌝ }
+{
+    if step == 0 {
+        return 0;
+    }
+    at(graph, 4095 + 4 * step)
+}
+
+// The step, whose rule is declared at entry k.
+fn picked(texts: &[u8], bind: &[u32], graph: &[u32], c: Counts, step: usize, k: usize) -> Asked
+    requires { ⌜ PickAsk (now texts) (now bind) (now graph) c step k ⌝ }
+    ensures { λ r. ⌜ Picks (now (texts .entry)) (now (bind .entry)) (now (graph .entry)) c step r ⌝ }
+{
+    let rule = declaration(texts, bind, c.entries, k);
+    let outs = outputs_from(graph, step);
+    let ins = at(graph, 4096 + 4 * step);
+    let rest = at(graph, 4097 + 4 * step);
+    Asked {
+        step,
+        rule,
+        entries: c.entries,
+        files: c.files,
+        outs,
+        ins,
+        rest,
+    }
+}
+
+pub fn asked(texts: &[u8], bind: &[u32], graph: &[u32], c: Counts, step: usize) -> StepAsked
+    requires { ⌜ Reads (now texts) (now bind) (now graph) c ⌝ }
+    ensures { λ r. ⌜ Asks (now (texts .entry)) (now (bind .entry)) (now (graph .entry)) c step r ⌝ }
+{
+    if c.steps <= step {
+        return StepAsked::NoCommand;
+    }
+    let rule = at(graph, 7680 + step);
+    if rule == 0 {
+        return StepAsked::NoCommand;
+    }
+    StepAsked::Step(picked(texts, bind, graph, c, step, rule - 1))
+}

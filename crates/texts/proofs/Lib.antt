@@ -1,0 +1,3 @@
+pub mod Plainly
+pub mod Writing
+pub mod Keys
