@@ -130,5 +130,5 @@ pub leaves-within : {out lent exit : List ℕ} {n : ℕ} → length exit ≡ len
 unfolding filled
 leaves-within {out} {lent} {exit} {n} k l =
     let a : length exit ≡ length out + length (replicate {0} {A = ℕ} (length lent - length out) 0) =
-      ap length (l .left) ∙ length-append out (replicate (length lent - length out) 0) in
+    ap length (l .left) ∙ length-append out (replicate (length lent - length out) 0) in
     omega (arith, l .count)
