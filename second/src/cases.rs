@@ -78,6 +78,85 @@ pub fn allows(expected: &str, answer: &str) -> bool {
     }
 }
 
+/// What the lent buffers hold before an ask of the packed cases.
+const BEFORE: u8 = 7;
+
+/// An answer as document 01's numbers, and what the lent buffer begins with; zeros follow.
+pub struct Answer {
+    pub number: usize,
+    pub value: usize,
+    pub bytes: Vec<u8>,
+}
+
+/// The answers that an expected line allows, to an ask with a lent buffer of `room` numbers or bytes.
+pub fn expected(line: &str, is_plan: bool, room: usize) -> Result<Vec<Answer>, String> {
+    let words = |steps: &[u32]| steps.iter().flat_map(|step| step.to_le_bytes()).collect();
+    let (word, rest) = line.split_once(' ').unwrap_or((line, ""));
+    let answer = |number, value, bytes| Answer { number, value, bytes };
+    match word {
+        "list" => {
+            let steps = steps(rest)?;
+            Ok(vec![answer(0, steps.len(), words(&steps))])
+        }
+        "circle" => {
+            let mut answers = Vec::new();
+            for circle in rest.split(" or ") {
+                let mut steps = steps(circle)?;
+                for _ in 0..steps.len() {
+                    steps.rotate_left(1);
+                    answers.push(answer(14, steps.len(), words(&steps)));
+                }
+            }
+            Ok(answers)
+        }
+        "text" => {
+            let bytes = unhex(rest);
+            Ok(vec![answer(0, bytes.len(), bytes)])
+        }
+        _ => {
+            let (refused, place) =
+                rest.split_once(" at ").ok_or(format!("`{line}` is no answer"))?;
+            let refused = number(refused)?;
+            // 1 touches nothing.
+            let untouched = match (refused, is_plan) {
+                (1, true) => words(&vec![u32::from(BEFORE); room]),
+                (1, false) => vec![BEFORE; room],
+                _ => Vec::new(),
+            };
+            Ok(vec![answer(refused, number(place)?, untouched)])
+        }
+    }
+}
+
+fn steps(words: &str) -> Result<Vec<u32>, String> {
+    words.split_whitespace().map(number).collect()
+}
+
+/// What the program may write for a case: what the case gives, or else what the second planner's
+/// program writes, with any expected circle, begun at any of its steps.
+pub fn outputs(case: &Case) -> Vec<Vec<u8>> {
+    let expected =
+        |asked: Ask| case.asks.iter().find(|(ask, _)| *ask == asked).map(|(_, line)| line);
+    if let Some(prints) = expected(Ask::Program) {
+        return vec![unhex(prints.strip_prefix("text ").unwrap_or(prints))];
+    }
+    let circles = expected(Ask::Plan).and_then(|line| line.strip_prefix("circle "));
+    match circles {
+        Some(circles) => circles.split(" or ").flat_map(shown).collect(),
+        None => vec![output(&case.manifest, &case.card, &case.targets)],
+    }
+}
+
+/// The lines for a circle, begun at each of its steps.
+fn shown(circle: &str) -> Vec<Vec<u8>> {
+    let mut steps: Vec<_> = circle.split(' ').collect();
+    let lines = (0..steps.len()).map(|_| {
+        steps.rotate_left(1);
+        format!("refused 14 at {}\ncircle {}\n", steps.len(), steps.join(" ")).into_bytes()
+    });
+    lines.collect()
+}
+
 /// What the second planner answers otherwise than expected.
 pub fn check(case: &Case) -> Vec<String> {
     let mut differences = Vec::new();
@@ -103,11 +182,13 @@ pub fn packed(case: &Case, programs: bool) -> Vec<String> {
 
 /// An answer's line with its bytes, if it has any, in readable form.
 fn readable(line: &str) -> String {
-    let bytes = line.strip_prefix("text ").map(|hex| {
-        let digits = hex.as_bytes().chunks_exact(2).map(String::from_utf8_lossy);
-        digits.filter_map(|two| u8::from_str_radix(&two, 16).ok()).collect::<Vec<u8>>()
-    });
+    let bytes = line.strip_prefix("text ").map(unhex);
     bytes.map_or(line.to_string(), |bytes| format!("text {}", bytes.escape_ascii()))
+}
+
+fn unhex(hex: &str) -> Vec<u8> {
+    let digits = hex.as_bytes().chunks_exact(2).map(String::from_utf8_lossy);
+    digits.filter_map(|two| u8::from_str_radix(&two, 16).ok()).collect()
 }
 
 fn show_wanted(wanted: Wanted) -> &'static str {

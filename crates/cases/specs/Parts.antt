@@ -1,0 +1,10 @@
+-- The parts of a case in the packed file.
+use Prim.Native.Nat.{ℕ, _≤_}
+use Rattle.cases.specs.declared.Head.{Head as Ends}
+
+-- the parts lie one behind another, in the first n bytes
+pub record Behind (h : Ends) (n : ℕ) : Type 0 where
+  pub manifest-behind : h .name ≤ h .manifest
+  pub card-behind : h .manifest ≤ h .card
+  pub targets-behind : h .card ≤ h .targets
+  pub within : h .targets ≤ n

@@ -1,0 +1,72 @@
+-- `plan::answer` meets its contract.
+use mathlib.Core.Path.{sym}
+use lib.Seq.{length-take-le}
+use Rattle.report.proofs.Beginning.{whole-within, steps-within}
+use borrow.Author.Needs.{needs}
+use Rattle.plan.proofs.answer.Statement.{statement}
+use Rattle.plan.proofs.answer.Tie as tie
+
+begin-requires : tie.Need-begin-requires
+begin-requires c κs = c .before .before .before .before .before .before .before .pre
+
+enum-known-n : tie.Need-enum-known-n
+enum-known-n c = search needs
+
+slice-reshare-prefix-write : tie.Need-slice-reshare-prefix-write
+slice-reshare-prefix-write c = whole-within (c .before .before .before .before .before .before .before .begin .last .1 .1 .1 .0) (c .before .before .before .before .before .before .before .begin .last .1 .1 .1 .1 .0) (c .before .n .given .1) (c .before .before .before .before .before .before .before .begin .ensures .within)
+
+slice-aggregate-write : tie.Need-slice-aggregate-write
+slice-aggregate-write c = sym (length-take-le _ (c .before .before .before .before .before .before .before .before .begin .last .1 .1 .1 .1 .0) (whole-within (c .before .before .before .before .before .before .before .before .begin .last .1 .1 .1 .0) (c .before .before .before .before .before .before .before .before .begin .last .1 .1 .1 .1 .0) (c .before .before .n .given .1) (c .before .before .before .before .before .before .before .before .begin .ensures .within)))
+
+write-requires : tie.Need-write-requires
+write-requires c κs = search needs
+
+enum-known-n-2 : tie.Need-enum-known-n-2
+enum-known-n-2 c = search needs
+
+slice-reshare-prefix-write-steps : tie.Need-slice-reshare-prefix-write-steps
+slice-reshare-prefix-write-steps c = steps-within (c .before .before .before .before .before .before .before .begin .last .1 .1 .1 .0) (c .before .before .before .before .before .before .before .begin .last .1 .1 .1 .1 .0) (c .before .n2 .given .1) (c .before .before .before .before .before .before .before .begin .ensures .within)
+
+slice-aggregate-write-steps : tie.Need-slice-aggregate-write-steps
+slice-aggregate-write-steps c = sym (length-take-le _ (c .before .before .before .before .before .before .before .before .begin .last .1 .1 .1 .0) (steps-within (c .before .before .before .before .before .before .before .before .begin .last .1 .1 .1 .0) (c .before .before .before .before .before .before .before .before .begin .last .1 .1 .1 .1 .0) (c .before .before .n2 .given .1) (c .before .before .before .before .before .before .before .before .begin .ensures .within)))
+
+write-steps-requires : tie.Need-write-steps-requires
+write-steps-requires c κs = search needs
+
+same-length : tie.Need-same-length
+same-length c = search needs
+
+same-length-2 : tie.Need-same-length-2
+same-length-2 c = search needs
+
+returns : tie.Need-returns
+returns c = search needs
+
+same-length-3 : tie.Need-same-length-3
+same-length-3 c = search needs
+
+same-length-4 : tie.Need-same-length-4
+same-length-4 c = search needs
+
+returns-2 : tie.Need-returns-2
+returns-2 c = search needs
+
+pub answer-spec : {M : Type 1} → statement M
+answer-spec =
+    tie.close
+    (tie.spec
+    begin-requires
+    enum-known-n
+    slice-reshare-prefix-write
+    slice-aggregate-write
+    write-requires
+    enum-known-n-2
+    slice-reshare-prefix-write-steps
+    slice-aggregate-write-steps
+    write-steps-requires
+    same-length
+    same-length-2
+    returns
+    same-length-3
+    same-length-4
+    returns-2)

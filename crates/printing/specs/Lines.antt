@@ -1,0 +1,63 @@
+-- The lines that the program writes, as lists of bytes.
+use Prim.Native.Nat.{ℕ, zero, suc, _+_, _/_, _%_}
+use mathlib.Core.List.{List, [], _∷_, _++_}
+use lib.Dec.{ltb}
+use lib.ListN.{length}
+use Rattle.lists.specs.Tests.{ifB}
+use Rattle.lists.specs.Text.{bytes}
+use Rattle.rules.specs.Answers.{Said}
+use Rattle.rules.specs.Promises.{refused14}
+
+-- A number in decimal digits, the highest first and with no leading zero. The first argument bounds the digits: n itself is more than n has.
+unfoldable pub decimalUp : ℕ → ℕ → List ℕ
+decimalUp zero n = []
+decimalUp (suc f) n = ifB (ltb n 10) (λ _. (48 + n) ∷ []) (λ _. decimalUp f (n / 10) ++ ((48 + n % 10) ∷ []))
+
+unfoldable pub decimal : ℕ → List ℕ
+unfolding decimalUp
+decimal n = decimalUp (suc n) n
+
+abbrev pub newline : List ℕ
+newline = 10 ∷ []
+
+-- a word and a number behind it
+unfoldable pub worded : List ℕ → ℕ → List ℕ
+unfolding decimal
+worded w n = w ++ decimal n
+
+-- "`no work` for an empty list"
+abbrev pub noWork : List ℕ
+noWork = bytes "no work" ++ newline
+
+-- "`refused N at P` for a refusal", without its line end
+unfoldable pub refusedText : Said → List ℕ
+unfolding worded
+refusedText s = worded (bytes "refused ") (s .number) ++ worded (bytes " at ") (s .value)
+
+unfoldable pub refusedLine : Said → List ℕ
+unfolding refusedText
+refusedLine s = refusedText s ++ newline
+
+-- "after a 14 a line such as `circle 0 1`"
+unfoldable pub spaced : List ℕ → List ℕ
+unfolding worded
+spaced [] = []
+spaced (s ∷ l) = worded (bytes " ") s ++ spaced l
+
+unfoldable pub circleLine : List ℕ → List ℕ
+unfolding spaced
+circleLine l = bytes "circle" ++ spaced l ++ newline
+
+-- after a 14: the refusal's line, then the circle's
+unfoldable pub circleOutput : List ℕ → List ℕ
+unfolding refusedLine circleLine
+circleOutput circle = refusedLine (refused14 (length circle)) ++ circleLine circle
+
+-- "a line for each listed step, with its place in the list, the list's length and its `command` text"
+unfoldable pub headOf : ℕ → ℕ → List ℕ
+unfolding worded
+headOf k n = worded (bytes "[") k ++ worded (bytes "/") n ++ bytes "] "
+
+unfoldable pub lineOf : ℕ → ℕ → List ℕ → List ℕ
+unfolding headOf
+lineOf k n text = headOf k n ++ text ++ newline

@@ -1,0 +1,25 @@
+-- What the functions promise that fill the lent line.
+use Prim.Native.Nat.{ℕ, _+_, _≤_}
+use mathlib.Core.List.{List, _++_}
+use mathlib.Core.Path.{_≡_}
+use lib.ListN.{length, take}
+use Rattle.rules.specs.Promises.{filled}
+
+-- room for a line of any kind: a step's line, or a refusal with a circle of 512 steps
+abbrev pub lineRoom : ℕ
+lineRoom = 12288
+
+-- s is written from place `at` on, up to place r
+pub record Puts (s entry : List ℕ) (at : ℕ) (exit : List ℕ) (r : ℕ) : Type 0 where
+  pub end : r ≡ at + length s
+  pub front : take r exit ≡ take at entry ++ s
+
+-- the same, of a text that takes at most `most` places
+pub record PutsUpTo (most : ℕ) (s entry : List ℕ) (at : ℕ) (exit : List ℕ) (r : ℕ) : Type 0 where
+  pub puts : Puts s entry at exit r
+  pub short : r ≤ at + most
+
+-- the lent buffer holds n bytes, which are `out`, and zeros beyond
+pub record Leaves (out lent : List ℕ) (n : ℕ) (exit : List ℕ) : Type 0 where
+  pub count : n ≡ length out
+  pub left : exit ≡ filled out lent

@@ -1,0 +1,116 @@
+// The lines that the program writes, made in a lent buffer.
+ghost use mathlib.Core.List.{_∷_, [], _++_};
+ghost use Prim.Native.Nat.{_+_, _*_, _≤_, _<_};
+ghost use lib.ListN.{length, take};
+ghost use Rattle.answers.specs.Numbers.{said};
+ghost use Rattle.printing.specs.Lines.{decimal, worded, noWork, refusedText, refusedLine, spaced, circleOutput, headOf};
+ghost use Rattle.printing.specs.Writes.{lineRoom, Puts, PutsUpTo, Leaves};
+use answers::Numbers;
+use lists::bytes::copy_at;
+use lists::bytes::zero_from;
+use lists::words::at;
+
+// Writes s from place `from` on, and gives the place behind it.
+fn put(line: &mut [u8], from: usize, s: &[u8]) -> usize
+    requires { ⌜ from + length (now s) ≤ length (now line) ⌝ }
+    ensures { λ r. ⌜ Puts (now (s .entry)) (now (line .entry)) from (now (line .exit)) r ⌝ }
+{
+    copy_at(line, from, s);
+    from + s.len()
+}
+
+// The digits of n.
+fn put_number(line: &mut [u8], from: usize, n: usize) -> usize
+    requires { ⌜ from + 20 ≤ length (now line) ⌝ }
+    ensures { λ r. ⌜ PutsUpTo 20 (decimal n) (now (line .entry)) from (now (line .exit)) r ⌝ }
+{
+    let mut digits = [0u8; 20];
+    let k = io::decimal(n as u64, &mut digits);
+    put(line, from, &digits[..k])
+}
+
+// A word, and a number behind it.
+fn put_worded(line: &mut [u8], from: usize, word: &[u8], n: usize) -> usize
+    requires { ⌜ from + (length (now word) + 20) ≤ length (now line) ⌝ }
+    ensures { λ r. ⌜ PutsUpTo (length (now (word .entry)) + 20) (worded (now (word .entry)) n) (now (line .entry)) from (now (line .exit)) r ⌝ }
+{
+    let behind = put(line, from, word);
+    put_number(line, behind, n)
+}
+
+// Ends a line, and clears all that lies behind it.
+pub fn end_line(line: &mut [u8], from: usize) -> usize
+    requires { ⌜ from < length (now line) ⌝ }
+    ensures { λ r. ⌜ Leaves (take from (now (line .entry)) ++ (10 ∷ [])) (now (line .entry)) r (now (line .exit)) ⌝ }
+{
+    line[from] = b'\n';
+    zero_from(line, from + 1);
+    from + 1
+}
+
+// "`no work` for an empty list"
+pub fn say_no_work(line: &mut [u8]) -> usize
+    requires { ⌜ lineRoom ≤ length (now line) ⌝ }
+    ensures { λ r. ⌜ Leaves noWork (now (line .entry)) r (now (line .exit)) ⌝ }
+{
+    let behind = put(line, 0, b"no work");
+    end_line(line, behind)
+}
+
+fn put_refused(line: &mut [u8], n: Numbers) -> usize
+    requires { ⌜ 52 ≤ length (now line) ⌝ }
+    ensures { λ r. ⌜ PutsUpTo 52 (refusedText (said n)) (now (line .entry)) 0 (now (line .exit)) r ⌝ }
+{
+    let behind = put_worded(line, 0, b"refused ", n.number);
+    put_worded(line, behind, b" at ", n.value)
+}
+
+// "`refused N at P` for a refusal"
+pub fn say_refused(line: &mut [u8], n: Numbers) -> usize
+    requires { ⌜ lineRoom ≤ length (now line) ⌝ }
+    ensures { λ r. ⌜ Leaves (refusedLine (said n)) (now (line .entry)) r (now (line .exit)) ⌝ }
+{
+    let behind = put_refused(line, n);
+    end_line(line, behind)
+}
+
+// Each step's number, behind a space.
+fn put_steps(line: &mut [u8], from: usize, steps: &[u32]) -> usize
+    requires { ⌜ from + 21 * length (now steps) ≤ length (now line) ⌝ }
+    ensures { λ r. ⌜ PutsUpTo (21 * length (now (steps .entry))) (spaced (now (steps .entry))) (now (line .entry)) from (now (line .exit)) r ⌝ }
+{
+    let mut behind = from;
+    let mut i = 0;
+    while i < steps.len() {
+        behind = put_worded(line, behind, b" ", at(steps, i));
+        i += 1;
+    }
+    behind
+}
+
+// "after a 14 a line such as `circle 0 1`"
+pub fn say_circle(line: &mut [u8], circle: &[u32]) -> usize
+    requires { ⌜ (lineRoom ≤ length (now line)) × (length (now circle) ≤ 512) ⌝ }
+    ensures { λ r. ⌜ Leaves (circleOutput (now (circle .entry))) (now (line .entry)) r (now (line .exit)) ⌝ }
+{
+    let refused = put_refused(
+        line,
+        Numbers {
+            number: 14,
+            value: circle.len(),
+        },
+    );
+    let named = put(line, refused, b"\ncircle");
+    let behind = put_steps(line, named, circle);
+    end_line(line, behind)
+}
+
+// The start of a step's line: its place in the list, and the list's length.
+pub fn put_head(line: &mut [u8], place: usize, count: usize) -> usize
+    requires { ⌜ lineRoom ≤ length (now line) ⌝ }
+    ensures { λ r. ⌜ PutsUpTo 44 (headOf place count) (now (line .entry)) 0 (now (line .exit)) r ⌝ }
+{
+    let slash = put_worded(line, 0, b"[", place);
+    let bracket = put_worded(line, slash, b"/", count);
+    put(line, bracket, b"] ")
+}

@@ -1,0 +1,187 @@
+-- The start of the output: what the line holds, and that what is written in all is right.
+use Prim.Native.Nat.{ℕ, _-_, _≤_}
+use native.Mathlib.Omega.{arith}
+use mathlib.Core.List.{List, [], _∷_, append-nil}
+use mathlib.Core.Path.{_≡_, refl, sym, _∙_, ap}
+use borrow.Author.Tests.{eq-eqb, ne-eqb, eqb-false}
+use lib.Dec.{eqb}
+use lib.ListN.{length, take, drop, replicate}
+use lib.Seq.{drop-length}
+use Rattle.lists.specs.Fill.{zeroed}
+use Rattle.rules.specs.Answers.{Said, numberOfRefusal, refusalSays}
+use Rattle.rules.specs.PlanAsk.{PlanOutcome, listed, circular, noPlan, planAsk}
+use Rattle.rules.specs.Promises.{filled, PlanMeets}
+use Rattle.answers.specs.declared.Numbers.{Numbers as Two}
+use Rattle.answers.specs.Numbers.{said}
+use Rattle.printing.specs.Lines.{noWork, refusedLine, circleOutput}
+use Rattle.printing.specs.Writes.{Leaves}
+use Rattle.report.specs.declared.Begun.{Begun}
+use Rattle.report.specs.declared.Begun.the-variants.{Whole, Steps}
+use Rattle.report.specs.Output.{Checks, fine, stopped, checkTexts, checkedOutput, listOutput, stepLines, Outputs}
+use Rattle.report.specs.Begins.{whole, checkedOpening, listOpening, planOpening, Opens, writtenBy, Within, Rooms, Planned, Begins}
+use Rattle.report.proofs.Early.{not-0, not-14}
+use Rattle.report.proofs.Texts.{front-filled, fits-filled}
+
+pub opens-whole : {out d f : List ℕ} {n : ℕ} → Leaves out d n f → Opens (whole out) d (Whole n) f
+unfolding whole
+opens-whole l = record { begun = ap Whole (l .count); left = l .left }
+
+-- ---- a list
+
+pub list-none : (manifest steps : List ℕ) {d f : List ℕ} {n : ℕ} → length steps ≡ 0 → Leaves noWork d n f → Opens (listOpening manifest steps) d (Whole n) f
+unfolding listOpening
+list-none manifest [] e l = opens-whole l
+list-none manifest (s ∷ steps) e l = absurd (omega arith)
+
+list-some : (manifest steps : List ℕ) → (length steps ≡ 0 → ⊥) → listOpening manifest steps ≡ checkedOpening (length steps) (checkTexts manifest steps)
+unfolding listOpening
+list-some manifest [] e = absurd (e refl)
+list-some manifest (s ∷ steps) e = refl
+
+pub list-fine : (manifest steps d e f : List ℕ) → (length steps ≡ 0 → ⊥) → fine ≡ checkTexts manifest steps → length e ≡ length d → f ≡ zeroed e 0 (length e)
+    → Opens (listOpening manifest steps) d (Steps (length steps)) f
+unfolding checkedOpening zeroed filled
+list-fine manifest steps d e f h c k w =
+    let o : listOpening manifest steps ≡ checkedOpening (length steps) fine = list-some manifest steps h ∙ ap (checkedOpening (length steps)) (sym c) in
+    rw o
+    (record { begun = refl; left = w ∙ rw (drop-length e, k) (append-nil (replicate (length d - 0) 0)) })
+
+pub list-stopped : (manifest steps d e f : List ℕ) (s : Said) {n : ℕ} → (length steps ≡ 0 → ⊥) → stopped s ≡ checkTexts manifest steps → length e ≡ length d
+    → Leaves (refusedLine s) e n f → Opens (listOpening manifest steps) d (Whole n) f
+unfolding checkedOpening filled
+list-stopped manifest steps d e f s {n} h c k l =
+    let o : listOpening manifest steps ≡ whole (refusedLine s) = list-some manifest steps h ∙ ap (checkedOpening (length steps)) (sym c) in
+    rw o (opens-whole {d = d} (record { count = l .count; left = rw k at (l .left) }))
+
+-- ---- by the plan's numbers
+
+module _ (manifest : List ℕ) (s : Said) (list : List ℕ) where
+  planned-list : s .number ≡ 0 → planOpening manifest s list ≡ listOpening manifest (take (s .value) list)
+  unfolding planOpening
+  planned-list e = rw (eq-eqb (s .number) 0 e)
+
+  planned-circle : s .number ≡ 14 → planOpening manifest s list ≡ whole (circleOutput (take (s .value) list))
+  unfolding planOpening
+  planned-circle e = rw (ne-eqb (s .number) 0 (λ (z : s .number ≡ 0). omega arith), eq-eqb (s .number) 14 e)
+
+  planned-refused : (s .number ≡ 0 → ⊥) → (s .number ≡ 14 → ⊥) → planOpening manifest s list ≡ whole (refusedLine s)
+  unfolding planOpening
+  planned-refused a b = rw (ne-eqb (s .number) 0 a, ne-eqb (s .number) 14 b)
+
+  pub opens-list : {d f : List ℕ} {r : Begun} → s .number ≡ 0 → Opens (listOpening manifest (take (s .value) list)) d r f → Opens (planOpening manifest s list) d r f
+  opens-list e p = rw (planned-list e) p
+
+  pub opens-circle : {d f : List ℕ} {n : ℕ} → s .number ≡ 14 → Leaves (circleOutput (take (s .value) list)) d n f → Opens (planOpening manifest s list) d (Whole n) f
+  opens-circle e p = rw (planned-circle e) (opens-whole p)
+
+  pub opens-refused : {d f : List ℕ} {n : ℕ} → (s .number ≡ 0 → ⊥) → (s .number ≡ 14 → ⊥) → Leaves (refusedLine s) d n f → Opens (planOpening manifest s list) d (Whole n) f
+  opens-refused a b p = rw (planned-refused a b) (opens-whole p)
+
+-- ---- a list and a circle fit
+
+record Fits (s : Said) (n : ℕ) : Type 0 where
+  listed-fits : s .number ≡ 0 → s .value ≤ n
+  circle-fits : s .number ≡ 14 → s .value ≤ n
+
+fits-all : {s : Said} {n k : ℕ} → s .value ≡ k → k ≤ n → Fits s n
+fits-all e h = record { listed-fits = λ _. omega arith; circle-fits = λ _. omega arith }
+
+module _ (manifest card targets : List ℕ) (room : ℕ) where
+  plan-fits : (o : PlanOutcome) → planAsk manifest card targets room ≡ o → (list exit : List ℕ) (s : Said) → length exit ≡ length list → PlanMeets o list s exit → Fits s (length exit)
+  unfolding PlanMeets refusalSays
+  plan-fits (listed l) e list exit s k m = fits-all (ap (λ (x : Said). x .value) (m .says)) (omega (arith, fits-filled l list exit (m .leaves) k))
+  plan-fits (circular steps ts) e list exit s k m =
+      fits-all (ap (λ (x : Said). x .value) (m .shown .says)) (omega (arith, fits-filled (m .circle) list exit (m .shown .leaves) k))
+  plan-fits (noPlan r) e list exit s k m =
+      let n : s .number ≡ numberOfRefusal r = ap (λ (x : Said). x .number) (m .says) in
+      record {
+        listed-fits = λ (z : s .number ≡ 0). absurd (not-0 r (sym n ∙ z));
+        circle-fits = λ (z : s .number ≡ 14). absurd (eqb-false (numberOfRefusal r) 14 (not-14 manifest card targets room e) (sym n ∙ z));
+      }
+
+  pub planned : (list exit line : List ℕ) (n : Two) (s : Said) → Rooms list line → said n ≡ s → length exit ≡ length list
+      → PlanMeets (planAsk manifest card targets room) list s exit → Planned n exit line
+  planned list exit line n s h e k m =
+      let f : Fits s (length exit) = plan-fits (planAsk manifest card targets room) refl list exit s k m in
+      let a : n .number ≡ s .number = ap (λ (x : Said). x .number) e in
+      let b : n .value ≡ s .value = ap (λ (x : Said). x .value) e in
+      record {
+        listed = λ (z : n .number ≡ 0). omega (arith, f .listed-fits (sym a ∙ z));
+        shown = λ (z : n .number ≡ 14). omega (arith, f .circle-fits (sym a ∙ z));
+        rooms = record { list-room = k ∙ h .list-room; line-room = h .line-room };
+      }
+
+-- ---- what is written in all
+
+record Right (manifest : List ℕ) (o : PlanOutcome) (r : Begun) (list line : List ℕ) : Type 0 where
+  within : Within r list line
+  right : Outputs manifest o (writtenBy r manifest list line)
+
+-- where the line holds it whole
+whole-written : (manifest list out line : List ℕ) {r : Begun} {exit : List ℕ} → length exit ≡ length line → Opens (whole out) line r exit
+    → (Within r list exit) × (writtenBy r manifest list exit ≡ out)
+unfolding whole writtenBy
+whole-written manifest list out line {r} {exit} k p =
+    (rw (p .begun) (omega (arith, fits-filled out line exit (p .left) k)), rw (p .begun, p .left) (front-filled out line))
+
+-- where the steps' lines are to come
+steps-written : (manifest l list line listExit : List ℕ) {r : Begun} {exit : List ℕ} → length listExit ≡ length list → listExit ≡ filled l list
+    → Opens (checkedOpening (length l) fine) line r exit → (Within r listExit exit) × (writtenBy r manifest listExit exit ≡ stepLines manifest (length l) 0 l)
+unfolding checkedOpening writtenBy
+steps-written manifest l list line listExit {r} {exit} k w p = (
+  rw (p .begun) (omega (arith, fits-filled l list listExit w k)),
+  rw (p .begun, w) (ap (stepLines manifest (length l) 0) (front-filled l list)),
+)
+
+checked-written : (manifest l list line listExit : List ℕ) {r : Begun} {exit : List ℕ} (c : Checks) → length listExit ≡ length list → listExit ≡ filled l list
+    → length exit ≡ length line → Opens (checkedOpening (length l) c) line r exit → (Within r listExit exit) × (writtenBy r manifest listExit exit ≡ checkedOutput manifest l c)
+unfolding checkedOutput checkedOpening
+checked-written manifest l list line listExit fine k w j p = steps-written manifest l list line listExit k w p
+checked-written manifest l list line listExit (stopped s) k w j p = whole-written manifest listExit (refusedLine s) line j p
+
+list-written : (manifest l list line listExit : List ℕ) {r : Begun} {exit : List ℕ} → length listExit ≡ length list → listExit ≡ filled l list
+    → length exit ≡ length line → Opens (listOpening manifest l) line r exit → (Within r listExit exit) × (writtenBy r manifest listExit exit ≡ listOutput manifest l)
+unfolding listOutput listOpening
+list-written manifest [] list line listExit k w j p = whole-written manifest listExit noWork line j p
+list-written manifest (s ∷ l) list line listExit k w j p = checked-written manifest (s ∷ l) list line listExit (checkTexts manifest (s ∷ l)) k w j p
+
+module _ (manifest card targets : List ℕ) (room : ℕ) (list line listExit : List ℕ) {r : Begun} {exit : List ℕ} (s : Said)
+    (k : length listExit ≡ length list) (j : length exit ≡ length line) (p : Opens (planOpening manifest s listExit) line r exit) where
+  plan-right : (o : PlanOutcome) → planAsk manifest card targets room ≡ o → PlanMeets o list s listExit → Right manifest o r listExit exit
+  unfolding PlanMeets Outputs refusalSays
+  plan-right (listed l) e m =
+      let n : s .number ≡ 0 = ap (λ (x : Said). x .number) (m .says) in
+      let v : s .value ≡ length l = ap (λ (x : Said). x .value) (m .says) in
+      let t : take (s .value) listExit ≡ l = rw (v, m .leaves) (front-filled l list) in
+      let q : Opens (listOpening manifest l) line r exit = rw (planned-list manifest s listExit n, t) at p in
+      let b = list-written manifest l list line listExit k (m .leaves) j q in
+      record { within = b .0; right = b .1 }
+  plan-right (circular steps ts) e m =
+      let n : s .number ≡ 14 = ap (λ (x : Said). x .number) (m .shown .says) in
+      let v : s .value ≡ length (m .circle) = ap (λ (x : Said). x .value) (m .shown .says) in
+      let t : take (s .value) listExit ≡ m .circle = rw (v, m .shown .leaves) (front-filled (m .circle) list) in
+      let q : Opens (whole (circleOutput (m .circle))) line r exit = rw (planned-circle manifest s listExit n, t) at p in
+      let b = whole-written manifest listExit (circleOutput (m .circle)) line j q in
+      record { within = b .0; right = record { circle = m .circle; real = m .real; shown = b .1 } }
+  plan-right (noPlan x) e m =
+      let n : s .number ≡ numberOfRefusal x = ap (λ (y : Said). y .number) (m .says) in
+      let a : s .number ≡ 0 → ⊥ = λ (z : s .number ≡ 0). not-0 x (sym n ∙ z) in
+      let c : s .number ≡ 14 → ⊥ = λ (z : s .number ≡ 14). eqb-false (numberOfRefusal x) 14 (not-14 manifest card targets room e) (sym n ∙ z) in
+      let q : Opens (whole (refusedLine s)) line r exit = rw (planned-refused manifest s listExit a c) at p in
+      let b = whole-written manifest listExit (refusedLine s) line j q in
+      record { within = b .0; right = b .1 ∙ ap refusedLine (m .says) }
+
+pub begins : (manifest card targets list line listExit : List ℕ) {r : Begun} {exit : List ℕ} (n : Two) (s : Said) → said n ≡ s → length listExit ≡ length list
+    → length exit ≡ length line → PlanMeets (planAsk manifest card targets (length list)) list s listExit
+    → Opens (planOpening manifest (said n) listExit) line r exit → Begins manifest card targets list line r listExit exit
+begins manifest card targets list line listExit {r} {exit} n s e k j m p =
+    let q : Opens (planOpening manifest s listExit) line r exit = rw e at p in
+    let x = plan-right manifest card targets (length list) list line listExit s k j q (planAsk manifest card targets (length list)) refl m in
+    record { says = s; planned = m; opens = q; within = x .within; right = x .right }
+
+-- What is to be read of the line and of the list lies within them.
+pub whole-within : {r : Begun} {n : ℕ} (list line : List ℕ) → r ≡ Whole n → Within r list line → n ≤ length line
+whole-within {r} {n} list line e w = rw e at w
+
+pub steps-within : {r : Begun} {n : ℕ} (list line : List ℕ) → r ≡ Steps n → Within r list line → n ≤ length list
+steps-within {r} {n} list line e w = rw e at w

@@ -1,0 +1,218 @@
+-- Only a circle is refused with 14: reading refuses with 2 to 10, and what comes after it with 11, 12, 13 and 15.
+use Prim.Native.Nat.{ℕ}
+use native.Mathlib.Omega.{arith}
+use mathlib.Core.Bool.{Bool, true, false, not, _||_}
+use mathlib.Core.List.{List, [], _∷_, _++_}
+use mathlib.Core.Option.{Option, none, some}
+use mathlib.Core.Path.{_≡_, refl}
+use lib.Dec.{leb, ltb, eqb}
+use lib.ListN.{length}
+use borrow.Author.Tests.{leb-true, ne-eqb, not-true}
+use Rattle.lists.specs.Tests.{ifB, split}
+use Rattle.rules.specs.declared.Refusal.{Refusal}
+use Rattle.rules.specs.declared.Refusal.the-variants.{ShortBuffer, LongManifest, BadByte, BadLine, BadDollar, NotYet, BadRule, BadPath, OverLimit, BadVersion, BadCard, BadTarget, NoRoot, Circle, MissingSource, EndlessText, LongText, NoCommand}
+use Rattle.lists.specs.Text.{bytes}
+use Rattle.lists.specs.Members.{any}
+use Rattle.rules.specs.Basics.{isEmpty}
+use Rattle.rules.specs.Bytes.{newline}
+use Rattle.rules.specs.Dollars.{expand}
+use Rattle.rules.specs.Limits.{leastList, maxName, maxRules, maxSteps, maxValue, maxManifest}
+use Rattle.rules.specs.Answers.{numberOfRefusal}
+use Rattle.rules.specs.Lines.{Line, linesOf, isComment, isBlank, isIndented}
+use Rattle.rules.specs.Forms.{Fault, noForm, wrongDollar, notYet, Cut, fits, fails, Form, ruleForm, buildForm, defaultForm, bindingForm, cutStatement, cutIndented}
+use Rattle.rules.specs.Reading.{Reading, nothingRead, hasKey, declared, fileVar, isMade}
+use Rattle.rules.specs.Statements.{Block, noBlock, ruleBlock, buildBlock, Outcome, goesOn, refused, startRule, longerThan, overCounts, ruleKey, countBinding, expandedLine, expanded, mentioned, inputsOfLine, badPaths, overPaths, overBinding, wrongVersion, addKey, addStep, stepOf, addToBlock, addVar, addDefaults, statement, blockLine}
+use Rattle.rules.specs.Manifest.{withRule, close, andThen, faultOf, ifCut, indented, readIndented, readStatement, readLine, readLines, Read, accepted, refusedWith, readOf, ifSound, badByte, readManifest}
+use Rattle.rules.specs.Card.{soundCard}
+use Rattle.rules.specs.Targets.{badTarget}
+use Rattle.rules.specs.Graph.{hasOrder, noRoot, roots}
+use Rattle.rules.specs.PlanAsk.{PlanOutcome, listed, circular, noPlan, targetFiles, missingSource, listedOr15, planFrom, planRoots, planRead, planAsk}
+
+abbrev early : Outcome → Bool
+early (goesOn rd b) = true
+early (refused r) = leb (numberOfRefusal r) 10
+
+abbrev Early : Outcome → Type 0
+Early o = early o ≡ true
+
+-- A test that refuses, ahead of the rest.
+first : (b : Bool) (r : Refusal) (o : Outcome) → leb (numberOfRefusal r) 10 ≡ true → Early o → Early (ifB b (λ _. refused r) (λ _. o))
+first true r o p q = p
+first false r o p q = q
+
+-- The rest, where a test does not refuse.
+last : (b : Bool) (r : Refusal) (o : Outcome) → leb (numberOfRefusal r) 10 ≡ true → Early o → Early (ifB b (λ _. o) (λ _. refused r))
+last true r o p q = q
+last false r o p q = p
+
+either : (b : Bool) (o t : Outcome) → Early o → Early t → Early (ifB b (λ _. o) (λ _. t))
+either true o t p q = p
+either false o t p q = q
+
+close-early : (rd : Reading) (b : Block) → Early (close rd b)
+unfolding close numberOfRefusal
+close-early rd noBlock = refl
+close-early rd (ruleBlock k r) = last (hasKey (bytes "command") (r .keys)) (BadRule k) (goesOn (withRule r rd) noBlock) refl refl
+close-early rd (buildBlock s) = refl
+
+then-early : (o : Outcome) (f : Reading → Block → Outcome) → Early o → ((rd : Reading) (b : Block) → Early (f rd b)) → Early (andThen o f)
+unfolding andThen
+then-early (goesOn rd b) f p q = q rd b
+then-early (refused r) f p q = p
+
+fault-early : (l : Line) (e : Fault) → leb (numberOfRefusal (faultOf l e)) 10 ≡ true
+unfolding faultOf numberOfRefusal
+fault-early l noForm = refl
+fault-early l (wrongDollar n) = refl
+fault-early l notYet = refl
+
+cut-early : (l : Line) (c : Cut Form) (f : Form → Outcome) → ((x : Form) → Early (f x)) → Early (ifCut l c f)
+unfolding ifCut numberOfRefusal
+cut-early l (fails e) f q = fault-early l e
+cut-early l (fits x) f q = last (l .ended) (BadLine (l .start)) (f x) refl (q x)
+
+statement-early : (start : ℕ) (x : Form) (rd : Reading) → Early (statement start x rd)
+unfolding statement startRule addStep stepOf addDefaults addVar numberOfRefusal
+statement-early start (ruleForm n) rd =
+    first (declared n rd) (BadRule start) _ refl (first (longerThan maxName n || leb maxRules (length (rd .rules))) (OverLimit start) _ refl refl)
+statement-early start (buildForm x) rd =
+    let b = expandedLine rd x in
+    let after = mentioned (b .outs ++ inputsOfLine b) rd in
+    first (not (declared (b .rule) rd)) (BadRule start) _ refl
+    (first (badPaths (b .outs) (inputsOfLine b) rd) (BadPath start) _ refl
+    (first (overPaths (b .outs ++ inputsOfLine b) || overCounts after || leb maxSteps (length (rd .steps))) (OverLimit start) _ refl refl))
+statement-early start (defaultForm qs) rd =
+    let ps = expanded rd qs in
+    first (any isEmpty ps || any (λ p. not (isMade p rd)) ps) (BadPath start) _ refl
+    (first (overPaths ps || overCounts (mentioned ps rd)) (OverLimit start) _ refl refl)
+statement-early start (bindingForm n raw) rd =
+    let v = expand (fileVar (rd .vars)) raw in
+    first (overBinding n v (countBinding (length v) rd)) (OverLimit start) _ refl (first (wrongVersion n v) (BadVersion start) _ refl refl)
+
+block-early : (start : ℕ) (b : Block) (n raw : List ℕ) (rd : Reading) → Early (blockLine start b n raw rd)
+unfolding blockLine addKey addToBlock numberOfRefusal
+block-early start noBlock n raw rd = refl
+block-early start (ruleBlock k r) n raw rd =
+    first (not (ruleKey n) || hasKey n (r .keys)) (BadRule start) _ refl
+    (first (longerThan maxValue raw || overCounts (countBinding (length raw) rd)) (OverLimit start) _ refl refl)
+block-early start (buildBlock s) n raw rd =
+    let v = expand (fileVar (rd .vars)) raw in
+    first (overBinding n v (countBinding (length v) rd)) (OverLimit start) _ refl refl
+
+indented-early : (l : Line) (rd : Reading) (b : Block) (x : Form) → Early (indented l rd b x)
+unfolding indented numberOfRefusal
+indented-early l rd b (bindingForm n raw) = block-early (l .start) b n raw rd
+indented-early l rd b (ruleForm n) = refl
+indented-early l rd b (buildForm x) = refl
+indented-early l rd b (defaultForm ps) = refl
+
+read-indented-early : (l : Line) (rd : Reading) (b : Block) → Early (readIndented l rd b)
+unfolding readIndented numberOfRefusal
+read-indented-early l rd noBlock = refl
+read-indented-early l rd (ruleBlock k r) = cut-early l (cutIndented (l .text)) _ (indented-early l rd (ruleBlock k r))
+read-indented-early l rd (buildBlock s) = cut-early l (cutIndented (l .text)) _ (indented-early l rd (buildBlock s))
+
+read-statement-early : (l : Line) (rd : Reading) (b : Block) → Early (readStatement l rd b)
+unfolding readStatement
+read-statement-early l rd b = cut-early l (cutStatement (l .text)) _ (λ (x : Form). statement-early (l .start) x rd)
+
+line-early : (l : Line) (rd : Reading) (b : Block) → Early (readLine l rd b)
+unfolding readLine
+line-early l rd b =
+    either (isComment (l .text)) (goesOn rd b) _ refl
+    (either (isBlank (l .text)) (close rd b) _ (close-early rd b)
+    (either (isIndented (l .text)) (readIndented l rd b) _ (read-indented-early l rd b)
+    (then-early (close rd b) (readStatement l) (close-early rd b) (read-statement-early l))))
+
+lines-early : (ls : List Line) (rd : Reading) (b : Block) → Early (readLines ls rd b)
+unfolding readLines
+lines-early [] rd b = close-early rd b
+lines-early (l ∷ ls) rd b = then-early (readLine l rd b) (readLines ls) (line-early l rd b) (lines-early ls)
+
+abbrev early-read : Read → Bool
+early-read (accepted rd) = true
+early-read (refusedWith r) = leb (numberOfRefusal r) 10
+
+abbrev EarlyRead : Read → Type 0
+EarlyRead r = early-read r ≡ true
+
+read-of-early : (o : Outcome) → Early o → EarlyRead (readOf o)
+unfolding readOf
+read-of-early (goesOn rd b) p = refl
+read-of-early (refused r) p = p
+
+sound-early : (o : Option ℕ) (k : Unit {0} → Read) → EarlyRead (k tt) → EarlyRead (ifSound o k)
+unfolding ifSound numberOfRefusal
+sound-early none k p = p
+sound-early (some at) k p = refl
+
+-- The manifest is refused with 2 to 10.
+manifest-early : (s : List ℕ) → EarlyRead (readManifest s)
+unfolding readManifest numberOfRefusal
+manifest-early s =
+    split (ltb maxManifest (length s)) (λ (e : ltb maxManifest (length s) ≡ true). rw e)
+    (λ (e : ltb maxManifest (length s) ≡ false).
+    rw e (sound-early (badByte newline 0 s) _ (read-of-early (readLines (linesOf s) nothingRead noBlock) (lines-early (linesOf s) nothingRead noBlock))))
+
+abbrev other : PlanOutcome → Bool
+other (listed l) = true
+other (circular steps targets) = true
+other (noPlan r) = not (eqb (numberOfRefusal r) 14)
+
+abbrev Other : PlanOutcome → Type 0
+Other o = other o ≡ true
+
+either-plan : (b : Bool) (o t : PlanOutcome) → Other o → Other t → Other (ifB b (λ _. o) (λ _. t))
+either-plan true o t p q = p
+either-plan false o t p q = q
+
+or15-other : (card : List ℕ) (rd : Reading) (rs : List ℕ) (o : Option ℕ) → Other (listedOr15 card rd rs o)
+unfolding listedOr15 numberOfRefusal
+or15-other card rd rs none = refl
+or15-other card rd rs (some f) = refl
+
+from-other : (card : List ℕ) (rd : Reading) (rs : List ℕ) → Other (planFrom card rd rs)
+unfolding planFrom
+from-other card rd rs = either-plan (hasOrder (rd .steps) rs) (listedOr15 card rd rs (missingSource card rd rs)) (circular (rd .steps) rs) (or15-other card rd rs (missingSource card rd rs)) refl
+
+roots-other : (card targets : List ℕ) (rd : Reading) (o : Option ℕ) → Other (planRoots card targets rd o)
+unfolding planRoots numberOfRefusal
+roots-other card targets rd (some p) = refl
+roots-other card targets rd none =
+    let ts = targetFiles targets rd in
+    either-plan (noRoot rd ts) (noPlan NoRoot) (planFrom card rd (roots rd ts)) refl (from-other card rd (roots rd ts))
+
+read-other : (card targets : List ℕ) (r : Read) → EarlyRead r → Other (planRead card targets r)
+unfolding planRead numberOfRefusal
+read-other card targets (refusedWith r) p = rw (ne-eqb (numberOfRefusal r) 14 (λ (e : numberOfRefusal r ≡ 14). omega (arith, leb-true (numberOfRefusal r) 10 p)))
+read-other card targets (accepted rd) p = either-plan (soundCard card) (planRoots card targets rd (badTarget (rd .files) targets)) (noPlan BadCard) (roots-other card targets rd (badTarget (rd .files) targets)) refl
+
+-- No outcome but a circle has the number 14.
+pub ask-other : (manifest card targets : List ℕ) (room : ℕ) → Other (planAsk manifest card targets room)
+unfolding planAsk numberOfRefusal
+ask-other manifest card targets room = either-plan (ltb room leastList) (noPlan ShortBuffer) (planRead card targets (readManifest manifest)) refl (read-other card targets (readManifest manifest) (manifest-early manifest))
+
+pub not-14 : (manifest card targets : List ℕ) (room : ℕ) {r : Refusal} → planAsk manifest card targets room ≡ noPlan r → eqb (numberOfRefusal r) 14 ≡ false
+not-14 manifest card targets room {r} e = not-true (eqb (numberOfRefusal r) 14) (rw e at (ask-other manifest card targets room))
+
+-- No refusal has the number 0.
+pub not-0 : (r : Refusal) → numberOfRefusal r ≡ 0 → ⊥
+unfolding numberOfRefusal
+not-0 ShortBuffer e = omega arith
+not-0 LongManifest e = omega arith
+not-0 (BadByte p) e = omega arith
+not-0 (BadLine p) e = omega arith
+not-0 (BadDollar p) e = omega arith
+not-0 (NotYet p) e = omega arith
+not-0 (BadRule p) e = omega arith
+not-0 (BadPath p) e = omega arith
+not-0 (OverLimit p) e = omega arith
+not-0 (BadVersion p) e = omega arith
+not-0 BadCard e = omega arith
+not-0 (BadTarget p) e = omega arith
+not-0 NoRoot e = omega arith
+not-0 (Circle n) e = omega arith
+not-0 (MissingSource f) e = omega arith
+not-0 (EndlessText s) e = omega arith
+not-0 (LongText s) e = omega arith
+not-0 (NoCommand s) e = omega arith

@@ -1,0 +1,35 @@
+-- `report::begin` meets its contract.
+use denote.Ref.{now}
+use Rattle.report.proofs.Beginning.{planned, begins}
+use borrow.Author.Needs.{needs}
+use Rattle.report.proofs.begin.Statement.{statement}
+use Rattle.report.proofs.begin.Tie as tie
+
+plan-requires : tie.Need-plan-requires
+plan-requires c κs = tt
+
+of-plan-requires : tie.Need-of-plan-requires
+of-plan-requires c κs = search needs
+
+begin-planned-requires : tie.Need-begin-planned-requires
+begin-planned-requires c κs = planned (now (c .before .before .before .before .before .before .before .before .before .before .before .before .args .manifest)) (now (c .before .before .before .before .before .before .before .before .before .before .before .before .args .card)) (now (c .before .before .before .before .before .before .before .before .before .before .before .before .args .targets)) _ (now (c .before .before .before .before .before .before .before .before .before .before .before .before .args .list)) (c .before .before .before .before .before .plan .last .1 .1 .1 .0) (now (c .before .before .before .before .before .before .before .before .before .before .before .before .args .line)) (c .before .before .of-plan .result) _ (c .before .before .before .before .before .before .before .before .before .before .before .before .pre) (c .before .before .of-plan .ensures) (c .before .before .before .before .before .plan .kept .1 .1 .1 .0) (c .before .before .before .before .before .plan .ensures)
+
+same-length : tie.Need-same-length
+same-length c = search needs
+
+same-length-2 : tie.Need-same-length-2
+same-length-2 c = search needs
+
+returns : tie.Need-returns
+returns c = begins (now (c .before .before .before .before .before .before .before .before .before .before .before .before .before .before .before .args .manifest)) (now (c .before .before .before .before .before .before .before .before .before .before .before .before .before .before .before .args .card)) (now (c .before .before .before .before .before .before .before .before .before .before .before .before .before .before .before .args .targets)) (now (c .before .before .before .before .before .before .before .before .before .before .before .before .before .before .before .args .list)) (now (c .before .before .before .before .before .before .before .before .before .before .before .before .before .before .before .args .line)) (c .before .before .before .before .before .before .before .before .plan .last .1 .1 .1 .0) (c .before .before .before .before .before .of-plan .result) _ (c .before .before .before .before .before .of-plan .ensures) (c .before .before .before .before .before .before .before .before .plan .kept .1 .1 .1 .0) (c .before .before .begin-planned .kept .1 .1 .1 .0) (c .before .before .before .before .before .before .before .before .plan .ensures) (c .before .before .begin-planned .ensures)
+
+pub begin-spec : {M : Type 1} → statement M
+begin-spec =
+    tie.close
+    (tie.spec
+    plan-requires
+    of-plan-requires
+    begin-planned-requires
+    same-length
+    same-length-2
+    returns)
