@@ -10,7 +10,7 @@
  *
  * Threads: calls share nothing, so any number of threads may call at a time, each with buffers of its own.
  *
- * Pointers: each points to as many bytes or numbers as the length after it says. An input of length 0 is not read. The lent
+ * Pointers: each points to as many bytes or numbers as the length after it says, and may be NULL where that is 0. The lent
  * buffer overlaps no input.
  */
 #ifndef KESTRENYO_H

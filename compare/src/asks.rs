@@ -202,7 +202,7 @@ const TEXTS: usize = 24;
 /// The asks of a seed: a random one of any size or a small one; after a list the texts of its steps, after a text the other
 /// text of the step and a plan of the manifest.
 pub fn asks(seed: u64) -> Vec<Ask> {
-    let first = if seed % 2 == 0 { generate::ask(seed) } else { generate::small_ask(seed) };
+    let first = if seed.is_multiple_of(2) { generate::ask(seed) } else { generate::small_ask(seed) };
     let rng = &mut Rng::new(!seed);
     let mut asks = vec![first];
     match &asks[0] {
