@@ -507,7 +507,7 @@ fn report(t: Tally) {
 
 fn run(fd: i32) -> Tally {
     let mut input = io::large_buffer();
-    let mut list = [0u32; 1024];
+    let mut list = [0u32; 8192];
     let mut buf = [0u8; 16384];
     let mut bytes = [0u8; 16384];
     run_all(fd, &mut input, &mut list, &mut buf, &mut bytes)
