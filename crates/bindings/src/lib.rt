@@ -9,6 +9,11 @@ use lists::bytes::copy_at;
 use lists::bytes::equal;
 use lists::words::at;
 
+// Room for the texts and the rows of every binding that a manifest may have.
+pub const TEXTS: usize = 133728;
+
+pub const ROWS: usize = 3456;
+
 // The number of an entry, if there is one.
 pub enum Found {
     At(usize),

@@ -6,22 +6,26 @@ ghost use Rattle.bindings.specs.Log.{logged};
 ghost use Rattle.bindlines.specs.Limits.{overCounted, Ready, Put};
 use bindings::push;
 use held::Counts;
+use rules::limits::BINDINGS;
+use rules::limits::NAME;
+use rules::limits::VALUE;
+use rules::limits::WRITTEN;
 
 // Whether a line is over a limit, whose name and value have so many bytes.
 pub fn over(name: usize, value: usize, c: Counts) -> bool
     requires { ⌜ (c .bindings ≤ maxBindings) × (c .written ≤ maxWritten) ⌝ }
     ensures { λ r. ⌜ r ≡ overCounted name value c ⌝ }
 {
-    if 64 < name {
+    if NAME < name {
         return true;
     }
-    if 2048 < value {
+    if VALUE < value {
         return true;
     }
-    if 1024 <= c.bindings {
+    if BINDINGS <= c.bindings {
         return true;
     }
-    60000 < c.written + value
+    WRITTEN < c.written + value
 }
 
 // The line's entry, and the counts with it.

@@ -9,6 +9,9 @@ ghost use Rattle.rules.specs.Card.{recordAt, soundHeader, soundRecord, soundNam
 ghost use Rattle.card.specs.Fields.{Byte, Number, High, Headed, Listed, AlikeToEnd, entryAt};
 use lists::Order;
 use lists::bytes::compare;
+use rules::limits::CARD;
+use rules::limits::PATH;
+use rules::limits::RECORDS;
 
 // Whether a card breaks no rule.
 pub fn sound(card: &[u8]) -> bool
@@ -51,11 +54,11 @@ fn sound_header(card: &[u8]) -> bool
     if card.len() < 16 {
         return false;
     }
-    if 49152 < card.len() {
+    if CARD < card.len() {
         return false;
     }
     let n = word(card, 0);
-    if 1024 < n {
+    if RECORDS < n {
         return false;
     }
     if word(card, 4) != 16 {
@@ -113,7 +116,7 @@ fn sound_record(card: &[u8], at: usize, start: usize) -> bool
     if size < 1 {
         return false;
     }
-    if 255 < size {
+    if PATH < size {
         return false;
     }
     let time = long(card, at + 8);

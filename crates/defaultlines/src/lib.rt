@@ -16,11 +16,15 @@ use forms::paths::next_path;
 use held::Counts;
 use held::LineAnswer;
 use held::Open;
+use held::columns::DEFAULTS;
 use names::Found;
 use names::find;
 use outputs::has_empty;
 use outputs::has_made;
 use rules::Refusal;
+use rules::limits::MENTIONS;
+use rules::limits::PATH;
+use rules::limits::WRITTEN;
 
 // What a path of a default line does: it is a default more, or over a limit.
 pub enum Named {
@@ -33,13 +37,13 @@ fn is_over(n: usize, c: Counts) -> bool
     requires { ⌜ c .written ≤ maxWritten ⌝ }
     ensures { λ r. ⌜ r ≡ overDefault n c ⌝ }
 {
-    if 255 < n {
+    if PATH < n {
         return true;
     }
-    if 4096 <= c.mentions {
+    if MENTIONS <= c.mentions {
         return true;
     }
-    60000 < c.written + n
+    WRITTEN < c.written + n
 }
 
 // Writes the number of an output's path behind the defaults.
@@ -49,7 +53,7 @@ fn put_default(names: &[u8], ends: &[u32], graph: &mut [u32], c: Counts, path: &
 {
     match find(names, ends, c.files, path) {
         Found::At(k) => {
-            put(graph, 8192 + c.defaults, k);
+            put(graph, DEFAULTS + c.defaults, k);
             Counts {
                 files: c.files,
                 steps: c.steps,

@@ -6,6 +6,7 @@ ghost use Rattle.drafts.specs.Draft.{spanFor, Remembered, Behind, Moved,
 use lists::bytes::equal;
 use output::put;
 use output::put_byte;
+use rules::limits::TEXT;
 
 // A part of the text from place to place. One that ends before it starts is none.
 pub struct Span {
@@ -82,7 +83,7 @@ fn put_again(buffer: &mut [u8], from: usize, to: usize, place: usize) -> usize
     while i < to {
         let b = buffer[i];
         n = put_byte(buffer, n, b);
-        if 8192 < n {
+        if TEXT < n {
             return n;
         }
         i += 1;

@@ -9,6 +9,7 @@ ghost use Rattle.graph.specs.Sort.{NeededAsked, Showable, SortShows, Nee
 ghost use Rattle.graph.specs.Walk.{Opens, Finds, Starts, Explored, RootAsked, RootSeen, SortAsked, Sorted};
 use lists::words::at;
 use lists::words::zero_from;
+use rules::limits::STEPS;
 use tables::inputs;
 use tables::maker;
 
@@ -224,9 +225,9 @@ pub fn order_needed(
     ensures { λ r. ⌜ NeededSorted (now (mentions .entry)) (now (ends .entry)) (now (made .entry)) (now (roots .entry)) (length (now (order .entry))) (now (order .exit)) (now (list .entry)) (now (list .exit)) r ⌝ }
 {
     let n = order.len();
-    let mut seen = [0u32; 512];
-    let mut next = [0u32; 512];
-    let mut path = [0u32; 512];
+    let mut seen = [0u32; STEPS];
+    let mut next = [0u32; STEPS];
+    let mut path = [0u32; STEPS];
     sort_or_show(
         mentions,
         ends,

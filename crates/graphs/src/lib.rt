@@ -9,6 +9,10 @@ use answers::Numbers;
 use answers::of_plan;
 use lists::words::at;
 use planning::plan_graph;
+use rules::limits::FILES;
+use rules::limits::LIST;
+use rules::limits::MENTIONS;
+use rules::limits::STEPS;
 
 // Are all numbers below n.
 fn all_below(l: &[u32], n: usize) -> bool
@@ -78,13 +82,13 @@ fn all_placed(mentions: &[u32], ends: &[u32], n: usize) -> bool
 fn is_sound(mentions: &[u32], ends: &[u32], phony: &[u32], made: &[u32]) -> bool
     ensures { λ r. ⌜ Decides (Sound (length (now (phony .entry))) (now (mentions .entry)) (now (ends .entry)) (now (made .entry))) r ⌝ }
 {
-    if 512 < phony.len() {
+    if STEPS < phony.len() {
         return false;
     }
-    if 1024 < made.len() {
+    if FILES < made.len() {
         return false;
     }
-    if 4096 < mentions.len() {
+    if MENTIONS < mentions.len() {
         return false;
     }
     if !all_below(mentions, made.len()) {
@@ -109,7 +113,7 @@ fn is_askable(
 ) -> bool
     ensures { λ r. ⌜ Decides (PlanAsked (now (mentions .entry)) (now (ends .entry)) (now (phony .entry)) (now (made .entry)) (now (times .entry)) (now (defaults .entry)) (now (targets .entry)) (now (list .entry))) r ⌝ }
 {
-    if list.len() < 512 {
+    if list.len() < LIST {
         return false;
     }
     if times.len() != made.len() {

@@ -1,4 +1,6 @@
 // What the reader keeps beside its lent buffers: counts and the open block. `specs/Held.antt` says what the buffers hold.
+pub mod columns;
+
 use rules::Refusal;
 
 // What has been counted so far. `paths` are the mentions of build lines alone, `entries` the rows of the binding table.

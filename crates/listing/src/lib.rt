@@ -6,6 +6,7 @@ ghost use Rattle.tables.specs.Tables.{Files, inputsIn, Shown};
 ghost use Rattle.listing.specs.Listing.{allClear, Looks, LookAsked, PassAsked, Passed, ListAsked, leastIn, StaleListAsked, SpaceAsked, StaleListed};
 use lists::words::at;
 use lists::words::zero_from;
+use rules::limits::STEPS;
 use stale::stale_commands;
 use tables::inputs;
 use tables::maker;
@@ -138,8 +139,8 @@ pub fn list_stale(
     ensures { λ r. ⌜ StaleListed (now (mentions .entry)) (now (ends .entry)) (now (phony .entry)) (now (made .entry)) (now (times .entry)) (now (order .entry)) (now (list .entry)) r (now (list .exit)) ⌝ }
 {
     let n = phony.len();
-    let mut marks = [0u32; 512];
-    let mut clear = [0u32; 512];
+    let mut marks = [0u32; STEPS];
+    let mut clear = [0u32; STEPS];
     list_marked(
         mentions,
         ends,

@@ -9,11 +9,12 @@ use expand::expand;
 use forms::Next;
 use forms::paths::next_path;
 use held::Counts;
+use held::columns::MADE;
 use names::Added;
 use names::add;
-
-// where the makers' column starts
-const MADE: usize = 6656;
+use rules::limits::MENTIONS;
+use rules::limits::PATH;
+use rules::limits::WRITTEN;
 
 pub enum Mentioned {
     // The reading goes on with these counts.
@@ -27,13 +28,13 @@ fn over(n: usize, c: Counts) -> bool
     requires { ⌜ (c .mentions ≤ maxMentions) × (c .written ≤ maxWritten) ⌝ }
     ensures { λ r. ⌜ r ≡ overCounted n c ⌝ }
 {
-    if 255 < n {
+    if PATH < n {
         return true;
     }
-    if 4096 <= c.mentions {
+    if MENTIONS <= c.mentions {
         return true;
     }
-    60000 < c.written + n
+    WRITTEN < c.written + n
 }
 
 // File k once more, whose path has n bytes.

@@ -10,6 +10,14 @@ use lists::bytes::copy_at;
 use lists::bytes::equal;
 use lists::words::at;
 use lists::words::zero_part;
+use rules::limits::FILES;
+
+// The numbers lie in three parts: where each name ends, the next name of its bucket, the first name of each bucket.
+const LINKS: usize = 1024;
+
+const HEADS: usize = 2048;
+
+pub const NUMBERS: usize = 3072;
 
 pub enum Found {
     At(usize),
@@ -49,7 +57,7 @@ pub fn clear(ends: &mut [u32])
     requires { ⌜ maxNumbers ≤ length (now ends) ⌝ }
     ensures { λ _. ⌜ now (ends .exit) ≡ zeroed (now (ends .entry)) 2048 3072 ⌝ }
 {
-    zero_part(ends, 2048, 3072);
+    zero_part(ends, HEADS, NUMBERS);
 }
 
 // The number of a path, by the names of its bucket from the last to the first.
@@ -57,13 +65,13 @@ pub fn find(names: &[u8], ends: &[u32], count: usize, path: &[u8]) -> Found
     requires { ⌜ Sound (now names) (now ends) count ⌝ }
     ensures { λ r. ⌜ Finds (now (names .entry)) (now (ends .entry)) count (now (path .entry)) r ⌝ }
 {
-    let mut j = at(ends, 2048 + bucket(path));
+    let mut j = at(ends, HEADS + bucket(path));
     while 0 < j {
         let k = j - 1;
         if equal(path, name(names, ends, count, k)) {
             return Found::At(k);
         }
-        j = at(ends, 1024 + k);
+        j = at(ends, LINKS + k);
     }
     Found::Missing
 }
@@ -73,10 +81,10 @@ fn link(ends: &mut [u32], count: usize, b: usize, to: usize)
     requires { ⌜ (maxNumbers ≤ length (now ends)) × (count < maxFiles) × (b < 1024) × (to < 2 ^ 32) ⌝ }
     ensures { λ _. ⌜ now (ends .exit) ≡ linked (now (ends .entry)) count b to ⌝ }
 {
-    let head = ends[2048 + b];
+    let head = ends[HEADS + b];
     ends[count] = to as u32;
-    ends[1024 + count] = head;
-    ends[2048 + b] = (count + 1) as u32;
+    ends[LINKS + count] = head;
+    ends[HEADS + b] = (count + 1) as u32;
 }
 
 // The number of a path, which is added where it is not there yet.
@@ -88,7 +96,7 @@ pub fn add(names: &mut [u8], ends: &mut [u32], count: usize, path: &[u8]) -> Add
     if let Found::At(k) = found {
         return Added::Old(k);
     }
-    if 1024 <= count {
+    if FILES <= count {
         return Added::Full;
     }
     let from = start(ends, count);

@@ -10,13 +10,14 @@ ghost use Rattle.output.specs.Puts.{Open, Puts, NameAsk, FilesAsk, heade
 use lists::bytes::copy_at;
 use lists::words::at;
 use names::name;
+use rules::limits::TEXT;
 
 // Writes s from a place on.
 pub fn put(buffer: &mut [u8], place: usize, s: &[u8]) -> usize
     requires { ⌜ Open (now buffer) place ⌝ }
     ensures { λ r. ⌜ Puts (now (buffer .entry)) place (now (s .entry)) (now (buffer .exit)) r ⌝ }
 {
-    if 8192 - place < s.len() {
+    if TEXT - place < s.len() {
         return 8193;
     }
     copy_at(buffer, place, s);
@@ -27,7 +28,7 @@ pub fn put_byte(buffer: &mut [u8], place: usize, b: u8) -> usize
     requires { ⌜ Open (now buffer) place ⌝ }
     ensures { λ r. ⌜ Puts (now (buffer .entry)) place (b ∷ []) (now (buffer .exit)) r ⌝ }
 {
-    if 8192 <= place {
+    if TEXT <= place {
         return 8193;
     }
     buffer[place] = b;
@@ -68,7 +69,7 @@ fn put_next(
         return put_name(names, ends, count, f, buffer, place);
     }
     let n = put_byte(buffer, place, separator);
-    if 8192 < n {
+    if TEXT < n {
         return n;
     }
     put_name(names, ends, count, f, buffer, n)
@@ -91,7 +92,7 @@ pub fn put_files(
     let mut i = 0;
     while i < fs.len() {
         n = put_next(names, ends, count, fs, i, separator, buffer, n);
-        if 8192 < n {
+        if TEXT < n {
             return n;
         }
         i += 1;

@@ -19,6 +19,7 @@ use forms::BuildPlaces;
 use forms::Next;
 use forms::paths::next_path;
 use held::Counts;
+use held::columns::MADE;
 use lists::words::at;
 use names::Found;
 use names::find;
@@ -73,7 +74,7 @@ fn is_output(names: &[u8], ends: &[u32], graph: &[u32], c: Counts, path: &[u8]) 
     ensures { λ r. ⌜ ((log : List Logged) (rd : Reading) → Filed log (now (names .entry)) (now (ends .entry)) (now (graph .entry)) c rd → r ≡ isMade (now (path .entry)) rd) ⌝ }
 {
     match find(names, ends, c.files, path) {
-        Found::At(k) => at(graph, 6656 + k) != 0,
+        Found::At(k) => at(graph, MADE + k) != 0,
         Found::Missing => false,
     }
 }

@@ -10,6 +10,10 @@ use lists::words::at;
 use report::Begun;
 use report::begin;
 use report::step_line;
+use rules::limits::CARD;
+use rules::limits::LIST;
+use rules::limits::MANIFEST;
+use rules::limits::TARGETS;
 
 // Reads until the buffer is full or the input ends. Where a read fails, nothing counts as read.
 fn read_all(fd: i32, buf: &mut [u8]) -> usize
@@ -80,16 +84,16 @@ fn answer(manifest: &[u8], card: &[u8], targets: &[u8], list: &mut [u32], line: 
 
 // The same, with the working space.
 fn run(manifest: &[u8], card: &[u8], targets: &[u8]) {
-    let mut list = [0u32; 512];
+    let mut list = [0u32; LIST];
     let mut line = [0u8; 12288];
     answer(manifest, card, targets, &mut list, &mut line);
 }
 
 // One byte more than each limit, so that what is over its limit is seen to be.
 fn main() {
-    let mut manifest = [0u8; 49153];
-    let mut card = [0u8; 49153];
-    let mut targets = [0u8; 4097];
+    let mut manifest = [0u8; MANIFEST + 1];
+    let mut card = [0u8; CARD + 1];
+    let mut targets = [0u8; TARGETS + 1];
     let m = read_file(b"build.ninja", &mut manifest);
     let c = read_file(b"times.card", &mut card);
     let t = read_all(STDIN_FILENO, &mut targets);

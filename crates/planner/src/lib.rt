@@ -10,12 +10,14 @@ mod steps;
 
 use crate::plans::plan_buffered;
 use crate::steps::text_buffered;
+use rules::limits::LIST;
+use rules::limits::TEXT;
 
 // The list of the stale needed command steps for a manifest, a card of file times and a list of targets.
 pub fn plan(manifest: &[u8], card: &[u8], targets: &[u8], list: &mut [u32]) -> PlanAnswer
     ensures { λ r. ⌜ PlanPromise (now (manifest .entry)) (now (card .entry)) (now (targets .entry)) (now (list .entry)) r (now (list .exit)) ⌝ }
 {
-    if list.len() < 512 {
+    if list.len() < LIST {
         return PlanAnswer::Refused(Refusal::ShortBuffer);
     }
     plan_buffered(manifest, card, targets, list)
@@ -25,7 +27,7 @@ pub fn plan(manifest: &[u8], card: &[u8], targets: &[u8], list: &mut [u32]) -> P
 pub fn text(manifest: &[u8], step: usize, wanted: Wanted, buffer: &mut [u8]) -> TextAnswer
     ensures { λ r. ⌜ TextPromise (now (manifest .entry)) step wanted (now (buffer .entry)) r (now (buffer .exit)) ⌝ }
 {
-    if buffer.len() < 8192 {
+    if buffer.len() < TEXT {
         return TextAnswer::Refused(Refusal::ShortBuffer);
     }
     text_buffered(manifest, step, wanted, buffer)

@@ -4,12 +4,17 @@ ghost use lib.ListN.{length};
 ghost use Rattle.rules.specs.Limits.{leastList};
 ghost use Rattle.rules.specs.Promises.{PlanPromise};
 ghost use Rattle.planner.specs.Asked.{PlanAsked};
+use bindings::ROWS;
+use bindings::TEXTS;
 use classes::table;
+use held::columns::ROOM;
 use lists::words::zero_from;
+use names::NUMBERS;
 use planread::plan_read;
 use reader::ReadAnswer;
 use reader::read;
 use rules::PlanAnswer;
+use rules::limits::WRITTEN;
 
 // With the reader's buffers lent.
 fn plan_in(
@@ -43,12 +48,12 @@ pub fn plan_buffered(manifest: &[u8], card: &[u8], targets: &[u8], list: &mut [u
     ensures { λ r. ⌜ PlanPromise (now (manifest .entry)) (now (card .entry)) (now (targets .entry)) (now (list .entry)) r (now (list .exit)) ⌝ }
 {
     let t = table();
-    let mut names = [0u8; 60000];
-    let mut ends = [0u32; 3072];
-    let mut texts = [0u8; 133728];
-    let mut bind = [0u32; 3456];
-    let mut graph = [0u32; 61440];
-    let mut word = [0u8; 60000];
+    let mut names = [0u8; WRITTEN];
+    let mut ends = [0u32; NUMBERS];
+    let mut texts = [0u8; TEXTS];
+    let mut bind = [0u32; ROWS];
+    let mut graph = [0u32; ROOM];
+    let mut word = [0u8; WRITTEN];
     plan_in(
         &t,
         manifest,

@@ -4,12 +4,17 @@ ghost use lib.ListN.{length};
 ghost use Rattle.rules.specs.Limits.{maxText};
 ghost use Rattle.rules.specs.Promises.{TextPromise};
 ghost use Rattle.planner.specs.Asked.{TextAsked};
+use bindings::ROWS;
+use bindings::TEXTS;
 use classes::table;
+use held::columns::ROOM;
 use lists::bytes::zero_from;
+use names::NUMBERS;
 use reader::ReadAnswer;
 use reader::read;
 use rules::TextAnswer;
 use rules::Wanted;
+use rules::limits::WRITTEN;
 use textask::text_of;
 
 // With the reader's buffers lent.
@@ -55,12 +60,12 @@ pub fn text_buffered(manifest: &[u8], step: usize, wanted: Wanted, buffer: &mut 
     ensures { λ r. ⌜ TextPromise (now (manifest .entry)) step wanted (now (buffer .entry)) r (now (buffer .exit)) ⌝ }
 {
     let t = table();
-    let mut names = [0u8; 60000];
-    let mut ends = [0u32; 3072];
-    let mut texts = [0u8; 133728];
-    let mut bind = [0u32; 3456];
-    let mut graph = [0u32; 61440];
-    let mut word = [0u8; 60000];
+    let mut names = [0u8; WRITTEN];
+    let mut ends = [0u32; NUMBERS];
+    let mut texts = [0u8; TEXTS];
+    let mut bind = [0u32; ROWS];
+    let mut graph = [0u32; ROOM];
+    let mut word = [0u8; WRITTEN];
     text_in(
         &t,
         manifest,

@@ -8,6 +8,9 @@ use lists::words::zero_from;
 use roots::tops;
 use rules::PlanAnswer;
 use rules::Refusal;
+use rules::limits::FILES;
+use rules::limits::MENTIONS;
+use rules::limits::STEPS;
 use sources::missing_source;
 
 // 15, or the list, where the needed steps have an order.
@@ -75,7 +78,7 @@ fn plan_from(
     ensures { λ r. ⌜ Plans (now (mentions .entry)) (now (ends .entry)) (now (phony .entry)) (now (made .entry)) (now (times .entry)) (now (roots .entry)) (now (list .entry)) r (now (list .exit)) ⌝ }
 {
     let n = phony.len();
-    let mut order = [0u32; 512];
+    let mut order = [0u32; STEPS];
     plan_in(
         mentions,
         ends,
@@ -143,8 +146,8 @@ fn plan_all(
 {
     let n = made.len();
     let m = mentions.len();
-    let mut marks = [0u32; 1024];
-    let mut out = [0u32; 4096];
+    let mut marks = [0u32; FILES];
+    let mut out = [0u32; MENTIONS];
     plan_tops(
         mentions,
         ends,

@@ -2,10 +2,16 @@
 ghost use Rattle.planread.specs.Asked.{ColumnsAsked, PlansColumns, TablesAsked, ReadAsked, PlansRead};
 use card::sound;
 use held::Counts;
+use held::columns::DEFAULTS;
+use held::columns::ENDS;
+use held::columns::MADE;
+use held::columns::PHONY;
 use lists::words::zero_from;
 use planning::plan_graph;
 use rules::PlanAnswer;
 use rules::Refusal;
+use rules::limits::FILES;
+use rules::limits::TARGETS;
 use targetfiles::Numbered;
 use targetfiles::number_targets;
 use times::fill_times;
@@ -23,10 +29,10 @@ fn plan_columns(
 {
     let steps = c.steps;
     let mentions = &graph[..c.paths];
-    let ends = &graph[4096..4096 + 4 * steps];
-    let phony = &graph[6144..6144 + steps];
-    let made = &graph[6656..6656 + c.files];
-    let defaults = &graph[8192..8192 + c.defaults];
+    let ends = &graph[ENDS..ENDS + 4 * steps];
+    let phony = &graph[PHONY..PHONY + steps];
+    let made = &graph[MADE..MADE + c.files];
+    let defaults = &graph[DEFAULTS..DEFAULTS + c.defaults];
     plan_graph(mentions, ends, phony, made, times, defaults, targets, list)
 }
 
@@ -75,8 +81,8 @@ pub fn plan_read(
     requires { ⌜ ReadAsked (now names) (now ends) (now graph) c (now list) ⌝ }
     ensures { λ r. ⌜ PlansRead (now (card .entry)) (now (targets .entry)) (now (names .entry)) (now (ends .entry)) (now (graph .entry)) c (now (list .entry)) r (now (list .exit)) ⌝ }
 {
-    let mut times = [0u64; 1024];
-    let mut numbers = [0u32; 4096];
+    let mut times = [0u64; FILES];
+    let mut numbers = [0u32; TARGETS];
     plan_tables(
         card,
         targets,

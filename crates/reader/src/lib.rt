@@ -12,6 +12,7 @@ use lines::line_from;
 use names::clear;
 use rulelines::close;
 use rules::Refusal;
+use rules::limits::MANIFEST;
 use scan::FirstBad;
 use scan::LineKind;
 use scan::lines::line_kind;
@@ -151,7 +152,7 @@ pub fn read(
     requires { ⌜ Roomy (now t) (now names) (now ends) (now texts) (now bind) (now graph) (now word) ⌝ }
     ensures { λ r. ⌜ IsRead (now (m .entry)) (now (names .exit)) (now (ends .exit)) (now (texts .exit)) (now (bind .exit)) (now (graph .exit)) r ⌝ }
 {
-    if 49152 < m.len() {
+    if MANIFEST < m.len() {
         return ReadAnswer::Refused(Refusal::LongManifest);
     }
     match bad_byte(m) {

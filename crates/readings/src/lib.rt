@@ -2,9 +2,14 @@
 ghost use mathlib.Core.Path.{_≡_};
 ghost use Rattle.readings.specs.Numbers.{bare, inNumbers, Judges, Reads};
 use answers::of_refusal;
+use bindings::ROWS;
+use bindings::TEXTS;
 use classes::table;
+use held::columns::ROOM;
+use names::NUMBERS;
 use reader::ReadAnswer;
 use reader::read;
+use rules::limits::WRITTEN;
 
 // What is answered: 0, 0 and how much the buffers hold; or a refusal's number and place; or 255 for buffers without room.
 #[repr(C)]
@@ -33,25 +38,25 @@ fn is_roomy(
 ) -> bool
     ensures { λ r. ⌜ Judges (now (names .entry)) (now (ends .entry)) (now (texts .entry)) (now (bind .entry)) (now (graph .entry)) (now (word .entry)) r ⌝ }
 {
-    if names.len() < 60000 {
+    if names.len() < WRITTEN {
         return false;
     }
     if 4294967295 < names.len() {
         return false;
     }
-    if ends.len() < 3072 {
+    if ends.len() < NUMBERS {
         return false;
     }
-    if texts.len() < 133728 {
+    if texts.len() < TEXTS {
         return false;
     }
-    if bind.len() < 3456 {
+    if bind.len() < ROWS {
         return false;
     }
-    if graph.len() < 61440 {
+    if graph.len() < ROOM {
         return false;
     }
-    if word.len() < 60000 {
+    if word.len() < WRITTEN {
         return false;
     }
     true

@@ -19,6 +19,7 @@ use printing::say_circle;
 use printing::say_no_work;
 use printing::say_refused;
 use rules::Wanted;
+use rules::limits::TEXT;
 
 // What the check of all texts finds: that each listed step has one, or the first refusal.
 pub enum Checked {
@@ -37,7 +38,7 @@ fn check_text(manifest: &[u8], step: usize, line: &mut [u8]) -> Numbers
     requires { ⌜ lineRoom ≤ length (now line) ⌝ }
     ensures { λ r. ⌜ said r ≡ outcomeSays (command (now (manifest .entry)) step) ⌝ }
 {
-    of_text(text(manifest, step, Wanted::Command, &mut line[..8192]))
+    of_text(text(manifest, step, Wanted::Command, &mut line[..TEXT]))
 }
 
 // "Texts are all checked, in list order"
@@ -109,7 +110,7 @@ pub fn step_line(manifest: &[u8], step: usize, place: usize, count: usize, line:
     ensures { λ r. ⌜ Leaves (stepLine place count (command (now (manifest .entry)) step)) (now (line .entry)) r (now (line .exit)) ⌝ }
 {
     let from = put_head(line, place, count);
-    let to = from + 8192;
+    let to = from + TEXT;
     let n = of_text(text(manifest, step, Wanted::Command, &mut line[from..to]));
     if n.number == 0 {
         return end_line(line, from + n.value);

@@ -20,6 +20,8 @@ use held::LineAnswer;
 use held::Open;
 use lists::bytes::equal;
 use rules::Refusal;
+use rules::limits::NAME;
+use rules::limits::RULES;
 
 // Whether an owner has a line of this name.
 fn has_line(texts: &[u8], bind: &[u32], count: usize, owner: usize, name: &[u8]) -> bool
@@ -94,10 +96,10 @@ pub fn start_rule(
     if is_declared(texts, bind, c, name) {
         return LineAnswer::Refused(Refusal::BadRule(start));
     }
-    if 64 < name.len() {
+    if NAME < name.len() {
         return LineAnswer::Refused(Refusal::OverLimit(start));
     }
-    if 128 <= c.rules {
+    if RULES <= c.rules {
         return LineAnswer::Refused(Refusal::OverLimit(start));
     }
     let entry = c.entries;

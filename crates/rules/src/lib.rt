@@ -1,5 +1,7 @@
 // The answers of the two asks, and every refusal with its place. The rules themselves are in specs/.
 
+pub mod limits;
+
 // What the planner says no with: a case for each row of document 01's table, in its order, with its place where that is not always 0.
 pub enum Refusal {
     // 1: a lent buffer is too short

@@ -6,6 +6,7 @@ ghost use Rattle.lists.specs.Members.{_∈_};
 ghost use Rattle.tables.specs.Tables.{bit, Files, Placed};
 ghost use Rattle.stale.specs.Judge.{fileTime, newestOf, staleMaker, outdated, bareMissing, FileAsked, FilesAsked, JudgeAsked, Judges, AllAsked, AllTold, CommandsKept, StaleAsked, StaleMarked};
 use lists::words::at;
+use rules::limits::STEPS;
 use tables::counted;
 use tables::inputs;
 use tables::maker;
@@ -199,7 +200,7 @@ pub fn stale_commands(
     ensures { λ _. ⌜ StaleMarked (now (mentions .entry)) (now (ends .entry)) (now (phony .entry)) (now (made .entry)) (now (times .entry)) (now (order .entry)) (now (marks .exit)) ⌝ }
 {
     let n = phony.len();
-    let mut late = [0u64; 512];
+    let mut late = [0u64; STEPS];
     judge_all(
         mentions,
         ends,

@@ -8,17 +8,12 @@ use arena::put;
 use bindings::Found;
 use bindings::newest;
 use held::Counts;
+use held::columns::ENDS;
+use held::columns::MADE;
+use held::columns::PHONY;
+use held::columns::RULES;
 use lists::bytes::equal;
 use lists::words::at;
-
-// where the columns start
-const ENDS: usize = 4096;
-
-const PHONY: usize = 6144;
-
-const MADE: usize = 6656;
-
-const RULES: usize = 7680;
 
 // 0 for phony, else the number of the rule's declaration and one more.
 pub fn rule_number(name: &[u8], texts: &[u8], bind: &[u32], count: usize) -> usize

@@ -14,6 +14,7 @@ use joins::rule_number;
 use mentions::Mentioned;
 use parts::four;
 use rules::Refusal;
+use rules::limits::STEPS;
 
 // The step of a line whose 7s and 8s were looked for before: only a limit can be met.
 pub fn write_step(
@@ -32,7 +33,7 @@ pub fn write_step(
     requires { ⌜ StepAsks (now t) (now l) (now names) (now ends) (now texts) (now bind) (now graph) (now word) c p ⌝ }
     ensures { λ r. ⌜ Writes (now (l .entry)) (now (names .entry)) (now (ends .entry)) (now (texts .entry)) (now (bind .entry)) (now (graph .entry)) c start p (now (names .exit)) (now (ends .exit)) (now (graph .exit)) r ⌝ }
 {
-    if 512 <= c.steps {
+    if STEPS <= c.steps {
         return LineAnswer::Refused(Refusal::OverLimit(start));
     }
     match four(t, l, p, names, ends, texts, bind, graph, word, c) {

@@ -3,11 +3,9 @@ ghost use Rattle.steplines.specs.Lists.{ListAsks, Lists, TwoAsks, Two, F
 use arena::put;
 use forms::BuildPlaces;
 use held::Counts;
+use held::columns::ENDS;
 use mentions::Mentioned;
 use mentions::mention_all;
-
-// where the column of ends starts
-const ENDS: usize = 4096;
 
 // One list; its end is number e of all ends.
 fn one(

@@ -13,6 +13,7 @@ use lookups::lookup;
 use pieces::Piece;
 use pieces::piece_at;
 use plain::write_plain;
+use rules::limits::TEXT;
 
 pub mod plain;
 
@@ -39,7 +40,7 @@ fn write_text(
         match piece_at(t, raw, i) {
             Piece::Bytes(from, to, next) => {
                 x = write(buffer, x, &raw[from..to]);
-                if 8192 < x.at {
+                if TEXT < x.at {
                     return x;
                 }
                 i = next;
@@ -58,7 +59,7 @@ fn write_text(
                     buffer,
                     x,
                 );
-                if 8192 < x.at {
+                if TEXT < x.at {
                     return x;
                 }
                 i = next;

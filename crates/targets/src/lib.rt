@@ -6,6 +6,8 @@ ghost use lib.ListN.{length, drop};
 ghost use Rattle.lists.specs.Runs.{Reads, afterRun};
 ghost use Rattle.rules.specs.Targets.{malformed, targetsFrom};
 ghost use Rattle.targets.specs.Next.{other, nextIn};
+use rules::limits::PATH;
+use rules::limits::TARGETS;
 
 // What stands at a place where a name may start.
 pub enum Next {
@@ -21,7 +23,7 @@ pub enum Next {
 pub fn bad_form(t: &[u8]) -> bool
     ensures { λ r. ⌜ r ≡ malformed (now (t .entry)) ⌝ }
 {
-    if 4096 < t.len() {
+    if TARGETS < t.len() {
         return true;
     }
     if t.len() == 0 {
@@ -44,7 +46,7 @@ pub fn name_at(t: &[u8], from: usize) -> Next
     if end - from < 1 {
         return Next::Bad;
     }
-    if 255 < end - from {
+    if PATH < end - from {
         return Next::Bad;
     }
     Next::Name(end)

@@ -9,6 +9,7 @@ use lookups::Asked;
 use rules::Refusal;
 use rules::TextAnswer;
 use rules::Wanted;
+use rules::limits::TEXT;
 use steps::asked;
 use steptexts::write_name;
 
@@ -99,7 +100,7 @@ fn text_in(
         return TextAnswer::Refused(Refusal::EndlessText(step));
     }
     let n = write_wanted(t, names, ends, texts, bind, graph, a, wanted, buffer);
-    if 8192 < n {
+    if TEXT < n {
         zero_from(buffer, 0);
         return TextAnswer::Refused(Refusal::LongText(step));
     }

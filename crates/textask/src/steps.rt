@@ -10,6 +10,8 @@ use bindings::Found;
 use bindings::name;
 use bindings::newest;
 use held::Counts;
+use held::columns::ENDS;
+use held::columns::RULES;
 use lists::words::at;
 use lookups::Asked;
 
@@ -42,8 +44,8 @@ fn picked(texts: &[u8], bind: &[u32], graph: &[u32], c: Counts, step: usize, k: 
 {
     let rule = declaration(texts, bind, c.entries, k);
     let outs = outputs_from(graph, step);
-    let ins = at(graph, 4096 + 4 * step);
-    let rest = at(graph, 4097 + 4 * step);
+    let ins = at(graph, ENDS + 4 * step);
+    let rest = at(graph, ENDS + 1 + 4 * step);
     Asked {
         step,
         rule,
@@ -62,7 +64,7 @@ pub fn asked(texts: &[u8], bind: &[u32], graph: &[u32], c: Counts, step: usize) 
     if c.steps <= step {
         return StepAsked::NoCommand;
     }
-    let rule = at(graph, 7680 + step);
+    let rule = at(graph, RULES + step);
     if rule == 0 {
         return StepAsked::NoCommand;
     }
