@@ -15,6 +15,11 @@ use held::columns::RULES;
 use lists::words::at;
 use lookups::Asked;
 
+// the last end of the step before, and where a step's explicit inputs end
+const ENDS_BEFORE: usize = ENDS - 1;
+
+const INPUT_ENDS: usize = ENDS + 1;
+
 // The declaration that a rule's name stands for, where entry k declares a rule of that name.
 fn declaration(texts: &[u8], bind: &[u32], count: usize, k: usize) -> usize
     requires { ⌜ HasRule (now texts) (now bind) count k ⌝ }
@@ -34,7 +39,7 @@ fn outputs_from(graph: &[u32], step: usize) -> usize
     if step == 0 {
         return 0;
     }
-    at(graph, 4095 + 4 * step)
+    at(graph, ENDS_BEFORE + 4 * step)
 }
 
 // The step, whose rule is declared at entry k.
@@ -45,7 +50,7 @@ fn picked(texts: &[u8], bind: &[u32], graph: &[u32], c: Counts, step: usize, k: 
     let rule = declaration(texts, bind, c.entries, k);
     let outs = outputs_from(graph, step);
     let ins = at(graph, ENDS + 4 * step);
-    let rest = at(graph, ENDS + 1 + 4 * step);
+    let rest = at(graph, INPUT_ENDS + 4 * step);
     Asked {
         step,
         rule,
