@@ -2,7 +2,6 @@
 
 use second::ask::Ask;
 use second::{card, limits, shapes, Wanted};
-use std::collections::HashMap;
 
 /// A slow ask and what makes it so.
 pub struct Slow {
@@ -115,39 +114,18 @@ fn files() -> Vec<Slow> {
     ]
 }
 
-/// The proved digest of a path.
-fn digest(path: &[u8]) -> u32 {
-    path.iter().fold(0, |h: u32, &b| h.wrapping_mul(2_654_435_761).wrapping_add(u32::from(b)))
-}
-
-/// So many strings of 7 bytes with one digest: the digests of their first 4 bytes and of their last 3 add up.
-fn one_digest(count: usize) -> Vec<Vec<u8>> {
-    let shift = 2_654_435_761u32.wrapping_pow(3);
-    let lasts: HashMap<u32, Vec<u8>> = strings(3).map(|last| (digest(&last), last)).collect();
-    let whole = |first: Vec<u8>| {
-        let rest = 0u32.wrapping_sub(digest(&first).wrapping_mul(shift));
-        lasts.get(&rest).map(|last| [first, last.clone()].concat())
-    };
-    strings(4).filter_map(whole).take(count).collect()
-}
-
 fn outputs() -> Vec<Slow> {
     let short: Vec<Vec<u8>> = strings(2).chain(strings(3)).collect();
-    let colliding = one_digest(500);
-    assert!(colliding.iter().all(|path| digest(path) == 0));
-    // 16 variables with values of one digest, and all paths of three of them; 3 dollars a path
-    let many = "v=\n".repeat(1_000);
-    let names: Vec<u8> = (b'A'..=b'P').collect();
-    let bound: String = names.iter().zip(&colliding).map(|(&name, value)| format!("{}={}\n", name as char, String::from_utf8_lossy(value))).collect();
-    let triples = || {
-        let paths = (0..4_096).map(|number| [number / 256, number / 16 % 16, number % 16]);
-        paths.map(|places| places.iter().flat_map(|&place| [b'$', names[place]]).collect::<Vec<u8>>())
-    };
-    let some: Vec<Vec<u8>> = triples().take(500).collect();
+    let many = "v=\n".repeat(1_023);
+    let front = format!("w={}\nx={}\n", "y".repeat(128), "$w".repeat(16));
+    // so many references to the oldest binding, then what tells the outputs apart
+    let referring = |count: usize| short.iter().map(move |tail| [b"$x".repeat(count - 1).as_slice(), b"${x}", tail].concat()).collect::<Vec<_>>();
+    let (once, often) = (referring(1), referring(8));
     vec![
         plan("13,000 outputs in a line, all different", words("build", short.iter().map(Vec::as_slice), ": phony\n")),
-        plan("500 outputs of one digest", words("build", colliding.iter().map(Vec::as_slice), ": phony\n")),
-        plan("  by variables, before 1,000 bindings", words(&format!("{bound}{many}build"), some.iter().map(Vec::as_slice), ": phony\n")),
+        plan("  in falling order", words("build", short.iter().rev().map(Vec::as_slice), ": phony\n")),
+        plan("outputs of one front of 2,048 bytes", words(&format!("{front}build"), once.iter().map(Vec::as_slice), ": phony\n")),
+        plan("outputs of 8 references each behind 1,023 bindings", words(&format!("x=y\n{many}build"), often.iter().map(Vec::as_slice), ": phony\n")),
     ]
 }
 

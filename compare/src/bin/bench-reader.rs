@@ -4,7 +4,6 @@
 use compare::measure::{rounds, row};
 use compare::readings::Buffers;
 use second::manifest;
-use std::collections::HashSet;
 use std::fmt::Write;
 use std::time::{Duration, Instant};
 
@@ -92,16 +91,21 @@ fn hard() -> Vec<(String, Vec<u8>)> {
         ("one path of joins", filled("build o:phony ", "x\n", |_| "$\n".to_string())),
         ("bindings of every line", filled("", "", |_| "a=\n".to_string())),
     ];
+    let mut many_references = Vec::new();
     let bucket = one_bucket();
     hard.push(("1,023 outputs in a bucket, then others", bucketed(&bucket, ":phony\n", "build", 1_023)));
     hard.push(("defaults of 1,023 outputs in a bucket", defaults(&bucket)));
-    let equal = equal_digests();
-    println!("{} texts of 7 bytes with one digest", equal.len());
-    let text = |k: usize| String::from_utf8(equal[k].clone()).unwrap();
-    hard.push(("outputs with one digest", filled("build", ":phony\n", |k| format!(" {}", text(k)))));
-    hard.push(("outputs by $v with one digest", filled(&format!("{long}build"), ":phony\n", |k| format!(" ${{v}}{}", text(k)))));
-    hard.push(("outputs by an old $v with one digest", filled(&format!("{long}{}build", "a=\n".repeat(1_022)), ":phony\n", |k| format!(" ${{v}}{}", text(k)))));
-    hard.into_iter().map(|(name, manifest)| (name.to_string(), manifest)).collect()
+    let old = "a=\n".repeat(1_023);
+    let mut falling: Vec<String> = (0..13_300).map(short).collect();
+    falling.sort_by(|a, b| b.cmp(a));
+    hard.push(("outputs in falling order", filled("build", ":phony\n", |k| falling.get(k).map_or(" ".to_string(), |output| format!(" {output}")))));
+    hard.push(("outputs by an old $v that differ at the end", filled(&format!("{long}{}build", "a=\n".repeat(1_022)), ":phony\n", |k| format!(" ${{v}}{}", short(k)))));
+    for count in [1, 2, 4, 8, 16, 32, 64] {
+        let name = format!("outputs of {count} old references");
+        let front = "$v".repeat(count - 1);
+        many_references.push((name, filled(&format!("v=x\n{old}build"), ":phony\n", |k| format!(" {front}${{v}}{}", short(k)))));
+    }
+    hard.into_iter().map(|(name, manifest)| (name.to_string(), manifest)).chain(many_references).collect()
 }
 
 /// Values that double up to the most bytes, and a path of them all.
@@ -140,46 +144,4 @@ fn defaults(names: &[String]) -> Vec<u8> {
     let front = format!("p={}\nq=${{p}}{}\nbuild", "x".repeat(50), names[0]);
     let first: String = names[..1_023].iter().fold(front, |line, name| line + " ${p}" + name);
     filled(&format!("{first}:phony\ndefault"), "\n", |_| " $q".to_string())
-}
-
-/// Texts of 7 bytes whose digests are the same: for each text of 4 bytes the 3 bytes that go before it are looked up.
-fn equal_digests() -> Vec<Vec<u8>> {
-    const BY: u32 = 2_654_435_761;
-    let digest = |text: &[u8]| text.iter().fold(0u32, |h, &byte| h.wrapping_mul(BY).wrapping_add(byte.into()));
-    let bytes: Vec<u8> = (b'!'..=b'~').filter(|byte| !b"$:|#".contains(byte)).collect();
-    let by_four = BY.wrapping_pow(4);
-    // the inverse modulo 2^32, by Newton's steps
-    let inverse = (0..5).fold(by_four, |x, _| x.wrapping_mul(2u32.wrapping_sub(by_four.wrapping_mul(x))));
-    assert_eq!(inverse.wrapping_mul(by_four), 1);
-    let mut fronts = std::collections::HashMap::new();
-    let mut seen = vec![false; 1 << 24];
-    for &a in &bytes {
-        for &b in &bytes {
-            for &c in &bytes {
-                let front = digest(&[a, b, c]);
-                seen[(front >> 8) as usize] = true;
-                fronts.insert(front, [a, b, c]);
-            }
-        }
-    }
-    let mut texts = HashSet::new();
-    let wanted = 123_456_789u32;
-    for &a in &bytes {
-        for &b in &bytes {
-            for &c in &bytes {
-                for &d in &bytes {
-                    let front = wanted.wrapping_sub(digest(&[a, b, c, d])).wrapping_mul(inverse);
-                    if seen[(front >> 8) as usize] {
-                        if let Some(front) = fronts.get(&front) {
-                            texts.insert([front.as_slice(), &[a, b, c, d]].concat());
-                        }
-                    }
-                }
-            }
-        }
-    }
-    let mut texts: Vec<Vec<u8>> = texts.into_iter().collect();
-    texts.sort();
-    assert!(texts.iter().all(|text| digest(text) == wanted));
-    texts
 }
