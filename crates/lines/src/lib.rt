@@ -3,6 +3,9 @@ ghost use Prim.Native.Nat.{_<_};
 ghost use lib.ListN.{length};
 ghost use mathlib.Core.Path.{_≡_};
 ghost use Rattle.lines.specs.Cuts.{lineOf, LineSpan, Near, refusalOf, CutAsks, FileLineAt, BlockLineAt};
+use crate::cursor::moved;
+use crate::cursor::next_line;
+use crate::cursor::start;
 use forms::Assignment;
 use forms::BuildPlaces;
 use forms::Fault;
@@ -12,6 +15,8 @@ use forms::cut_statement;
 use rules::Refusal;
 use scan::LineEnd;
 use scan::lines::line_end;
+
+pub mod cursor;
 
 // Where a line's bytes end, whether a newline ends them, and where the next line starts.
 pub struct Span {
@@ -38,8 +43,8 @@ pub enum BlockLine {
     Refused(Refusal),
 }
 
-// The line that starts at a place.
-pub fn line_from(m: &[u8], from: usize) -> Span
+// The work: the line that starts at a place of a slice.
+pub fn line_at(m: &[u8], from: usize) -> Span
     requires { ⌜ from < length (now m) ⌝ }
     ensures { λ r. ⌜ LineSpan (now (m .entry)) from r ⌝ }
 {
@@ -55,6 +60,14 @@ pub fn line_from(m: &[u8], from: usize) -> Span
             next: m.len(),
         },
     }
+}
+
+// The line that starts at a place: a reader over the manifest is made, moved there, and asked for its next line.
+pub fn line_from(m: &[u8], from: usize) -> Span
+    requires { ⌜ from < length (now m) ⌝ }
+    ensures { λ r. ⌜ LineSpan (now (m .entry)) from r ⌝ }
+{
+    next_line(moved(start(m), from))
 }
 
 // 4 and 6 are placed at the line's start, 5 at the `$`.
