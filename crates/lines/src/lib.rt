@@ -1,10 +1,12 @@
 // The manifest's lines, one after another, and each cut with its 4, 5 or 6 in the manifest's own places.
-ghost use Prim.Native.Nat.{_<_};
+ghost use Prim.Native.Nat.{_+_, _<_, _≤_};
 ghost use lib.ListN.{length};
 ghost use mathlib.Core.Path.{_≡_};
 ghost use Rattle.lines.specs.Cuts.{lineOf, LineSpan, Near, refusalOf, CutAsks, FileLineAt, BlockLineAt};
+use crate::cursor::left;
 use crate::cursor::moved;
 use crate::cursor::next_line;
+use crate::cursor::reached;
 use crate::cursor::start;
 use forms::Assignment;
 use forms::BuildPlaces;
@@ -43,12 +45,12 @@ pub enum BlockLine {
     Refused(Refusal),
 }
 
-// The work: the line that starts at a place of a slice.
-pub fn line_at(m: &[u8], from: usize) -> Span
-    requires { ⌜ from < length (now m) ⌝ }
-    ensures { λ r. ⌜ LineSpan (now (m .entry)) from r ⌝ }
+// The line that starts at a place of a slice.
+fn line_at(m: &[u8], place: usize) -> Span
+    requires { ⌜ place < length (now m) ⌝ }
+    ensures { λ r. ⌜ LineSpan (now (m .entry)) place r ⌝ }
 {
-    match line_end(m, from) {
+    match line_end(m, place) {
         LineEnd::Ended(e) => Span {
             end: e,
             ended: true,
@@ -62,7 +64,21 @@ pub fn line_at(m: &[u8], from: usize) -> Span
     }
 }
 
-// The line that starts at a place: a reader over the manifest is made, moved there, and asked for its next line.
+// The reader over the manifest, for callers that keep a plain slice and a place: where it starts, how many bytes are left when it
+// is moved to a place, and the line that starts there.
+pub fn top(m: &[u8]) -> usize
+    ensures { λ r. ⌜ r ≡ 0 ⌝ }
+{
+    reached(start(m))
+}
+
+pub fn left_from(m: &[u8], from: usize) -> usize
+    requires { ⌜ from ≤ length (now m) ⌝ }
+    ensures { λ r. ⌜ r + from ≡ length (now (m .entry)) ⌝ }
+{
+    left(moved(start(m), from))
+}
+
 pub fn line_from(m: &[u8], from: usize) -> Span
     requires { ⌜ from < length (now m) ⌝ }
     ensures { λ r. ⌜ LineSpan (now (m .entry)) from r ⌝ }
