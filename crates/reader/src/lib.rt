@@ -8,7 +8,9 @@ use filelines::read_file_line;
 use held::Counts;
 use held::LineAnswer;
 use held::Open;
+use lines::left_from;
 use lines::line_from;
+use lines::top;
 use names::clear;
 use rulelines::close;
 use rules::Refusal;
@@ -89,8 +91,8 @@ fn read_from_top(
         written: 0,
     };
     let mut block = Open::Nothing;
-    let mut i = 0;
-    while i < m.len() {
+    let mut i = top(m);
+    while 0 < left_from(m, i) {
         let s = line_from(m, i);
         let end = s.end;
         match read_line(

@@ -15,8 +15,14 @@ Inv-loop t m names₀ ends₀ texts₀ bind₀ graph₀ word₀ c₀ block₀ i�
 abbrev μ-loop : tie.MeasureT-loop
 μ-loop t m names₀ ends₀ texts₀ bind₀ graph₀ word₀ c₀ block₀ i₀ names ends texts bind graph word c block i = length m - i
 
+top-requires : tie.Need-top-requires Inv-loop μ-loop
+top-requires c κs = search needs
+
 loop-holds : tie.Need-loop-holds Inv-loop μ-loop
-loop-holds c = (same-begin, turn-begin (c .before .before .before .before .before .before .before .pre))
+loop-holds c = (same-begin, rw (c .top .ensures) (turn-begin (c .before .before .before .before .before .before .before .before .pre)))
+
+left-from-requires : tie.Need-left-from-requires Inv-loop μ-loop
+left-from-requires c κs = search needs
 
 line-from-requires : tie.Need-line-from-requires Inv-loop μ-loop
 line-from-requires c κs = search needs
@@ -31,7 +37,7 @@ part-read-line-end : tie.Need-part-read-line-end Inv-loop μ-loop
 part-read-line-end c = search needs
 
 read-line-requires : tie.Need-read-line-requires Inv-loop μ-loop
-read-line-requires c κs = turn-asks (c .before .before .before .before .before .before .before .before .before .loop .inv .1) (c .before .before .before .before .before .before .before .before .before .before .before .before .before .before .before .before .before .pre) (c .before .before .before .before .before .before .before .before .before .loop .inv .0) (c .before .before .before .before .before .before .before .line-from .ensures)
+read-line-requires c κs = turn-asks (c .before .before .before .before .before .before .before .before .before .before .loop .inv .1) (c .before .before .before .before .before .before .before .before .before .before .before .before .before .before .before .before .before .before .before .pre) (c .before .before .before .before .before .before .before .before .before .before .loop .inv .0) (c .before .before .before .before .before .before .before .line-from .ensures)
 
 enum-known-d : tie.Need-enum-known-d Inv-loop μ-loop
 enum-known-d c = search needs
@@ -42,9 +48,9 @@ loop-less c = search needs
 loop-again : tie.Need-loop-again Inv-loop μ-loop
 loop-again c =
     let k = c .before .before .before .before .before .before .before .before .before .before .before .before .before .before .before .read-line .kept in
-    let e = c .before .before .before .before .before .before .before .before .before .before .before .before .before .before .before .before .before .before .before .before .before .before .before .before .before .loop .inv .0 in (
+    let e = c .before .before .before .before .before .before .before .before .before .before .before .before .before .before .before .before .before .before .before .before .before .before .before .before .before .before .loop .inv .0 in (
       record { names-same = omega (arith, k, e .names-same); ends-same = omega (arith, k, e .ends-same); texts-same = omega (arith, k, e .texts-same); bind-same = omega (arith, k, e .bind-same); graph-same = omega (arith, k, e .graph-same); word-same = omega (arith, k, e .word-same) },
-      turn-on (c .before .before .before .before .before .before .before .before .before .before .before .before .before .before .before .before .before .before .before .before .before .before .before .before .before .loop .inv .1) (c .before .before .before .before .before .before .before .before .before .before .before .before .before .before .before .before .before .before .before .before .before .before .before .line-from .ensures) (rw (c .before .d .given .1) at (c .before .before .before .before .before .before .before .before .before .before .before .before .before .before .before .read-line .ensures)),
+      turn-on (c .before .before .before .before .before .before .before .before .before .before .before .before .before .before .before .before .before .before .before .before .before .before .before .before .before .before .loop .inv .1) (c .before .before .before .before .before .before .before .before .before .before .before .before .before .before .before .before .before .before .before .before .before .before .before .line-from .ensures) (rw (c .before .d .given .1) at (c .before .before .before .before .before .before .before .before .before .before .before .before .before .before .before .read-line .ensures)),
     )
 
 enum-known-r : tie.Need-enum-known-r Inv-loop μ-loop
@@ -69,10 +75,10 @@ same-length-6 : tie.Need-same-length-6 Inv-loop μ-loop
 same-length-6 c = search needs
 
 returns : tie.Need-returns Inv-loop μ-loop
-returns c = turn-refused (c .before .before .before .before .before .before .before .before .before .before .before .before .before .before .before .before .before .before .before .before .before .before .before .before .before .loop .inv .1) (c .before .before .before .before .before .before .before .before .before .before .before .before .before .before .before .before .before .before .before .before .before .before .before .line-from .ensures) (rw (c .before .r .given .1) at (c .before .before .before .before .before .before .before .before .before .before .before .before .before .before .before .read-line .ensures))
+returns c = turn-refused (c .before .before .before .before .before .before .before .before .before .before .before .before .before .before .before .before .before .before .before .before .before .before .before .before .before .before .loop .inv .1) (c .before .before .before .before .before .before .before .before .before .before .before .before .before .before .before .before .before .before .before .before .before .before .before .line-from .ensures) (rw (c .before .r .given .1) at (c .before .before .before .before .before .before .before .before .before .before .before .before .before .before .before .read-line .ensures))
 
 close-requires : tie.Need-close-requires Inv-loop μ-loop
-close-requires c κs = turn-sound (c .before .before .before .loop .inv .1)
+close-requires c κs = turn-sound (c .before .before .before .before .loop .inv .1)
 
 same-length-7 : tie.Need-same-length-7 Inv-loop μ-loop
 same-length-7 c = search needs
@@ -93,7 +99,7 @@ same-length-12 : tie.Need-same-length-12 Inv-loop μ-loop
 same-length-12 c = search needs
 
 returns-2 : tie.Need-returns-2 Inv-loop μ-loop
-returns-2 c = turn-end (c .before .before .before .before .loop .inv .1) (c .before .before .before .loop-test .left) (c .close .ensures)
+returns-2 c = turn-end (c .before .before .before .before .before .loop .inv .1) (omega (arith, c .before .before .before .if1 .left, c .before .before .before .before .left-from .ensures)) (c .close .ensures)
 
 pub read-from-top-spec : {M : Type 1} → statement M
 read-from-top-spec =
@@ -101,7 +107,9 @@ read-from-top-spec =
     (tie.spec
     Inv-loop
     μ-loop
+    top-requires
     loop-holds
+    left-from-requires
     line-from-requires
     sub-read-line
     part-read-line-start
