@@ -3,23 +3,24 @@ use Prim.Native.Nat.{ℕ, min, _+_, _-_, _≤_, _<_}
 use mathlib.Core.Bool.{true, false}
 use mathlib.Core.List.{List, [], _++_}
 use mathlib.Core.Path.{_≡_, refl, sym, _∙_, ap}
-use native.Mathlib.Decide.{ℕ-discrete}
+use native.Mathlib.Decide.{decLt}
 use native.Mathlib.Nat.{le-refl, lt-of-lt-of-le}
 use native.Mathlib.Omega.{arith}
-use borrow.Author.Tests.{eq-eqb, ne-eqb}
-use lib.Dec.{eqb}
+use borrow.Author.Tests.{lt-ltb, le-ltb}
 use lib.ListN.{length, drop, length-append, drop-of-length-le}
 use Rattle.lists.specs.Tests.{split}
-use Rattle.lists.specs.Bytes.{eqBytes, ne-eqBytes, eq-eqBytes}
+use Rattle.lists.specs.Bytes.{less-prefix}
+use Rattle.lists.specs.Order.{orderBytes, less-order, greater-order, equal-order}
 use Rattle.lists.specs.Parts.{drop-part}
+use Rattle.lists.specs.declared.Order as order
 use Rattle.bindings.specs.Log.{Logged}
 use Rattle.bindings.specs.Held.{Holds}
 use Rattle.expand.specs.declared.Run.{Run}
 use Rattle.expand.specs.declared.Ahead.{Ahead}
-use Rattle.expand.specs.declared.Ahead.the-variants.{Differ, Both}
+use Rattle.expand.specs.declared.Ahead.the-variants.{Less, Greater, Both}
 use Rattle.expand.specs.Runs.{expanded, bytesOf, Placed, leftOf, Ready, Going, most, Filled}
-use Rattle.expand.specs.Ahead.{Agree, Compared}
-use Rattle.expand.proofs.Agreeing.{eq-fronts}
+use Rattle.expand.specs.Ahead.{Agree, Compared, orderLengths}
+use Rattle.expand.proofs.Agreeing.{order-fronts}
 use Rattle.expand.proofs.Begin.{own, own-placed}
 use Rattle.expand.proofs.Expanding.{length-bytes, expanded-none}
 use Rattle.expand.proofs.Filling.{left-none}
@@ -27,7 +28,7 @@ use Rattle.expand.proofs.Filling.{left-none}
 pub record Matching (t a b texts bind : List ℕ) (count : ℕ) (x y : Run) : Type 0 where
   pub first : Going t a texts bind count x
   pub second : Going t b texts bind count y
-  pub left : (log : List Logged) → Holds log texts bind count → eqBytes (expanded log a) (expanded log b) ≡ eqBytes (leftOf log a texts x) (leftOf log b texts y)
+  pub left : (log : List Logged) → Holds log texts bind count → orderBytes (expanded log a) (expanded log b) ≡ orderBytes (leftOf log a texts x) (leftOf log b texts y)
 
 -- ---- the start
 
@@ -81,28 +82,40 @@ unfolding leftOf
 left-longer {raw} {texts} {x} p log = rw length-append (omega (arith, length-bytes p))
 
 -- the two are compared where one of them has no byte left
-ends : (i j : ℕ) (s t : List ℕ) → min i j ≡ 0 → (i ≡ 0 → s ≡ []) → (j ≡ 0 → t ≡ []) → i ≤ length s → j ≤ length t → eqb i j ≡ eqBytes s t
-ends i j s t z p q k l = elim (ℕ-discrete i j) [
-  | yes e ↦ (eq-eqb i j e ∙ sym (eq-eqBytes (p (omega arith) ∙ sym (q (omega arith)))))
-  | no e ↦ (ne-eqb i j e
-      ∙ sym
-      (ne-eqBytes s t
-      (λ (d : s ≡ t). elim (ℕ-discrete i 0) [ yes o ↦ omega (arith, ap length (p o), ap length d) | no o ↦ omega (arith, ap length (q (omega arith)), ap length d) ])))
-]
+module _ {i j : ℕ} {s t : List ℕ} (z : min i j ≡ 0) (p : i ≡ 0 → s ≡ []) (q : j ≡ 0 → t ≡ []) (k : i ≤ length s) (l : j ≤ length t) where
+  ends : orderLengths i j ≡ orderBytes s t
+  unfolding orderLengths
+  ends = elim (decLt i j) [
+    | yes h ↦
+        (let e : s ≡ [] = p (omega arith) in
+        rw (lt-ltb i j h, e) (sym (less-order [] t (less-prefix [] t refl (omega arith)))))
+    | no h ↦ elim (decLt j i) [
+      | yes g ↦
+          (let e : t ≡ [] = q (omega arith) in
+          rw (le-ltb i j (omega arith), lt-ltb j i g, e) (sym (greater-order s [] (less-prefix [] s refl (omega arith)))))
+      | no g ↦ rw (le-ltb i j (omega arith), le-ltb j i (omega arith)) (sym (equal-order s t (p (omega arith) ∙ sym (q (omega arith)))))
+    ]
+  ]
 
 less-behind : (k f e n : ℕ) → n ≤ e - f → (n ≡ 0 → ⊥) → k + (e - (f + n)) < k + (e - f)
 less-behind k f e n h z = omega arith
 
 module _ {t a b texts bind : List ℕ} {count : ℕ} {x y p q : Run} (m : Matching t a b texts bind count x y)
     (f : Filled a texts bind count x p) (g : Filled b texts bind count y q) where
-  now-left : (log : List Logged) → Holds log texts bind count → eqBytes (expanded log a) (expanded log b) ≡ eqBytes (leftOf log a texts p) (leftOf log b texts q)
+  now-left : (log : List Logged) → Holds log texts bind count → orderBytes (expanded log a) (expanded log b) ≡ orderBytes (leftOf log a texts p) (leftOf log b texts q)
   now-left log h = m .left log h ∙ rw (f .left log h, g .left log h)
 
   module _ {r : Ahead} (c : Compared (bytesOf a texts p) (bytesOf b texts q) r) where
-    pub match-differ : r ≡ Differ → (log : List Logged) → Holds log texts bind count → false ≡ eqBytes (expanded log a) (expanded log b)
+    pub match-lower : r ≡ Less → (log : List Logged) → Holds log texts bind count → order.the-variants.Less ≡ orderBytes (expanded log a) (expanded log b)
     unfolding Compared
-    match-differ e log h =
-        let d : (s t : List ℕ) → eqBytes (bytesOf a texts p ++ s) (bytesOf b texts q ++ t) ≡ false = rw e at c in
+    match-lower e log h =
+        let d : (s t : List ℕ) → orderBytes (bytesOf a texts p ++ s) (bytesOf b texts q ++ t) ≡ order.the-variants.Less = rw e at c in
+        sym (now-left log h ∙ rw (left-is log a texts p, left-is log b texts q) (d _ _))
+
+    pub match-higher : r ≡ Greater → (log : List Logged) → Holds log texts bind count → order.the-variants.Greater ≡ orderBytes (expanded log a) (expanded log b)
+    unfolding Compared
+    match-higher e log h =
+        let d : (s t : List ℕ) → orderBytes (bytesOf a texts p ++ s) (bytesOf b texts q ++ t) ≡ order.the-variants.Greater = rw e at c in
         sym (now-left log h ∙ rw (left-is log a texts p, left-is log b texts q) (d _ _))
 
     module _ {n : ℕ} (e : r ≡ Both n) where
@@ -114,10 +127,10 @@ module _ {t a b texts bind : List ℕ} {count : ℕ} {x y p q : Run} (m : Matchi
       pub shorter : n ≡ min (p .to - p .from) (q .to - q .from)
       shorter = agreed .count ∙ rw (length-bytes (f .placed), length-bytes (g .placed))
 
-      pub match-end : n ≡ 0 → (log : List Logged) → Holds log texts bind count → eqb (p .to - p .from) (q .to - q .from) ≡ eqBytes (expanded log a) (expanded log b)
-      match-end z log h =
-          ends (p .to - p .from) (q .to - q .from) (leftOf log a texts p) (leftOf log b texts q) (sym shorter ∙ z) (λ o. left-last f o log) (λ o. left-last g o log)
-          (left-longer (f .placed) log) (left-longer (g .placed) log)
+      pub match-end : n ≡ 0 → {o : order.Order} → o ≡ orderLengths (p .to - p .from) (q .to - q .from) → (log : List Logged) → Holds log texts bind count → o ≡ orderBytes (expanded log a) (expanded log b)
+      match-end z l log h =
+          l
+          ∙ ends (sym shorter ∙ z) (λ o. left-last f o log) (λ o. left-last g o log) (left-longer (f .placed) log) (left-longer (g .placed) log)
           ∙ sym (now-left log h)
 
       pub match-on : Matching t a b texts bind count (behind p n) (behind q n)
@@ -130,7 +143,7 @@ module _ {t a b texts bind : List ℕ} {count : ℕ} {x y p q : Run} (m : Matchi
                 now-left log h
                 ∙ rw
                 (left-is log a texts p, left-is log b texts q, left-is log a texts (behind p n), left-is log b texts (behind q n), behind-bytes a texts p n, behind-bytes b texts q n)
-                (eq-fronts agreed _ _);
+                (order-fronts agreed _ _);
           }
 
       pub match-less : (n ≡ 0 → ⊥) → most a (behind p n) < most a x

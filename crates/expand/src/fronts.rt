@@ -5,7 +5,8 @@ ghost use Rattle.expand.specs.Runs.{bytesOf, Placed};
 ghost use Rattle.expand.specs.Ahead.{Compared};
 use crate::Ahead;
 use crate::Run;
-use lists::bytes::equal;
+use lists::Order;
+use lists::bytes::compare;
 
 fn lesser(x: usize, y: usize) -> usize
     ensures { λ r. ⌜ r ≡ min x y ⌝ }
@@ -18,10 +19,11 @@ fn ahead(p: &[u8], q: &[u8]) -> Ahead
     ensures { λ r. ⌜ Compared (now (p .entry)) (now (q .entry)) r ⌝ }
 {
     let n = lesser(p.len(), q.len());
-    if equal(&p[..n], &q[..n]) {
-        return Ahead::Both(n);
+    match compare(&p[..n], &q[..n]) {
+        Order::Less => Ahead::Less,
+        Order::Equal => Ahead::Both(n),
+        Order::Greater => Ahead::Greater,
     }
-    Ahead::Differ
 }
 
 // Some bytes and a run of b.

@@ -4,7 +4,9 @@ ghost use mathlib.Core.List.{List};
 ghost use Rattle.bindings.specs.Log.{Logged};
 ghost use Rattle.bindings.specs.Held.{Holds};
 ghost use Rattle.lists.specs.Bytes.{eqBytes};
+ghost use Rattle.lists.specs.Order.{orderBytes};
 ghost use Rattle.expand.specs.Runs.{expanded, bytesOf, Placed, Ready, laidAt, Written};
+ghost use Rattle.expand.specs.Ahead.{orderLengths};
 ghost use Rattle.expand.specs.Digest.{digestFrom};
 
 mod digests;
@@ -12,6 +14,7 @@ mod fronts;
 mod runs;
 
 use fronts::runs_ahead;
+use lists::Order;
 use lists::bytes::copy_at;
 use runs::filled;
 use runs::run_at;
@@ -24,9 +27,10 @@ pub struct Run {
     pub next: usize,
 }
 
-// What the front of two runs says: they differ, or the first n bytes are the same, and one of the two has no more.
+// What the front of two runs says: which of the two comes first, or the first n bytes are the same, and one of the two has no more.
 pub enum Ahead {
-    Differ,
+    Less,
+    Greater,
     Both(usize),
 }
 
@@ -82,10 +86,23 @@ pub fn expand(
     n
 }
 
-// Whether two raw texts expand to the same bytes.
-pub fn same(t: &[u8; 256], a: &[u8], b: &[u8], texts: &[u8], bind: &[u32], count: usize) -> bool
+// How the lengths of two runs compare.
+fn longer(i: usize, j: usize) -> Order
+    ensures { λ r. ⌜ r ≡ orderLengths i j ⌝ }
+{
+    if i < j {
+        return Order::Less;
+    }
+    if j < i {
+        return Order::Greater;
+    }
+    Order::Equal
+}
+
+// How what two raw texts expand to compares.
+pub fn order(t: &[u8; 256], a: &[u8], b: &[u8], texts: &[u8], bind: &[u32], count: usize) -> Order
     requires { ⌜ Ready (now t) (now a) (now texts) (now bind) count 0 × Ready (now t) (now b) (now texts) (now bind) count 0 ⌝ }
-    ensures { λ r. ⌜ ((log : List Logged) → Holds log (now (texts .entry)) (now (bind .entry)) count → r ≡ eqBytes (expanded log (now (a .entry))) (expanded log (now (b .entry)))) ⌝ }
+    ensures { λ r. ⌜ ((log : List Logged) → Holds log (now (texts .entry)) (now (bind .entry)) count → r ≡ orderBytes (expanded log (now (a .entry))) (expanded log (now (b .entry)))) ⌝ }
 {
     let mut x = Run {
         bound: false,
@@ -103,17 +120,32 @@ pub fn same(t: &[u8; 256], a: &[u8], b: &[u8], texts: &[u8], bind: &[u32], count
         x = filled(t, a, texts, bind, count, x);
         y = filled(t, b, texts, bind, count, y);
         match runs_ahead(a, b, texts, x, y) {
-            Ahead::Differ => {
-                return false;
+            Ahead::Less => {
+                return Order::Less;
+            }
+            Ahead::Greater => {
+                return Order::Greater;
             }
             Ahead::Both(n) => {
                 if n == 0 {
-                    return x.to - x.from == y.to - y.from;
+                    return longer(x.to - x.from, y.to - y.from);
                 }
                 x.from += n;
                 y.from += n;
             }
         }
+    }
+}
+
+// Whether two raw texts expand to the same bytes.
+pub fn same(t: &[u8; 256], a: &[u8], b: &[u8], texts: &[u8], bind: &[u32], count: usize) -> bool
+    requires { ⌜ Ready (now t) (now a) (now texts) (now bind) count 0 × Ready (now t) (now b) (now texts) (now bind) count 0 ⌝ }
+    ensures { λ r. ⌜ ((log : List Logged) → Holds log (now (texts .entry)) (now (bind .entry)) count → r ≡ eqBytes (expanded log (now (a .entry))) (expanded log (now (b .entry)))) ⌝ }
+{
+    match order(t, a, b, texts, bind, count) {
+        Order::Less => false,
+        Order::Equal => true,
+        Order::Greater => false,
     }
 }
 

@@ -1,4 +1,4 @@
--- Marks behind the columns change nothing that is held.
+-- What lies behind the columns changes nothing that is held.
 use mathlib.Core.List.{List, [], _∷_}
 use Prim.Native.Nat.{ℕ}
 use Rattle.rules.specs.Reading.{Reading}

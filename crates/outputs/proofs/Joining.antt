@@ -15,7 +15,7 @@ use Rattle.bindings.specs.Log.{Logged}
 use Rattle.held.specs.declared.Counts.{Counts}
 use Rattle.held.specs.Held.{Bound, Holds}
 use Rattle.outputs.specs.Asks.{pathOf, LineAsks, AnyPath, Kept, Checked}
-use Rattle.outputs.specs.Marks.{RoomAsks, Twice}
+use Rattle.outputs.specs.Sorted.{RoomAsks, Twice}
 use Rattle.outputs.proofs.Walking.{any-append, any-map}
 
 pub any-expanded : (q : List ℕ → Bool) (rd : Reading) (ps : List (List ℕ)) → any q (expanded rd ps) ≡ any (λ raw. q (pathOf rd raw)) ps

@@ -1,5 +1,8 @@
 pub mod Walking
 pub mod Makers
-pub mod Marking
+pub mod Rising
+pub mod Repeats
+pub mod Shifting
+pub mod Sorting
 pub mod Joining
 pub mod Behind

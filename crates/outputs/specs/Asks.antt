@@ -32,7 +32,7 @@ abbrev pub sameBool : Bool → Bool → Bool
 sameBool true b = b
 sameBool false b = not b
 
--- where the columns of the graph end, and the room for marks begins
+-- where the columns of the graph end, and the room for a table of outputs begins
 abbrev pub columnsEnd : ℕ
 columnsEnd = 12288
 
@@ -77,7 +77,7 @@ pub record FormAsks (t l texts bind : List ℕ) (count : ℕ) (p : BuildPlaces) 
   pub stands : Stands l p line
   pub held : Sound texts bind count
 
--- all that is held for a build line, with room for a mark for each of its outputs
+-- all that is held for a build line, with room for an entry for each of its outputs
 pub record LineAsks (t l names fileEnds texts bind graph word : List ℕ) (c : Counts) (p : BuildPlaces) : Type 0 where
   pub table : t ≡ classes
   pub short : length l ≤ maxManifest

@@ -25,6 +25,12 @@ use names::Found;
 use names::find;
 use twice::has_twice;
 
+// Where a path stands in a sorted table: an equal one is there, or it belongs at a place.
+pub enum Place {
+    Taken,
+    Free(usize),
+}
+
 fn is_empty(
     t: &[u8; 256],
     raw: &[u8],
@@ -174,7 +180,7 @@ fn has_empty_path(
     has_empty_input(t, l, p, texts, bind, c, word)
 }
 
-// "empty path, output made twice (also within one step)" (8), of a build line. The columns of the graph stay; behind them lie marks of the
+// "empty path, output made twice (also within one step)" (8), of a build line. The columns of the graph stay; behind them lies a table of the
 // outputs, and the word buffer is left with a path as far as it fits.
 pub fn bad_paths(
     t: &[u8; 256],

@@ -1,69 +1,18 @@
-// Two equal outputs in a line. Each output's digest is noted first, so that few outputs are compared byte by byte.
-ghost use mathlib.Core.Path.{_≡_};
-ghost use Prim.Native.Nat.{_<_, suc};
-ghost use lib.ListN.{length, getD, drop};
-ghost use Rattle.lists.specs.Bytes.{eqBytes};
-ghost use Rattle.lists.specs.Members.{has};
-ghost use Rattle.lists.specs.Parts.{part};
-ghost use Rattle.held.specs.Held.{Bound};
-ghost use Rattle.outputs.specs.Asks.{pathOf, AnyPath};
-ghost use Rattle.outputs.specs.Marks.{NoteAsks, Noted, PlaceAsks, AgainAsks, Again, MarkedAsks, Compared, RoomAsks, Twice};
+// Two equal outputs in a line. The outputs so far stand in a table that is sorted by what they expand to, so each is compared with few others.
+ghost use Prim.Native.Nat.{_≤_, _<_};
+ghost use lib.ListN.{length};
+ghost use Rattle.outputs.specs.Sorted.{EntryAsks, Ordered, SortedAsks, PlaceIn, Shifted, AddAsks, Added, TableAsks, Compared, RoomAsks, Twice};
+use crate::Place;
 use arena::put;
-use expand::digest;
-use expand::same;
+use expand::order;
 use forms::Next;
 use forms::paths::next_path;
 use held::Counts;
+use lists::Order;
 use lists::words::at;
 
-// Notes the digest of each path of a list, and gives their number.
-fn note(
-    t: &[u8; 256],
-    l: &[u8],
-    start: usize,
-    texts: &[u8],
-    bind: &[u32],
-    c: Counts,
-    marks: &mut [u32],
-) -> usize
-    requires { ⌜ NoteAsks (now t) (now l) (now texts) (now bind) (c .entries) start (now marks) ⌝ }
-    ensures { λ r. ⌜ Noted (now (l .entry)) (now (texts .entry)) (now (bind .entry)) c start (now (marks .entry)) (now (marks .exit)) r ⌝ }
-{
-    let mut k = 0;
-    let mut i = start;
-    loop {
-        match next_path(t, l, i) {
-            Next::Path(from, to) => {
-                let d = digest(t, &l[from..to], texts, bind, c.entries);
-                put(marks, k, d);
-                k += 1;
-                i = to;
-            }
-            Next::Stop => {
-                return k;
-            }
-        }
-    }
-}
-
-// Whether the number at a place stands at a later one, too.
-fn comes_again(marks: &[u32], k: usize) -> bool
-    requires { ⌜ k < length (now marks) ⌝ }
-    ensures { λ r. ⌜ r ≡ has (getD (now (marks .entry)) k 0) (drop (suc k) (now (marks .entry))) ⌝ }
-{
-    let d = at(marks, k);
-    let mut i = k + 1;
-    while i < marks.len() {
-        if at(marks, i) == d {
-            return true;
-        }
-        i += 1;
-    }
-    false
-}
-
-// Whether the path from one place to another is among those of the list behind it.
-fn is_among(
+// How the path from one place to another compares with that of an entry.
+fn order_at(
     t: &[u8; 256],
     l: &[u8],
     from: usize,
@@ -71,48 +20,89 @@ fn is_among(
     texts: &[u8],
     bind: &[u32],
     c: Counts,
-) -> bool
-    requires { ⌜ PlaceAsks (now t) (now l) (now texts) (now bind) (c .entries) from to ⌝ }
-    ensures { λ r. ⌜ AnyPath (λ log rd. Bound log (now (texts .entry)) (now (bind .entry)) c rd) (λ rd raw. eqBytes (pathOf rd (part (now (l .entry)) from to)) (pathOf rd raw)) (now (l .entry)) to r ⌝ }
-{
-    let mut i = to;
-    loop {
-        match next_path(t, l, i) {
-            Next::Path(a, b) => {
-                if same(t, &l[from..to], &l[a..b], texts, bind, c.entries) {
-                    return true;
-                }
-                i = b;
-            }
-            Next::Stop => {
-                return false;
-            }
-        }
-    }
-}
-
-// Whether a path of a list comes again, by the marks from its own on.
-fn is_again(
-    t: &[u8; 256],
-    l: &[u8],
-    from: usize,
-    to: usize,
-    texts: &[u8],
-    bind: &[u32],
-    c: Counts,
-    marks: &[u32],
+    table: &[u32],
     k: usize,
-) -> bool
-    requires { ⌜ AgainAsks (now t) (now l) (now texts) (now bind) (c .entries) from to (now marks) k ⌝ }
-    ensures { λ r. ⌜ Again (now (l .entry)) (now (texts .entry)) (now (bind .entry)) c from to (now (marks .entry)) k r ⌝ }
+) -> Order
+    requires { ⌜ EntryAsks (now t) (now l) (now texts) (now bind) (c .entries) from to (now table) k ⌝ }
+    ensures { λ r. ⌜ Ordered (now (l .entry)) (now (texts .entry)) (now (bind .entry)) c from to (now (table .entry)) k r ⌝ }
 {
-    if comes_again(marks, k) {
-        return is_among(t, l, from, to, texts, bind, c);
-    }
-    false
+    let v = at(table, k);
+    let a = v / 65536;
+    let b = v % 65536;
+    order(t, &l[from..to], &l[a..b], texts, bind, c.entries)
 }
 
-// Whether two paths of a list are equal, by their marks.
+// Where the path from one place to another stands in the table, by halving.
+fn place_for(
+    t: &[u8; 256],
+    l: &[u8],
+    from: usize,
+    to: usize,
+    texts: &[u8],
+    bind: &[u32],
+    c: Counts,
+    table: &[u32],
+) -> Place
+    requires { ⌜ SortedAsks (now t) (now l) (now texts) (now bind) c from to (now table) ⌝ }
+    ensures { λ r. ⌜ PlaceIn (now (l .entry)) (now (texts .entry)) (now (bind .entry)) c from to (now (table .entry)) r ⌝ }
+{
+    let mut low = 0;
+    let mut high = table.len();
+    while low < high {
+        let mid = low + (high - low) / 2;
+        match order_at(t, l, from, to, texts, bind, c, table, mid) {
+            Order::Less => {
+                high = mid;
+            }
+            Order::Greater => {
+                low = mid + 1;
+            }
+            Order::Equal => {
+                return Place::Taken;
+            }
+        }
+    }
+    Place::Free(low)
+}
+
+// Puts a number in at place p of the first n. Those from p on move up by one, the last one first.
+fn insert(table: &mut [u32], n: usize, p: usize, v: usize)
+    requires { ⌜ (p ≤ n) × (n < length (now table)) × (v < 4294967296) ⌝ }
+    ensures { λ _. ⌜ Shifted (now (table .entry)) n p v (now (table .exit)) ⌝ }
+{
+    let mut i = n;
+    while p < i {
+        table[i] = table[i - 1];
+        i -= 1;
+    }
+    put(table, p, v);
+}
+
+// Whether the path from one place to another is in the table of n entries. Where it is not, it is put in.
+fn is_taken(
+    t: &[u8; 256],
+    l: &[u8],
+    from: usize,
+    to: usize,
+    texts: &[u8],
+    bind: &[u32],
+    c: Counts,
+    table: &mut [u32],
+    n: usize,
+) -> bool
+    requires { ⌜ AddAsks (now t) (now l) (now texts) (now bind) c from to (now table) n ⌝ }
+    ensures { λ r. ⌜ Added (now (l .entry)) (now (texts .entry)) (now (bind .entry)) c from to (now (table .entry)) n (now (table .exit)) r ⌝ }
+{
+    match place_for(t, l, from, to, texts, bind, c, &table[..n]) {
+        Place::Taken => true,
+        Place::Free(p) => {
+            insert(table, n, p, from * 65536 + to);
+            false
+        }
+    }
+}
+
+// Whether two paths of a list are equal. The table has room for all of them.
 fn has_equal(
     t: &[u8; 256],
     l: &[u8],
@@ -120,20 +110,20 @@ fn has_equal(
     texts: &[u8],
     bind: &[u32],
     c: Counts,
-    marks: &[u32],
+    table: &mut [u32],
 ) -> bool
-    requires { ⌜ MarkedAsks (now t) (now l) (now texts) (now bind) c start (now marks) ⌝ }
-    ensures { λ r. ⌜ Compared (now (l .entry)) (now (texts .entry)) (now (bind .entry)) c start (now (marks .entry)) r ⌝ }
+    requires { ⌜ TableAsks (now t) (now l) (now texts) (now bind) c start (now table) ⌝ }
+    ensures { λ r. ⌜ Compared (now (l .entry)) (now (texts .entry)) (now (bind .entry)) c start (now (table .entry)) (now (table .exit)) r ⌝ }
 {
-    let mut k = 0;
+    let mut n = 0;
     let mut i = start;
     loop {
         match next_path(t, l, i) {
             Next::Path(from, to) => {
-                if is_again(t, l, from, to, texts, bind, c, marks, k) {
+                if is_taken(t, l, from, to, texts, bind, c, table, n) {
                     return true;
                 }
-                k += 1;
+                n += 1;
                 i = to;
             }
             Next::Stop => {
@@ -143,7 +133,7 @@ fn has_equal(
     }
 }
 
-// Whether two paths of a list are equal. The marks lie in the graph's buffer, behind its columns.
+// Whether two paths of a list are equal. The table lies in the graph's buffer, behind its columns.
 pub fn has_twice(
     t: &[u8; 256],
     l: &[u8],
@@ -156,7 +146,5 @@ pub fn has_twice(
     requires { ⌜ RoomAsks (now t) (now l) (now texts) (now bind) (now graph) c start ⌝ }
     ensures { λ r. ⌜ Twice (now (l .entry)) (now (texts .entry)) (now (bind .entry)) (now (graph .entry)) c start (now (graph .exit)) r ⌝ }
 {
-    let n = note(t, l, start, texts, bind, c, &mut graph[12288..]);
-    let end = 12288 + n;
-    has_equal(t, l, start, texts, bind, c, &graph[12288..end])
+    has_equal(t, l, start, texts, bind, c, &mut graph[12288..])
 }
