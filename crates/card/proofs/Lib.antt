@@ -3,4 +3,3 @@ pub mod Rules
 pub mod Places
 pub mod Search
 pub mod Naming
-pub mod Windows

@@ -1,14 +1,15 @@
 // The time card: whether its bytes are a sound one, and the time of a file on it.
 ghost use mathlib.Core.Path.{_≡_};
 ghost use mathlib.Core.Bool.{true};
-ghost use Prim.Native.Nat.{_+_, _≤_, min};
+ghost use Prim.Native.Nat.{_+_, _≤_};
 ghost use lib.ListN.{length};
-ghost use Rattle.lists.specs.Bytes.{lessBytes};
 ghost use Rattle.lists.specs.Order.{orderBytes};
+ghost use Rattle.lists.specs.Windows.{Byte};
 ghost use Rattle.rules.specs.Card.{recordAt, soundHeader, soundRecord, soundNames, soundCard, cardEntries, timeIn};
-ghost use Rattle.card.specs.Fields.{Byte, Number, High, Headed, Listed, AlikeToEnd, entryAt};
+ghost use Rattle.card.specs.Fields.{Number, Headed, Listed, entryAt};
 use lists::Order;
 use lists::bytes::compare;
+use lists::bytes::less;
 use rules::limits::CARD;
 use rules::limits::PATH;
 use rules::limits::RECORDS;
@@ -94,7 +95,7 @@ fn sound_names(card: &[u8], n: usize) -> bool
         if card.len() < end {
             return false;
         }
-        if !comes_before(&card[from..to], &card[to..end]) {
+        if !less(&card[from..to], &card[to..end]) {
             return false;
         }
         from = to;
@@ -129,68 +130,6 @@ fn sound_record(card: &[u8], at: usize, start: usize) -> bool
     true
 }
 
-// Whether one name comes before another.
-fn comes_before(a: &[u8], b: &[u8]) -> bool
-    ensures { λ r. ⌜ r ≡ lessBytes (now (a .entry)) (now (b .entry)) ⌝ }
-{
-    match order(a, b) {
-        Order::Less => true,
-        Order::Equal => false,
-        Order::Greater => false,
-    }
-}
-
-// How two names compare. Names on a card begin alike, so they are compared by eight bytes at a time; the last eight may overlap the eight before.
-fn order(a: &[u8], b: &[u8]) -> Order
-    ensures { λ r. ⌜ r ≡ orderBytes (now (a .entry)) (now (b .entry)) ⌝ }
-{
-    let n = least(a.len(), b.len());
-    if n < 8 {
-        return compare(a, b);
-    }
-    let mut i = 0;
-    while i + 8 <= n {
-        let x = high_long(a, i);
-        let y = high_long(b, i);
-        if x < y {
-            return Order::Less;
-        }
-        if y < x {
-            return Order::Greater;
-        }
-        i += 8;
-    }
-    order_end(a, b, n)
-}
-
-// How they compare where the shorter has n bytes, and at most its last eight differ.
-fn order_end(a: &[u8], b: &[u8], n: usize) -> Order
-    requires { ⌜ AlikeToEnd (now a) (now b) n ⌝ }
-    ensures { λ r. ⌜ r ≡ orderBytes (now (a .entry)) (now (b .entry)) ⌝ }
-{
-    let x = high_long(a, n - 8);
-    let y = high_long(b, n - 8);
-    if x < y {
-        return Order::Less;
-    }
-    if y < x {
-        return Order::Greater;
-    }
-    if a.len() < b.len() {
-        return Order::Less;
-    }
-    if b.len() < a.len() {
-        return Order::Greater;
-    }
-    Order::Equal
-}
-
-fn least(x: usize, y: usize) -> usize
-    ensures { λ r. ⌜ r ≡ min x y ⌝ }
-{
-    if x < y { x } else { y }
-}
-
 // How a name compares with that of entry k.
 fn order_at(card: &[u8], k: usize, name: &[u8]) -> Order
     requires { ⌜ Listed (now card) k ⌝ }
@@ -200,7 +139,7 @@ fn order_at(card: &[u8], k: usize, name: &[u8]) -> Order
     let at = 16 + 16 * k;
     let from = names + word(card, at);
     let to = from + word(card, at + 4);
-    order(name, &card[from..to])
+    compare(name, &card[from..to])
 }
 
 fn time_at(card: &[u8], k: usize) -> u64
@@ -229,23 +168,6 @@ fn long(card: &[u8], at: usize) -> u64
     let low = word(card, at);
     let high = word(card, at + 4);
     low as u64 + high as u64 * 4294967296
-}
-
-// The number in the eight bytes at `at` with the first byte highest, which orders them as bytes are ordered.
-fn high_long(s: &[u8], at: usize) -> u64
-    requires { ⌜ at + 8 ≤ length (now s) ⌝ }
-    ensures { λ r. ⌜ High (now (s .entry)) at 8 r ⌝ }
-{
-    let high = high_word(s, at);
-    let low = high_word(s, at + 4);
-    high as u64 * 4294967296 + low as u64
-}
-
-fn high_word(s: &[u8], at: usize) -> usize
-    requires { ⌜ at + 4 ≤ length (now s) ⌝ }
-    ensures { λ r. ⌜ High (now (s .entry)) at 4 r ⌝ }
-{
-    wide(s[at]) * 16777216 + wide(s[at + 1]) * 65536 + wide(s[at + 2]) * 256 + wide(s[at + 3])
 }
 
 fn wide(b: u8) -> usize

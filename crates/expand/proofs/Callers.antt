@@ -1,17 +1,14 @@
 -- For callers: an expansion in the reading's own words, and what the buffer holds of it.
 use Prim.Native.Nat.{ℕ, _≤_}
-use mathlib.Core.Bool.{false}
 use mathlib.Core.List.{List}
 use mathlib.Core.Path.{_≡_, _∙_, ap}
 use native.Mathlib.Omega.{arith}
 use lib.ListN.{length, take, drop}
 use lib.Seq.{take-all, take-append-seam}
-use Rattle.lists.specs.Bytes.{eqBytes, ne-eqBytes}
 use Rattle.rules.specs.Dollars.{expand}
 use Rattle.rules.specs.Reading.{Bound, fileVar}
 use Rattle.bindings.specs.Log.{Logged, ofFile, boundBy}
 use Rattle.expand.specs.Runs.{expanded, laidOver, Written}
-use Rattle.expand.specs.Digest.{digestFrom}
 use Rattle.expand.proofs.Laid.{length-laid}
 
 pub expanded-vars : (log : List Logged) (vars : List Bound) (raw : List ℕ) → vars ≡ boundBy ofFile log → expand (fileVar vars) raw ≡ expanded log raw
@@ -27,6 +24,3 @@ module _ {before s after : List ℕ} {n : ℕ} (w : Written before s after n) wh
   unfolding laidOver
   written-whole h =
       rw (w .bytes, w .count, take-all (length before) s (omega (arith, w .count))) (take-append-seam s (drop (length s) before))
-
-pub digests-differ : (s t : List ℕ) → (digestFrom 0 s ≡ digestFrom 0 t → ⊥) → eqBytes s t ≡ false
-digests-differ s t h = ne-eqBytes s t (λ (e : s ≡ t). h (ap (digestFrom 0) e))

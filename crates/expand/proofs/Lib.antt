@@ -6,5 +6,4 @@ pub mod Expanding
 pub mod Agreeing
 pub mod Filling
 pub mod Matching
-pub mod Digesting
 pub mod Callers

@@ -3,13 +3,10 @@ ghost use mathlib.Core.Path.{_≡_};
 ghost use mathlib.Core.List.{List};
 ghost use Rattle.bindings.specs.Log.{Logged};
 ghost use Rattle.bindings.specs.Held.{Holds};
-ghost use Rattle.lists.specs.Bytes.{eqBytes};
 ghost use Rattle.lists.specs.Order.{orderBytes};
 ghost use Rattle.expand.specs.Runs.{expanded, bytesOf, Placed, Ready, laidAt, Written};
 ghost use Rattle.expand.specs.Ahead.{orderLengths};
-ghost use Rattle.expand.specs.Digest.{digestFrom};
 
-mod digests;
 mod fronts;
 mod runs;
 
@@ -135,31 +132,4 @@ pub fn order(t: &[u8; 256], a: &[u8], b: &[u8], texts: &[u8], bind: &[u32], coun
             }
         }
     }
-}
-
-// Whether two raw texts expand to the same bytes.
-pub fn same(t: &[u8; 256], a: &[u8], b: &[u8], texts: &[u8], bind: &[u32], count: usize) -> bool
-    requires { ⌜ Ready (now t) (now a) (now texts) (now bind) count 0 × Ready (now t) (now b) (now texts) (now bind) count 0 ⌝ }
-    ensures { λ r. ⌜ ((log : List Logged) → Holds log (now (texts .entry)) (now (bind .entry)) count → r ≡ eqBytes (expanded log (now (a .entry))) (expanded log (now (b .entry)))) ⌝ }
-{
-    match order(t, a, b, texts, bind, count) {
-        Order::Less => false,
-        Order::Equal => true,
-        Order::Greater => false,
-    }
-}
-
-// The digest of what a raw text expands to.
-pub fn digest(t: &[u8; 256], raw: &[u8], texts: &[u8], bind: &[u32], count: usize) -> usize
-    requires { ⌜ Ready (now t) (now raw) (now texts) (now bind) count 0 ⌝ }
-    ensures { λ r. ⌜ ((log : List Logged) → Holds log (now (texts .entry)) (now (bind .entry)) count → r ≡ digestFrom 0 (expanded log (now (raw .entry)))) ⌝ }
-{
-    let mut at = 0;
-    let mut h = 0;
-    while at < raw.len() {
-        let r = run_at(t, raw, at, texts, bind, count);
-        h = digests::run(raw, texts, r, h);
-        at = r.next;
-    }
-    h
 }

@@ -8,6 +8,7 @@ ghost use Rattle.lists.specs.Order.{orderBytes};
 ghost use Rattle.lists.specs.Fill.{zeroed};
 ghost use Rattle.lists.specs.Runs.{Reads, afterRun, is, isNot};
 use crate::Order;
+use crate::wide::compare_long;
 
 pub fn equal(a: &[u8], b: &[u8]) -> bool
     ensures { λ r. ⌜ r ≡ eqBytes (now (a .entry)) (now (b .entry)) ⌝ }
@@ -35,6 +36,17 @@ pub fn compare(a: &[u8], b: &[u8]) -> Order
     ensures { λ r. ⌜ r ≡ orderBytes (now (a .entry)) (now (b .entry)) ⌝ }
 {
     let n = lesser(a.len(), b.len());
+    if n < 8 {
+        return compare_short(a, b, n);
+    }
+    compare_long(a, b, n)
+}
+
+// How two slices compare where the shorter has n bytes, byte by byte.
+fn compare_short(a: &[u8], b: &[u8], n: usize) -> Order
+    requires { ⌜ n ≡ min (length (now a)) (length (now b)) ⌝ }
+    ensures { λ r. ⌜ r ≡ orderBytes (now (a .entry)) (now (b .entry)) ⌝ }
+{
     let mut i = 0;
     while i < n {
         let x = a[i];

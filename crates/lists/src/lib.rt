@@ -1,5 +1,6 @@
 // Slices of numbers: compare, copy, clear.
 pub mod bytes;
+mod wide;
 pub mod words;
 
 // Which of two comes first.

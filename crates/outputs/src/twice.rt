@@ -8,6 +8,7 @@ use expand::order;
 use forms::Next;
 use forms::paths::next_path;
 use held::Counts;
+use held::columns::END;
 use lists::Order;
 use lists::words::at;
 
@@ -146,5 +147,5 @@ pub fn has_twice(
     requires { ⌜ RoomAsks (now t) (now l) (now texts) (now bind) (now graph) c start ⌝ }
     ensures { λ r. ⌜ Twice (now (l .entry)) (now (texts .entry)) (now (bind .entry)) (now (graph .entry)) c start (now (graph .exit)) r ⌝ }
 {
-    has_equal(t, l, start, texts, bind, c, &mut graph[12288..])
+    has_equal(t, l, start, texts, bind, c, &mut graph[END..])
 }

@@ -33,20 +33,20 @@ word-requires-3 c κs = search needs
 add-to : tie.Need-add-to
 add-to c = search needs
 
-sub-order : tie.Need-sub-order
-sub-order c = search needs
+sub-compare : tie.Need-sub-compare
+sub-compare c = search needs
 
-part-order-start : tie.Need-part-order-start
-part-order-start c = search needs
+part-compare-start : tie.Need-part-compare-start
+part-compare-start c = search needs
 
-part-order-end : tie.Need-part-order-end
-part-order-end c = search needs
+part-compare-end : tie.Need-part-compare-end
+part-compare-end c = search needs
 
-order-requires : tie.Need-order-requires
-order-requires c κs = search needs
+compare-requires : tie.Need-compare-requires
+compare-requires c κs = search needs
 
 returns : tie.Need-returns
-returns c = rw (c .before .before .before .before .before .before .before .pre .name, ← c .before .before .before .before .word .ensures .is, ← c .before .before .before .word2 .ensures .is, ← c .before .before .word3 .ensures .is) (c .order .ensures)
+returns c = rw (c .before .before .before .before .before .before .before .pre .name, ← c .before .before .before .before .word .ensures .is, ← c .before .before .before .word2 .ensures .is, ← c .before .before .word3 .ensures .is) (c .compare .ensures)
 
 pub order-at-spec : {M : Type 1} → statement M
 order-at-spec =
@@ -62,8 +62,8 @@ order-at-spec =
     add-word
     word-requires-3
     add-to
-    sub-order
-    part-order-start
-    part-order-end
-    order-requires
+    sub-compare
+    part-compare-start
+    part-compare-end
+    compare-requires
     returns)

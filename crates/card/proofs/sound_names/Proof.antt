@@ -54,30 +54,30 @@ returns-2 : tie.Need-returns-2 Inv-loop μ-loop
 unfolding recordAt
 returns-2 c = refuted _ (λ h. let t = turn (c .before .before .before .before .before .loop .inv) (c .before .before .before .before .loop-test .taken) h in omega (arith, c .before .word .ensures .is))
 
-sub-comes-before : tie.Need-sub-comes-before Inv-loop μ-loop
-sub-comes-before c = search needs
+sub-less : tie.Need-sub-less Inv-loop μ-loop
+sub-less c = search needs
 
-part-comes-before-start : tie.Need-part-comes-before-start Inv-loop μ-loop
-part-comes-before-start c = search needs
+part-less-start : tie.Need-part-less-start Inv-loop μ-loop
+part-less-start c = search needs
 
-part-comes-before-end : tie.Need-part-comes-before-end Inv-loop μ-loop
-part-comes-before-end c = search needs
+part-less-end : tie.Need-part-less-end Inv-loop μ-loop
+part-less-end c = search needs
 
-sub-comes-before-2 : tie.Need-sub-comes-before-2 Inv-loop μ-loop
-sub-comes-before-2 c = search needs
+sub-less-2 : tie.Need-sub-less-2 Inv-loop μ-loop
+sub-less-2 c = search needs
 
-part-comes-before-start-2 : tie.Need-part-comes-before-start-2 Inv-loop μ-loop
-part-comes-before-start-2 c = search needs
+part-less-start-2 : tie.Need-part-less-start-2 Inv-loop μ-loop
+part-less-start-2 c = search needs
 
-part-comes-before-end-2 : tie.Need-part-comes-before-end-2 Inv-loop μ-loop
-part-comes-before-end-2 c = search needs
+part-less-end-2 : tie.Need-part-less-end-2 Inv-loop μ-loop
+part-less-end-2 c = search needs
 
-comes-before-requires : tie.Need-comes-before-requires Inv-loop μ-loop
-comes-before-requires c κs = search needs
+less-requires : tie.Need-less-requires Inv-loop μ-loop
+less-requires c κs = search needs
 
 returns-3 : tie.Need-returns-3 Inv-loop μ-loop
 unfolding recordAt
-returns-3 c = refuted _ (λ h. differ (turn (c .before .before .before .before .before .before .before .before .before .loop .inv) (c .before .before .before .before .before .before .before .before .loop-test .taken) h .less) (rw (← c .before .before .before .before .before .word .ensures .is) (sym (c .before .comes-before .ensures) ∙ not-true _ (c .if3 .taken))))
+returns-3 c = refuted _ (λ h. differ (turn (c .before .before .before .before .before .before .before .before .before .loop .inv) (c .before .before .before .before .before .before .before .before .loop-test .taken) h .less) (rw (← c .before .before .before .before .before .word .ensures .is) (sym (c .before .less .ensures) ∙ not-true _ (c .if3 .taken))))
 
 add-k : tie.Need-add-k Inv-loop μ-loop
 add-k c = search needs
@@ -88,7 +88,7 @@ loop-less c = search needs
 loop-again : tie.Need-loop-again Inv-loop μ-loop
 unfolding recordAt
 loop-again c =
-    turned (c .before .before .before .before .before .before .before .before .before .loop .inv) (c .before .before .before .before .before .before .before .before .loop-test .taken) _ (c .before .before .before .before .before .word .ensures .is) (sym (c .before .before .before .before .before .before .before .sound-record .ensures) ∙ not-false _ (c .before .before .before .before .before .before .if1 .left)) (c .before .before .before .before .if2 .left) (sym (c .before .comes-before .ensures) ∙ not-false _ (c .if3 .left))
+    turned (c .before .before .before .before .before .before .before .before .before .loop .inv) (c .before .before .before .before .before .before .before .before .loop-test .taken) _ (c .before .before .before .before .before .word .ensures .is) (sym (c .before .before .before .before .before .before .before .sound-record .ensures) ∙ not-false _ (c .before .before .before .before .before .before .if1 .left)) (c .before .before .before .before .if2 .left) (sym (c .before .less .ensures) ∙ not-false _ (c .if3 .left))
 
 returns-4 : tie.Need-returns-4 Inv-loop μ-loop
 returns-4 c = naming-end (c .before .loop .inv) (c .loop-test .left)
@@ -111,13 +111,13 @@ sound-names-spec =
     word-requires
     add-end
     returns-2
-    sub-comes-before
-    part-comes-before-start
-    part-comes-before-end
-    sub-comes-before-2
-    part-comes-before-start-2
-    part-comes-before-end-2
-    comes-before-requires
+    sub-less
+    part-less-start
+    part-less-end
+    sub-less-2
+    part-less-start-2
+    part-less-end-2
+    less-requires
     returns-3
     add-k
     loop-less

@@ -12,10 +12,10 @@ use lib.ListN.{length, take, drop, getD}
 use mir.Syntax.{w8}
 use mir.Val.{Fits}
 use lib.Seq.{drop-cons, take-add, take-take, take-all}
 use Rattle.lists.specs.Bytes.{lessBytes, less-same, less-lower, less-prefix}
 use Rattle.lists.specs.Order.{orderBytes, less-order, greater-order, equal-order}
 use Rattle.lists.specs.declared.Order.the-variants.{Less, Equal, Greater}
-use Rattle.card.specs.Fields.{Byte, highAt, High, Alike, AlikeToEnd}
+use Rattle.lists.specs.Windows.{Byte, highAt, High, Alike, AlikeToEnd}
 
 -- ---- the numbers
 

@@ -1,8 +1,8 @@
--- `card::high_long` meets its contract.
+-- `lists::wide::high_long` meets its contract.
 use borrow.Author.Needs.{needs}
-use Rattle.card.proofs.Windows.{high-long-is}
-use Rattle.card.proofs.high_long.Statement.{statement}
-use Rattle.card.proofs.high_long.Tie as tie
+use Rattle.lists.proofs.Windows.{high-long-is}
+use Rattle.lists.proofs.wide.high_long.Statement.{statement}
+use Rattle.lists.proofs.wide.high_long.Tie as tie
 
 high-word-requires : tie.Need-high-word-requires
 high-word-requires c κs = search needs

@@ -1,9 +1,9 @@
--- `card::order_end` meets its contract: the last window decides, then the lengths.
+-- `lists::wide::compare_end` meets its contract: the last window decides, then the lengths.
 use native.Mathlib.Omega.{arith}
 use borrow.Author.Needs.{needs}
-use Rattle.card.proofs.Windows.{window-lower, window-higher, window-same, end-shorter, end-longer, end-same}
-use Rattle.card.proofs.order_end.Statement.{statement}
-use Rattle.card.proofs.order_end.Tie as tie
+use Rattle.lists.proofs.Windows.{window-lower, window-higher, window-same, end-shorter, end-longer, end-same}
+use Rattle.lists.proofs.wide.compare_end.Statement.{statement}
+use Rattle.lists.proofs.wide.compare_end.Tie as tie
 
 sub-high-long : tie.Need-sub-high-long
 sub-high-long c = search needs
@@ -32,8 +32,8 @@ returns-4 c = end-longer (c .before .before .before .before .before .before .bef
 returns-5 : tie.Need-returns-5
 returns-5 c = end-same (c .before .before .before .before .before .before .before .before .pre) (window-same (c .before .before .before .before .before .before .before .before .pre .alike) (c .before .before .before .before .before .before .before .shared-slice-known .given) (c .before .before .before .before .before .before .shared-slice-known2 .given) (omega arith) (omega arith) (c .before .before .before .before .before .high-long .ensures) (c .before .before .before .before .high-long2 .ensures) (omega (arith, c .before .before .before .if1 .left, c .before .before .if2 .left))) (c .before .if3 .left) (c .if4 .left)
 
-pub order-end-spec : {M : Type 1} → statement M
-order-end-spec =
+pub compare-end-spec : {M : Type 1} → statement M
+compare-end-spec =
     tie.close
     (tie.spec
     sub-high-long

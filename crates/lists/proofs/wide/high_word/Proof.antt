@@ -1,8 +1,8 @@
--- `card::high_word` meets its contract.
+-- `lists::wide::high_word` meets its contract.
 use borrow.Author.Needs.{needs}
-use Rattle.card.proofs.Windows.{high-word-is}
-use Rattle.card.proofs.high_word.Statement.{statement}
-use Rattle.card.proofs.high_word.Tie as tie
+use Rattle.lists.proofs.Windows.{high-word-is}
+use Rattle.lists.proofs.wide.high_word.Statement.{statement}
+use Rattle.lists.proofs.wide.high_word.Tie as tie
 
 shared-slice-read-wide : tie.Need-shared-slice-read-wide
 shared-slice-read-wide c = search needs
