@@ -9,6 +9,7 @@ ghost use Rattle.lists.specs.Fill.{zeroed};
 ghost use Rattle.lists.specs.Runs.{Reads, afterRun, is, isNot};
 use crate::Order;
 use crate::wide::compare_long;
+use crate::wide::equal_long;
 
 pub fn equal(a: &[u8], b: &[u8]) -> bool
     ensures { λ r. ⌜ r ≡ eqBytes (now (a .entry)) (now (b .entry)) ⌝ }
@@ -16,6 +17,17 @@ pub fn equal(a: &[u8], b: &[u8]) -> bool
     if a.len() != b.len() {
         return false;
     }
+    if a.len() < 8 {
+        return equal_short(a, b);
+    }
+    equal_long(a, b)
+}
+
+// Whether two slices of one length are equal, byte by byte.
+fn equal_short(a: &[u8], b: &[u8]) -> bool
+    requires { ⌜ length (now a) ≡ length (now b) ⌝ }
+    ensures { λ r. ⌜ r ≡ eqBytes (now (a .entry)) (now (b .entry)) ⌝ }
+{
     let mut i = 0;
     while i < a.len() {
         if a[i] != b[i] {

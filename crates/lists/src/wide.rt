@@ -2,6 +2,7 @@
 ghost use mathlib.Core.Path.{_≡_};
 ghost use Prim.Native.Nat.{_+_, _≤_, min};
 ghost use lib.ListN.{length};
+ghost use Rattle.lists.specs.Bytes.{eqBytes};
 ghost use Rattle.lists.specs.Order.{orderBytes};
 ghost use Rattle.lists.specs.Windows.{Byte, High, AlikeToEnd};
 use crate::Order;
@@ -24,6 +25,18 @@ pub fn compare_long(a: &[u8], b: &[u8], n: usize) -> Order
         i += 8;
     }
     compare_end(a, b, n)
+}
+
+// Whether two slices of one length, eight bytes at least, are equal.
+pub fn equal_long(a: &[u8], b: &[u8]) -> bool
+    requires { ⌜ (length (now a) ≡ length (now b)) × (8 ≤ length (now a)) ⌝ }
+    ensures { λ r. ⌜ r ≡ eqBytes (now (a .entry)) (now (b .entry)) ⌝ }
+{
+    match compare_long(a, b, a.len()) {
+        Order::Less => false,
+        Order::Equal => true,
+        Order::Greater => false,
+    }
 }
 
 // How they compare where the shorter has n bytes, and at most its last eight differ.
