@@ -1,4 +1,4 @@
--- `lines::top` meets its contract: a walk of its MIR, by hand. A `Reader` that one call returns is held in a local and passed to the reached. All that the proof knows of `start` and of `reached` is that each meets its contract.
+-- `lines::top` meets its contract: a walk of its MIR, by hand. A `Reader` that one call returns is held in a local and passed to the next. All that the proof knows of `start` and of `reached` is that each meets its contract.
 -- In a local of a body MIR erases the lifetime of the struct's type, so the value is shown to have the type at `erased`: what the struct owns does not say the lifetime's name.
 use mathlib.Core.Path.{_≡_, refl, _∙_}
 use Prim.Native.Nat.{ℕ}
