@@ -12,7 +12,7 @@ use Rattle.held.specs.Adds.{Whole}
 use Rattle.held.specs.declared.Counts.{Counts}
 use Rattle.outputs.specs.Asks.{columnsEnd}
 
--- The word buffer has room for as many bytes as all names that are held, and behind the columns of the graph is room for a mark for each output.
+-- The word buffer has room for as many bytes as all names that are held, and behind the columns of the graph is room for the table of its outputs.
 pub record BuildAsks (t l names fileEnds texts bind graph word : List ℕ) (c : Counts) (p : BuildPlaces) : Type 0 where
   pub table : t ≡ classes
   pub short : length l ≤ maxManifest
