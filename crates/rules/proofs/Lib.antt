@@ -1,3 +1,4 @@
+pub mod Cases
 pub mod Graph
 pub mod Stale
 pub mod Sources

@@ -18,4 +18,3 @@ pub mod PlanAsk
 pub mod TextAsk
 pub mod Promises
 pub mod Marked
-pub mod Samples
