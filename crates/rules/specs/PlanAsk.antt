@@ -14,7 +14,7 @@ use Rattle.rules.specs.Reading.{Step, Reading, numberOf}
 use Rattle.rules.specs.Manifest.{Read, accepted, refusedWith, readManifest}
 use Rattle.rules.specs.Card.{soundCard, cardEntries, timeIn}
 use Rattle.rules.specs.Targets.{Target, targetsOf, badTarget}
-use Rattle.rules.specs.Graph.{roots, noRoot, needed, isNeededSource, hasOrder}
+use Rattle.rules.specs.Graph.{roots, noRoot, isNeededSource, hasOrder}
 use Rattle.rules.specs.Stale.{listOf}
 
 pub data PlanOutcome : Type 0 where

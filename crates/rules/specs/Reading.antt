@@ -2,7 +2,7 @@
 use Prim.Native.Nat.{ℕ, suc}
 use mathlib.Core.List.{List, [], _∷_, _++_, map}
 use mathlib.Core.Option.{Option, none, some}
-use mathlib.Core.Bool.{Bool, not, _||_}
+use mathlib.Core.Bool.{Bool, _||_}
 use Rattle.lists.specs.Tests.{ifB}
 use Rattle.lists.specs.Text.{bytes}
 use Rattle.lists.specs.Bytes.{eqBytes}

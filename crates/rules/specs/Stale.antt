@@ -5,7 +5,7 @@ use mathlib.Core.Bool.{Bool, false, not, _&&_, _||_}
 use lib.Dec.{eqb, ltb}
 use lib.ListN.{length}
 use Rattle.lists.specs.Tests.{ifB}
-use Rattle.lists.specs.Members.{has, keep, any}
+use Rattle.lists.specs.Members.{keep, any}
 use Rattle.orders.specs.Greedy.{greedy}
 use Rattle.orders.specs.Reach.{upstream}
 use Rattle.orders.specs.Along.{values}
