@@ -8,4 +8,4 @@ pub mod Promises
 pub mod Marked
 pub mod WrongPlanners
 pub mod Answers
-pub mod Refusals
+pub mod Manifests

@@ -7,6 +7,7 @@ pub mod Forms
 pub mod Reading
 pub mod Statements
 pub mod Manifest
+pub mod Sound
 pub mod Text
 pub mod Card
 pub mod Targets
