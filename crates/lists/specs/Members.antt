@@ -5,11 +5,11 @@ use mathlib.Core.Bool.{Bool, true, false, not, cond, _&&_, _||_, true≢false, f
 use mathlib.Core.Option.{Option, none, some, Option·none-ne-some, Option·some-injective}
 use mathlib.Core.List.{List, [], _∷_, _++_}
 use Prim.Native.Nat.{ℕ, zero, suc, _+_, _≤_, _<_}
-use native.Mathlib.Nat.{not-suc-le-zero, le-of-suc-le-suc, le-of-lt, lt-irrefl}
+use native.Mathlib.Nat.{not-suc-le-zero, le-of-suc-le-suc, le-of-lt}
 use native.Mathlib.Decide.{decLt, ℕ-discrete}
 use native.Mathlib.Omega.{arith}
 use lib.Dec.{eqb}
-use lib.ListN.{length, getD, take, drop, length-append, take-append-drop, List·getD-append}
+use lib.ListN.{length, getD, take, drop, length-append, List·getD-append}
 use lib.Seq.{take-append-le, take-append-seam, getD-append-seam}
 use borrow.Author.Tests.{eqb-true, eqb-false, eq-eqb, ne-eqb}
 use Rattle.lists.specs.Tests.{split, differ, and-left, and-right, and-false, or-left, or-right, or-true}
@@ -264,12 +264,6 @@ pub each-last : (P : List ℕ → ℕ → Type 0) (l r : List ℕ) (x : ℕ) →
 each-last P l r x f =
     rw (take-append-seam l (x ∷ r), getD-append-seam l x r 0) at (f (length l) (omega (arith, length-append l (x ∷ r))))
 
-pub each-take : (P : List ℕ → ℕ → Type 0) (l : List ℕ) (i : ℕ) → Each P l → Each P (take i l)
-each-take P l i f = each-init P (take i l) (drop i l) (rw (take-append-drop i l) f)
-
-pub each-map : (P Q : List ℕ → ℕ → Type 0) (l : List ℕ) → ((e : List ℕ) (x : ℕ) → P e x → Q e x) → Each P l → Each Q l
-each-map P Q l g f i b = g (take i l) (getD l i 0) (f i b)
-
 -- Lists without repeats, and the pigeonhole
 
 pub once-head : (x : ℕ) (l : List ℕ) → Once (x ∷ l) → x ∉ l
@@ -324,9 +318,6 @@ pub rising-cons : (x : ℕ) (l : List ℕ) → ((y : ℕ) → y ∈ l → x < y)
 rising-cons x l f r zero b y h = absurd (not-in-nil h)
 rising-cons x l f r (suc i) b y (here e) = rw e (f (getD l i 0) (in-at l i (le-of-suc-le-suc b)))
 rising-cons x l f r (suc i) b y (there h) = r i (le-of-suc-le-suc b) y h
-
-pub rising-once : (l : List ℕ) → Rising l → Once l
-rising-once l r i b h = lt-irrefl (getD l i 0) (r i b (getD l i 0) h)
 
 pub rising-upFrom : (k n : ℕ) → Rising (upFrom k n)
 unfolding upFrom

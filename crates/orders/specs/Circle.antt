@@ -1,7 +1,7 @@
 -- A circle, computed where `greedy` stops short: from a step that it lacks to one before it that it lacks too, until one comes again.
-use mathlib.Core.Path.{_≡_, refl, sym, _∙_}
+use mathlib.Core.Path.{_≡_, refl, sym}
 use mathlib.Core.Logic.{_↔_, inl, inr}
-use mathlib.Core.Bool.{true, false, not, cond, true≢false}
+use mathlib.Core.Bool.{true, false, not, cond}
 use mathlib.Core.Option.{Option, none, some}
 use mathlib.Core.List.{List, [], _∷_, _++_}
 use Prim.Native.Nat.{ℕ, zero, suc, _+_, _≤_, _<_}
@@ -14,9 +14,9 @@ use lib.Seq.{getD-drop, getD-append-seam}
 use borrow.Author.Tests.{eqb-true, eqb-false, not-true, not-false}
 use Rattle.lists.specs.Members.{_∈_, _∉_, Once, has, find, in-cons, in-snoc, in-drop, not-in-nil, has-true, has-false, find-some, find-none, each-nil, each-snoc, once-drop, once-length}
 use Rattle.lists.specs.Tests.{split}
-use Rattle.orders.specs.Order.{IsOrder, IsCircle, order-no-circle}
+use Rattle.orders.specs.Order.{IsCircle, order-no-circle}
 use Rattle.orders.specs.Greedy.{In, By, greedy, covers, whole, orZero, blocker}
-use Rattle.orders.specs.GreedyLaws.{Lacking, covers-false, blocked, whole-order, order-whole}
+use Rattle.orders.specs.GreedyLaws.{Lacking, covers-false, blocked, whole-order}
 
 -- l from its first x on
 unfoldable pub from : ℕ → List ℕ → List ℕ
@@ -119,18 +119,6 @@ module _ (want : List ℕ) (before : ℕ → List ℕ) where
   pub circle-not-whole : {c : List ℕ} → IsCircle (In want) (By before) c → whole want before ≡ false
   circle-not-whole o = split (whole want before) (λ (e : whole want before ≡ true). absurd (order-no-circle (whole-order want before e) o)) (λ (e : whole want before ≡ false). e)
 
-  -- no order exists exactly where greedy is not whole, and exactly there a circle exists
-  pub no-order : (¬ ((l : List ℕ) × IsOrder (In want) (By before) l)) ↔ (whole want before ≡ false)
-  no-order = (
-    λ f. split (whole want before) (λ (e : whole want before ≡ true). absurd (f (greedy want before, whole-order want before e))) (λ (e : whole want before ≡ false). e),
-    λ e o. true≢false (sym (order-whole want before (o .1)) ∙ e),
-  )
-
+  -- a circle exists exactly where greedy is not whole
   pub some-circle : ((c : List ℕ) × IsCircle (In want) (By before) c) ↔ (whole want before ≡ false)
   some-circle = (λ o. circle-not-whole (o .1), λ e. (circleOf want before, not-whole-circle e))
-
-  pub no-order-circle : (¬ ((l : List ℕ) × IsOrder (In want) (By before) l)) ↔ ((c : List ℕ) × IsCircle (In want) (By before) c)
-  no-order-circle = (λ f. some-circle .1 (no-order .0 f), λ o. no-order .1 (some-circle .0 o))
-
-  pub circle-length : {c : List ℕ} → IsCircle (In want) (By before) c → length c ≤ length want
-  circle-length {c} o = once-length c want (o .once) (o .wanted)

@@ -4,15 +4,14 @@ use mathlib.Core.Logic.{_⊎_, inl, inr}
 use mathlib.Core.Bool.{Bool, true, false, not, _&&_, _||_, true≢false}
 use mathlib.Core.Option.{Option, none, some}
 use mathlib.Core.List.{List, [], _∷_, _++_}
-use Prim.Native.Nat.{ℕ, zero, suc, _+_, _≤_, _<_}
-use native.Mathlib.Nat.{le-antisymm}
+use Prim.Native.Nat.{ℕ, zero, suc, _+_}
 use native.Mathlib.Omega.{arith}
-use lib.ListN.{length, getD, take, length-append}
+use lib.ListN.{length, length-append}
 use borrow.Author.Tests.{not-true, not-false}
 use Rattle.lists.specs.Members.{_∈_, _∉_, Each, Once, Rising, _⊆_, has, all, find, place}
 use Rattle.lists.specs.Tests.{split, and-left, and-right, and-false, or-true}
-use Rattle.lists.specs.Members.{has-true, has-false, in-has, not-in-has, all-true, all-false, true-all, find-some, find-none, find-least, each-nil, each-snoc, once-length, once-full, rising-once}
-use Rattle.orders.specs.Order.{IsOrder, Ready, Lowest, IsLeast, Trap, ready-order, lowest-least, least-order, trap-no-order, lowest-unique, least-unique, first-difference}
+use Rattle.lists.specs.Members.{has-true, has-false, not-in-has, all-true, all-false, true-all, find-some, find-none, find-least, each-nil, each-snoc, once-full}
+use Rattle.orders.specs.Order.{IsOrder, Ready, Lowest, IsLeast, Trap, ready-order, lowest-least, trap-no-order, lowest-unique}
 use Rattle.orders.specs.Greedy.{In, By, ready, next, extend, greedy, covers, whole, orZero, blocker}
 
 -- wanted, and not in l
@@ -22,10 +21,6 @@ Lacking want l s = (s ∈ want) × (s ∉ l)
 pub covers-true : (l want : List ℕ) → covers l want ≡ true → want ⊆ l
 unfolding covers
 covers-true l want e s h = has-true s l (all-true (λ s. has s l) want e h)
-
-pub true-covers : (l want : List ℕ) → want ⊆ l → covers l want ≡ true
-unfolding covers
-true-covers l want f = true-all (λ s. has s l) want (λ s h. in-has (f s h))
 
 pub covers-false : (l want : List ℕ) → covers l want ≡ false → (s : ℕ) × Lacking want l s
 unfolding covers
@@ -145,10 +140,6 @@ module _ (want : List ℕ) (before : ℕ → List ℕ) where
   unfolding whole
   whole-true e = covers-true (greedy want before) want e
 
-  pub true-whole : want ⊆ greedy want before → whole want before ≡ true
-  unfolding whole
-  true-whole f = true-covers (greedy want before) want f
-
   pub whole-false : whole want before ≡ false → (s : ℕ) × Lacking want (greedy want before) s
   unfolding whole
   whole-false e = covers-false (greedy want before) want e
@@ -165,23 +156,6 @@ module _ (want : List ℕ) (before : ℕ → List ℕ) where
       (λ (e : whole want before ≡ true). e)
       (λ (e : whole want before ≡ false). let (s, c) = whole-false e in absurd (trap-no-order greedy-trap (c .0) c o))
 
-  pub order-greedy : Rising want → {l : List ℕ} → IsOrder (In want) (By before) l → IsLeast (In want) (By before) (greedy want before)
-  order-greedy u o = whole-least u (order-whole o)
-
-  pub least-greedy : Rising want → {l : List ℕ} → IsLeast (In want) (By before) l → l ≡ greedy want before
-  least-greedy u o = least-unique o (order-greedy u (least-order o))
-
   -- whole or not, greedy is what taking the lowest at each turn comes to
   pub lowest-greedy : Rising want → (l : List ℕ) → Each (Lowest (In want) (By before)) l → ((s : ℕ) → ¬ Ready (In want) (By before) l s) → l ≡ greedy want before
   lowest-greedy u l f n = lowest-unique l (greedy want before) f n (greedy-lowest u) greedy-end
-
-  -- at the first place where another order differs from greedy it has the higher number
-  pub greedy-first : Rising want → {r : List ℕ} → IsOrder (In want) (By before) r
-      → (greedy want before ≡ r) ⊎ ((i : ℕ) × (i < length (greedy want before)) × (take i (greedy want before) ≡ take i r) × (getD (greedy want before) i 0 < getD r i 0))
-  greedy-first u o = first-difference (order-greedy u o) o
-
-  pub greedy-length : length (greedy want before) ≤ length want
-  greedy-length = once-length (greedy want before) want greedy-once greedy-wanted
-
-  pub whole-length : Rising want → whole want before ≡ true → length (greedy want before) ≡ length want
-  whole-length u e = le-antisymm greedy-length (once-length want (greedy want before) (rising-once want u) (whole-true e))

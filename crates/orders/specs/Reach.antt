@@ -7,7 +7,7 @@ use Prim.Native.Nat.{ℕ, zero, suc, _+_, _<_}
 use native.Mathlib.Omega.{arith}
 use lib.ListN.{length, getD, take}
 use Rattle.lists.specs.Members.{_∈_, _∉_, here, there, Once, Rising, _⊆_, has, keep, upTo, in-cons, not-in-nil, in-at, place-before, in-take-more}
-use Rattle.lists.specs.Members.{has-true, has-false, in-has, in-keep, keep-in, in-upTo, upTo-in, each-nil, once-head, once-tail, once-cons, once-below, rising-keep, rising-upTo, rising-ext}
+use Rattle.lists.specs.Members.{has-true, has-false, in-has, in-keep, keep-in, in-upTo, upTo-in, each-nil, once-head, once-tail, once-cons, once-below, rising-keep, rising-upTo}
 use Rattle.lists.specs.Tests.{split, or-left, or-right, or-true}
 use Rattle.orders.specs.Order.{IsOrder, no-descent}
 use Rattle.orders.specs.Greedy.{In, By, greedy, whole, blocker}
@@ -226,14 +226,6 @@ module _ (before : ℕ → List ℕ) (n : ℕ) (start : List ℕ) (small : Close
   pub reach-complete : {x : ℕ} → Reached before start x → x ∈ reach before n start
   reach-complete {x} (inl h) = reach-start before n start small low x h
   reach-complete (inr (s, h, u)) = upstream-closed (reach-closed before n start small low) u (reach-start before n start small low s h)
-
-  pub in-reach : {x : ℕ} → (x ∈ reach before n start) ↔ Reached before start x
-  in-reach = (reach-sound before n start, reach-complete)
-
-  -- a rising list that holds start, is closed and holds only what is reached is reach
-  pub reach-unique : (l : List ℕ) → Rising l → start ⊆ l → Closed before (In l) → ((x : ℕ) → x ∈ l → Reached before start x) → l ≡ reach before n start
-  reach-unique l r f c g =
-      rising-ext l (reach before n start) r (rising-reach before n start) (λ x h. reach-complete (g x h)) (reach-least before n start (In l) f c)
 
 pub upstream-sound : (before : ℕ → List ℕ) (n s : ℕ) {m : ℕ} → m ∈ upstream before n s → Upstream before m s
 unfolding upstream
