@@ -29,6 +29,7 @@ unfoldable pub cardTime : List ℕ → Reading → ℕ → ℕ
 unfolding timeIn cardEntries
 cardTime card rd f = timeIn (cardEntries card) (getD (rd .files) f [])
 
+-- the targets by file number
 unfoldable pub targetFiles : List ℕ → Reading → List ℕ
 unfolding targetsOf numberOf
 targetFiles targets rd = map (λ (t : Target). numberOf (t .name) (rd .files)) (targetsOf targets)
