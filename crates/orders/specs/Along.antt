@@ -1,4 +1,4 @@
--- Values computed step by step along an order: they solve their equations, and do not depend on the order.
+-- Values computed step by step along an order: they solve their equations, and nothing else does.
 use mathlib.Core.Path.{_≡_, refl, sym, ap, _∙_}
 use mathlib.Core.Bool.{cond}
 use mathlib.Core.List.{List, [], _∷_, _++_}

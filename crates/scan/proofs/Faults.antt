@@ -10,14 +10,11 @@ use Rattle.rules.specs.Lines.{Line, isSpace}
 use Rattle.rules.specs.Forms.{wrongDollar, rawValue}
 use Rattle.rules.specs.Manifest.{faultOf}
 
--- ---- a path's, at place p of the line
-
 pub fault-place : (l : Line) (p : ℕ) → p ≤ length (l .text) → faultOf l (wrongDollar (length (l .text) - p)) ≡ BadDollar (l .start + p)
 unfolding faultOf
 fault-place l p h = let z : length (l .text) - (length (l .text) - p) ≡ p = omega arith in rw z
 
--- ---- a raw value's, at place p of the value, which ends its line
-
+-- a raw value is no longer than its line
 pub raw-length : (s : List ℕ) (from : ℕ) → length (rawValue (drop from s)) ≤ length s
 unfolding rawValue
 raw-length s from =
