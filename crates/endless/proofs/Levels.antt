@@ -15,7 +15,8 @@ use Rattle.rules.specs.Statements.{ruleKey}
 use Rattle.rules.specs.Text.{Found, asIs, ofRule, lookup, leadsBack, deep}
 use Rattle.bindings.specs.Log.{Logged}
 use Rattle.lookups.specs.declared.Asked.{Asked}
-use Rattle.lookups.specs.Scope.{SoundKeys, Scope}
+use Rattle.rules.specs.Sound.{SoundKeys}
+use Rattle.lookups.specs.Scope.{Scope}
 use Rattle.lookups.proofs.Standing.{found-key}
 use Rattle.endless.specs.declared.Marks.{Marks}
 use Rattle.endless.specs.Depth.{leadsTo, goesDeep, marks, Deeper}

@@ -6,7 +6,7 @@ use mathlib.Core.Logic.{_⊎_, inl, inr, ⊎-elim}
 use mathlib.Core.Path.{_≡_, refl, sym, _∙_, ap₂}
 use native.Mathlib.Nat.{not-suc-le-zero, le-of-suc-le-suc}
 use native.Mathlib.Omega.{arith}
-use borrow.Author.Tests.{lt-ltb, le-ltb, eq-eqb, ne-eqb, ltb-true, ltb-false, eqb-true, eqb-false}
+use borrow.Author.Tests.{lt-ltb, eq-eqb, ne-eqb, ltb-true, ltb-false, eqb-true, eqb-false}
 use lib.Dec.{ltb, eqb}
 use lib.ListN.{length, take, getD}
 use Rattle.lists.specs.Tests.{ifB, split, differ}
@@ -60,10 +60,6 @@ module _ (x y : ℕ) (s t : List ℕ) where
   pub less-lower : x < y → lessBytes (x ∷ s) (y ∷ t) ≡ true
   unfolding lessBytes
   less-lower h = rw (ne-eqb x y (λ e. omega arith), lt-ltb x y h)
-
-  pub less-higher : y < x → lessBytes (x ∷ s) (y ∷ t) ≡ false
-  unfolding lessBytes
-  less-higher h = rw (ne-eqb x y (λ e. omega arith), le-ltb x y (omega arith))
 
 pub less-cons : (x y : ℕ) (s t : List ℕ) → lessBytes (x ∷ s) (y ∷ t) ≡ true → (x < y) ⊎ ((x ≡ y) × (lessBytes s t ≡ true))
 unfolding lessBytes

@@ -6,7 +6,7 @@ use native.Mathlib.Numerals.{add-one}
 use native.Mathlib.Omega.{arith}
 use lib.ListN.{length, take, drop, getD, set, replicate, length-replicate, take-append-drop, length-append, length-take, replicate-append-replicate}
 use lib.Seq.{take-all, drop-length, drop-cons, paste, length-paste, set-at, append-snoc}
-use Rattle.lists.specs.Parts.{part, put-back-paste, part-paste, part-paste-before, part-paste-after, getD-paste-in, getD-paste-before, getD-paste-after}
+use Rattle.lists.specs.Parts.{getD-paste-in}
 
 abbrev pub zeros : ℕ → List ℕ
 zeros n = replicate n 0
@@ -54,32 +54,12 @@ module _ (l : List ℕ) (f e : ℕ) (hf : f ≤ e) (he : e ≤ length l) where
   pub length-zeroed : length (zeroed l f e) ≡ length l
   length-zeroed = ap length (zeroed-paste l f e hf) ∙ length-paste l f (zeros (e - f)) (e - f) (omega arith) long
 
-  pub part-zeroed : part (zeroed l f e) f e ≡ zeros (e - f)
-  part-zeroed =
-      let z : e ≡ f + (e - f) = omega arith in
-      rw (zeroed-paste l f e hf)
-      (ap (part (paste l f (zeros (e - f)) (e - f)) f) z
-      ∙ part-paste l f (zeros (e - f)) (e - f) (omega arith) long
-      ∙ take-zeros (e - f))
-
-  pub part-zeroed-before : (a b : ℕ) → b ≤ f → part (zeroed l f e) a b ≡ part l a b
-  part-zeroed-before a b h = rw (zeroed-paste l f e hf) (part-paste-before l f (zeros (e - f)) (e - f) (omega arith) long a b h)
-
-  pub part-zeroed-after : (a b : ℕ) → e ≤ a → part (zeroed l f e) a b ≡ part l a b
-  part-zeroed-after a b h = rw (zeroed-paste l f e hf) (part-paste-after l f (zeros (e - f)) (e - f) (omega arith) long a b (omega arith))
-
   pub getD-zeroed-in : (i : ℕ) → f ≤ i → i < e → getD (zeroed l f e) i 0 ≡ 0
   getD-zeroed-in i h k =
       let z : i ≡ f + (i - f) = omega arith in
       rw (zeroed-paste l f e hf, z)
       (getD-paste-in l f (zeros (e - f)) (e - f) (omega arith) long (i - f) (omega arith)
       ∙ getD-zeros (e - f) (i - f))
-
-  pub getD-zeroed-before : (i : ℕ) → i < f → getD (zeroed l f e) i 0 ≡ getD l i 0
-  getD-zeroed-before i h = rw (zeroed-paste l f e hf) (getD-paste-before l f (zeros (e - f)) (e - f) (omega arith) long i h)
-
-  pub getD-zeroed-after : (i : ℕ) → e ≤ i → getD (zeroed l f e) i 0 ≡ getD l i 0
-  getD-zeroed-after i h = rw (zeroed-paste l f e hf) (getD-paste-after l f (zeros (e - f)) (e - f) (omega arith) long i (omega arith))
 
 -- A turn of the loop that zeroes.
 pub zeroed-more : (l : List ℕ) (f i : ℕ) → f ≤ i → i < length l → set (zeroed l f i) i 0 ≡ zeroed l f (i + 1)
@@ -92,12 +72,3 @@ zeroed-more l f i h k =
     ∙ set-at p (getD l i 0) (drop (suc i) l) 0 i n
     ∙ sym (append-snoc p 0 (drop (suc i) l))
     ∙ rw (z, ← replicate-append-replicate {A = ℕ} (i - f) 1 0, ← append-assoc, add-one i)
-
--- A callee zeroed places of the part `&mut d[f..e]` that it was lent.
-module _ (d : List ℕ) (f e : ℕ) (hf : f ≤ e) (he : e ≤ length d) where
-  pub put-back-zeroed : (a b : ℕ) → a ≤ b → b ≤ e - f
-      → take f d ++ (zeroed (part d f e) a b ++ drop (e - f) (drop f d)) ≡ zeroed d (f + a) (f + b)
-  put-back-zeroed a b ha hb =
-      let z : f + b - (f + a) ≡ b - a = omega arith in
-      rw (zeroed-paste (part d f e) a b ha, zeroed-paste d (f + a) (f + b) (omega arith), z)
-      (put-back-paste d f e hf he a (zeros (b - a)) (b - a) (omega arith))

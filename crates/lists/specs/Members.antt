@@ -1,17 +1,18 @@
 -- Membership in a list of numbers and its tests, lists without repeats, rising lists, and the pigeonhole.
-use mathlib.Core.Path.{_≡_, refl, sym, ap, ap₂, _∙_}
+use mathlib.Core.Path.{_≡_, refl, sym, ap, ap₂}
 use mathlib.Core.Logic.{_⊎_, inl, inr}
 use mathlib.Core.Bool.{Bool, true, false, not, cond, _&&_, _||_, true≢false, false≢true}
 use mathlib.Core.Option.{Option, none, some, Option·none-ne-some, Option·some-injective}
 use mathlib.Core.List.{List, [], _∷_, _++_}
 use Prim.Native.Nat.{ℕ, zero, suc, _+_, _≤_, _<_}
-use native.Mathlib.Nat.{not-suc-le-zero, le-of-suc-le-suc, le-of-lt, lt-irrefl}
+use native.Mathlib.Nat.{not-suc-le-zero, le-of-suc-le-suc, le-of-lt}
 use native.Mathlib.Decide.{decLt, ℕ-discrete}
 use native.Mathlib.Omega.{arith}
 use lib.Dec.{eqb}
-use lib.ListN.{length, getD, take, drop, length-append, take-append-drop, List·getD-append}
+use lib.ListN.{length, getD, take, drop, length-append, List·getD-append}
 use lib.Seq.{take-append-le, take-append-seam, getD-append-seam}
 use borrow.Author.Tests.{eqb-true, eqb-false, eq-eqb, ne-eqb}
+use Rattle.lists.specs.Tests.{split, differ, and-left, and-right, and-false, or-left, or-right, or-true}
 
 infix 50 _∈_ _∉_ _⊆_
 pub data _∈_ (x : ℕ) : List ℕ → Type 0 where
@@ -61,28 +62,6 @@ upFrom k (suc n) = k ∷ upFrom (suc k) n
 unfoldable pub upTo : ℕ → List ℕ
 unfolding upFrom
 upTo n = upFrom 0 n
-
--- Cases of a test
-
-pub split : (b : Bool) → (b ≡ true) ⊎ (b ≡ false)
-split true = inl refl
-split false = inr refl
-
-pub or-cases : (a b : Bool) → (a || b) ≡ true → (a ≡ true) ⊎ (b ≡ true)
-or-cases true b e = inl refl
-or-cases false b e = inr e
-
-pub or-neither : (a b : Bool) → (a || b) ≡ false → (a ≡ false) × (b ≡ false)
-or-neither true b e = absurd (true≢false e)
-or-neither false b e = (refl, e)
-
-pub and-both : (a b : Bool) → (a && b) ≡ true → (a ≡ true) × (b ≡ true)
-and-both true b e = (refl, e)
-and-both false b e = absurd (false≢true e)
-
-pub and-cases : (a b : Bool) → (a && b) ≡ false → (a ≡ false) ⊎ (b ≡ false)
-and-cases true b e = inr e
-and-cases false b e = inl refl
 
 -- Membership
 
@@ -153,90 +132,90 @@ cons-⊆ h f y (there k) = f y k
 pub has-true : (x : ℕ) (l : List ℕ) → has x l ≡ true → x ∈ l
 unfolding has
 has-true x [] e = absurd (false≢true e)
-has-true x (y ∷ l) e = elim (or-cases (eqb x y) (has x l) e) [ inl a ↦ here (eqb-true x y a) | inr b ↦ there (has-true x l b) ]
+has-true x (y ∷ l) e = elim (or-true (eqb x y) (has x l) e) [ inl a ↦ here (eqb-true x y a) | inr b ↦ there (has-true x l b) ]
 
 pub has-false : (x : ℕ) (l : List ℕ) → has x l ≡ false → x ∉ l
 unfolding has
 has-false x [] e h = not-in-nil h
-has-false x (y ∷ l) e (here q) = eqb-false x y (or-neither (eqb x y) (has x l) e .0) q
-has-false x (y ∷ l) e (there h) = has-false x l (or-neither (eqb x y) (has x l) e .1) h
+has-false x (y ∷ l) e (here q) = eqb-false x y (or-left (eqb x y) (has x l) e) q
+has-false x (y ∷ l) e (there h) = has-false x l (or-right (eqb x y) (has x l) e) h
 
 pub in-has : {x : ℕ} {l : List ℕ} → x ∈ l → has x l ≡ true
-in-has {x} {l} h = elim (split (has x l)) [ inl e ↦ e | inr e ↦ absurd (has-false x l e h) ]
+in-has {x} {l} h = split (has x l) (λ (e : has x l ≡ true). e) (λ (e : has x l ≡ false). absurd (has-false x l e h))
 
 pub not-in-has : {x : ℕ} {l : List ℕ} → x ∉ l → has x l ≡ false
-not-in-has {x} {l} h = elim (split (has x l)) [ inl e ↦ absurd (h (has-true x l e)) | inr e ↦ e ]
+not-in-has {x} {l} h = split (has x l) (λ (e : has x l ≡ true). absurd (h (has-true x l e))) (λ (e : has x l ≡ false). e)
 
 pub decIn : (x : ℕ) (l : List ℕ) → Dec (x ∈ l)
-decIn x l = elim (split (has x l)) [ inl e ↦ yes (has-true x l e) | inr e ↦ no (has-false x l e) ]
+decIn x l = split (has x l) (λ (e : has x l ≡ true). yes (has-true x l e)) (λ (e : has x l ≡ false). no (has-false x l e))
 
 pub all-true : (p : ℕ → Bool) (l : List ℕ) → all p l ≡ true → {x : ℕ} → x ∈ l → p x ≡ true
 unfolding all
-all-true p (y ∷ l) e (here q) = rw q (and-both (p y) (all p l) e .0)
-all-true p (y ∷ l) e (there h) = all-true p l (and-both (p y) (all p l) e .1) h
+all-true p (y ∷ l) e (here q) = rw q (and-left (p y) (all p l) e)
+all-true p (y ∷ l) e (there h) = all-true p l (and-right (p y) (all p l) e) h
 
 pub all-false : (p : ℕ → Bool) (l : List ℕ) → all p l ≡ false → (x : ℕ) × (x ∈ l) × (p x ≡ false)
 unfolding all
 all-false p [] e = absurd (true≢false e)
-all-false p (y ∷ l) e = elim (and-cases (p y) (all p l) e) [ inl a ↦ (y, here refl, a) | inr b ↦ (let (x, h, f) = all-false p l b in (x, there h, f)) ]
+all-false p (y ∷ l) e = elim (and-false (p y) (all p l) e) [ inl a ↦ (y, here refl, a) | inr b ↦ (let (x, h, f) = all-false p l b in (x, there h, f)) ]
 
 pub true-all : (p : ℕ → Bool) (l : List ℕ) → ((x : ℕ) → x ∈ l → p x ≡ true) → all p l ≡ true
-true-all p l f = elim (split (all p l)) [ inl e ↦ e | inr e ↦ (let (x, h, g) = all-false p l e in absurd (true≢false (sym (f x h) ∙ g))) ]
+true-all p l f = split (all p l) (λ (e : all p l ≡ true). e) (λ (e : all p l ≡ false). let (x, h, g) = all-false p l e in differ (f x h) g)
 
 pub any-true : (p : ℕ → Bool) (l : List ℕ) → any p l ≡ true → (x : ℕ) × (x ∈ l) × (p x ≡ true)
 unfolding any
 any-true p [] e = absurd (false≢true e)
-any-true p (y ∷ l) e = elim (or-cases (p y) (any p l) e) [ inl a ↦ (y, here refl, a) | inr b ↦ (let (x, h, f) = any-true p l b in (x, there h, f)) ]
+any-true p (y ∷ l) e = elim (or-true (p y) (any p l) e) [ inl a ↦ (y, here refl, a) | inr b ↦ (let (x, h, f) = any-true p l b in (x, there h, f)) ]
 
 pub any-false : (p : ℕ → Bool) (l : List ℕ) → any p l ≡ false → {x : ℕ} → x ∈ l → p x ≡ false
 unfolding any
-any-false p (y ∷ l) e (here q) = rw q (or-neither (p y) (any p l) e .0)
-any-false p (y ∷ l) e (there h) = any-false p l (or-neither (p y) (any p l) e .1) h
+any-false p (y ∷ l) e (here q) = rw q (or-left (p y) (any p l) e)
+any-false p (y ∷ l) e (there h) = any-false p l (or-right (p y) (any p l) e) h
 
 pub true-any : (p : ℕ → Bool) (l : List ℕ) {x : ℕ} → x ∈ l → p x ≡ true → any p l ≡ true
-true-any p l h e = elim (split (any p l)) [ inl a ↦ a | inr b ↦ absurd (true≢false (sym e ∙ any-false p l b h)) ]
+true-any p l h e = split (any p l) (λ (a : any p l ≡ true). a) (λ (b : any p l ≡ false). differ e (any-false p l b h))
 
 pub find-some : (p : ℕ → Bool) (l : List ℕ) {x : ℕ} → find p l ≡ some x → (x ∈ l) × (p x ≡ true)
 unfolding find
 find-some p [] {x} e = absurd (Option·none-ne-some x e)
-find-some p (y ∷ l) {x} e = elim (split (p y)) [
-  | inl a ↦ (let q : y ≡ x = Option·some-injective y x (rw (a, find) at e) in (here (sym q), rw (← q) a))
-  | inr b ↦ (let (h, f) = find-some p l (rw (b, find) at e) in (there h, f))
-]
+find-some p (y ∷ l) {x} e =
+    split (p y)
+    (λ (a : p y ≡ true). let q : y ≡ x = Option·some-injective y x (rw (a, find) at e) in (here (sym q), rw (← q) a))
+    (λ (b : p y ≡ false). let (h, f) = find-some p l (rw (b, find) at e) in (there h, f))
 
 pub find-none : (p : ℕ → Bool) (l : List ℕ) → find p l ≡ none → {x : ℕ} → x ∈ l → p x ≡ false
 unfolding find
-find-none p (y ∷ l) e {x} h = elim (split (p y)) [
-  | inl a ↦ absurd (Option·none-ne-some y (sym (rw (a, find) at e)))
-  | inr b ↦ elim (in-cons h) [ inl q ↦ rw q b | inr k ↦ find-none p l (rw (b, find) at e) k ]
-]
+find-none p (y ∷ l) e {x} h =
+    split (p y)
+    (λ (a : p y ≡ true). absurd (Option·none-ne-some y (sym (rw (a, find) at e))))
+    (λ (b : p y ≡ false). elim (in-cons h) [ inl q ↦ rw q b | inr k ↦ find-none p l (rw (b, find) at e) k ])
 
 pub in-keep : (p : ℕ → Bool) (l : List ℕ) {x : ℕ} → x ∈ keep p l → (x ∈ l) × (p x ≡ true)
 unfolding keep
 in-keep p [] h = absurd (not-in-nil h)
-in-keep p (y ∷ l) {x} h = elim (split (p y)) [
-  | inl a ↦ elim (in-cons (rw (a, keep) at h)) [ inl q ↦ (here q, rw q a) | inr k ↦ (let (m, f) = in-keep p l k in (there m, f)) ]
-  | inr b ↦ (let (m, f) = in-keep p l (rw (b, keep) at h) in (there m, f))
-]
+in-keep p (y ∷ l) {x} h =
+    split (p y)
+    (λ (a : p y ≡ true). elim (in-cons (rw (a, keep) at h)) [ inl q ↦ (here q, rw q a) | inr k ↦ (let (m, f) = in-keep p l k in (there m, f)) ])
+    (λ (b : p y ≡ false). let (m, f) = in-keep p l (rw (b, keep) at h) in (there m, f))
 
 pub keep-in : (p : ℕ → Bool) (l : List ℕ) {x : ℕ} → x ∈ l → p x ≡ true → x ∈ keep p l
 unfolding keep
 keep-in p (y ∷ l) (here q) e = rw (← q, e, keep) (here refl)
-keep-in p (y ∷ l) (there h) e = elim (split (p y)) [ inl a ↦ rw (a, keep) (there (keep-in p l h e)) | inr b ↦ rw (b, keep) (keep-in p l h e) ]
+keep-in p (y ∷ l) (there h) e = split (p y) (λ (a : p y ≡ true). rw (a, keep) (there (keep-in p l h e))) (λ (b : p y ≡ false). rw (b, keep) (keep-in p l h e))
 
 pub length-keep : (p : ℕ → Bool) (l : List ℕ) → length (keep p l) ≤ length l
 unfolding keep
 length-keep p [] = omega arith
 length-keep p (y ∷ l) =
     let h = length-keep p l in
-    elim (split (p y)) [ inl a ↦ rw (a, keep) (omega arith) | inr b ↦ rw (b, keep) (omega arith) ]
+    split (p y) (λ (a : p y ≡ true). rw (a, keep) (omega arith)) (λ (b : p y ≡ false). rw (b, keep) (omega arith))
 
 pub length-keep-less : (p : ℕ → Bool) (l : List ℕ) {x : ℕ} → x ∈ l → p x ≡ false → length (keep p l) < length l
 unfolding keep
 length-keep-less p (y ∷ l) (here q) e = let h = length-keep p l in rw (← q, e, keep) (omega arith)
 length-keep-less p (y ∷ l) (there k) e =
     let h = length-keep-less p l k e in
-    elim (split (p y)) [ inl a ↦ rw (a, keep) (omega arith) | inr b ↦ rw (b, keep) (omega arith) ]
+    split (p y) (λ (a : p y ≡ true). rw (a, keep) (omega arith)) (λ (b : p y ≡ false). rw (b, keep) (omega arith))
 
 pub in-upFrom : (k n : ℕ) {x : ℕ} → x ∈ upFrom k n → (k ≤ x) × (x < k + n)
 unfolding upFrom
@@ -285,12 +264,6 @@ pub each-last : (P : List ℕ → ℕ → Type 0) (l r : List ℕ) (x : ℕ) →
 each-last P l r x f =
     rw (take-append-seam l (x ∷ r), getD-append-seam l x r 0) at (f (length l) (omega (arith, length-append l (x ∷ r))))
 
-pub each-take : (P : List ℕ → ℕ → Type 0) (l : List ℕ) (i : ℕ) → Each P l → Each P (take i l)
-each-take P l i f = each-init P (take i l) (drop i l) (rw (take-append-drop i l) f)
-
-pub each-map : (P Q : List ℕ → ℕ → Type 0) (l : List ℕ) → ((e : List ℕ) (x : ℕ) → P e x → Q e x) → Each P l → Each Q l
-each-map P Q l g f i b = g (take i l) (getD l i 0) (f i b)
-
 -- Lists without repeats, and the pigeonhole
 
 pub once-head : (x : ℕ) (l : List ℕ) → Once (x ∷ l) → x ∉ l
@@ -328,10 +301,10 @@ pub once-below : (l : List ℕ) (n : ℕ) → Once l → ((x : ℕ) → x ∈ l 
 once-below l n o f = rw length-upTo at (once-length l (upTo n) o (λ x h. upTo-in n (f x h)))
 
 pub once-full : (l r : List ℕ) → Once l → l ⊆ r → length r ≤ length l → r ⊆ l
-once-full l r o f b x h = elim (split (has x l)) [
-  | inl e ↦ has-true x l e
-  | inr e ↦ (let c = once-length (x ∷ l) r (once-cons x l (has-false x l e) o) (cons-⊆ h f) in absurd (omega arith))
-]
+once-full l r o f b x h =
+    split (has x l)
+    (λ (e : has x l ≡ true). has-true x l e)
+    (λ (e : has x l ≡ false). let c = once-length (x ∷ l) r (once-cons x l (has-false x l e) o) (cons-⊆ h f) in absurd (omega arith))
 
 -- Rising lists
 
@@ -345,9 +318,6 @@ pub rising-cons : (x : ℕ) (l : List ℕ) → ((y : ℕ) → y ∈ l → x < y)
 rising-cons x l f r zero b y h = absurd (not-in-nil h)
 rising-cons x l f r (suc i) b y (here e) = rw e (f (getD l i 0) (in-at l i (le-of-suc-le-suc b)))
 rising-cons x l f r (suc i) b y (there h) = r i (le-of-suc-le-suc b) y h
-
-pub rising-once : (l : List ℕ) → Rising l → Once l
-rising-once l r i b h = lt-irrefl (getD l i 0) (r i b (getD l i 0) h)
 
 pub rising-upFrom : (k n : ℕ) → Rising (upFrom k n)
 unfolding upFrom
@@ -363,14 +333,14 @@ unfolding keep
 rising-keep p [] r = r
 rising-keep p (y ∷ l) r =
     let k : Rising (keep p l) = rising-keep p l (rising-tail y l r) in
-    elim (split (p y)) [ inl a ↦ rw (a, keep) (rising-cons y (keep p l) (λ z h. rising-head y l r (in-keep p l h .0)) k) | inr b ↦ rw (b, keep) k ]
+    split (p y) (λ (a : p y ≡ true). rw (a, keep) (rising-cons y (keep p l) (λ z h. rising-head y l r (in-keep p l h .0)) k)) (λ (b : p y ≡ false). rw (b, keep) k)
 
 pub find-least : (p : ℕ → Bool) (l : List ℕ) → Rising l → {x : ℕ} → find p l ≡ some x → {y : ℕ} → y ∈ l → p y ≡ true → x ≤ y
 unfolding find
-find-least p (z ∷ l) r {x} e {y} h f = elim (split (p z)) [
-  | inl a ↦ (let q : z ≡ x = Option·some-injective z x (rw (a, find) at e) in elim (in-cons h) [ inl k ↦ omega arith | inr k ↦ (let c = rising-head z l r k in omega arith) ])
-  | inr b ↦ elim (in-cons h) [ inl k ↦ absurd (true≢false (sym f ∙ rw k b)) | inr k ↦ find-least p l (rising-tail z l r) (rw (b, find) at e) k f ]
-]
+find-least p (z ∷ l) r {x} e {y} h f =
+    split (p z)
+    (λ (a : p z ≡ true). let q : z ≡ x = Option·some-injective z x (rw (a, find) at e) in elim (in-cons h) [ inl k ↦ omega arith | inr k ↦ (let c = rising-head z l r k in omega arith) ])
+    (λ (b : p z ≡ false). elim (in-cons h) [ inl k ↦ differ f (rw k b) | inr k ↦ find-least p l (rising-tail z l r) (rw (b, find) at e) k f ])
 
 pub rising-ext : (l r : List ℕ) → Rising l → Rising r → l ⊆ r → r ⊆ l → l ≡ r
 rising-ext [] [] a b f g = refl

@@ -3,7 +3,7 @@ use Prim.Native.Nat.{ℕ, _+_, _-_, _≤_, _<_}
 use mathlib.Core.Bool.{Bool, true, false, not}
 use mathlib.Core.List.{List, [], _∷_, _++_}
 use mathlib.Core.Path.{_≡_, refl, sym, _∙_, ap}
-use native.Mathlib.Nat.{le-refl, le-trans}
+use native.Mathlib.Nat.{le-refl}
 use native.Mathlib.Numerals.{add-one}
 use native.Mathlib.Omega.{arith}
 use lib.Dec.{eqb}
@@ -54,11 +54,6 @@ pub record Reads (f : List ℕ → List ℕ) (s : List ℕ) (i r : ℕ) : Type 0
   pub forward : i ≤ r
   pub within : r ≤ length s
   pub rest : drop r s ≡ f (drop i s)
-
--- One reader after another.
-pub reads-then : {f g : List ℕ → List ℕ} {s : List ℕ} {i j r : ℕ} → Reads f s i j → Reads g s j r
-    → Reads (λ (l : List ℕ). g (f l)) s i r
-reads-then a b = record { forward = le-trans (a .forward) (b .forward); within = b .within; rest = rw (← (a .rest)) (b .rest) }
 
 -- A place is told by how much is left.
 pub reads-place : {f : List ℕ → List ℕ} {s : List ℕ} {i r : ℕ} → Reads f s i r → r ≡ length s - length (f (drop i s))

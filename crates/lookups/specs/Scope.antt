@@ -1,28 +1,18 @@
 -- What a step's names are looked up in, and what an answer means.
 use Prim.Native.Nat.{ℕ, _<_}
 use mathlib.Core.List.{List, []}
-use mathlib.Core.Option.{none, some}
-use mathlib.Core.Bool.{true}
+use mathlib.Core.Option.{none}
 use mathlib.Core.Path.{_≡_}
 use Rattle.rules.specs.Bytes.{space, newline}
-use Rattle.rules.specs.Dollars.{badDollar}
 use Rattle.rules.specs.Limits.{maxSteps}
-use Rattle.rules.specs.Reading.{Bound, Step, Reading, find, keysOf}
-use Rattle.rules.specs.Statements.{ruleKey}
+use Rattle.rules.specs.Reading.{Step, Reading, keysOf}
+use Rattle.rules.specs.Sound.{SoundKeys}
 use Rattle.rules.specs.Text.{joinedBy, namesOf, Found, asIs, ofRule, orRule, orBlock, orStep}
 use Rattle.bindings.specs.Log.{Logged, ofFile, ofKeys, ofStep, entryAt, boundBy}
 use Rattle.bindings.specs.Held.{maxEntries, Holds, HasEntry}
 use Rattle.lookups.specs.declared.Asked.{Asked}
 use Rattle.lookups.specs.declared.Source.{Source}
 use Rattle.lookups.specs.declared.Source.the-variants.{Inputs, InputLines, Outputs, Value, Text, Unset}
-
--- A rule's key as its line was read: one of the three, and no bad `$` in its text.
-pub record SoundKey (n raw : List ℕ) : Type 0 where
-  pub key : ruleKey n ≡ true
-  pub sound : badDollar raw ≡ none
-
-abbrev pub SoundKeys : List Bound → Type 0
-SoundKeys keys = (n raw : List ℕ) → find n keys ≡ some raw → SoundKey n raw
 
 -- The table of bindings holds the scope of this step of a reading.
 pub record Scope (texts bind : List ℕ) (a : Asked) (log : List Logged) (rd : Reading) (s : Step) : Type 0 where

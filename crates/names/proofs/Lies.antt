@@ -66,11 +66,6 @@ part-concat (f ∷ l) (suc k) h =
 
 -- ---- the column of ends
 
-pub length-ends : (at : ℕ) (files : List (List ℕ)) → length (endsFrom at files) ≡ length files
-unfolding endsFrom
-length-ends at [] = refl
-length-ends at (f ∷ l) = ap suc (length-ends (at + length f) l)
-
 ends-at : (at : ℕ) (files : List (List ℕ)) (k : ℕ) → k < length files → getD (endsFrom at files) k 0 ≡ at + startOf files (suc k)
 unfolding endsFrom
 ends-at at [] k h = absurd (not-suc-le-zero h)

@@ -4,9 +4,9 @@ use mathlib.Core.Bool.{true, false, _||_}
 use mathlib.Core.List.{List, [], _∷_, _++_}
 use mathlib.Core.Path.{_≡_, refl, sym, _∙_, ap}
 use native.Mathlib.Omega.{arith}
-use lib.ListN.{length, getD, length-append, List·getD-append}
+use lib.ListN.{length}
 use Rattle.lists.specs.Tests.{ifB, split, differ, or-left, or-right}
-use Rattle.lists.specs.Bytes.{eqBytes, eqBytes-refl, eqBytes-true}
+use Rattle.lists.specs.Bytes.{eqBytes, eqBytes-refl}
 use Rattle.rules.specs.Basics.{among}
 use Rattle.rules.specs.Reading.{numberOf, mention}
 
@@ -42,13 +42,6 @@ number-below p (f ∷ l) h =
     split (eqBytes p f)
     (λ (e : eqBytes p f ≡ true). rw (number-here p f l e) (omega arith))
     (λ (e : eqBytes p f ≡ false). rw (number-there p f l e) (let b = number-below p l (sym (among-there p f l e) ∙ h) in omega arith))
-
-pub number-stands : (p : List ℕ) (l : List (List ℕ)) → among p l ≡ true → getD l (numberOf p l) [] ≡ p
-number-stands p [] h = differ h (among-none p)
-number-stands p (f ∷ l) h =
-    split (eqBytes p f)
-    (λ (e : eqBytes p f ≡ true). rw (number-here p f l e) (sym (eqBytes-true p f e)))
-    (λ (e : eqBytes p f ≡ false). rw (number-there p f l e) (number-stands p l (sym (among-there p f l e) ∙ h)))
 
 -- One that is not there has the count for its number.
 pub number-missing : (p : List ℕ) (l : List (List ℕ)) → among p l ≡ false → numberOf p l ≡ length l
@@ -120,12 +113,3 @@ number-mention q files (p ∷ ps) h =
     (λ (e : among p files ≡ false).
     rw (mention-new files p ps e)
     (number-mention q (files ++ (p ∷ [])) ps (among-stays q files (p ∷ []) h) ∙ number-stays q files (p ∷ []) h))
-
-pub name-mention : (files ps : List (List ℕ)) (k : ℕ) → k < length files → getD (mention files ps) k [] ≡ getD files k []
-name-mention files [] k h = rw (mention-none files)
-name-mention files (p ∷ ps) k h =
-    split (among p files)
-    (λ (e : among p files ≡ true). rw (mention-old files p ps e) (name-mention files ps k h))
-    (λ (e : among p files ≡ false).
-    rw (mention-new files p ps e)
-    (name-mention (files ++ (p ∷ [])) ps k (omega (arith, length-append files (p ∷ []))) ∙ List·getD-append files (p ∷ []) [] k h))

@@ -1,4 +1,4 @@
--- Values computed step by step along an order: they solve their equations, and do not depend on the order.
+-- Values computed step by step along an order: they solve their equations, and nothing else does.
 use mathlib.Core.Path.{_≡_, refl, sym, ap, _∙_}
 use mathlib.Core.Bool.{cond}
 use mathlib.Core.List.{List, [], _∷_, _++_}
@@ -87,8 +87,3 @@ module _ {A : Type 0} {f : (ℕ → A) → ℕ → A} {Want : ℕ → Type 0} {b
           let t : ℕ = getD l i 0 in
           let w : Want t = o .lists .no-others t (in-at l i b) in
           p t w ∙ local g h t (λ m k. let (j, c, d, e) = place-before i l (direct-earlier closed o i b m k) in rw e at (go n j (omega arith) d)) ∙ sym (q t w)
-
-pub along-independent : {A : Type 0} {f : (ℕ → A) → ℕ → A} {Want : ℕ → Type 0} {before : ℕ → List ℕ} → Local f before → Closed before Want
-    → {l r : List ℕ} → IsOrder Want (By before) l → IsOrder Want (By before) r → (default : A) (s : ℕ) → Want s → values default f l s ≡ values default f r s
-along-independent {f} local closed {l} {r} o p default =
-    solution-unique local closed o (values default f l) (values default f r) (along-solves local closed o default) (along-solves local closed p default)

@@ -1,7 +1,7 @@
 -- A circle, computed where `greedy` stops short: from a step that it lacks to one before it that it lacks too, until one comes again.
-use mathlib.Core.Path.{_≡_, refl, sym, _∙_}
+use mathlib.Core.Path.{_≡_, refl, sym}
 use mathlib.Core.Logic.{_↔_, inl, inr}
-use mathlib.Core.Bool.{false, not, cond, true≢false}
+use mathlib.Core.Bool.{true, false, not, cond}
 use mathlib.Core.Option.{Option, none, some}
 use mathlib.Core.List.{List, [], _∷_, _++_}
 use Prim.Native.Nat.{ℕ, zero, suc, _+_, _≤_, _<_}
@@ -12,10 +12,11 @@ use lib.Dec.{eqb}
 use lib.ListN.{length, getD, drop, length-append, length-drop, List·getD-append}
 use lib.Seq.{getD-drop, getD-append-seam}
 use borrow.Author.Tests.{eqb-true, eqb-false, not-true, not-false}
-use Rattle.lists.specs.Members.{_∈_, _∉_, Once, has, find, split, in-cons, in-snoc, in-drop, not-in-nil, has-true, has-false, find-some, find-none, each-nil, each-snoc, once-drop, once-length}
-use Rattle.orders.specs.Order.{IsOrder, IsCircle, order-no-circle}
+use Rattle.lists.specs.Members.{_∈_, _∉_, Once, has, find, in-cons, in-snoc, in-drop, not-in-nil, has-true, has-false, find-some, find-none, each-nil, each-snoc, once-drop, once-length}
+use Rattle.lists.specs.Tests.{split}
+use Rattle.orders.specs.Order.{IsCircle, order-no-circle}
 use Rattle.orders.specs.Greedy.{In, By, greedy, covers, whole, orZero, blocker}
-use Rattle.orders.specs.GreedyLaws.{Lacking, covers-false, blocked, whole-order, order-whole}
+use Rattle.orders.specs.GreedyLaws.{Lacking, covers-false, blocked, whole-order}
 
 -- l from its first x on
 unfoldable pub from : ℕ → List ℕ → List ℕ
@@ -60,13 +61,13 @@ linked-snoc Before l m f g i b = elim (decLt (suc i) (length l)) [
 
 pub from-drop : (s : ℕ) (l : List ℕ) → s ∈ l → (j : ℕ) × (j < length l) × (getD l j 0 ≡ s) × (from s l ≡ drop j l)
 unfolding from
-from-drop s (y ∷ l) h = elim (split (eqb s y)) [
-  | inl a ↦ (0, omega arith, sym (eqb-true s y a), rw (a, from))
-  | inr b ↦ elim (in-cons h) [
-    | inl q ↦ absurd (eqb-false s y b q)
-    | inr k ↦ (let (j, c, e, g) = from-drop s l k in (suc j, omega arith, e, rw (b, from) g))
-  ]
-]
+from-drop s (y ∷ l) h =
+    split (eqb s y)
+    (λ (a : eqb s y ≡ true). (0, omega arith, sym (eqb-true s y a), rw (a, from)))
+    (λ (b : eqb s y ≡ false). elim (in-cons h) [
+      | inl q ↦ absurd (eqb-false s y b q)
+      | inr k ↦ (let (j, c, e, g) = from-drop s l k in (suc j, omega arith, e, rw (b, from) g))
+    ])
 
 module _ {Want : ℕ → Type 0} {Before : ℕ → ℕ → Type 0} where
   pub drop-circle : (l : List ℕ) (s j : ℕ) → Once l → ((t : ℕ) → t ∈ l → Want t) → Linked Before (l ++ (s ∷ [])) → j < length l → getD l j 0 ≡ s
@@ -86,15 +87,15 @@ module _ {Want : ℕ → Type 0} {Before : ℕ → ℕ → Type 0} where
       → IsCircle Want Before (chase f k l s)
   unfolding chase
   chase-circle C f n go w most zero l s o a c g e = absurd (omega (arith, most l o a))
-  chase-circle C f n go w most (suc k) l s o a c g e = elim (split (has s l)) [
-    | inl h ↦ (let (j, b, q, r) = from-drop s l (has-true s l h) in rw (h, chase, r) (drop-circle l s j o (λ t i. w t (a t i)) g b q))
-    | inr h ↦ rw (h, chase) (chase-circle C f n go w most k (l ++ (s ∷ [])) (f s)
-        (each-snoc (λ earlier x. x ∉ earlier) l s o (has-false s l h))
-        (λ t i. elim (in-snoc l i) [ inl b ↦ a t b | inr q ↦ rw q c ])
-        (go s c .1)
-        (linked-snoc Before (l ++ (s ∷ [])) (f s) g (λ i q. let r : i ≡ length l = omega (arith, length-append l (s ∷ [])) in rw (r, getD-append-seam l s [] 0) (go s c .0)))
-        (omega (arith, length-append l (s ∷ []))))
-  ]
+  chase-circle C f n go w most (suc k) l s o a c g e =
+      split (has s l)
+      (λ (h : has s l ≡ true). let (j, b, q, r) = from-drop s l (has-true s l h) in rw (h, chase, r) (drop-circle l s j o (λ t i. w t (a t i)) g b q))
+      (λ (h : has s l ≡ false). rw (h, chase) (chase-circle C f n go w most k (l ++ (s ∷ [])) (f s)
+      (each-snoc (λ earlier x. x ∉ earlier) l s o (has-false s l h))
+      (λ t i. elim (in-snoc l i) [ inl b ↦ a t b | inr q ↦ rw q c ])
+      (go s c .1)
+      (linked-snoc Before (l ++ (s ∷ [])) (f s) g (λ i q. let r : i ≡ length l = omega (arith, length-append l (s ∷ [])) in rw (r, getD-append-seam l s [] 0) (go s c .0)))
+      (omega (arith, length-append l (s ∷ [])))))
 
 pub missing-lacks : (want l : List ℕ) → covers l want ≡ false → Lacking want l (missing want l)
 unfolding missing orZero
@@ -116,20 +117,8 @@ module _ (want : List ℕ) (before : ℕ → List ℕ) where
       (λ t h. absurd (not-in-nil h)) (missing-lacks want l e) (λ i b. absurd (omega arith)) (omega arith)
 
   pub circle-not-whole : {c : List ℕ} → IsCircle (In want) (By before) c → whole want before ≡ false
-  circle-not-whole o = elim (split (whole want before)) [ inl e ↦ absurd (order-no-circle (whole-order want before e) o) | inr e ↦ e ]
+  circle-not-whole o = split (whole want before) (λ (e : whole want before ≡ true). absurd (order-no-circle (whole-order want before e) o)) (λ (e : whole want before ≡ false). e)
 
-  -- no order exists exactly where greedy is not whole, and exactly there a circle exists
-  pub no-order : (¬ ((l : List ℕ) × IsOrder (In want) (By before) l)) ↔ (whole want before ≡ false)
-  no-order = (
-    λ f. elim (split (whole want before)) [ inl e ↦ absurd (f (greedy want before, whole-order want before e)) | inr e ↦ e ],
-    λ e o. true≢false (sym (order-whole want before (o .1)) ∙ e),
-  )
-
+  -- a circle exists exactly where greedy is not whole
   pub some-circle : ((c : List ℕ) × IsCircle (In want) (By before) c) ↔ (whole want before ≡ false)
   some-circle = (λ o. circle-not-whole (o .1), λ e. (circleOf want before, not-whole-circle e))
-
-  pub no-order-circle : (¬ ((l : List ℕ) × IsOrder (In want) (By before) l)) ↔ ((c : List ℕ) × IsCircle (In want) (By before) c)
-  no-order-circle = (λ f. some-circle .1 (no-order .0 f), λ o. no-order .1 (some-circle .0 o))
-
-  pub circle-length : {c : List ℕ} → IsCircle (In want) (By before) c → length c ≤ length want
-  circle-length {c} o = once-length c want (o .once) (o .wanted)

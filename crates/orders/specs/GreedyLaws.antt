@@ -4,14 +4,14 @@ use mathlib.Core.Logic.{_⊎_, inl, inr}
 use mathlib.Core.Bool.{Bool, true, false, not, _&&_, _||_, true≢false}
 use mathlib.Core.Option.{Option, none, some}
 use mathlib.Core.List.{List, [], _∷_, _++_}
-use Prim.Native.Nat.{ℕ, zero, suc, _+_, _≤_, _<_}
-use native.Mathlib.Nat.{le-antisymm}
+use Prim.Native.Nat.{ℕ, zero, suc, _+_}
 use native.Mathlib.Omega.{arith}
-use lib.ListN.{length, getD, take, length-append}
+use lib.ListN.{length, length-append}
 use borrow.Author.Tests.{not-true, not-false}
-use Rattle.lists.specs.Members.{_∈_, _∉_, Each, Once, Rising, _⊆_, has, all, find, split, or-cases, and-both, and-cases, place}
-use Rattle.lists.specs.Members.{has-true, has-false, in-has, not-in-has, all-true, all-false, true-all, find-some, find-none, find-least, each-nil, each-snoc, once-length, once-full, rising-once}
-use Rattle.orders.specs.Order.{IsOrder, Ready, Lowest, IsLeast, Trap, ready-order, lowest-least, least-order, trap-no-order, lowest-unique, least-unique, first-difference}
+use Rattle.lists.specs.Members.{_∈_, _∉_, Each, Once, Rising, _⊆_, has, all, find, place}
+use Rattle.lists.specs.Tests.{split, and-left, and-right, and-false, or-true}
+use Rattle.lists.specs.Members.{has-true, has-false, not-in-has, all-true, all-false, true-all, find-some, find-none, find-least, each-nil, each-snoc, once-full}
+use Rattle.orders.specs.Order.{IsOrder, Ready, Lowest, IsLeast, Trap, ready-order, lowest-least, trap-no-order, lowest-unique}
 use Rattle.orders.specs.Greedy.{In, By, ready, next, extend, greedy, covers, whole, orZero, blocker}
 
 -- wanted, and not in l
@@ -22,10 +22,6 @@ pub covers-true : (l want : List ℕ) → covers l want ≡ true → want ⊆ l
 unfolding covers
 covers-true l want e s h = has-true s l (all-true (λ s. has s l) want e h)
 
-pub true-covers : (l want : List ℕ) → want ⊆ l → covers l want ≡ true
-unfolding covers
-true-covers l want f = true-all (λ s. has s l) want (λ s h. in-has (f s h))
-
 pub covers-false : (l want : List ℕ) → covers l want ≡ false → (s : ℕ) × Lacking want l s
 unfolding covers
 covers-false l want e = let (s, h, f) = all-false (λ s. has s l) want e in (s, (h, has-false s l f))
@@ -35,11 +31,12 @@ module _ (want : List ℕ) (before : ℕ → List ℕ) where
   unfolding ready
   ready-true l s w e =
       let p : ℕ → Bool = λ m. has m l || not (has m want) in
-      let (a, b) = and-both (not (has s l)) (all p (before s)) e in
+      let a = and-left (not (has s l)) (all p (before s)) e in
+      let b = and-right (not (has s l)) (all p (before s)) e in
       record {
         wanted = w;
         new = has-false s l (not-true (has s l) a);
-        after = λ m h v. elim (or-cases (has m l) (not (has m want)) (all-true p (before s) b h)) [
+        after = λ m h v. elim (or-true (has m l) (not (has m want)) (all-true p (before s) b h)) [
           | inl c ↦ has-true m l c
           | inr c ↦ absurd (has-false m want (not-true (has m want) c) v)
         ];
@@ -48,10 +45,9 @@ module _ (want : List ℕ) (before : ℕ → List ℕ) where
   pub true-ready : (l : List ℕ) (s : ℕ) → Ready (In want) (By before) l s → ready want before l s ≡ true
   unfolding ready
   true-ready l s r =
-      rw (not-in-has (r .new)) (true-all (λ m. has m l || not (has m want)) (before s) (λ m h. elim (split (has m l)) [
-        | inl c ↦ rw c
-        | inr c ↦ rw c (ap not (not-in-has (λ v. has-false m l c (r .after m h v))))
-      ]))
+      rw (not-in-has (r .new)) (true-all (λ m. has m l || not (has m want)) (before s) (λ m h. split (has m l)
+      (λ (c : has m l ≡ true). rw c)
+      (λ (c : has m l ≡ false). rw c (ap not (not-in-has (λ v. has-false m l c (r .after m h v)))))))
 
   pub next-ready : (l : List ℕ) {s : ℕ} → next want before l ≡ some s → Ready (In want) (By before) l s
   unfolding next
@@ -126,14 +122,15 @@ module _ (want : List ℕ) (before : ℕ → List ℕ) where
       go none e = absurd (greedy-end s (record {
         wanted = w;
         new = n;
-        after = λ m h v. elim (and-cases (has m want) (not (has m l)) (find-none p (before s) e h)) [
+        after = λ m h v. elim (and-false (has m want) (not (has m l)) (find-none p (before s) e h)) [
           | inl a ↦ absurd (has-false m want a v)
           | inr b ↦ has-true m l (not-false (has m l) b)
         ];
       }))
       go (some m) e =
           let (h, f) = find-some p (before s) e in
-          let (a, b) = and-both (has m want) (not (has m l)) f in
+          let a = and-left (has m want) (not (has m l)) f in
+          let b = and-right (has m want) (not (has m l)) f in
           (h, (has-true m want a, has-false m l (not-true (has m l) b)))
 
   pub greedy-trap : Trap (In want) (By before) (Lacking want (greedy want before))
@@ -142,10 +139,6 @@ module _ (want : List ℕ) (before : ℕ → List ℕ) where
   pub whole-true : whole want before ≡ true → want ⊆ greedy want before
   unfolding whole
   whole-true e = covers-true (greedy want before) want e
-
-  pub true-whole : want ⊆ greedy want before → whole want before ≡ true
-  unfolding whole
-  true-whole f = true-covers (greedy want before) want f
 
   pub whole-false : whole want before ≡ false → (s : ℕ) × Lacking want (greedy want before) s
   unfolding whole
@@ -158,28 +151,11 @@ module _ (want : List ℕ) (before : ℕ → List ℕ) where
   whole-least u e = lowest-least (greedy want before) (whole-true e) (greedy-lowest u)
 
   pub order-whole : {l : List ℕ} → IsOrder (In want) (By before) l → whole want before ≡ true
-  order-whole o = elim (split (whole want before)) [
-    | inl e ↦ e
-    | inr e ↦ (let (s, c) = whole-false e in absurd (trap-no-order greedy-trap (c .0) c o))
-  ]
-
-  pub order-greedy : Rising want → {l : List ℕ} → IsOrder (In want) (By before) l → IsLeast (In want) (By before) (greedy want before)
-  order-greedy u o = whole-least u (order-whole o)
-
-  pub least-greedy : Rising want → {l : List ℕ} → IsLeast (In want) (By before) l → l ≡ greedy want before
-  least-greedy u o = least-unique o (order-greedy u (least-order o))
+  order-whole o =
+      split (whole want before)
+      (λ (e : whole want before ≡ true). e)
+      (λ (e : whole want before ≡ false). let (s, c) = whole-false e in absurd (trap-no-order greedy-trap (c .0) c o))
 
   -- whole or not, greedy is what taking the lowest at each turn comes to
   pub lowest-greedy : Rising want → (l : List ℕ) → Each (Lowest (In want) (By before)) l → ((s : ℕ) → ¬ Ready (In want) (By before) l s) → l ≡ greedy want before
   lowest-greedy u l f n = lowest-unique l (greedy want before) f n (greedy-lowest u) greedy-end
-
-  -- at the first place where another order differs from greedy it has the higher number
-  pub greedy-first : Rising want → {r : List ℕ} → IsOrder (In want) (By before) r
-      → (greedy want before ≡ r) ⊎ ((i : ℕ) × (i < length (greedy want before)) × (take i (greedy want before) ≡ take i r) × (getD (greedy want before) i 0 < getD r i 0))
-  greedy-first u o = first-difference (order-greedy u o) o
-
-  pub greedy-length : length (greedy want before) ≤ length want
-  greedy-length = once-length (greedy want before) want greedy-once greedy-wanted
-
-  pub whole-length : Rising want → whole want before ≡ true → length (greedy want before) ≡ length want
-  whole-length u e = le-antisymm greedy-length (once-length want (greedy want before) (rising-once want u) (whole-true e))

@@ -1,13 +1,14 @@
 -- What is upstream of a step, the closure of a list of steps computed, and why steps upstream of one another have an order.
 use mathlib.Core.Path.{_≡_, refl}
 use mathlib.Core.Logic.{_⊎_, inl, inr, _↔_}
-use mathlib.Core.Bool.{true, cond, _||_}
+use mathlib.Core.Bool.{true, false, cond, _||_}
 use mathlib.Core.List.{List, [], _∷_}
 use Prim.Native.Nat.{ℕ, zero, suc, _+_, _<_}
 use native.Mathlib.Omega.{arith}
 use lib.ListN.{length, getD, take}
-use Rattle.lists.specs.Members.{_∈_, _∉_, here, there, Once, Rising, _⊆_, has, keep, upTo, split, or-cases, or-neither, in-cons, not-in-nil, in-at, place-before, in-take-more}
-use Rattle.lists.specs.Members.{has-true, has-false, in-has, in-keep, keep-in, in-upTo, upTo-in, each-nil, once-head, once-tail, once-cons, once-below, rising-keep, rising-upTo, rising-ext}
+use Rattle.lists.specs.Members.{_∈_, _∉_, here, there, Once, Rising, _⊆_, has, keep, upTo, in-cons, not-in-nil, in-at, place-before, in-take-more}
+use Rattle.lists.specs.Members.{has-true, has-false, in-has, in-keep, keep-in, in-upTo, upTo-in, each-nil, once-head, once-tail, once-cons, once-below, rising-keep, rising-upTo}
+use Rattle.lists.specs.Tests.{split, or-left, or-right, or-true}
 use Rattle.orders.specs.Order.{IsOrder, no-descent}
 use Rattle.orders.specs.Greedy.{In, By, greedy, whole, blocker}
 use Rattle.orders.specs.GreedyLaws.{Lacking, blocked, whole-false}
@@ -64,13 +65,13 @@ module _ (l ys : List ℕ) where
   in-fresh : (xs : List ℕ) {x : ℕ} → x ∈ fresh xs l ys → ((x ∈ xs) × (x ∉ l)) ⊎ (x ∈ ys)
   unfolding fresh
   in-fresh [] h = inr h
-  in-fresh (z ∷ xs) {x} h = elim (split (has z l || has z (fresh xs l ys))) [
-    | inl e ↦ later (in-fresh xs (rw (e, fresh) at h))
-    | inr e ↦ elim (in-cons (rw (e, fresh) at h)) [
-      | inl q ↦ inl (here q, rw q (has-false z l (or-neither (has z l) (has z (fresh xs l ys)) e .0)))
-      | inr k ↦ later (in-fresh xs k)
-    ]
-  ]
+  in-fresh (z ∷ xs) {x} h =
+      split (has z l || has z (fresh xs l ys))
+      (λ (e : has z l || has z (fresh xs l ys) ≡ true). later (in-fresh xs (rw (e, fresh) at h)))
+      (λ (e : has z l || has z (fresh xs l ys) ≡ false). elim (in-cons (rw (e, fresh) at h)) [
+        | inl q ↦ inl (here q, rw q (has-false z l (or-left (has z l) (has z (fresh xs l ys)) e)))
+        | inr k ↦ later (in-fresh xs k)
+      ])
     where
       later : ((x ∈ xs) × (x ∉ l)) ⊎ (x ∈ ys) → ((x ∈ z ∷ xs) × (x ∉ l)) ⊎ (x ∈ ys)
       later (inl a) = inl (there (a .0), a .1)
@@ -79,31 +80,31 @@ module _ (l ys : List ℕ) where
   fresh-keeps : (xs : List ℕ) → ys ⊆ fresh xs l ys
   unfolding fresh
   fresh-keeps [] x h = h
-  fresh-keeps (z ∷ xs) x h = elim (split (has z l || has z (fresh xs l ys))) [
-    | inl e ↦ rw (e, fresh) (fresh-keeps xs x h)
-    | inr e ↦ rw (e, fresh) (there (fresh-keeps xs x h))
-  ]
+  fresh-keeps (z ∷ xs) x h =
+      split (has z l || has z (fresh xs l ys))
+      (λ (e : has z l || has z (fresh xs l ys) ≡ true). rw (e, fresh) (fresh-keeps xs x h))
+      (λ (e : has z l || has z (fresh xs l ys) ≡ false). rw (e, fresh) (there (fresh-keeps xs x h)))
 
   fresh-in : (xs : List ℕ) {x : ℕ} → x ∈ xs → (x ∈ l) ⊎ (x ∈ fresh xs l ys)
   unfolding fresh
-  fresh-in (z ∷ xs) {x} h = elim (split (has z l || has z (fresh xs l ys))) [
-    | inl e ↦ rw (e, fresh) (elim (in-cons h) [
-      | inl q ↦ elim (or-cases (has z l) (has z (fresh xs l ys)) e) [ inl a ↦ inl (rw q (has-true z l a)) | inr b ↦ inr (rw q (has-true z (fresh xs l ys) b)) ]
-      | inr k ↦ fresh-in xs k
-    ])
-    | inr e ↦ rw (e, fresh) (elim (in-cons h) [
-      | inl q ↦ inr (here q)
-      | inr k ↦ elim (fresh-in xs k) [ inl a ↦ inl a | inr b ↦ inr (there b) ]
-    ])
-  ]
+  fresh-in (z ∷ xs) {x} h =
+      split (has z l || has z (fresh xs l ys))
+      (λ (e : has z l || has z (fresh xs l ys) ≡ true). rw (e, fresh) (elim (in-cons h) [
+        | inl q ↦ elim (or-true (has z l) (has z (fresh xs l ys)) e) [ inl a ↦ inl (rw q (has-true z l a)) | inr b ↦ inr (rw q (has-true z (fresh xs l ys) b)) ]
+        | inr k ↦ fresh-in xs k
+      ]))
+      (λ (e : has z l || has z (fresh xs l ys) ≡ false). rw (e, fresh) (elim (in-cons h) [
+        | inl q ↦ inr (here q)
+        | inr k ↦ elim (fresh-in xs k) [ inl a ↦ inl a | inr b ↦ inr (there b) ]
+      ]))
 
   fresh-once : (xs : List ℕ) → Once ys → Once (fresh xs l ys)
   unfolding fresh
   fresh-once [] o = o
-  fresh-once (z ∷ xs) o = elim (split (has z l || has z (fresh xs l ys))) [
-    | inl e ↦ rw (e, fresh) (fresh-once xs o)
-    | inr e ↦ rw (e, fresh) (once-cons z (fresh xs l ys) (has-false z (fresh xs l ys) (or-neither (has z l) (has z (fresh xs l ys)) e .1)) (fresh-once xs o))
-  ]
+  fresh-once (z ∷ xs) o =
+      split (has z l || has z (fresh xs l ys))
+      (λ (e : has z l || has z (fresh xs l ys) ≡ true). rw (e, fresh) (fresh-once xs o))
+      (λ (e : has z l || has z (fresh xs l ys) ≡ false). rw (e, fresh) (once-cons z (fresh xs l ys) (has-false z (fresh xs l ys) (or-right (has z l) (has z (fresh xs l ys)) e)) (fresh-once xs o)))
 
 spread-least : (before : ℕ → List ℕ) (P : ℕ → Type 0) → Closed before P → (k : ℕ) (l ys : List ℕ)
     → ((x : ℕ) → x ∈ l → P x) → ((x : ℕ) → x ∈ ys → P x) → (x : ℕ) → x ∈ spread before k l ys → P x
@@ -226,14 +227,6 @@ module _ (before : ℕ → List ℕ) (n : ℕ) (start : List ℕ) (small : Close
   reach-complete {x} (inl h) = reach-start before n start small low x h
   reach-complete (inr (s, h, u)) = upstream-closed (reach-closed before n start small low) u (reach-start before n start small low s h)
 
-  pub in-reach : {x : ℕ} → (x ∈ reach before n start) ↔ Reached before start x
-  in-reach = (reach-sound before n start, reach-complete)
-
-  -- a rising list that holds start, is closed and holds only what is reached is reach
-  pub reach-unique : (l : List ℕ) → Rising l → start ⊆ l → Closed before (In l) → ((x : ℕ) → x ∈ l → Reached before start x) → l ≡ reach before n start
-  reach-unique l r f c g =
-      rising-ext l (reach before n start) r (rising-reach before n start) (λ x h. reach-complete (g x h)) (reach-least before n start (In l) f c)
-
 pub upstream-sound : (before : ℕ → List ℕ) (n s : ℕ) {m : ℕ} → m ∈ upstream before n s → Upstream before m s
 unfolding upstream
 upstream-sound before n s h = elim (reach-sound before n (before s) h) [ inl i ↦ direct i | inr r ↦ further (r .2) (r .1) ]
@@ -262,10 +255,10 @@ module _ {Want : ℕ → Type 0} {before : ℕ → List ℕ} (closed : Closed be
   -- so steps of the set have an order in which each comes after any of them upstream of it
   pub upstream-whole : (want : List ℕ) (up : ℕ → List ℕ) → ((s : ℕ) → s ∈ want → Want s)
       → ((s : ℕ) → s ∈ want → (m : ℕ) → m ∈ up s → Upstream before m s) → whole want up ≡ true
-  upstream-whole want up f g = elim (split (whole want up)) [
-    | inl e ↦ e
-    | inr e ↦ (let (s, c) = whole-false want up e in absurd (no-descent (Lacking want (greedy want up)) l down (o .lists .each s (f s (c .0))) c))
-  ]
+  upstream-whole want up f g =
+      split (whole want up)
+      (λ (e : whole want up ≡ true). e)
+      (λ (e : whole want up ≡ false). let (s, c) = whole-false want up e in absurd (no-descent (Lacking want (greedy want up)) l down (o .lists .each s (f s (c .0))) c))
     where
       down : (i : ℕ) → i < length l → Lacking want (greedy want up) (getD l i 0) → (m : ℕ) × (m ∈ take i l) × Lacking want (greedy want up) m
       down i b d =

@@ -17,7 +17,7 @@ use Rattle.rules.specs.Manifest.{refusedWith, readManifest}
 use Rattle.rules.specs.Answers.{numberOfRefusal, planSays}
 use Rattle.rules.specs.PlanAsk.{planRead, planAsk}
 use Rattle.rules.specs.Promises.{leftBy, PlanMeets, PlanPromise}
-use Rattle.rules.proofs.Refusals.{of-reading}
+use Rattle.rules.proofs.Manifests.{of-reading}
 use Rattle.planning.proofs.Outcomes.{cleared}
 use Rattle.planread.specs.Asked.{ReadAsked, PlansRead}
 use Rattle.held.specs.declared.Counts.{Counts}

@@ -10,8 +10,8 @@ use mathlib.Core.List.{List, [], _∷_}
 use lib.Dec.{eqb}
 use lib.ListN.{length, getD}
 use borrow.Author.Tests.{eqb-true, eq-eqb}
-use Rattle.lists.specs.Tests.{differ, and-true}
-use Rattle.lists.specs.Members.{_∈_, here, find, upTo, and-both, find-some, find-none, find-least, in-upTo, upTo-in, rising-upTo}
+use Rattle.lists.specs.Tests.{differ, and-true, and-left, and-right}
+use Rattle.lists.specs.Members.{_∈_, here, find, upTo, find-some, find-none, find-least, in-upTo, upTo-in, rising-upTo}
 use Rattle.orders.specs.Order.{IsOrder}
 use Rattle.orders.specs.Greedy.{In, By}
 use Rattle.rules.specs.Reading.{Step}
@@ -56,7 +56,8 @@ module _ {steps : List Step} {files : ℕ} {mentions ends phony made : List ℕ}
   test-wanted : (f : ℕ) → test f ≡ true → Wanted mentions ends roots order f × Absent times made f
   unfolding test
   test-wanted f e =
-      let (a, b) = and-both (eqb (timeAt times f) 0) (isNeededSource steps roots f) e in
+      let a = and-left (eqb (timeAt times f) 0) (isNeededSource steps roots f) e in
+      let b = and-right (eqb (timeAt times f) 0) (isNeededSource steps roots f) e in
       let s : NeededSource steps roots f = in-source steps roots f .0 b in (
         elim (s .needed) [
           | inl i ↦ inl i

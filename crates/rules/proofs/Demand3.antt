@@ -9,8 +9,8 @@ use mathlib.Core.Option.{Option, none, some}
 use mathlib.Core.List.{List}
 use lib.ListN.{length, getD, take}
 use borrow.Author.Tests.{not-true}
-use Rattle.lists.specs.Tests.{split}
-use Rattle.lists.specs.Members.{_∈_, Rising, in-keep, keep-in, and-both, rising-keep}
+use Rattle.lists.specs.Tests.{split, and-left, and-right}
+use Rattle.lists.specs.Members.{_∈_, Rising, in-keep, keep-in, rising-keep}
 use Rattle.orders.specs.Order.{IsOrder, first-difference, least-order, order-no-circle}
 use Rattle.orders.specs.Greedy.{In, By}
 use Rattle.orders.specs.GreedyLaws.{whole-order, whole-least, order-whole}
@@ -78,7 +78,8 @@ module _ (steps : List Step) (targets : List ℕ) where
     unfolding staleNeeded isStale
     in-stale {s} = (
       λ h. let (n, e) = in-keep (isStale steps card targets) (needed steps targets) h in
-          let (c, d) = and-both (not (phonyStep steps s)) (told steps card targets s .stale) e in
+          let c = and-left (not (phonyStep steps s)) (told steps card targets s .stale) e in
+          let d = and-right (not (phonyStep steps s)) (told steps card targets s .stale) e in
           record { needed = in-needed steps targets .0 n; command = not-true (phonyStep steps s) c; stale = d },
       λ w. keep-in (isStale steps card targets) (needed steps targets) (in-needed steps targets .1 (w .needed)) (rw (w .command, w .stale)),
     )

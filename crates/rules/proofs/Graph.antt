@@ -120,9 +120,3 @@ in-upstream steps s b {m} =
 pub needed-low : {steps : List Step} {rs : List ℕ} {s : ℕ} → Needed steps rs s → s < length steps
 needed-low (target i w) = w .step
 needed-low (input n w) = w .made .step
-
--- the needed steps are the least set that holds the makers of the targets and, with a step, the makers of its inputs
-pub needed-least : {steps : List Step} {targets : List ℕ} (P : ℕ → Type 0) → ((m f : ℕ) → f ∈ targets → Makes steps m f → P m)
-    → ((m s : ℕ) → P s → Feeds steps m s → P m) → {s : ℕ} → Needed steps targets s → P s
-needed-least P a b {s} (target {f = f} h w) = a s f h w
-needed-least P a b {s} (input {s = k} n w) = b s k (needed-least P a b n) w

@@ -1,3 +1,4 @@
+pub mod Cases
 pub mod Graph
 pub mod Stale
 pub mod Sources
@@ -7,4 +8,4 @@ pub mod Promises
 pub mod Marked
 pub mod WrongPlanners
 pub mod Answers
-pub mod Refusals
+pub mod Manifests

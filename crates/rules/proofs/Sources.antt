@@ -8,8 +8,8 @@ use mathlib.Core.List.{List, [], _∷_}
 use borrow.Author.Tests.{eqb-true, eq-eqb}
 use lib.Dec.{eqb}
 use lib.ListN.{length}
-use Rattle.lists.specs.Tests.{and-true}
-use Rattle.lists.specs.Members.{_∈_, not-in-nil, has, has-true, in-has, any, any-true, true-any, find-some, find-none, find-least, upTo, in-upTo, upTo-in, rising-upTo, here, and-both, or-cases}
+use Rattle.lists.specs.Tests.{and-true, and-left, and-right, or-true}
+use Rattle.lists.specs.Members.{_∈_, not-in-nil, has, has-true, in-has, any, any-true, true-any, find-some, find-none, find-least, upTo, in-upTo, upTo-in, rising-upTo, here}
 use Rattle.rules.specs.Basics.{isEmpty}
 use Rattle.rules.specs.Reading.{Step, Reading}
 use Rattle.rules.specs.Graph.{inputs, stepAt, makers, needed, isNeededSource}
@@ -39,10 +39,11 @@ module _ (steps : List Step) (targets : List ℕ) (f : ℕ) where
   pub in-source : (isNeededSource steps targets f ≡ true) ↔ NeededSource steps targets f
   unfolding isNeededSource takes
   in-source = (
-    λ e. let (a, b) = and-both (isEmpty (makers steps f)) (has f targets || any takes (needed steps targets)) e in
+    λ e. let a = and-left (isEmpty (makers steps f)) (has f targets || any takes (needed steps targets)) e in
+        let b = and-right (isEmpty (makers steps f)) (has f targets || any takes (needed steps targets)) e in
         record {
           no-maker = λ m w. empty-none (makers steps f) a m (in-makers steps f .1 w);
-          needed = elim (or-cases (has f targets) (any takes (needed steps targets)) b) [
+          needed = elim (or-true (has f targets) (any takes (needed steps targets)) b) [
             | inl p ↦ inl (has-true f targets p)
             | inr q ↦ (let (s, h, i) = any-true takes (needed steps targets) q in inr (s, in-needed steps targets .0 h, has-true f (inputs (stepAt steps s)) i))
           ];
@@ -72,7 +73,8 @@ module _ (card : List ℕ) (rd : Reading) (targets : List ℕ) where
   unfolding missingSource test
   missing-lowest {f} e =
       let (h, t) = find-some test (upTo (length (rd .files))) e in
-      let (a, b) = and-both (eqb (cardTime card rd f) 0) (isNeededSource (rd .steps) targets f) t in (
+      let a = and-left (eqb (cardTime card rd f) 0) (isNeededSource (rd .steps) targets f) t in
+      let b = and-right (eqb (cardTime card rd f) 0) (isNeededSource (rd .steps) targets f) t in (
         record { file = in-upTo (length (rd .files)) h; absent = eqb-true (cardTime card rd f) 0 a; source = in-source (rd .steps) targets f .0 b },
         λ g w. find-least test (upTo (length (rd .files))) (rising-upTo (length (rd .files))) e (upTo-in (length (rd .files)) (w .file)) (missing-test w),
       )

@@ -45,10 +45,12 @@ unfolding soundRecord
 soundRecords at end [] = eqb at end
 soundRecords at end (r ∷ rs) = soundRecord at r && soundRecords (at + r .size) end rs
 
+-- a file on the card
 pub record Entry : Type 0 where
   pub name : List ℕ
   pub time : ℕ
 
+-- each record's name is the next of the names
 unfoldable pub entriesOf : List CardRecord → List ℕ → List Entry
 entriesOf [] names = []
 entriesOf (r ∷ rs) names = record { name = take (r .size) names; time = r .time } ∷ entriesOf rs (drop (r .size) names)
@@ -66,6 +68,7 @@ unfolding numberAt
 soundHeader s =
     leb 16 (length s) && leb (length s) maxCard && leb (numberAt 0 4 s) maxRecords && eqb (numberAt 4 4 s) 16 && eqb (numberAt 8 4 s) (16 + 16 * numberAt 0 4 s) && eqb (numberAt 12 4 s) (length s) && leb (numberAt 8 4 s) (length s)
 
+-- the records, the names, and the files that they tell of
 unfoldable pub cardRecords : List ℕ → List CardRecord
 unfolding recordsOf numberAt
 cardRecords s = recordsOf (numberAt 0 4 s) (drop 16 s)

@@ -73,6 +73,7 @@ lastDollar (inBraces n) from at = from
 lastDollar (inName n) from at = from
 lastDollar bad from at = from
 
+-- `from` is the offset of the last `$` that was opened, `at` that of the next byte
 unfoldable pub badFrom : Scan → ℕ → ℕ → List ℕ → Option ℕ
 unfolding turn isBad endsBad lastDollar
 badFrom q from at [] = ifB (endsBad q) (λ _. some from) (λ _. none)
@@ -92,6 +93,7 @@ pub data Piece : Type 0 where
 unfoldable pub plainGives : ℕ → List Piece
 plainGives b = ifB (eqb b dollar) (λ _. []) (λ _. byte b ∷ [])
 
+-- what a byte gives, by where the reading stands before it
 unfoldable pub gives : Scan → ℕ → List Piece
 unfolding plainGives escaped nameByte shortByte
 gives plain b = plainGives b
@@ -101,6 +103,7 @@ gives (inBraces n) b = ifB (nameByte b) (λ _. []) (λ _. ref n ∷ [])
 gives (inName n) b = ifB (shortByte b) (λ _. []) (λ _. ref n ∷ plainGives b)
 gives bad b = []
 
+-- what the end of the text gives
 unfoldable pub givesLast : Scan → List Piece
 givesLast plain = []
 givesLast afterJoin = []

@@ -21,6 +21,7 @@ pub data Fault : Type 0 where
   wrongDollar : ℕ → Fault
   notYet : Fault
 
+-- what bytes are cut into, or their first fault
 pub data Cut (A : Type 0) : Type 0 where
   fits : A → Cut A
   fails : Fault → Cut A
@@ -80,6 +81,7 @@ keyWord w =
 
 -- ------------------------------------------------------------------ paths
 
+-- what ends a path where no `$` is open; a line's bytes hold no newline but in joins
 unfoldable pub pathStop : ℕ → Bool
 pathStop b = eqb b space || eqb b colon || eqb b bar
 
@@ -93,11 +95,13 @@ endsPath (inBraces n) b = false
 endsPath (inName n) b = pathStop b
 endsPath bad b = false
 
+-- the raw path at the front
 unfoldable pub pathFrom : Scan → List ℕ → List ℕ
 unfolding endsPath turn
 pathFrom q [] = []
 pathFrom q (b ∷ s) = ifB (endsPath q b) (λ _. []) (λ _. b ∷ pathFrom (turn q b) s)
 
+-- what follows it
 unfoldable pub afterPath : Scan → List ℕ → List ℕ
 unfolding endsPath turn
 afterPath q [] = []
@@ -111,7 +115,7 @@ pub record Paths : Type 0 where
 unfoldable pub withPath : List ℕ → Paths → Cut Paths
 withPath p ps = fits (record { raw = p ∷ ps .raw; rest = ps .rest })
 
--- the bytes `s`, from some place in a line on: `checked o k s` is k, unless the raw text at the start of s has its first bad `$` at offset o
+-- k, unless the raw text at the start of `s`, a line's bytes from some place on, has its first bad `$` at offset o
 unfoldable pub checked : {A : Type 0} → Option ℕ → List ℕ → (Unit {0} → Cut A) → Cut A
 checked none s k = k tt
 checked (some o) s k = fails (wrongDollar (length s - o))
@@ -175,6 +179,7 @@ barsAt (b ∷ c ∷ s) =
 unfoldable pub inputsOf : BuildLine → List (List ℕ) → List (List ℕ) → List (List ℕ) → Cut Form
 inputsOf b i m o = fits (buildForm (record { outs = b .outs; rule = b .rule; ins = i; implicit = m; orderOnly = o }))
 
+-- from behind `||` on
 unfoldable pub cutOrderOnly : BuildLine → List (List ℕ) → List (List ℕ) → List ℕ → Cut Form
 unfolding then paths inputsOf
 cutOrderOnly b i m s =
@@ -202,11 +207,13 @@ cutInputs outs t =
     then (paths (afterName t)) λ i.
     afterInputs (record { outs = outs; rule = w; ins = []; implicit = []; orderOnly = [] }) (i .raw) (barsAt (i .rest))
 
+-- from the `:` on; "one output at least"
 unfoldable pub afterOutputs : List (List ℕ) → List ℕ → Cut Form
 unfolding cutInputs gap
 afterOutputs outs [] = fails noForm
 afterOutputs outs (b ∷ s) = ifB (eqb b colon && not (isEmpty outs)) (λ _. cutInputs outs (gap s)) (λ _. fails noForm)
 
+-- "`build OUTS: RULE INS | IMPLICIT || ORDERONLY`: one output at least, the rest may be empty"
 unfoldable pub cutBuild : List ℕ → Cut Form
 unfolding then paths afterOutputs
 cutBuild s = then (paths s) λ o. afterOutputs (o .raw) (o .rest)
@@ -222,13 +229,14 @@ unfoldable pub rawValue : List ℕ → List ℕ
 unfolding afterRun
 rawValue s = afterRun isSpace s
 
--- "`NAME = value`", from behind the name on
+-- from behind the name on
 unfoldable pub cutValue : List ℕ → List ℕ → Cut Form
 unfolding rawValue checked badDollar
 cutValue w [] = fails noForm
 cutValue w (b ∷ s) =
     ifB (eqb b equals) (λ _. checked (badDollar (rawValue s)) (rawValue s) (λ _. fits (bindingForm w (rawValue s)))) (λ _. fails noForm)
 
+-- "`NAME = value`"
 unfoldable pub cutBinding : List ℕ → Cut Form
 unfolding then keyWord nameOf afterName gap cutValue
 cutBinding s = then (keyWord (nameOf s)) λ w. cutValue w (gap (afterName s))

@@ -46,6 +46,7 @@ before steps s = makersOf steps (inputs (stepAt steps s))
 
 -- ------------------------------------------------------------------ roots
 
+-- is this file some step's input, of any kind (reading 25)
 unfoldable pub isInput : List Step → ℕ → Bool
 unfolding any has inputs
 isInput steps f = any (λ (s : Step). has f (inputs s)) steps

@@ -7,6 +7,7 @@ pub mod Forms
 pub mod Reading
 pub mod Statements
 pub mod Manifest
+pub mod Sound
 pub mod Text
 pub mod Card
 pub mod Targets
@@ -18,4 +19,3 @@ pub mod PlanAsk
 pub mod TextAsk
 pub mod Promises
 pub mod Marked
-pub mod Samples

@@ -1,4 +1,4 @@
--- Every limit of document 01, once.
+-- Every limit of document 01, once; that of the numbers of a version is `inRange` of the crate version.
 use Prim.Native.Nat.{ℕ}
 
 -- "Limits: 512 steps, 1,024 files, 128 rules, 1,024 bindings, 4,096 path mentions; declared names 64 bytes, paths 255, values 2,048;

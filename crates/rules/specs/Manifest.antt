@@ -25,6 +25,7 @@ badByte last at (b ∷ s) = ifB (forbidden b) (λ _. some at) (λ _. badByte b (
 
 -- ------------------------------------------------------------------ blocks
 
+-- a rule and a step are among those read once their blocks close
 unfoldable pub withRule : Rule → Reading → Reading
 withRule r rd =
     record { rules = r ∷ rd .rules; vars = rd .vars; files = rd .files; steps = rd .steps; defaults = rd .defaults; bindings = rd .bindings; mentions = rd .mentions; written = rd .written }
@@ -41,6 +42,7 @@ close rd (ruleBlock start r) =
     ifB (hasKey (bytes "command") (r .keys)) (λ _. goesOn (withRule r rd) noBlock) (λ _. refused (BadRule start))
 close rd (buildBlock s) = goesOn (withStep s rd) noBlock
 
+-- the next part, unless there was a refusal
 unfoldable pub andThen : Outcome → (Reading → Block → Outcome) → Outcome
 andThen (goesOn rd b) f = f rd b
 andThen (refused r) f = refused r
@@ -60,6 +62,7 @@ unfolding faultOf
 ifCut l (fails e) f = refused (faultOf l e)
 ifCut l (fits x) f = ifB (l .ended) (λ _. f x) (λ _. refused (BadLine (l .start)))
 
+-- a line of the open block; `cutIndented` cuts bindings alone, so that no other form comes here
 unfoldable pub indented : Line → Reading → Block → Form → Outcome
 unfolding blockLine
 indented l rd b (bindingForm n raw) = blockLine (l .start) b n raw rd
@@ -74,6 +77,7 @@ readIndented l rd noBlock = refused (BadLine (l .start))
 readIndented l rd (ruleBlock k r) = ifCut l (cutIndented (l .text)) (indented l rd (ruleBlock k r))
 readIndented l rd (buildBlock s) = ifCut l (cutIndented (l .text)) (indented l rd (buildBlock s))
 
+-- a line without indent, once the block before it is closed
 unfoldable pub readStatement : Line → Reading → Block → Outcome
 unfolding ifCut cutStatement statement
 readStatement l rd b = ifCut l (cutStatement (l .text)) (λ x. statement (l .start) x rd)

@@ -14,7 +14,7 @@ use Rattle.rules.specs.Reading.{Step, Reading, numberOf}
 use Rattle.rules.specs.Manifest.{Read, accepted, refusedWith, readManifest}
 use Rattle.rules.specs.Card.{soundCard, cardEntries, timeIn}
 use Rattle.rules.specs.Targets.{Target, targetsOf, badTarget}
-use Rattle.rules.specs.Graph.{roots, noRoot, needed, isNeededSource, hasOrder}
+use Rattle.rules.specs.Graph.{roots, noRoot, isNeededSource, hasOrder}
 use Rattle.rules.specs.Stale.{listOf}
 
 pub data PlanOutcome : Type 0 where
@@ -29,6 +29,7 @@ unfoldable pub cardTime : List ℕ → Reading → ℕ → ℕ
 unfolding timeIn cardEntries
 cardTime card rd f = timeIn (cardEntries card) (getD (rd .files) f [])
 
+-- the targets by file number
 unfoldable pub targetFiles : List ℕ → Reading → List ℕ
 unfolding targetsOf numberOf
 targetFiles targets rd = map (λ (t : Target). numberOf (t .name) (rd .files)) (targetsOf targets)

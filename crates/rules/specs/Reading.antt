@@ -2,7 +2,7 @@
 use Prim.Native.Nat.{ℕ, suc}
 use mathlib.Core.List.{List, [], _∷_, _++_, map}
 use mathlib.Core.Option.{Option, none, some}
-use mathlib.Core.Bool.{Bool, not, _||_}
+use mathlib.Core.Bool.{Bool, _||_}
 use Rattle.lists.specs.Tests.{ifB}
 use Rattle.lists.specs.Text.{bytes}
 use Rattle.lists.specs.Bytes.{eqBytes}
@@ -58,6 +58,7 @@ unfoldable pub fileVar : List Bound → List ℕ → List ℕ
 unfolding find
 fileVar vars n = orEmpty (find n vars)
 
+-- is this name bound here
 unfoldable pub hasKey : List ℕ → List Bound → Bool
 unfolding among
 hasKey n l = among n (map (λ (b : Bound). b .name) l)
@@ -73,6 +74,7 @@ unfoldable pub isPhony : List ℕ → Bool
 unfolding eqBytes
 isPhony n = eqBytes n (bytes "phony")
 
+-- is this rule declared
 unfoldable pub declared : List ℕ → Reading → Bool
 unfolding isPhony among
 declared n rd = isPhony n || among n (map (λ (r : Rule). r .name) (rd .rules))
@@ -83,6 +85,7 @@ unfolding eqBytes
 numberOf p [] = 0
 numberOf p (f ∷ l) = ifB (eqBytes p f) (λ _. 0) (λ _. suc (numberOf p l))
 
+-- the files after these mentions too: "files from 0 by first mention"
 unfoldable pub mention : List (List ℕ) → List (List ℕ) → List (List ℕ)
 unfolding among
 mention files [] = files

@@ -5,7 +5,7 @@ use mathlib.Core.Bool.{Bool, false, not, _&&_, _||_}
 use lib.Dec.{eqb, ltb}
 use lib.ListN.{length}
 use Rattle.lists.specs.Tests.{ifB}
-use Rattle.lists.specs.Members.{has, keep, any}
+use Rattle.lists.specs.Members.{keep, any}
 use Rattle.orders.specs.Greedy.{greedy}
 use Rattle.orders.specs.Reach.{upstream}
 use Rattle.orders.specs.Along.{values}
@@ -40,14 +40,17 @@ unfoldable pub greatest : List ℕ → ℕ
 greatest [] = 0
 greatest (t ∷ ts) = max t (greatest ts)
 
+-- "the greatest time of the step's non-order-only inputs, 0 if none"
 unfoldable pub newestInput : List Step → (ℕ → ℕ) → (ℕ → Verdict) → ℕ → ℕ
 unfolding greatest timeOf counted
 newestInput steps card known s = greatest (map (timeOf steps card known) (counted (stepAt steps s)))
 
+-- "a non-order-only input's maker is stale"
 unfoldable pub makerStale : List Step → (ℕ → Verdict) → ℕ → Bool
 unfolding any makersOf counted
 makerStale steps known s = any (λ m. known m .stale) (makersOf steps (counted (stepAt steps s)))
 
+-- "an output is missing"
 unfoldable pub outputMissing : List Step → (ℕ → ℕ) → ℕ → Bool
 unfolding any
 outputMissing steps card s = any (λ f. eqb (card f) 0) (stepAt steps s .outs)
@@ -87,6 +90,7 @@ unfoldable pub isStale : List Step → (ℕ → ℕ) → List ℕ → ℕ → Bo
 unfolding verdicts neededOrder phonyStep
 isStale steps card rs s = not (phonyStep steps s) && told steps card rs s .stale
 
+-- "the stale, needed command steps"
 unfoldable pub staleNeeded : List Step → (ℕ → ℕ) → List ℕ → List ℕ
 unfolding keep isStale needed
 staleNeeded steps card rs = keep (isStale steps card rs) (needed steps rs)

@@ -74,6 +74,7 @@ unfoldable pub expanded : Reading → List (List ℕ) → List (List ℕ)
 unfolding expand fileVar
 expanded rd raw = map (expand (fileVar (rd .vars))) raw
 
+-- is one of them there again
 unfoldable pub twice : List (List ℕ) → Bool
 unfolding among
 twice [] = false
@@ -104,9 +105,11 @@ unfolding expanded
 expandedLine rd b =
     record { outs = expanded rd (b .outs); rule = b .rule; ins = expanded rd (b .ins); implicit = expanded rd (b .implicit); orderOnly = expanded rd (b .orderOnly) }
 
+-- its inputs of every kind, as written
 unfoldable pub inputsOfLine : BuildLine → List (List ℕ)
 inputsOfLine b = b .ins ++ (b .implicit ++ b .orderOnly)
 
+-- "paths 255", expanded (reading 18)
 unfoldable pub overPaths : List (List ℕ) → Bool
 unfolding any longerThan
 overPaths ps = any (longerThan maxPath) ps
@@ -138,6 +141,7 @@ addToBlock start s n v rd =
     (buildBlock
     (record { outs = s .outs; ins = s .ins; implicit = s .implicit; orderOnly = s .orderOnly; rule = s .rule; block = record { name = n; value = v } ∷ s .block }))
 
+-- the newest binding of a name is the first: "a later line replaces it"
 unfoldable pub setVar : List ℕ → List ℕ → Reading → Reading
 setVar n v rd =
     record { rules = rd .rules; vars = record { name = n; value = v } ∷ rd .vars; files = rd .files; steps = rd .steps; defaults = rd .defaults; bindings = rd .bindings; mentions = rd .mentions; written = rd .written }

@@ -10,6 +10,7 @@ use Rattle.rules.specs.Basics.{isEmpty, among}
 use Rattle.rules.specs.Limits.{maxTargets, maxPath}
 use Rattle.rules.specs.Bytes.{newline}
 
+-- a name and where it starts
 pub record Target : Type 0 where
   pub start : ℕ
   pub name : List ℕ
@@ -39,6 +40,7 @@ unfoldable pub badName : List (List ℕ) → List ℕ → Bool
 unfolding badLength among
 badName files n = badLength n || not (among n files)
 
+-- "the first bad name counts"
 unfoldable pub firstBad : List (List ℕ) → List Target → Option ℕ
 unfolding badName
 firstBad files [] = none

@@ -1,4 +1,4 @@
--- The text of a step: the lookup of a name, and refusals 16 to 18.
+-- The text of a step: the lookup of a name, 16, and what the name's text is.
 use Prim.Native.Nat.{ℕ, zero, suc}
 use mathlib.Core.List.{List, [], _∷_, _++_, map}
 use mathlib.Core.Option.{Option, none, some}
@@ -19,6 +19,7 @@ joinedBy c [] = []
 joinedBy c (n ∷ []) = n
 joinedBy c (n ∷ m ∷ l) = n ++ (c ∷ joinedBy c (m ∷ l))
 
+-- files by their names
 unfoldable pub namesOf : Reading → List ℕ → List (List ℕ)
 namesOf rd fs = map (λ (f : ℕ). getD (rd .files) f []) fs
 
@@ -35,6 +36,7 @@ pub data Found : Type 0 where
   asIs : List ℕ → Found
   ofRule : List ℕ → Found
 
+-- from the rule on, from the block on, from the step's own names on: the first of them that has the name
 unfoldable pub orRule : Reading → List ℕ → Option (List ℕ) → Found
 unfolding fileVar
 orRule rd n (some raw) = ofRule raw

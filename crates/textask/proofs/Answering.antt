@@ -20,6 +20,7 @@ use Rattle.rules.specs.Reading.{Step, Reading, isPhony}
 use Rattle.rules.specs.Graph.{stepAt}
 use Rattle.rules.specs.Text.{leadsBack, textOf, deep}
 use Rattle.rules.specs.TextAsk.{text, noText, wantedName, textOfStep}
+use Rattle.rules.specs.Sound.{SoundRules}
 use Rattle.bindings.specs.Log.{Logged}
 use Rattle.held.specs.declared.Counts.{Counts}
 use Rattle.held.specs.Held.{Bound, Graphed, Holds}
@@ -29,7 +30,7 @@ use Rattle.output.specs.Puts.{Puts}
 use Rattle.steptexts.specs.Here.{Here}
 use Rattle.textask.specs.Steps.{Picks, Reads}
 use Rattle.textask.proofs.One.{sound-any}
-use Rattle.textask.specs.Asks.{SoundRules, InAsk, WritesWanted, StepAsk, textOfIn, TextIn, TextAsk, TextOf}
+use Rattle.textask.specs.Asks.{InAsk, WritesWanted, StepAsk, textOfIn, TextIn, TextAsk, TextOf}
 
 -- ---- the buffer
 

@@ -2,5 +2,4 @@ pub mod Picking
 pub mod Wanting
 pub mod One
 pub mod Answering
-pub mod Reading
 pub mod Promise

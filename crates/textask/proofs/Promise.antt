@@ -2,7 +2,7 @@
 use Prim.Native.Nat.{ℕ, _≤_}
 use mathlib.Core.List.{List, []}
 use mathlib.Core.Bool.{false}
-use mathlib.Core.Path.{_≡_, refl, sym, _∙_}
+use mathlib.Core.Path.{_≡_, refl}
 use native.Mathlib.Omega.{arith}
 use borrow.Author.Tests.{le-ltb, ne-eqb}
 use lib.Dec.{ltb}
@@ -17,13 +17,12 @@ use Rattle.rules.specs.Promises.{filled, leftBy, TextMeets, TextPromise}
 use Rattle.rules.specs.Manifest.{accepted, refusedWith, readManifest}
 use Rattle.rules.specs.Reading.{Reading}
 use Rattle.rules.specs.TextAsk.{textRead, textAsk}
-use Rattle.rules.proofs.Refusals.{of-reading}
+use Rattle.rules.proofs.Manifests.{of-reading, accepted-sound}
 use Rattle.classes.specs.Table.{classes}
 use Rattle.bindings.specs.Log.{Logged}
 use Rattle.held.specs.declared.Counts.{Counts}
 use Rattle.held.specs.Held.{Holds}
 use Rattle.textask.specs.Asks.{TextAsk, TextOf}
-use Rattle.textask.proofs.Reading.{accepted-sound}
 
 module _ (manifest before : List ℕ) (h : maxText ≤ length before) where
   enough : ltb (length before) maxText ≡ false

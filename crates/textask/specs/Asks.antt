@@ -12,7 +12,8 @@ use Rattle.rules.specs.declared.Wanted.{Wanted}
 use Rattle.rules.specs.Limits.{maxText}
 use Rattle.rules.specs.Answers.{textSays}
 use Rattle.rules.specs.Promises.{TextMeets}
-use Rattle.rules.specs.Reading.{Step, Reading, keysOf}
+use Rattle.rules.specs.Reading.{Step, Reading}
+use Rattle.rules.specs.Sound.{SoundRules}
 use Rattle.rules.specs.Text.{leadsBack, textOf, deep}
 use Rattle.rules.specs.TextAsk.{TextOutcome, text, noText, wantedName, textOfStep}
 use Rattle.classes.specs.Table.{classes}
@@ -20,13 +21,8 @@ use Rattle.bindings.specs.Log.{Logged}
 use Rattle.held.specs.declared.Counts.{Counts}
 use Rattle.held.specs.Held.{Holds}
 use Rattle.lookups.specs.declared.Asked.{Asked}
-use Rattle.lookups.specs.Scope.{SoundKeys}
 use Rattle.output.specs.Puts.{Puts}
 use Rattle.steptexts.specs.Here.{Here}
-
--- The keys of every rule are as their lines were read: one of the three, with no bad `$`. It holds of what any manifest is read into.
-abbrev pub SoundRules : Reading → Type 0
-SoundRules rd = (rule : List ℕ) → SoundKeys (keysOf rule (rd .rules))
 
 -- ------------------------------------------------------------------ one step
 

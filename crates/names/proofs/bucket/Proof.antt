@@ -1,3 +1,4 @@
+-- `names::bucket` meets its contract: the number so far is the bucket of the bytes passed.
 use Prim.Native.Nat.{_-_}
 use native.Mathlib.Omega.{arith}
 use lib.ListN.{length}
@@ -5,9 +6,6 @@ use Rattle.names.proofs.Buckets.{Summing, sum-begin, sum-on, sum-end}
 use borrow.Author.Needs.{needs}
 use Rattle.names.proofs.bucket.Statement.{statement}
 use Rattle.names.proofs.bucket.Tie as tie
-use Rattle.names.proofs.bucket.Reads as reads
-use Rattle.names.proofs.bucket.Lts as lts
-use Rattle.names.proofs.wide.Reads as wide-reads
 
 abbrev Inv-loop : tie.InvT-loop
 Inv-loop path h₀ i₀ h i = Summing path h i
@@ -15,39 +13,30 @@ Inv-loop path h₀ i₀ h i = Summing path h i
 abbrev μ-loop : tie.MeasureT-loop
 μ-loop path h₀ i₀ h i = length path - i
 
--- src/lib.rt:40:5
 loop-holds : tie.Need-loop-holds Inv-loop μ-loop
 loop-holds c = sum-begin _
 
--- src/lib.rt:41:14
 mul-h : tie.Need-mul-h Inv-loop μ-loop
 mul-h c = search needs
 
--- src/lib.rt:41:29
 shared-slice-read-wide : tie.Need-shared-slice-read-wide Inv-loop μ-loop
 shared-slice-read-wide c = search needs
 
--- src/lib.rt:41:24
 wide-requires : tie.Need-wide-requires Inv-loop μ-loop
 wide-requires c κs = search needs
 
--- src/lib.rt:41:14
 add-h : tie.Need-add-h Inv-loop μ-loop
 add-h c = omega (arith, c .wide .ensures, c .before .shared-slice-known2 .given (c .before .before .before .loop .i), c .before .before .before .loop .inv .small)
 
--- src/lib.rt:42:9
 add-i : tie.Need-add-i Inv-loop μ-loop
 add-i c = search needs
 
--- src/lib.rt:40:5
 loop-less : tie.Need-loop-less Inv-loop μ-loop
 loop-less c = search needs
 
--- src/lib.rt:40:5
 loop-again : tie.Need-loop-again Inv-loop μ-loop
 loop-again c = sum-on (c .before .before .before .loop .inv) (c .before .before .loop-test .taken) (c .wide .ensures)
 
--- src/lib.rt:35:1
 returns : tie.Need-returns Inv-loop μ-loop
 returns c = sum-end (c .before .loop .inv) (c .loop-test .left)
 

@@ -1,17 +1,11 @@
+-- `names::find` meets its contract: no name that was passed is the path.
 use mathlib.Core.Path.{sym, _∙_}
 use native.Mathlib.Omega.{arith}
 use Rattle.names.proofs.Buckets.{bucket-small}
 use Rattle.names.proofs.Steps.{Finding, find-begin, find-end, find-here, find-more, less}
--- `names::find` meets its contract: no name that was passed is the path.
 use borrow.Author.Needs.{needs}
 use Rattle.names.proofs.find.Statement.{statement}
 use Rattle.names.proofs.find.Tie as tie
-use Rattle.names.proofs.find.Reads as reads
-use Rattle.names.proofs.find.Lts as lts
-use Rattle.lists.proofs.bytes.equal.Reads as equal-reads
-use Rattle.lists.proofs.words.at.Reads as at-reads
-use Rattle.names.proofs.bucket.Reads as bucket-reads
-use Rattle.names.proofs.name.Reads as name-reads
 
 abbrev Inv-loop : tie.InvT-loop
 Inv-loop names ends count path j₀ j = Finding names ends count path j
@@ -19,55 +13,42 @@ Inv-loop names ends count path j₀ j = Finding names ends count path j
 abbrev μ-loop : tie.MeasureT-loop
 μ-loop names ends count path j₀ j = j
 
--- src/lib.rt:60:33
 bucket-requires : tie.Need-bucket-requires Inv-loop μ-loop
 bucket-requires c κs = search needs
 
--- src/lib.rt:60:26
 add-at : tie.Need-add-at Inv-loop μ-loop
 add-at c = let s = bucket-small (c .before .before .before .before .args .path .now) in omega (arith, c .bucket .ensures)
 
--- src/lib.rt:60:9
 at-requires : tie.Need-at-requires Inv-loop μ-loop
 at-requires c κs = let s = bucket-small (c .before .before .before .before .args .path .now) in omega (arith, c .bucket .ensures, c .before .before .before .before .pre .holds .room)
 
--- src/lib.rt:61:5
 loop-holds : tie.Need-loop-holds Inv-loop μ-loop
 loop-holds c = rw (c .at .ensures) (find-begin (c .before .before .before .before .before .pre) (c .before .bucket .ensures))
 
--- src/lib.rt:62:17
 sub-k : tie.Need-sub-k Inv-loop μ-loop
 sub-k c = search needs
 
--- src/lib.rt:63:24
 name-requires : tie.Need-name-requires Inv-loop μ-loop
 name-requires c κs = (c .before .before .before .before .before .before .before .pre, omega (arith, c .before .loop .inv .within, c .loop-test .taken))
 
--- src/lib.rt:63:12
 equal-requires : tie.Need-equal-requires Inv-loop μ-loop
 equal-requires c κs = search needs
 
--- src/lib.rt:64:13
 returns : tie.Need-returns Inv-loop μ-loop
 returns c = find-here (c .before .before .before .before .loop .inv) (c .before .before .before .loop-test .taken) (c .before .before .name .ensures) (sym (c .before .equal .ensures) ∙ c .if1 .taken)
 
--- src/lib.rt:66:22
 add-at-2 : tie.Need-add-at-2 Inv-loop μ-loop
 add-at-2 c = omega (arith, c .before .before .before .before .loop .inv .within, c .before .before .before .before .loop .inv .holds .few)
 
--- src/lib.rt:66:9
 at-requires-2 : tie.Need-at-requires-2 Inv-loop μ-loop
 at-requires-2 c κs = omega (arith, c .before .before .before .before .loop .inv .within, c .before .before .before .before .loop .inv .holds .few, c .before .before .before .before .loop .inv .holds .room, c .before .before .before .loop-test .taken)
 
--- src/lib.rt:61:5
 loop-less : tie.Need-loop-less Inv-loop μ-loop
 loop-less c = rw (c .at2 .ensures) (less (c .before .before .before .before .before .loop .inv) (c .before .before .before .before .loop-test .taken) (c .before .before .before .name .ensures))
 
--- src/lib.rt:61:5
 loop-again : tie.Need-loop-again Inv-loop μ-loop
 loop-again c = rw (c .at2 .ensures) (find-more (c .before .before .before .before .before .loop .inv) (c .before .before .before .before .loop-test .taken) (c .before .before .before .name .ensures) (sym (c .before .before .equal .ensures) ∙ c .before .if1 .left))
 
--- src/lib.rt:56:1
 returns-2 : tie.Need-returns-2 Inv-loop μ-loop
 returns-2 c = find-end (c .before .loop .inv) (c .loop-test .left)
 

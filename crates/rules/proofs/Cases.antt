@@ -97,6 +97,10 @@ build-output-twice-in-step : shownPlan (plan (bytes "build a b a: phony\n") [] "
 unfolding shownPlan planAsk
 build-output-twice-in-step = refl
 
+order-8-before-9-empty-path-last : shownPlan (plan (bytes "#\nbuild aaaaaaaaaaaaaaaaaaaaaaaaaaaaaaaaaaaaaaaaaaaaaaaaaaaaaaaaaaaaaaaaaaaaaaaaaaaaaaaaaaaaaaaaaaaaaaaaaaaaaaaaaaaaaaaaaaaaaaaaaaaaaaaaaaaaaaaaaaaaaaaaaaaaaaaaaaaaaaaaaaaaaaaaaaaaaaaaaaaaaaaaaaaaaaaaaaaaaaaaaaaaaaaaaaaaaaaaaaaaaaaaaaaaaaaaaaaaaaaaaaaaaaaaaaaaaaaa: phony | b || $e\n") [] "") ≡ 8 ∷ 2 ∷ []
+unfolding shownPlan planAsk
+order-8-before-9-empty-path-last = refl
+
 default-of-a-later-output : shownPlan (plan (bytes "build a: phony b\ndefault b\nbuild b: phony\n") [] "") ≡ 8 ∷ 17 ∷ []
 unfolding shownPlan planAsk
 default-of-a-later-output = refl
