@@ -61,7 +61,7 @@ module _ {t names ends texts bind graph word : List ℕ} (e : t ≡ classes) (n 
   roomy =
       record {
         table = e;
-        room = record { names-room = omega (arith, n); ends-room = omega (arith, f); scratch = omega (arith, g); word-room = omega (arith, w) };
+        room = record { names-room = omega (arith, n); scratch = omega (arith, g); word-room = omega (arith, w) };
         names-small = omega (arith, n);
         numbers-room = omega (arith, f);
         texts-room = omega (arith, x);

@@ -84,8 +84,7 @@ top-ask {names = names} {fileEnds = fileEnds} a e =
       roomy =
           record {
             table = r .table;
-            room =
-                record { names-room = r .room .names-room; ends-room = rw l (r .room .ends-room); scratch = r .room .scratch; word-room = r .room .word-room };
+            room = r .room;
             names-small = r .names-small;
             numbers-room = rw l (r .numbers-room);
             texts-room = r .texts-room;

@@ -136,14 +136,8 @@ module _ {t l names fileEnds texts bind graph word : List ℕ} {c : Counts} {at 
 
 -- ---- room is kept
 
-pub room-kept : {names fileEnds word names′ fileEnds′ word′ : List ℕ} → Room names fileEnds word → length names′ ≡ length names → length fileEnds′ ≡ length fileEnds
-    → length word′ ≡ length word → Room names′ fileEnds′ word′
-room-kept r a b c =
-    record {
-      names-long = omega (arith, r .names-long, a);
-      ends-long = omega (arith, r .ends-long, b);
-      word-long = omega (arith, r .word-long, c);
-    }
+pub room-kept : {names word names′ word′ : List ℕ} → Room names word → length names′ ≡ length names → length word′ ≡ length word → Room names′ word′
+room-kept r a b = record { names-long = omega (arith, r .names-long, a); word-long = omega (arith, r .word-long, b) }
 
 -- ---- two lists
 
@@ -182,16 +176,16 @@ module _ {t l names fileEnds texts bind graph word : List ℕ} {c : Counts} {at 
         low = omega (arith, a .low);
       }
 
-  pub two-second : {names′ fileEnds′ graph′ word′ : List ℕ} {d : Counts} → length names′ ≡ length names → length fileEnds′ ≡ length fileEnds → length word′ ≡ length word
+  pub two-second : {names′ fileEnds′ graph′ word′ : List ℕ} {d : Counts} → length names′ ≡ length names → length word′ ≡ length word
       → Lists l at e names fileEnds texts bind graph c names′ fileEnds′ graph′ (On d) → ListAsks t l names′ fileEnds′ texts bind graph′ word′ d next (e + 1)
-  two-second p q r x =
+  two-second p q x =
       let pss = expanded (a .line .reading) (a .first) ∷ [] in
       record {
         table = a .table;
         short = a .short;
         raw = a .second;
         stands = a .second-stands;
-        room = room-kept (a .room) p q r;
+        room = room-kept (a .room) p q;
         line = withLists pss (a .line);
         writing = listed-on (x .listed (a .first) (a .first-stands) (a .line) (a .writing) (a .ended));
         ended = omega (arith, lists-ended pss (a .line), a .ended);
@@ -240,10 +234,10 @@ module _ {t l names fileEnds texts bind graph word : List ℕ} {c : Counts} {p :
         low = omega (arith, a .few);
       }
 
-  pub four-second : {names′ fileEnds′ graph′ word′ : List ℕ} {d : Counts} → length names′ ≡ length names → length fileEnds′ ≡ length fileEnds → length word′ ≡ length word
+  pub four-second : {names′ fileEnds′ graph′ word′ : List ℕ} {d : Counts} → length names′ ≡ length names → length word′ ≡ length word
       → Two l (p .outs) (p .ins) (4 * c .steps) names fileEnds texts bind graph c names′ fileEnds′ graph′ (On d)
       → TwoAsks t l names′ fileEnds′ texts bind graph′ word′ d (p .implicit) (p .order) (4 * c .steps + 2)
-  four-second x y r m =
+  four-second x y m =
       let pss = expanded (a .line .reading) (a .raw .outs) ∷ expanded (a .line .reading) (a .raw .ins) ∷ [] in
       record {
         table = a .table;
@@ -252,7 +246,7 @@ module _ {t l names fileEnds texts bind graph word : List ℕ} {c : Counts} {p :
         second = a .raw .orderOnly;
         first-stands = a .stands .implicit;
         second-stands = a .stands .orderOnly;
-        room = room-kept (a .room) x y r;
+        room = room-kept (a .room) x y;
         line = withLists pss (a .line);
         writing = listed-on (m .listed (a .raw .outs) (a .raw .ins) (a .stands .outs) (a .stands .ins) (a .line) (a .writing) (a .ended));
         ended = omega (arith, lists-ended pss (a .line), a .ended);

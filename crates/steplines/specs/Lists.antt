@@ -47,7 +47,7 @@ pub record ListAsks (t l names fileEnds texts bind graph word : List ℕ) (c : C
   pub short : length l ≤ maxManifest
   pub raw : List (List ℕ)
   pub stands : PathsAt l at raw
-  pub room : Room names fileEnds word
+  pub room : Room names word
   pub line : Line
   pub writing : Writing names fileEnds texts bind graph c line
   pub ended : length (line .ends) ≡ e
@@ -66,7 +66,7 @@ pub record TwoAsks (t l names fileEnds texts bind graph word : List ℕ) (c : Co
   pub second : List (List ℕ)
   pub first-stands : PathsAt l at first
   pub second-stands : PathsAt l next second
-  pub room : Room names fileEnds word
+  pub room : Room names word
   pub line : Line
   pub writing : Writing names fileEnds texts bind graph c line
   pub ended : length (line .ends) ≡ e
@@ -86,7 +86,7 @@ pub record FourAsks (t l names fileEnds texts bind graph word : List ℕ) (c : C
   pub short : length l ≤ maxManifest
   pub raw : BuildLine
   pub stands : Stands l p raw
-  pub room : Room names fileEnds word
+  pub room : Room names word
   pub line : Line
   pub writing : Writing names fileEnds texts bind graph c line
   pub ended : length (line .ends) ≡ 4 * c .steps
