@@ -71,7 +71,7 @@ module _ (d : Draft) (name : List ℕ) (from : ℕ) where
 
 -- ---- what is written stays
 
-part-front : (l : List ℕ) (f e n : ℕ) → e ≤ n → part (take n l) f e ≡ part l f e
+pub part-front : (l : List ℕ) (f e n : ℕ) → e ≤ n → part (take n l) f e ≡ part l f e
 part-front l f e n h = ap (take (e - f)) (drop-take f n l) ∙ take-take (e - f) (n - f) (drop f l) (omega arith)
 
 front-kept : {before s after : List ℕ} {place r : ℕ} → Open before place → Fits before place s after r → take place after ≡ take place before

@@ -1,5 +1,5 @@
 -- The plan from a read graph: the steps, the number of files, the time of each, the defaults and the targets by number. These are the rules'
--- own definitions without the manifest and the card that they are read from (`Laws` shows it).
+-- own definitions without the manifest and the card that they are read from (`Laws` of `planread` shows it).
 use Prim.Native.Nat.{ℕ, _≤_, _<_}
 use mathlib.Core.Path.{_≡_}
 use mathlib.Core.Bool.{not, _&&_}
@@ -122,8 +122,3 @@ pub record PlanAsked (mentions ends phony made times defaults targets list : Lis
   pub asked : GraphAsked mentions ends phony made times list
   pub defaults-low : Numbers defaults made
   pub targets-low : Numbers targets made
-
--- the card's time of each file, by number
-pub record Timed (card : List ℕ) (names : List (List ℕ)) (times : List ℕ) : Type 0 where
-  pub long : length times ≡ length names
-  pub timed : (f : ℕ) → f < length names → getD times f 0 ≡ timeIn (cardEntries card) (getD names f [])

@@ -10,19 +10,12 @@ use Rattle.rules.specs.Reading.{Step, Reading}
 use Rattle.arena.specs.Columns.{Lies, startOf, column}
 use Rattle.arena.proofs.Laws.{Column, lies-column, lies-part}
 use Rattle.tables.specs.Tables.{Holds, endsFrom}
+use Rattle.tables.proofs.Places.{length-ends}
 use Rattle.tables.proofs.Held.{held-steps, held-sound}
 use Rattle.held.specs.declared.Counts.{Counts}
 use Rattle.held.specs.Held.{capacities, Graphed}
 use Rattle.planning.specs.Plan.{PlanAsked, PlansGraph, Numbers}
 use Rattle.planread.specs.Asked.{Tabled, ColumnsAsked, PlansColumns}
-
-length-ends : (k : ℕ) (steps : List Step) → length (endsFrom k steps) ≡ 4 * length steps
-unfolding endsFrom
-length-ends k [] = refl
-length-ends k (s ∷ l) =
-    let d = k + length (s .outs) + length (s .ins) + length (s .implicit) + length (s .orderOnly) in
-    let h = length-ends d l in
-    omega arith
 
 module _ (graph : List ℕ) (c : Counts) where
   abbrev pub mentionsIn : List ℕ

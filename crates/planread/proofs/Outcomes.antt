@@ -28,9 +28,8 @@ use Rattle.targetfiles.specs.declared.Numbered.the-variants.{All, Bad}
 use Rattle.targetfiles.specs.Numbered.{numbersOf, Numbers, Says, NumbersTargets}
 use Rattle.held.specs.declared.Counts.{Counts}
 use Rattle.held.specs.Held.{Holds}
-use Rattle.planning.specs.Plan.{Timed as PlanTimed}
 use Rattle.planning.proofs.Outcomes.{cleared}
-use Rattle.planning.proofs.Laws.{plan-of-read}
+use Rattle.planread.proofs.Laws.{CardTimes, plan-of-read}
 use Rattle.planread.specs.Asked.{Tabled, ColumnsAsked, PlansColumns, ReadAsked, PlansRead}
 
 pub tabled : {log : List Logged} {names ends texts bind graph : List ℕ} {c : Counts} {rd : Reading} → Holds log names ends texts bind graph c rd → Tabled graph c rd
@@ -82,7 +81,7 @@ module _ {card targets names ends graph : List ℕ} {c : Counts} (s : soundCard 
         let w : length (timesOf card (rd .files)) ≡ c .files = length-map (rd .files) (timeIn (cardEntries card)) ∙ sym (h .named .counted) in
         rw (t .filled (rd .files) (h .named), ← w) (take-append-seam (timesOf card (rd .files)) (drop (length (timesOf card (rd .files))) before))
 
-    timed : PlanTimed card (rd .files) (take (c .files) times)
+    timed : CardTimes card (rd .files) (take (c .files) times)
     unfolding timesOf
     timed =
         rw times-are

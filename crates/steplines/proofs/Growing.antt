@@ -42,12 +42,6 @@ ends-more k (x ∷ l) s n e =
     ap (λ (r : List ℕ). a ∷ b ∷ c ∷ d ∷ r)
     (ends-more d l s n (omega (arith, length-append (mentionsOf x) (concat (map mentionsOf l)), length-mentions x)))
 
-pub length-ends : (k : ℕ) (steps : List Step) → length (endsFrom k steps) ≡ 4 * length steps
-unfolding endsFrom
-length-ends k [] = refl
-length-ends k (x ∷ l) =
-    omega (arith, length-ends (k + length (x .outs) + length (x .ins) + length (x .implicit) + length (x .orderOnly)) l)
-
 pub map-more : {B : Type 0} (f : Step → B) (steps : List Step) (s : Step) → map f (steps ++ (s ∷ [])) ≡ map f steps ++ (f s ∷ [])
 map-more f [] s = refl
 map-more {B} f (x ∷ l) s = ap (λ (r : List B). f x ∷ r) (map-more f l s)

@@ -124,15 +124,11 @@ module _ {l : List ℕ} {at : ℕ} {names fileEnds texts bind graph : List ℕ} 
   one-over m =
       record { listed = λ raw s h w q. over (λ more. rw (concat-one (expanded (h .reading) raw)) (marks-over (m .marks raw s h w) more)) }
 
--- the end's place and number are low, for the store
-module _ {t l names fileEnds texts bind graph word : List ℕ} {c : Counts} {at e : ℕ} (a : ListAsks t l names fileEnds texts bind graph word c at e) where
-  pub one-asks : mentions.ListAsks t l names fileEnds texts bind graph word c at
-  one-asks =
-      record { table = a .table; short = a .short; raw = a .raw; stands = a .stands; room = a .room; line = a .line; writing = a .writing }
-
-  pub one-held : {names′ fileEnds′ graph′ : List ℕ} {d : Counts} → MentionsAll l at names fileEnds texts bind graph c names′ fileEnds′ graph′ (On d)
-      → Writing names′ fileEnds′ texts bind graph′ d (withPaths (expanded (a .line .reading) (a .raw)) (a .line))
-  one-held m = marks-on (m .marks (a .raw) (a .stands) (a .line) (a .writing))
+-- what is held of the line then, for the store
+pub one-held : {t l names fileEnds texts bind graph word : List ℕ} {c : Counts} {at : ℕ} (a : mentions.ListAsks t l names fileEnds texts bind graph word c at)
+    → {names′ fileEnds′ graph′ : List ℕ} {d : Counts} → MentionsAll l at names fileEnds texts bind graph c names′ fileEnds′ graph′ (On d)
+    → Writing names′ fileEnds′ texts bind graph′ d (withPaths (expanded (a .line .reading) (a .raw)) (a .line))
+one-held a m = marks-on (m .marks (a .raw) (a .stands) (a .line) (a .writing))
 
 -- ---- room is kept
 
@@ -165,13 +161,7 @@ module _ {t l names fileEnds texts bind graph word : List ℕ} {c : Counts} {at 
   pub two-first : ListAsks t l names fileEnds texts bind graph word c at e
   two-first =
       record {
-        table = a .table;
-        short = a .short;
-        raw = a .first;
-        stands = a .first-stands;
-        room = a .room;
-        line = a .line;
-        writing = a .writing;
+        asks = record { table = a .table; short = a .short; raw = a .first; stands = a .first-stands; room = a .room; line = a .line; writing = a .writing };
         ended = a .ended;
         low = omega (arith, a .low);
       }
@@ -181,13 +171,16 @@ module _ {t l names fileEnds texts bind graph word : List ℕ} {c : Counts} {at 
   two-second p q x =
       let pss = expanded (a .line .reading) (a .first) ∷ [] in
       record {
-        table = a .table;
-        short = a .short;
-        raw = a .second;
-        stands = a .second-stands;
-        room = room-kept (a .room) p q;
-        line = withLists pss (a .line);
-        writing = listed-on (x .listed (a .first) (a .first-stands) (a .line) (a .writing) (a .ended));
+        asks =
+            record {
+              table = a .table;
+              short = a .short;
+              raw = a .second;
+              stands = a .second-stands;
+              room = room-kept (a .room) p q;
+              line = withLists pss (a .line);
+              writing = listed-on (x .listed (a .first) (a .first-stands) (a .line) (a .writing) (a .ended));
+            };
         ended = omega (arith, lists-ended pss (a .line), a .ended);
         low = a .low;
       }

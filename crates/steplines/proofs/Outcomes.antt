@@ -29,7 +29,7 @@ use Rattle.steplines.specs.Joins.{ruleNumber, JoinAsks, Joins}
 use Rattle.steplines.proofs.Listing.{listed-on, listed-short, listed-over}
 use Rattle.steplines.proofs.Closed.{lists-made, concat-lists}
 use Rattle.steplines.proofs.Numbered.{ruled, number-low}
-use Rattle.steplines.proofs.Growing.{length-ends}
+use Rattle.tables.proofs.Places.{length-ends}
 use Rattle.steplines.proofs.Stepped.{lineOf, pathsOf, stepFor, lineAfter, lists-line, step-ready}
 use Rattle.steplines.proofs.Joined.{step-held}
 

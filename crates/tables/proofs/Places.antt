@@ -22,7 +22,7 @@ start-suc ends zero d = absurd (d refl)
 start-suc ends (suc s) d = let e : 4 * suc s - 1 ≡ 4 * s + 3 = omega arith in rw e
 
 -- a part between two others
-part-mid : (a b c : List ℕ) (f e : ℕ) → f ≡ length a → e ≡ length a + length b → part (a ++ (b ++ c)) f e ≡ b
+pub part-mid : (a b c : List ℕ) (f e : ℕ) → f ≡ length a → e ≡ length a + length b → part (a ++ (b ++ c)) f e ≡ b
 part-mid a b c f e p q =
     let d : length a + length b - length a ≡ length b = omega arith in
     rw (p, q, d, drop-append-seam a (b ++ c)) (take-append-seam b c)
@@ -34,6 +34,11 @@ skip-four a b c d r i j e = let q : i ≡ suc (suc (suc (suc j))) = omega arith 
 -- where the files of step x end, that start at k
 after : ℕ → Step → ℕ
 after k x = k + length (x .outs) + length (x .ins) + length (x .implicit) + length (x .orderOnly)
+
+pub length-ends : (k : ℕ) (steps : List Step) → length (endsFrom k steps) ≡ 4 * length steps
+unfolding endsFrom after
+length-ends k [] = refl
+length-ends k (x ∷ l) = omega (arith, length-ends (after k x) l)
 
 -- the end of number j of step s
 abbrev endOf : ℕ → List Step → ℕ → ℕ → ℕ
