@@ -51,14 +51,10 @@ lists-ended (ps ∷ pss) h =
     let k = lists-ended pss (withEnd (withPaths ps h)) in
     omega (arith, k, length-append (withPaths ps h .ends) (length (withPaths ps h .mentions) ∷ []), ap length (paths-ends ps h))
 
--- the file's variables and the steps stay
+-- the file's variables stay
 pub lists-vars : (pss : List (List (List ℕ))) (h : Line) → withLists pss h .reading .vars ≡ h .reading .vars
 unfolding mentioned
 lists-vars pss h = ap (λ (rd : Reading). rd .vars) (lists-reading pss h)
-
-pub lists-steps : (pss : List (List (List ℕ))) (h : Line) → withLists pss h .reading .steps ≡ h .reading .steps
-unfolding mentioned
-lists-steps pss h = ap (λ (rd : Reading). rd .steps) (lists-reading pss h)
 
 -- ---- answers
 
