@@ -4,7 +4,7 @@ use Prim.Native.Nat.{ℕ, _≤_, _<_}
 use mathlib.Core.Path.{_≡_}
 use mathlib.Core.Bool.{not, _&&_}
 use mathlib.Core.Option.{Option, none, some}
-use mathlib.Core.List.{List, []}
+use mathlib.Core.List.{List}
 use lib.Dec.{eqb}
 use lib.ListN.{length, getD}
 use Rattle.lists.specs.Fill.{zeros}
@@ -17,7 +17,6 @@ use Rattle.rules.specs.declared.PlanAnswer.{PlanAnswer}
 use Rattle.rules.specs.Basics.{isEmpty}
 use Rattle.rules.specs.Limits.{leastList}
 use Rattle.rules.specs.Reading.{Step}
-use Rattle.rules.specs.Card.{cardEntries, timeIn}
 use Rattle.rules.specs.Graph.{tops, isNeededSource, hasOrder}
 use Rattle.rules.specs.Stale.{listOf}
 use Rattle.rules.specs.Answers.{planSays}

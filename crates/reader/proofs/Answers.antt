@@ -13,7 +13,7 @@ use Rattle.rules.specs.Bytes.{newline}
 use Rattle.rules.specs.Lines.{Line, linesOf}
 use Rattle.rules.specs.Reading.{Reading, nothingRead}
 use Rattle.rules.specs.Statements.{Block, noBlock, Outcome, goesOn, refused}
-use Rattle.rules.specs.Manifest.{badByte, close, andThen, readLine, readLines, refusedWith, readOf, ifSound, readManifest}
+use Rattle.rules.specs.Manifest.{badByte, andThen, readLine, readLines, refusedWith, readOf, ifSound, readManifest}
 use Rattle.scan.specs.declared.FirstBad.{FirstBad}
 use Rattle.scan.specs.declared.FirstBad.the-variants.{Nowhere, At}
 use Rattle.scan.specs.Texts.{placeOf}

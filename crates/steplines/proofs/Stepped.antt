@@ -5,17 +5,15 @@ use mathlib.Core.Path.{_≡_, sym, _∙_, ap}
 use native.Mathlib.Decide.{decLt}
 use native.Mathlib.Omega.{arith}
 use lib.ListN.{length, getD, length-append, List·getD-append}
-use lib.Seq.{getD-append-seam, getD-append-add, take-append-seam, drop-append-seam}
+use lib.Seq.{getD-append-seam, getD-append-add}
 use Rattle.lists.specs.Members.{in-at}
 use Rattle.lists.specs.Parts.{part}
-use Rattle.rules.specs.Basics.{concat}
 use Rattle.rules.specs.Limits.{maxSteps}
 use Rattle.rules.specs.Forms.{BuildLine}
 use Rattle.rules.specs.Reading.{Step, Reading, numbersOf, mention}
 use Rattle.rules.specs.Statements.{mentioned, inputsOfLine}
 use Rattle.rules.specs.Graph.{inputs}
 use Rattle.bindings.specs.Log.{Logged}
-use Rattle.tables.specs.Tables as tables
 use Rattle.tables.specs.Tables.{mentionsOf, endsFrom}
 use Rattle.tables.proofs.Held.{held-steps}
 use Rattle.held.specs.declared.Counts.{Counts}

@@ -2,14 +2,14 @@
 use Prim.Native.Nat.{ℕ, zero, suc, _+_, _*_, _-_, _≤_, _<_}
 use native.Mathlib.Nat.{add-zero, not-suc-le-zero, le-of-suc-le-suc}
 use native.Mathlib.Omega.{arith}
-use mathlib.Core.Path.{_≡_, refl, sym, ap, _∙_}
+use mathlib.Core.Path.{_≡_, refl, sym}
 use mathlib.Core.List.{List, [], _∷_, _++_, map, append-assoc}
-use lib.ListN.{length, getD, take, drop, length-append}
+use lib.ListN.{length, getD, length-append}
 use lib.Seq.{take-append-seam, drop-append-seam}
 use Rattle.lists.specs.Parts.{part}
 use Rattle.rules.specs.Basics.{concat}
 use Rattle.rules.specs.Reading.{Step}
-use Rattle.rules.specs.Graph.{inputs, counted, noStep, stepAt}
+use Rattle.rules.specs.Graph.{inputs, counted, stepAt}
 use Rattle.tables.specs.Tables.{mentionsOf, endsFrom, startIn, outsIn, countedIn, inputsIn, Placed}
 
 pub start-zero : (ends : List ℕ) (s : ℕ) → s ≡ 0 → 0 ≡ startIn ends s

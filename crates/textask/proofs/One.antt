@@ -5,13 +5,12 @@ use mathlib.Core.Path.{_≡_, sym, _∙_, ap}
 use native.Mathlib.Omega.{arith}
 use lib.ListN.{length, getD}
 use lib.Seq.{ext-getD}
-use Rattle.rules.specs.Reading.{Rule, Reading, keysOf}
+use Rattle.rules.specs.Reading.{Reading}
 use Rattle.bindings.specs.Log.{Logged, noEntry, entryAt, rulesOf}
 use Rattle.bindings.specs.Held.{Holds}
 use Rattle.bindings.proofs.Entries.{row-at}
 use Rattle.held.specs.declared.Counts.{Counts}
 use Rattle.held.specs.Held.{Bound}
-use Rattle.lookups.specs.Scope.{SoundKeys}
 use Rattle.textask.specs.Asks.{SoundRules}
 
 same-logged : (a b : Logged) → a .owner ≡ b .owner → a .name ≡ b .name → a .value ≡ b .value → a ≡ b

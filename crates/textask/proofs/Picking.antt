@@ -7,12 +7,12 @@ use native.Mathlib.Decide.{ℕ-discrete}
 use native.Mathlib.Omega.{arith}
 use borrow.Author.Tests.{eq-eqb, ne-eqb, le-leb}
 use lib.Dec.{leb}
-use lib.ListN.{length, take, drop, getD}
-use lib.Seq.{take-take, getD-take}
+use lib.ListN.{length, take, getD}
+use lib.Seq.{getD-take}
 use Rattle.lists.specs.Tests.{split}
 use Rattle.lists.specs.Bytes.{eq-eqBytes}
 use Rattle.lists.specs.Members.{in-at}
-use Rattle.lists.specs.Parts.{part, drop-take}
+use Rattle.lists.specs.Parts.{part}
 use Rattle.rules.specs.Reading.{Reading, isPhony, keysOf}
 use Rattle.rules.specs.Graph.{stepAt}
 use Rattle.arena.proofs.Laws.{lies-column, lies-read}
