@@ -1,7 +1,7 @@
 // The answers of the two asks as document 01's numbers, for whoever prints or compares them.
 ghost use mathlib.Core.Path.{_≡_};
 ghost use Rattle.rules.specs.Answers.{refusalSays, planSays, textSays};
-ghost use Rattle.answers.specs.Numbers.{said};
+ghost use Rattle.answers.specs.Numbers.{saying, said};
 use rules::PlanAnswer;
 use rules::Refusal;
 use rules::TextAnswer;
@@ -13,82 +13,34 @@ pub struct Numbers {
     pub value: usize,
 }
 
+fn pair(number: usize, value: usize) -> Numbers
+    ensures { λ x. ⌜ said x ≡ saying number value ⌝ }
+{
+    Numbers { number, value }
+}
+
 pub fn of_refusal(r: Refusal) -> Numbers
     ensures { λ x. ⌜ said x ≡ refusalSays r ⌝ }
 {
     match r {
-        Refusal::ShortBuffer => Numbers {
-            number: 1,
-            value: 0,
-        },
-        Refusal::LongManifest => Numbers {
-            number: 2,
-            value: 0,
-        },
-        Refusal::BadByte(p) => Numbers {
-            number: 3,
-            value: p,
-        },
-        Refusal::BadLine(p) => Numbers {
-            number: 4,
-            value: p,
-        },
-        Refusal::BadDollar(p) => Numbers {
-            number: 5,
-            value: p,
-        },
-        Refusal::NotYet(p) => Numbers {
-            number: 6,
-            value: p,
-        },
-        Refusal::BadRule(p) => Numbers {
-            number: 7,
-            value: p,
-        },
-        Refusal::BadPath(p) => Numbers {
-            number: 8,
-            value: p,
-        },
-        Refusal::OverLimit(p) => Numbers {
-            number: 9,
-            value: p,
-        },
-        Refusal::BadVersion(p) => Numbers {
-            number: 10,
-            value: p,
-        },
-        Refusal::BadCard => Numbers {
-            number: 11,
-            value: 0,
-        },
-        Refusal::BadTarget(p) => Numbers {
-            number: 12,
-            value: p,
-        },
-        Refusal::NoRoot => Numbers {
-            number: 13,
-            value: 0,
-        },
-        Refusal::Circle(n) => Numbers {
-            number: 14,
-            value: n,
-        },
-        Refusal::MissingSource(f) => Numbers {
-            number: 15,
-            value: f,
-        },
-        Refusal::EndlessText(s) => Numbers {
-            number: 16,
-            value: s,
-        },
-        Refusal::LongText(s) => Numbers {
-            number: 17,
-            value: s,
-        },
-        Refusal::NoCommand(s) => Numbers {
-            number: 18,
-            value: s,
-        },
+        Refusal::ShortBuffer => pair(1, 0),
+        Refusal::LongManifest => pair(2, 0),
+        Refusal::BadByte(p) => pair(3, p),
+        Refusal::BadLine(p) => pair(4, p),
+        Refusal::BadDollar(p) => pair(5, p),
+        Refusal::NotYet(p) => pair(6, p),
+        Refusal::BadRule(p) => pair(7, p),
+        Refusal::BadPath(p) => pair(8, p),
+        Refusal::OverLimit(p) => pair(9, p),
+        Refusal::BadVersion(p) => pair(10, p),
+        Refusal::BadCard => pair(11, 0),
+        Refusal::BadTarget(p) => pair(12, p),
+        Refusal::NoRoot => pair(13, 0),
+        Refusal::Circle(n) => pair(14, n),
+        Refusal::MissingSource(f) => pair(15, f),
+        Refusal::EndlessText(s) => pair(16, s),
+        Refusal::LongText(s) => pair(17, s),
+        Refusal::NoCommand(s) => pair(18, s),
     }
 }
 
@@ -96,10 +48,7 @@ pub fn of_plan(a: PlanAnswer) -> Numbers
     ensures { λ x. ⌜ said x ≡ planSays a ⌝ }
 {
     match a {
-        PlanAnswer::Listed(n) => Numbers {
-            number: 0,
-            value: n,
-        },
+        PlanAnswer::Listed(n) => pair(0, n),
         PlanAnswer::Refused(r) => of_refusal(r),
     }
 }
@@ -108,10 +57,7 @@ pub fn of_text(a: TextAnswer) -> Numbers
     ensures { λ x. ⌜ said x ≡ textSays a ⌝ }
 {
     match a {
-        TextAnswer::Written(n) => Numbers {
-            number: 0,
-            value: n,
-        },
+        TextAnswer::Written(n) => pair(0, n),
         TextAnswer::Refused(r) => of_refusal(r),
     }
 }

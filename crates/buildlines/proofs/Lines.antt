@@ -57,6 +57,6 @@ module _ {t l names ends texts bind graph word : List ℕ} {c : Counts} {p : Bui
         short = a .short;
         line = a .line;
         stands = a .stands;
-        room = record { names-long = a .names-room; ends-long = a .ends-room; word-long = omega (arith, a .room) };
+        room = record { names-long = a .names-room; word-long = omega (arith, a .room) };
         whole = whole-kept k (a .whole);
       }

@@ -3,7 +3,7 @@ use Prim.Native.Nat.{ℕ, _+_, _≤_}
 use mathlib.Core.List.{List}
 use mathlib.Core.Path.{_≡_}
 use lib.ListN.{length}
-use Rattle.rules.specs.Limits.{maxFiles, maxManifest, maxWritten}
+use Rattle.rules.specs.Limits.{maxManifest, maxWritten}
 use Rattle.rules.specs.Forms.{BuildLine}
 use Rattle.classes.specs.Table.{classes}
 use Rattle.forms.specs.Statements.{Stands}
@@ -21,5 +21,4 @@ pub record BuildAsks (t l names fileEnds texts bind graph word : List ℕ) (c : 
   pub room : maxWritten ≤ length word
   pub scratch : columnsEnd + maxManifest ≤ length graph
   pub names-room : maxWritten ≤ length names
-  pub ends-room : maxFiles ≤ length fileEnds
   pub whole : Whole names fileEnds texts bind graph c

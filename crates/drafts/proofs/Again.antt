@@ -3,7 +3,7 @@ use Prim.Native.Nat.{ℕ, _+_, _-_, _≤_, _<_}
 use mathlib.Core.List.{List, [], _∷_, _++_}
 use mathlib.Core.Path.{_≡_, refl, sym, _∙_, ap}
 use native.Mathlib.Omega.{arith}
-use lib.ListN.{length, take, getD, length-take, List·getD-append}
+use lib.ListN.{length, take, getD, List·getD-append}
 use lib.Seq.{length-take-le, getD-take}
 use Rattle.lists.specs.Parts.{part, part-none, part-snoc, part-append}
 use Rattle.rules.specs.Limits.{maxText}

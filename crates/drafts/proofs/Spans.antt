@@ -6,7 +6,7 @@ use mathlib.Core.Logic.{_⊎_, inl, inr, ⊎-elim}
 use mathlib.Core.Path.{_≡_, refl, sym, _∙_, ap}
 use native.Mathlib.Nat.{le-refl}
 use native.Mathlib.Omega.{arith}
-use lib.ListN.{length, take, drop, length-take}
+use lib.ListN.{length, take, drop}
 use lib.Seq.{length-take-le, take-take, take-append-le, take-all, drop-at}
 use Rattle.lists.specs.Tests.{split}
 use Rattle.lists.specs.Text.{bytes}
@@ -71,7 +71,7 @@ module _ (d : Draft) (name : List ℕ) (from : ℕ) where
 
 -- ---- what is written stays
 
-part-front : (l : List ℕ) (f e n : ℕ) → e ≤ n → part (take n l) f e ≡ part l f e
+pub part-front : (l : List ℕ) (f e n : ℕ) → e ≤ n → part (take n l) f e ≡ part l f e
 part-front l f e n h = ap (take (e - f)) (drop-take f n l) ∙ take-take (e - f) (n - f) (drop f l) (omega arith)
 
 front-kept : {before s after : List ℕ} {place r : ℕ} → Open before place → Fits before place s after r → take place after ≡ take place before

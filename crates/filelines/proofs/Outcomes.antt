@@ -117,7 +117,6 @@ module _ (l : Line) {t names fileEnds texts bind graph word : List ℕ} {c : Cou
         room = a .room .word-room;
         scratch = a .room .scratch;
         names-room = a .room .names-room;
-        ends-room = a .room .ends-room;
         whole = between-whole (a .between);
       }
 

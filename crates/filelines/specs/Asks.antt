@@ -2,7 +2,7 @@
 use Prim.Native.Nat.{ℕ, _+_, _≤_}
 use mathlib.Core.List.{List}
 use lib.ListN.{length}
-use Rattle.rules.specs.Limits.{maxFiles, maxManifest, maxWritten}
+use Rattle.rules.specs.Limits.{maxManifest, maxWritten}
 use Rattle.rules.specs.Reading.{Reading}
 use Rattle.rules.specs.Statements.{Block, Outcome}
 use Rattle.bindings.specs.Log.{Logged}
@@ -13,10 +13,9 @@ use Rattle.held.specs.declared.LineAnswer.{LineAnswer}
 use Rattle.held.specs.Held.{joined, Opens, Holds, Agrees}
 use Rattle.outputs.specs.Asks.{columnsEnd}
 
--- room that no line uses up: for all names and their ends, for one word, and behind the columns of the graph
-pub record Room (names fileEnds graph word : List ℕ) : Type 0 where
+-- room that no line uses up: for all names, for one word, and behind the columns of the graph
+pub record Room (names graph word : List ℕ) : Type 0 where
   pub names-room : maxWritten ≤ length names
-  pub ends-room : maxFiles ≤ length fileEnds
   pub scratch : columnsEnd + maxManifest ≤ length graph
   pub word-room : maxWritten ≤ length word
 
@@ -30,7 +29,7 @@ pub record Between (names fileEnds texts bind graph : List ℕ) (c : Counts) (o 
 
 pub record LineAsks (t : List ℕ) (start : ℕ) (l names fileEnds texts bind graph word : List ℕ) (c : Counts) (o : Open) : Type 0 where
   pub cut : CutAsks t start l
-  pub room : Room names fileEnds graph word
+  pub room : Room names graph word
   pub between : Between names fileEnds texts bind graph c o
 
 -- The line's answer agrees with its outcome, whatever reading and block were held.

@@ -1,22 +1,19 @@
 -- The loop that walks from one step: its state, and what each turn makes of it.
-use Prim.Native.Nat.{ℕ, zero, suc, _+_, _*_, _-_, _≤_, _<_}
-use native.Mathlib.Nat.{le-refl}
+use Prim.Native.Nat.{ℕ, suc, _+_, _*_, _-_, _≤_, _<_}
 use native.Mathlib.Numerals.{add-one}
 use native.Mathlib.Decide.{decLt, ℕ-discrete}
 use native.Mathlib.Omega.{arith}
 use mathlib.Core.Path.{_≡_, refl, sym, ap, _∙_}
 use mathlib.Core.Logic.{_⊎_, inl, inr}
 use mathlib.Core.List.{List, [], _∷_, _++_}
-use lib.ListN.{length, getD, take, drop, set, length-set}
+use lib.ListN.{length, getD, take, set, length-set}
 use lib.Seq.{take-suc, take-suc-set, getD-take, getD-set-same, getD-set-other, length-take-le}
-use Rattle.lists.specs.Members.{_∈_, _∉_, _⊆_, here, there, in-left, in-right, in-snoc, in-at, at-before, place-before, not-in-nil}
-use Rattle.orders.specs.Order.{IsOrder, IsCircle}
-use Rattle.orders.specs.Greedy.{In, By}
-use Rattle.orders.specs.Reach.{Upstream, direct, further, Reached, Closed, upstream-more}
-use Rattle.tables.specs.Tables.{makerAt, inputsIn, beforeIn, Sound, Files, Placed}
+use Rattle.lists.specs.Members.{_∈_, _∉_, _⊆_, here, there, in-left, in-right, in-snoc, at-before, place-before, not-in-nil}
+use Rattle.orders.specs.Reach.{direct, Reached, upstream-more}
+use Rattle.tables.specs.Tables.{makerAt, inputsIn, beforeIn, Sound, Files}
 use Rattle.tables.proofs.Makers.{in-makersIn, makersIn-in, maker-low}
 use Rattle.tables.proofs.Held.{part-files, part-few}
-use Rattle.graph.specs.Walk.{mark, Walk, Passed, Opens, Visited, Settled, Circled, Starts, Finds}
+use Rattle.graph.specs.Walk.{Walk, Passed, Opens, Settled, Circled, Starts, Finds}
 use Rattle.graph.proofs.Walk.{two-done, one-path, not-two, not-one, walk-push, walk-pop, path-room, done-room, walk-circle}
 
 finds-before : (n : ℕ) (l : List ℕ) (x j : ℕ) → Finds l x j → x ∈ take n l → j < n

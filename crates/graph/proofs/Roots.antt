@@ -1,16 +1,15 @@
 -- The walks from the makers of the roots, one after another.
-use Prim.Native.Nat.{ℕ, zero, suc, _+_, _-_, _≤_, _<_}
+use Prim.Native.Nat.{ℕ, suc, _+_, _-_, _≤_, _<_}
 use native.Mathlib.Decide.{decLt}
 use native.Mathlib.Omega.{arith}
 use mathlib.Core.Path.{_≡_, refl, sym, ap, _∙_}
 use mathlib.Core.Bool.{true, false}
-use mathlib.Core.Logic.{_⊎_, inl, inr}
+use mathlib.Core.Logic.{inl, inr}
 use mathlib.Core.List.{List, [], _∷_}
-use lib.ListN.{length, getD, take, drop}
+use lib.ListN.{length, getD, take}
 use Rattle.lists.specs.Tests.{split}
-use Rattle.lists.specs.Members.{_∈_, _∉_, _⊆_, here, there, has, has-true, has-false, in-cons, in-take, place, not-in-nil}
-use Rattle.orders.specs.Order.{IsOrder, IsCircle}
-use Rattle.orders.specs.Greedy.{In, By}
+use Rattle.lists.specs.Members.{_∈_, has, has-true, has-false, in-cons, in-take, place, not-in-nil}
+use Rattle.orders.specs.Greedy.{In}
 use Rattle.orders.specs.Reach.{Upstream, direct, further, Reached, upstream-more, reach-least, reach-complete}
 use Rattle.lists.specs.Fill.{length-zeros, getD-zeros}
 use Rattle.tables.specs.Tables.{makerAt, makersIn, beforeIn, neededIn, Sound, Files}
@@ -18,7 +17,7 @@ use Rattle.tables.proofs.Makers.{in-makersIn, makersIn-in, maker-low, makers-sm
 use Rattle.tables.proofs.Held.{before-small}
 use Rattle.graph.specs.declared.Visit.{Visit}
 use Rattle.graph.specs.declared.Visit.the-variants.{Done, Circle}
-use Rattle.graph.specs.Walk.{mark, Walk, Passed, Visited, Settled, Circled, Explored, Starts, Rooted, RootSeen, RootAsked, SortAsked, Ordered}
+use Rattle.graph.specs.Walk.{mark, Walk, Visited, Circled, Explored, Starts, Rooted, RootSeen, RootAsked, SortAsked, Ordered}
 use Rattle.graph.proofs.Walk.{mark-zero, walk-none}
 
 upstream-trans : {before : ℕ → List ℕ} {m k s : ℕ} → Upstream before m k → Upstream before k s → Upstream before m s

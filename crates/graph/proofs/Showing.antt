@@ -1,15 +1,15 @@
 -- A circle on the path, shown in the list.
-use Prim.Native.Nat.{ℕ, _≤_, _<_}
+use Prim.Native.Nat.{ℕ, _≤_}
 use native.Mathlib.Omega.{arith}
-use mathlib.Core.Path.{_≡_, refl, _∙_}
+use mathlib.Core.Path.{_≡_, refl}
 use mathlib.Core.List.{List}
-use lib.ListN.{length, take, drop, length-take, length-drop}
+use lib.ListN.{length, length-take, length-drop}
 use Rattle.lists.specs.Parts.{part, drop-take}
 use Rattle.orders.specs.Greedy.{In}
 use Rattle.tables.specs.Tables.{beforeIn, neededIn, Shown}
 use Rattle.graph.specs.declared.Visit.{Visit}
 use Rattle.graph.specs.declared.Visit.the-variants.{Done, Circle}
-use Rattle.graph.specs.Walk.{Circled, Ordered, Sorted}
+use Rattle.graph.specs.Walk.{Circled, Sorted}
 use Rattle.graph.specs.Sort.{Showable, InOrder, InCircle}
 
 module _ (mentions ends made roots : List ℕ) (n : ℕ) (path order : List ℕ) {o : Visit} (s : Sorted mentions ends made roots n path order o) where

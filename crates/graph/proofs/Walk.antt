@@ -1,18 +1,18 @@
 -- A walk's turns: a step is put on the path, comes off it done, or closes a circle.
-use Prim.Native.Nat.{ℕ, zero, suc, _+_, _≤_, _<_}
+use Prim.Native.Nat.{ℕ, suc, _+_, _<_}
 use native.Mathlib.Decide.{ℕ-discrete}
 use native.Mathlib.Omega.{arith}
-use mathlib.Core.Path.{_≡_, refl, sym, ap, _∙_}
-use mathlib.Core.Bool.{Bool, true, false, _||_}
+use mathlib.Core.Path.{_≡_, refl, sym, _∙_}
+use mathlib.Core.Bool.{true, false}
 use mathlib.Core.Logic.{inl, inr}
 use mathlib.Core.List.{List, [], _∷_, _++_}
-use lib.ListN.{length, getD, take, drop, set, length-set, length-append, List·getD-append}
+use lib.ListN.{length, getD, drop, set, length-set, length-append}
 use lib.Seq.{getD-set-same, getD-set-other}
-use Rattle.lists.specs.Tests.{ifB, split, differ}
-use Rattle.lists.specs.Members.{_∈_, _∉_, here, there, Each, Once, has, in-has, not-in-has, has-true, has-false, in-left, in-right, in-snoc, in-at, not-in-nil, each-nil, each-snoc, each-init, each-last, once-below, place, place-before}
-use Rattle.orders.specs.Order.{IsOrder, IsCircle}
+use Rattle.lists.specs.Tests.{split}
+use Rattle.lists.specs.Members.{_∈_, _∉_, here, has, in-has, not-in-has, has-true, has-false, in-left, in-right, in-snoc, not-in-nil, each-nil, each-snoc, each-init, each-last, once-below}
+use Rattle.orders.specs.Order.{IsCircle}
 use Rattle.orders.specs.Greedy.{By}
-use Rattle.orders.specs.Circle.{Linked, linked-init, linked-snoc, drop-circle}
+use Rattle.orders.specs.Circle.{linked-init, linked-snoc, drop-circle}
 use Rattle.graph.specs.Walk.{mark, Walk}
 
 -- what each mark says

@@ -1,7 +1,7 @@
 // The plan of a read graph for Rust: the tables come from outside, so all that planning asks of them is checked first.
 ghost use mathlib.Core.Path.{_≡_};
 ghost use Prim.Native.Nat.{ℕ, _+_, _*_, _≤_, _<_};
-ghost use lib.ListN.{length, getD};
+ghost use lib.ListN.{length};
 ghost use Rattle.tables.specs.Tables.{startIn, Placed, Sound};
 ghost use Rattle.planning.specs.Plan.{PlanAsked};
 ghost use Rattle.graphs.specs.Checks.{Decides, Below, Rising, Answers};

@@ -1,9 +1,9 @@
 -- What the reader's lent buffers hold between lines: the files' names, the table of bindings, and the columns of the graph. It is the reading
 -- with the open block already joined to it, so that closing a block changes no buffer.
-use Prim.Native.Nat.{ℕ, zero, suc, _+_, _*_, _≤_, _<_}
+use Prim.Native.Nat.{ℕ, suc, _+_, _*_, _≤_, _<_}
 use mathlib.Core.Path.{_≡_}
 use mathlib.Core.Bool.{true, false}
-use mathlib.Core.List.{List, [], _∷_, map}
+use mathlib.Core.List.{List, [], _∷_}
 use lib.ListN.{length, getD}
 use Rattle.rules.specs.declared.Refusal.{Refusal}
 use Rattle.rules.specs.Basics.{concat}
@@ -16,8 +16,7 @@ use Rattle.arena.specs.Columns.{Lies}
 use Rattle.names.specs.Table.{Holds as NamesHold}
 use Rattle.bindings.specs.declared.Found.the-variants.{At}
 use Rattle.bindings.specs.Log.{Logged, ofFile, ofRules, ofStep, entryAt, boundBy, rulesOf, newestRule, Owned}
-use Rattle.bindings.specs.Held.{Holds as BindingsHold}
-use Rattle.bindings.specs.Held.{valuesIn}
+use Rattle.bindings.specs.Held.{Holds as BindingsHold, valuesIn}
 use Rattle.tables.specs.Tables.{Holds as TablesHold}
 use Rattle.held.specs.declared.Counts.{Counts}
 use Rattle.held.specs.declared.Open.{Open}

@@ -1,23 +1,23 @@
 -- The loop that lists the pending steps.
-use Prim.Native.Nat.{ℕ, suc, _+_, _-_, _≤_, _<_}
+use Prim.Native.Nat.{ℕ, _+_, _-_, _≤_, _<_}
 use native.Mathlib.Numerals.{add-one}
 use native.Mathlib.Decide.{decLt, ℕ-discrete}
 use native.Mathlib.Omega.{arith}
 use mathlib.Core.Path.{_≡_, refl, sym, ap, _∙_}
-use mathlib.Core.Logic.{_⊎_, inl, inr}
+use mathlib.Core.Logic.{inl, inr}
 use mathlib.Core.List.{List, [], _∷_, _++_, append-nil}
 use lib.Dec.{eqb}
-use lib.ListN.{length, getD, take, drop, set, length-set, length-append, List·getD-eq-default}
+use lib.ListN.{length, getD, take, set, length-set, length-append, List·getD-eq-default}
 use lib.Seq.{take-suc-set, length-take-le, drop-length, getD-set-same, getD-set-other}
 use borrow.Author.Tests.{eqb-true, eq-eqb}
-use Rattle.lists.specs.Fill.{zeros, zeroed, getD-zeros, length-zeros}
-use Rattle.lists.specs.Members.{_∈_, _∉_, Each, Once, Rising, keep, upTo, in-keep, keep-in, in-upTo, upTo-in, rising-keep, rising-upTo, in-snoc, in-left, in-right, in-at, here, place, decIn, each-nil, each-snoc, once-below, not-in-nil}
+use Rattle.lists.specs.Fill.{zeroed, getD-zeros, length-zeros}
+use Rattle.lists.specs.Members.{_∈_, _∉_, Each, Rising, upTo, in-keep, keep-in, in-upTo, upTo-in, rising-keep, rising-upTo, in-snoc, in-left, in-right, here, place, decIn, each-nil, each-snoc, once-below, not-in-nil}
 use Rattle.orders.specs.Order.{Ready, Lowest}
-use Rattle.orders.specs.Greedy.{In, By, greedy}
+use Rattle.orders.specs.Greedy.{In, By}
 use Rattle.orders.specs.GreedyLaws.{lowest-greedy}
-use Rattle.orders.specs.Reach.{Upstream, upstream, in-upstream}
+use Rattle.orders.specs.Reach.{upstream, in-upstream}
 use Rattle.rules.specs.Promises.{filled}
-use Rattle.tables.specs.Tables.{beforeIn, Sound, Sorted, Shown}
+use Rattle.tables.specs.Tables.{beforeIn, Shown}
 use Rattle.tables.proofs.Held.{before-small}
 use Rattle.listing.specs.Listing.{marked, Unblocked, Clear, NextReady, PassAsked, Passed, ListAsked, leastIn}
 

@@ -1,19 +1,17 @@
 -- The least list of the marked steps is document 01's list.
-use Prim.Native.Nat.{ℕ, _≤_, _<_}
-use mathlib.Core.Path.{_≡_, refl, sym, ap, _∙_}
+use Prim.Native.Nat.{ℕ, _<_}
+use mathlib.Core.Path.{_≡_, sym, ap, _∙_}
 use mathlib.Core.Bool.{true, false}
 use mathlib.Core.List.{List}
-use lib.ListN.{length, getD}
+use lib.ListN.{length}
 use native.Mathlib.Omega.{arith}
 use Rattle.lists.specs.Tests.{split}
 use Rattle.lists.specs.Members.{_∈_, Rising, has, has-true, in-has, rising-ext, rising-keep, in-keep}
-use Rattle.orders.specs.Order.{IsOrder}
-use Rattle.orders.specs.Greedy.{In, By, greedy}
-use Rattle.orders.specs.Reach.{upstream, rising-reach, reach-low}
+use Rattle.orders.specs.Reach.{rising-reach, reach-low}
 use Rattle.rules.specs.Reading.{Step}
 use Rattle.rules.specs.Graph.{before, makersOf, needed}
 use Rattle.rules.specs.Stale.{isStale, staleNeeded, listOf}
-use Rattle.tables.specs.Tables.{bit, beforeIn, Holds, Marks, Shown}
+use Rattle.tables.specs.Tables.{bit, Holds, Marks, Shown}
 use Rattle.tables.proofs.Held.{held-before, held-steps}
 use Rattle.stale.specs.Judge.{timeAt, StaleMarked}
 use Rattle.listing.specs.Listing.{marked, leastIn, ListAsked, SpaceAsked, StaleListed}

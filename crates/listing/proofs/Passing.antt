@@ -1,19 +1,19 @@
 -- One pass along the order.
-use Prim.Native.Nat.{ℕ, suc, _+_, _≤_, _<_}
+use Prim.Native.Nat.{ℕ, _+_, _≤_, _<_}
 use native.Mathlib.Numerals.{add-one}
 use native.Mathlib.Decide.{decLt}
 use native.Mathlib.Omega.{arith}
-use mathlib.Core.Path.{_≡_, refl, sym, ap, _∙_}
-use mathlib.Core.Bool.{Bool, true, false}
-use mathlib.Core.Logic.{_⊎_, inl, inr}
+use mathlib.Core.Path.{_≡_, refl, _∙_}
+use mathlib.Core.Bool.{true}
+use mathlib.Core.Logic.{inl, inr}
 use mathlib.Core.List.{List, [], _∷_, _++_}
 use lib.Dec.{eqb}
 use lib.ListN.{length, getD, take}
 use lib.Seq.{take-suc, take-all}
 use borrow.Author.Tests.{eqb-true, eq-eqb}
-use Rattle.lists.specs.Members.{_∈_, _∉_, all-true, true-all, in-snoc, in-left, in-right, here, not-in-nil}
-use Rattle.orders.specs.Reach.{Upstream, direct, further}
-use Rattle.tables.specs.Tables.{makersIn, inputsIn, beforeIn, Sound, Sorted}
+use Rattle.lists.specs.Members.{_∈_, all-true, true-all, in-snoc, in-left, in-right, here, not-in-nil}
+use Rattle.orders.specs.Reach.{direct, further}
+use Rattle.tables.specs.Tables.{inputsIn, beforeIn, Sorted}
 use Rattle.listing.specs.Listing.{allClear, Unblocked, Clear, Looks, LookAsked, NextReady, PassAsked, Passed}
 
 pub record Passing (mentions ends made order pending clear : List ℕ) (best i : ℕ) : Type 0 where

@@ -14,7 +14,7 @@ use Rattle.orders.specs.Reach.{Upstream, upstream}
 use Rattle.rules.specs.Reading.{Step}
 use Rattle.rules.specs.Graph.{before, needed}
 use Rattle.rules.specs.Stale.{listOf}
-use Rattle.tables.specs.Tables.{makersIn, inputsIn, beforeIn, Holds, Sound, Sorted, Shown}
+use Rattle.tables.specs.Tables.{makersIn, beforeIn, Holds, Sound, Sorted, Shown}
 use Rattle.stale.specs.Judge.{timeAt}
 
 -- the steps with the mark 1

@@ -12,7 +12,7 @@ use Rattle.bindings.specs.Held.{Holds}
 use Rattle.pieces.specs.Begins.{Ready}
 use Rattle.lookups.specs.declared.Asked.{Asked}
 use Rattle.lookups.specs.declared.Source.{Source}
-use Rattle.lookups.specs.declared.Source.the-variants.{Value, Text}
+use Rattle.lookups.specs.declared.Source.the-variants.{Text}
 use Rattle.lookups.specs.Scope.{Scope, InScope, meaning, There, Looks}
 
 module _ (rd : Reading) (s : Step) (n : List ℕ) where
@@ -41,10 +41,6 @@ module _ (n : List ℕ) {texts bind : List ℕ} {a : Asked} {r : Source} (l : Lo
     pub stands-text : r ≡ Text k → lookup rd s n ≡ ofRule raw
     unfolding meaning
     stands-text e = l .means log rd s c ∙ rw (e, is-raw (l .text k e) v c)
-
-    pub stands-value : r ≡ Value k → lookup rd s n ≡ asIs raw
-    unfolding meaning
-    stands-value e = l .means log rd s c ∙ rw (e, is-raw (l .value k e) v c)
 
   -- a rule's text has no bad `$`
   pub text-ready : {t raw : List ℕ} {k : ℕ} → t ≡ classes → InScope texts bind a → r ≡ Text k → ValueOf texts bind k raw → Ready t raw 0

@@ -1,5 +1,4 @@
 // A step's lookup: what a name in its text stands for.
-ghost use mathlib.Core.Path.{_≡_};
 ghost use Rattle.rules.specs.Text.{lookup};
 ghost use Rattle.lookups.specs.Scope.{InScope, Looks, fromFile, fromRule, fromBlock};
 use bindings::Found;

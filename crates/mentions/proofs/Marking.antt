@@ -124,8 +124,8 @@ module _ {names fileEnds graph path names′ fileEnds′ : List ℕ} {c : Counts
       (rw z (omega (arith, length-append (h .made) (0 ∷ []), w .filed, w .named .counted))))
       (path-short path l))
 
-  pub path-full : maxWritten ≤ length names → maxFiles ≤ length fileEnds → r ≡ Full → {graph′ : List ℕ} → Marks names′ fileEnds′ texts bind graph′ h (path ∷ []) Over
-  path-full n f e =
+  pub path-full : maxWritten ≤ length names → r ≡ Full → {graph′ : List ℕ} → Marks names′ fileEnds′ texts bind graph′ h (path ∷ []) Over
+  path-full n e =
       let x = after-full a (w .named) e (omega (arith, w .bound .shared, l .low)) in
       over (line-files path (h .reading) (x .0) (x .1))
 

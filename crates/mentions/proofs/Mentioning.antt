@@ -46,7 +46,6 @@ module _ {t raw names fileEnds texts bind graph word : List ℕ} {c : Counts} (a
           texts = texts;
           bind = bind;
           names-long = a .room .names-long;
-          ends-long = a .room .ends-long;
           within = rw path-counted h;
           line = a .line;
           writing = a .writing;

@@ -111,12 +111,11 @@ module _ {t l : List ℕ} {at : ℕ} {names₀ fileEnds₀ texts bind graph₀ w
   pub pass-within : i ≤ length l
   pass-within = here .stands .within
 
-  pass-room : Room names fileEnds word
+  pass-room : Room names word
   pass-room =
       let r = x .asks .room in
       record {
         names-long = omega (arith, r .names-long, x .names-long);
-        ends-long = omega (arith, r .ends-long, x .ends-long);
         word-long = omega (arith, r .word-long, x .word-long);
       }
 

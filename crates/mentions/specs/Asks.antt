@@ -6,7 +6,7 @@ use mathlib.Core.Option.{none}
 use mathlib.Core.Path.{_≡_}
 use lib.Dec.{ltb}
 use lib.ListN.{length, set}
-use Rattle.rules.specs.Limits.{maxManifest, maxFiles, maxMentions, maxPath, maxValue, maxWritten}
+use Rattle.rules.specs.Limits.{maxManifest, maxMentions, maxPath, maxValue, maxWritten}
 use Rattle.rules.specs.Dollars.{badDollar}
 use Rattle.rules.specs.Statements.{expanded}
 use Rattle.classes.specs.Table.{classes}
@@ -18,9 +18,8 @@ use Rattle.mentions.specs.declared.Mentioned.{Mentioned}
 use Rattle.mentions.specs.Lines.{Line, Writing, Marks}
 
 -- so that only a limit can be met
-pub record Room (names fileEnds word : List ℕ) : Type 0 where
+pub record Room (names word : List ℕ) : Type 0 where
   pub names-long : maxWritten ≤ length names
-  pub ends-long : maxFiles ≤ length fileEnds
   pub word-long : maxValue ≤ length word
 
 -- ------------------------------------------------------------------ one path
@@ -63,7 +62,6 @@ pub record Fits (path names fileEnds graph : List ℕ) (c : Counts) : Type 0 whe
   pub texts : List ℕ
   pub bind : List ℕ
   pub names-long : maxWritten ≤ length names
-  pub ends-long : maxFiles ≤ length fileEnds
   pub within : overCounted (length path) c ≡ false
   pub line : Line
   pub writing : Writing names fileEnds texts bind graph c line
@@ -77,7 +75,7 @@ pub record Asks (t raw names fileEnds texts bind graph word : List ℕ) (c : Cou
   pub table : t ≡ classes
   pub short : length raw ≤ maxManifest
   pub dollars : badDollar raw ≡ none
-  pub room : Room names fileEnds word
+  pub room : Room names word
   pub line : Line
   pub writing : Writing names fileEnds texts bind graph c line
 
@@ -92,7 +90,7 @@ pub record ListAsks (t l names fileEnds texts bind graph word : List ℕ) (c : C
   pub short : length l ≤ maxManifest
   pub raw : List (List ℕ)
   pub stands : PathsAt l at raw
-  pub room : Room names fileEnds word
+  pub room : Room names word
   pub line : Line
   pub writing : Writing names fileEnds texts bind graph c line
 

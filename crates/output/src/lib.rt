@@ -1,6 +1,5 @@
 // A text written into the lent buffer, one part after another. "expanded text over 8,192 bytes" (17): a place past that says that it is too long, and
 // nothing more is written then.
-ghost use mathlib.Core.Path.{_≡_};
 ghost use mathlib.Core.List.{List, [], _∷_};
 ghost use Prim.Native.Nat.{ℕ, _<_};
 ghost use lib.ListN.{length, getD};

@@ -1,5 +1,4 @@
 // The pieces of a raw text, one after another: bytes of its own, and references to names.
-ghost use mathlib.Core.Path.{_≡_};
 ghost use Prim.Native.Nat.{_<_};
 ghost use lib.ListN.{length};
 ghost use Rattle.pieces.specs.Begins.{Ready, Begins};

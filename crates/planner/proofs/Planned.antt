@@ -2,7 +2,7 @@
 use Prim.Native.Nat.{ℕ, _≤_, _<_}
 use mathlib.Core.Bool.{false}
 use mathlib.Core.List.{List}
-use mathlib.Core.Path.{_≡_, refl, sym, _∙_}
+use mathlib.Core.Path.{_≡_, refl, _∙_}
 use native.Mathlib.Omega.{arith}
 use borrow.Author.Tests.{lt-ltb, le-ltb, ne-eqb}
 use lib.Dec.{ltb}
@@ -61,7 +61,7 @@ module _ {t names ends texts bind graph word : List ℕ} (e : t ≡ classes) (n 
   roomy =
       record {
         table = e;
-        room = record { names-room = omega (arith, n); ends-room = omega (arith, f); scratch = omega (arith, g); word-room = omega (arith, w) };
+        room = record { names-room = omega (arith, n); scratch = omega (arith, g); word-room = omega (arith, w) };
         names-small = omega (arith, n);
         numbers-room = omega (arith, f);
         texts-room = omega (arith, x);

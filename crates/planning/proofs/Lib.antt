@@ -1,4 +1,3 @@
 pub mod Missing
 pub mod Outcomes
 pub mod Choosing
-pub mod Laws

@@ -2,24 +2,24 @@
 use Prim.Native.Nat.{ℕ, zero, suc, _≤_, _<_}
 use native.Mathlib.Nat.{le-antisymm}
 use native.Mathlib.Omega.{arith}
-use mathlib.Core.Path.{_≡_, refl, sym, ap, _∙_}
-use mathlib.Core.Bool.{Bool, true, false, _&&_}
-use mathlib.Core.Logic.{_⊎_, inl, inr}
+use mathlib.Core.Path.{_≡_, refl, ap}
+use mathlib.Core.Bool.{Bool, true, _&&_}
+use mathlib.Core.Logic.{inl, inr}
 use mathlib.Core.Option.{Option, none, some}
-use mathlib.Core.List.{List, [], _∷_}
+use mathlib.Core.List.{List}
 use lib.Dec.{eqb}
 use lib.ListN.{length, getD}
 use borrow.Author.Tests.{eqb-true, eq-eqb}
 use Rattle.lists.specs.Tests.{differ, and-true, and-left, and-right}
-use Rattle.lists.specs.Members.{_∈_, here, find, upTo, find-some, find-none, find-least, in-upTo, upTo-in, rising-upTo}
+use Rattle.lists.specs.Members.{_∈_, find, upTo, find-some, find-none, find-least, in-upTo, upTo-in, rising-upTo}
 use Rattle.orders.specs.Order.{IsOrder}
 use Rattle.orders.specs.Greedy.{In, By}
 use Rattle.rules.specs.Reading.{Step}
-use Rattle.rules.specs.Graph.{inputs, stepAt, makers, before, needed, isNeededSource}
-use Rattle.rules.specs.Words.{Makes, Needed, NeededSource}
+use Rattle.rules.specs.Graph.{before, needed, isNeededSource}
+use Rattle.rules.specs.Words.{Makes, NeededSource}
 use Rattle.rules.proofs.Graph.{in-makers, in-needed}
 use Rattle.rules.proofs.Sources.{in-source}
-use Rattle.tables.specs.Tables.{makerIn, madeBy, inputsIn, Holds}
+use Rattle.tables.specs.Tables.{makerIn, Holds}
 use Rattle.tables.proofs.Makers.{in-makerIn, makerIn-in}
 use Rattle.tables.proofs.Held.{held-makers, held-inputs}
 use Rattle.sources.specs.Sources.{Absent, Wanted, LowestMissing}

@@ -1,30 +1,26 @@
 -- Each outcome of the code is what the promises ask.
 use Prim.Native.Nat.{ℕ, _-_, _≤_, _<_}
 use native.Mathlib.Omega.{arith}
-use mathlib.Core.Path.{_≡_, refl, sym, ap, _∙_}
-use mathlib.Core.Bool.{Bool, true, false, not, _&&_}
-use mathlib.Core.Option.{Option, none, some}
-use mathlib.Core.List.{List, [], _∷_, _++_}
-use lib.ListN.{length, getD, take, replicate}
-use Rattle.lists.specs.Tests.{ifB}
-use Rattle.lists.specs.Fill.{zeros, zeroed, zeroed-all}
-use Rattle.lists.specs.Members.{_∈_, in-at}
+use mathlib.Core.Path.{_≡_, refl, ap, _∙_}
+use mathlib.Core.List.{List, []}
+use lib.ListN.{length, getD, take}
+use Rattle.lists.specs.Fill.{zeroed, zeroed-all}
+use Rattle.lists.specs.Members.{in-at}
 use Rattle.orders.specs.Order.{IsOrder, IsCircle}
 use Rattle.orders.specs.Greedy.{In, By}
 use Rattle.orders.specs.GreedyLaws.{order-whole}
 use Rattle.orders.specs.Circle.{circle-not-whole}
 use Rattle.orders.specs.Reach.{Closed, reach-closed, reach-low, direct-earlier}
 use Rattle.orders.specs.Same.{circle-as}
-use Rattle.rules.specs.declared.Refusal.the-variants.{Circle, NoRoot, MissingSource}
+use Rattle.rules.specs.declared.Refusal.the-variants.{Circle, MissingSource}
 use Rattle.rules.specs.declared.PlanAnswer.the-variants.{Listed, Refused}
-use Rattle.rules.specs.Basics.{isEmpty}
 use Rattle.rules.specs.Reading.{Step}
 use Rattle.rules.specs.Graph.{before, needed, hasOrder}
 use Rattle.rules.specs.Stale.{listOf}
-use Rattle.rules.specs.Answers.{Said, numberOfRefusal, placeOfRefusal, refusalSays, planSays}
+use Rattle.rules.specs.Answers.{Said, numberOfRefusal, placeOfRefusal, planSays}
 use Rattle.rules.specs.Promises.{filled, leftBy, PlanMeets, counts, refused14}
 use Rattle.rules.proofs.Graph.{in-before, in-needed}
-use Rattle.tables.specs.Tables.{makersIn, beforeIn, neededIn, Holds, Sound, Files, Sorted, Shown}
+use Rattle.tables.specs.Tables.{makersIn, beforeIn, neededIn, Holds, Files, Shown}
 use Rattle.tables.proofs.Makers.{makers-small}
 use Rattle.tables.proofs.Held.{before-small, held-before, held-needed, held-steps}
 use Rattle.graph.specs.declared.Sorting.{Sorting}

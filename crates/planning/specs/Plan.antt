@@ -1,10 +1,10 @@
 -- The plan from a read graph: the steps, the number of files, the time of each, the defaults and the targets by number. These are the rules'
--- own definitions without the manifest and the card that they are read from (`Laws` shows it).
+-- own definitions without the manifest and the card that they are read from (`Laws` of `planread` shows it).
 use Prim.Native.Nat.{ℕ, _≤_, _<_}
 use mathlib.Core.Path.{_≡_}
 use mathlib.Core.Bool.{not, _&&_}
 use mathlib.Core.Option.{Option, none, some}
-use mathlib.Core.List.{List, []}
+use mathlib.Core.List.{List}
 use lib.Dec.{eqb}
 use lib.ListN.{length, getD}
 use Rattle.lists.specs.Fill.{zeros}
@@ -17,7 +17,6 @@ use Rattle.rules.specs.declared.PlanAnswer.{PlanAnswer}
 use Rattle.rules.specs.Basics.{isEmpty}
 use Rattle.rules.specs.Limits.{leastList}
 use Rattle.rules.specs.Reading.{Step}
-use Rattle.rules.specs.Card.{cardEntries, timeIn}
 use Rattle.rules.specs.Graph.{tops, isNeededSource, hasOrder}
 use Rattle.rules.specs.Stale.{listOf}
 use Rattle.rules.specs.Answers.{planSays}
@@ -122,8 +121,3 @@ pub record PlanAsked (mentions ends phony made times defaults targets list : Lis
   pub asked : GraphAsked mentions ends phony made times list
   pub defaults-low : Numbers defaults made
   pub targets-low : Numbers targets made
-
--- the card's time of each file, by number
-pub record Timed (card : List ℕ) (names : List (List ℕ)) (times : List ℕ) : Type 0 where
-  pub long : length times ≡ length names
-  pub timed : (f : ℕ) → f < length names → getD times f 0 ≡ timeIn (cardEntries card) (getD names f [])

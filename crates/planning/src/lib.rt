@@ -1,5 +1,4 @@
 // The plan of a read graph: 13, 14, 15, or the list, in document 01's order.
-ghost use lib.ListN.{length};
 ghost use Rattle.planning.specs.Plan.{ListsOr, OrderAsked, Plans, PlansRooted, PlansTops, PlansGraph, InAsked, FromAsked, TopsAsked, GraphAsked, PlanAsked};
 use graph::Sorting;
 use graph::order_needed;

@@ -1,28 +1,21 @@
 -- The columns of the graph as parts of the arena.
-use Prim.Native.Nat.{ℕ, zero, suc, _+_, _*_, _≤_, _<_}
+use Prim.Native.Nat.{ℕ, _+_, _*_, _≤_, _<_}
 use mathlib.Core.List.{List, [], _∷_}
 use mathlib.Core.Path.{_≡_, refl, sym, _∙_, ap}
 use native.Mathlib.Omega.{arith}
-use lib.ListN.{length, take, drop, getD}
+use lib.ListN.{length, take, getD}
 use Rattle.lists.specs.Parts.{part, part-from-start}
 use Rattle.rules.specs.declared.PlanAnswer.{PlanAnswer}
-use Rattle.rules.specs.Reading.{Step, Reading}
+use Rattle.rules.specs.Reading.{Reading}
 use Rattle.arena.specs.Columns.{Lies, startOf, column}
 use Rattle.arena.proofs.Laws.{Column, lies-column, lies-part}
-use Rattle.tables.specs.Tables.{Holds, endsFrom}
+use Rattle.tables.specs.Tables.{Holds}
+use Rattle.tables.proofs.Places.{length-ends}
 use Rattle.tables.proofs.Held.{held-steps, held-sound}
 use Rattle.held.specs.declared.Counts.{Counts}
-use Rattle.held.specs.Held.{capacities, Graphed}
-use Rattle.planning.specs.Plan.{PlanAsked, PlansGraph, Numbers}
+use Rattle.held.specs.Held.{capacities}
+use Rattle.planning.specs.Plan.{PlanAsked, PlansGraph}
 use Rattle.planread.specs.Asked.{Tabled, ColumnsAsked, PlansColumns}
-
-length-ends : (k : ℕ) (steps : List Step) → length (endsFrom k steps) ≡ 4 * length steps
-unfolding endsFrom
-length-ends k [] = refl
-length-ends k (s ∷ l) =
-    let d = k + length (s .outs) + length (s .ins) + length (s .implicit) + length (s .orderOnly) in
-    let h = length-ends d l in
-    omega arith
 
 module _ (graph : List ℕ) (c : Counts) where
   abbrev pub mentionsIn : List ℕ

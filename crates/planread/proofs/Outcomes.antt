@@ -1,36 +1,35 @@
 -- Each outcome of the plan from a reading: 11, 12, and the plan of the columns.
 use Prim.Native.Nat.{ℕ, zero, suc, _≤_, _<_}
 use mathlib.Core.Bool.{true, false}
-use mathlib.Core.List.{List, [], _∷_, _++_, map}
-use mathlib.Core.Option.{none, some}
-use mathlib.Core.Path.{_≡_, refl, sym, _∙_, ap, subst}
+use mathlib.Core.List.{List, [], _∷_, map}
+use mathlib.Core.Option.{some}
+use mathlib.Core.Path.{_≡_, refl, sym, _∙_, subst}
 use native.Mathlib.Nat.{not-suc-le-zero, le-of-suc-le-suc}
 use native.Mathlib.Omega.{arith}
-use lib.ListN.{length, take, drop, getD, length-map, List·getD-map}
+use lib.ListN.{length, take, drop, getD, length-map}
 use lib.Seq.{take-append-seam, length-take-le, getD-take}
 use Rattle.lists.specs.Fill.{zeroed}
 use Rattle.rules.specs.declared.Refusal.the-variants.{BadCard, BadTarget}
 use Rattle.rules.specs.declared.PlanAnswer.{PlanAnswer}
 use Rattle.rules.specs.declared.PlanAnswer.the-variants.{Refused}
 use Rattle.rules.specs.Limits.{maxFiles}
-use Rattle.rules.specs.Reading.{Reading, numberOf}
+use Rattle.rules.specs.Reading.{Reading}
 use Rattle.rules.specs.Manifest.{accepted}
 use Rattle.rules.specs.Card.{soundCard, cardEntries, timeIn}
-use Rattle.rules.specs.Targets.{Target, targetsOf, badTarget}
+use Rattle.rules.specs.Targets.{badTarget}
 use Rattle.rules.specs.Answers.{numberOfRefusal, planSays}
 use Rattle.rules.specs.PlanAsk.{PlanOutcome, targetFiles, planRoots, planRead}
 use Rattle.rules.specs.Promises.{leftBy, PlanMeets}
 use Rattle.bindings.specs.Log.{Logged}
 use Rattle.names.specs.Table.{Sound}
-use Rattle.times.specs.Times.{TimesAsked, timesOf, Timed}
+use Rattle.times.specs.Times.{timesOf, Timed}
 use Rattle.targetfiles.specs.declared.Numbered.{Numbered}
 use Rattle.targetfiles.specs.declared.Numbered.the-variants.{All, Bad}
 use Rattle.targetfiles.specs.Numbered.{numbersOf, Numbers, Says, NumbersTargets}
 use Rattle.held.specs.declared.Counts.{Counts}
 use Rattle.held.specs.Held.{Holds}
-use Rattle.planning.specs.Plan.{Timed as PlanTimed}
 use Rattle.planning.proofs.Outcomes.{cleared}
-use Rattle.planning.proofs.Laws.{plan-of-read}
+use Rattle.planread.proofs.Laws.{CardTimes, plan-of-read}
 use Rattle.planread.specs.Asked.{Tabled, ColumnsAsked, PlansColumns, ReadAsked, PlansRead}
 
 pub tabled : {log : List Logged} {names ends texts bind graph : List ℕ} {c : Counts} {rd : Reading} → Holds log names ends texts bind graph c rd → Tabled graph c rd
@@ -82,7 +81,7 @@ module _ {card targets names ends graph : List ℕ} {c : Counts} (s : soundCard 
         let w : length (timesOf card (rd .files)) ≡ c .files = length-map (rd .files) (timeIn (cardEntries card)) ∙ sym (h .named .counted) in
         rw (t .filled (rd .files) (h .named), ← w) (take-append-seam (timesOf card (rd .files)) (drop (length (timesOf card (rd .files))) before))
 
-    timed : PlanTimed card (rd .files) (take (c .files) times)
+    timed : CardTimes card (rd .files) (take (c .files) times)
     unfolding timesOf
     timed =
         rw times-are

@@ -4,7 +4,7 @@ use native.Mathlib.Numerals.{add-one}
 use native.Mathlib.Omega.{arith}
 use mathlib.Core.List.{List, [], _∷_, _++_, append-nil, append-assoc}
 use mathlib.Core.Path.{_≡_, refl, sym, _∙_, ap}
-use lib.ListN.{length, take, drop, getD, set, length-append, length-set, length-take, replicate}
+use lib.ListN.{length, take, getD, set, length-append, length-set, replicate}
 use lib.Seq.{paste, take-paste, take-length, take-suc-set, take-suc, drop-length, length-take-le}
 use Rattle.io.specs.Digits.{digits, Fewest}
 use Rattle.lists.specs.Fill.{zeroed}

@@ -13,7 +13,7 @@ use Rattle.rules.specs.Bytes.{newline}
 use Rattle.rules.specs.Lines.{Line, linesOf}
 use Rattle.rules.specs.Reading.{Reading, nothingRead}
 use Rattle.rules.specs.Statements.{Block, noBlock, Outcome, goesOn, refused}
-use Rattle.rules.specs.Manifest.{badByte, close, andThen, readLine, readLines, refusedWith, readOf, ifSound, readManifest}
+use Rattle.rules.specs.Manifest.{badByte, andThen, readLine, readLines, refusedWith, readOf, ifSound, readManifest}
 use Rattle.scan.specs.declared.FirstBad.{FirstBad}
 use Rattle.scan.specs.declared.FirstBad.the-variants.{Nowhere, At}
 use Rattle.scan.specs.Texts.{placeOf}
@@ -84,8 +84,7 @@ top-ask {names = names} {fileEnds = fileEnds} a e =
       roomy =
           record {
             table = r .table;
-            room =
-                record { names-room = r .room .names-room; ends-room = rw l (r .room .ends-room); scratch = r .room .scratch; word-room = r .room .word-room };
+            room = r .room;
             names-small = r .names-small;
             numbers-room = rw l (r .numbers-room);
             texts-room = r .texts-room;

@@ -73,7 +73,6 @@ module _ {m names fileEnds texts bind graph : List ℕ} {c : Counts} {o : Open} 
         room =
             record {
               names-room = rw (e .names-same) (r .names-room);
-              ends-room = rw (e .ends-same) (r .ends-room);
               scratch = rw (e .graph-same) (r .scratch);
               word-room = rw (e .word-same) (r .word-room);
             };

@@ -22,7 +22,7 @@ use Rattle.reader.specs.declared.ReadAnswer.the-variants.{Accepted, Refu
 -- room in the buffers for any manifest, whatever they hold
 pub record Roomy (t names fileEnds texts bind graph word : List ℕ) : Type 0 where
   pub table : t ≡ classes
-  pub room : Room names fileEnds graph word
+  pub room : Room names graph word
   pub names-small : length names < 2 ^ 32
   pub numbers-room : maxNumbers ≤ length fileEnds
   pub texts-room : maxTexts ≤ length texts

@@ -47,7 +47,7 @@ module _ {names ends texts bind graph word : List ℕ} where
   has-room n s f x b g w = record {
     enough = λ e. record {
       table = refl;
-      room = record { names-room = n; ends-room = omega (arith, f); scratch = g; word-room = w };
+      room = record { names-room = n; scratch = g; word-room = w };
       names-small = omega (arith, s);
       numbers-room = f;
       texts-room = x;

@@ -12,7 +12,7 @@ use Rattle.answers.specs.Numbers.{said}
 use Rattle.rules.specs.declared.Wanted.the-variants.{Command}
 use Rattle.rules.specs.Answers.{Said, refusalSays}
 use Rattle.rules.specs.TextAsk.{TextOutcome, text, noText, textAsk}
-use Rattle.rules.specs.Promises.{filled, counts, TextMeets}
+use Rattle.rules.specs.Promises.{filled, TextMeets}
 use Rattle.printing.specs.Lines.{refusedLine, headOf, lineOf}
 use Rattle.printing.specs.Writes.{PutsUpTo, Leaves}
 use Rattle.report.specs.Output.{command, outcomeSays, Checks, fine, stopped, afterText, checkTexts, stepLine}

@@ -1,17 +1,14 @@
 -- Unmarked files put behind others.
 use Prim.Native.Nat.{ℕ, suc, _+_, _≤_, _<_}
-use native.Mathlib.Nat.{le-refl}
 use native.Mathlib.Numerals.{add-one}
 use native.Mathlib.Omega.{arith}
 use mathlib.Core.Path.{_≡_, refl, sym, ap, _∙_}
-use mathlib.Core.Bool.{not}
 use mathlib.Core.List.{List, [], _∷_, _++_, append-nil, append-assoc}
-use lib.Dec.{eqb}
 use lib.ListN.{length, getD, take, drop, set, length-set, drop-of-length-le}
 use lib.Seq.{drop-cons, take-suc-set}
 use borrow.Author.Tests.{eq-eqb, ne-eqb}
 use Rattle.lists.specs.Members.{keep}
-use Rattle.roots.specs.Tops.{unmarked, Appended, AppendAsked}
+use Rattle.roots.specs.Tops.{unmarked, Appended}
 
 unmarked-on : (marks : List ℕ) (f : ℕ) (l : List ℕ) → getD marks f 0 ≡ 1 → unmarked marks (f ∷ l) ≡ unmarked marks l
 unfolding unmarked keep

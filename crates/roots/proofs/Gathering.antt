@@ -4,20 +4,20 @@ use native.Mathlib.Nat.{not-suc-le-zero, le-of-suc-le-suc}
 use native.Mathlib.Numerals.{add-one}
 use native.Mathlib.Omega.{arith}
 use mathlib.Core.Path.{_≡_, refl, sym, ap, ap₂, _∙_}
-use mathlib.Core.Bool.{Bool, true, false, not, _||_}
-use mathlib.Core.Logic.{_⊎_, inl, inr}
+use mathlib.Core.Bool.{Bool, true, false, not}
+use mathlib.Core.Logic.{inl, inr}
 use mathlib.Core.List.{List, [], _∷_, _++_, map, append-nil, append-assoc}
 use lib.Dec.{eqb}
 use lib.ListN.{length, getD, take}
 use lib.Seq.{take-suc, take-length}
 use borrow.Author.Tests.{eq-eqb, ne-eqb}
 use Rattle.lists.specs.Tests.{split, differ, or-true}
-use Rattle.lists.specs.Parts.{part, length-part}
+use Rattle.lists.specs.Parts.{length-part}
 use Rattle.lists.specs.Members.{_∈_, keep, any, has, has-true, in-has, in-append, in-keep, not-in-nil}
 use Rattle.rules.specs.Basics.{concat}
 use Rattle.rules.specs.Reading.{Step}
 use Rattle.rules.specs.Graph.{inputs, noStep, stepAt, isInput, tops}
-use Rattle.tables.specs.Tables.{startIn, inputsIn, outsIn, Holds, Sound}
+use Rattle.tables.specs.Tables.{startIn, outsIn, Holds, Sound}
 use Rattle.tables.proofs.Held.{in-part, outs-low, held-inputs, held-outs, held-steps}
 use Rattle.roots.specs.Tops.{InputsMarked, unmarked, Appended, AppendAsked, outsBefore, TopsAsked, TopsFound}
 

@@ -1,15 +1,15 @@
 -- Files marked one after another, and the inputs of one step after another.
-use Prim.Native.Nat.{ℕ, suc, _+_, _≤_, _<_}
+use Prim.Native.Nat.{ℕ, _+_, _≤_, _<_}
 use native.Mathlib.Numerals.{add-one}
 use native.Mathlib.Decide.{decLt, ℕ-discrete}
 use native.Mathlib.Omega.{arith}
 use mathlib.Core.Path.{_≡_, refl, sym, ap, _∙_}
-use mathlib.Core.Logic.{_⊎_, inl, inr}
-use mathlib.Core.List.{List, [], _∷_, _++_}
+use mathlib.Core.Logic.{inl, inr}
+use mathlib.Core.List.{List, [], _∷_}
 use lib.ListN.{length, getD, take, set, length-set}
 use lib.Seq.{take-suc, take-all, getD-set-same, getD-set-other}
-use Rattle.lists.specs.Fill.{zeros, length-zeros, getD-zeros}
-use Rattle.lists.specs.Members.{_∈_, here, in-snoc, in-left, in-right, not-in-nil}
+use Rattle.lists.specs.Fill.{length-zeros, getD-zeros}
+use Rattle.lists.specs.Members.{here, in-snoc, in-left, in-right, not-in-nil}
 use Rattle.tables.specs.Tables.{inputsIn}
 use Rattle.roots.specs.Tops.{MarkedToo, MarkAsked, InputsMarked}
 

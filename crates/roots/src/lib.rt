@@ -1,5 +1,4 @@
 // Roots where neither targets nor defaults are named: the outputs that are no step's input.
-ghost use mathlib.Core.Path.{_≡_};
 ghost use Prim.Native.Nat.{ℕ, _<_};
 ghost use lib.ListN.{length, getD};
 ghost use Rattle.roots.specs.Tops.{MarkedToo, MarkAsked, InputsMarked, AppendAsked, Appended, TopsAsked, TopsFound};

@@ -1,17 +1,17 @@
 -- The search for the lowest missing source: a file more, a list more, a step more.
-use Prim.Native.Nat.{ℕ, zero, suc, _+_, _≤_, _<_}
+use Prim.Native.Nat.{ℕ, _+_, _≤_, _<_}
 use native.Mathlib.Nat.{le-refl}
 use native.Mathlib.Numerals.{add-one}
 use native.Mathlib.Decide.{decLt}
 use native.Mathlib.Omega.{arith}
-use mathlib.Core.Path.{_≡_, refl, sym, ap, _∙_}
-use mathlib.Core.Logic.{_⊎_, inl, inr}
+use mathlib.Core.Path.{_≡_, refl}
+use mathlib.Core.Logic.{inl, inr}
 use mathlib.Core.List.{List, [], _∷_, _++_}
 use lib.ListN.{length, getD, take}
 use lib.Seq.{take-suc, take-all}
-use Rattle.lists.specs.Members.{_∈_, here, in-cons, in-left, in-right, in-append, in-snoc, not-in-nil}
+use Rattle.lists.specs.Members.{here, in-cons, in-left, in-right, in-append, in-snoc, not-in-nil}
 use Rattle.tables.specs.Tables.{inputsIn}
-use Rattle.sources.specs.Sources.{Absent, Lowered, Wanted, LowestMissing}
+use Rattle.sources.specs.Sources.{Absent, Lowered, LowestMissing}
 
 module _ {times made : List ℕ} where
   pub lower-none : {low : ℕ} → Lowered times made [] low low

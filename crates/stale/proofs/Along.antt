@@ -1,20 +1,18 @@
 -- The verdicts along an order: each step's is put into the columns, and leaves those told before as they are.
-use Prim.Native.Nat.{ℕ, suc, _+_, _≤_, _<_}
+use Prim.Native.Nat.{ℕ, _+_, _≤_, _<_}
 use native.Mathlib.Numerals.{add-one}
-use native.Mathlib.Decide.{ℕ-discrete}
 use native.Mathlib.Omega.{arith}
-use mathlib.Core.Path.{_≡_, refl, sym, ap, ap₂, _∙_}
+use mathlib.Core.Path.{_≡_, refl, ap₂, _∙_}
 use mathlib.Core.Logic.{inl, inr}
 use mathlib.Core.List.{List, [], _∷_, _++_}
-use lib.Dec.{eqb}
 use lib.ListN.{length, getD, take, set, length-set}
 use lib.Seq.{take-suc, take-all, getD-set-same, getD-set-other}
-use Rattle.lists.specs.Members.{_∈_, _∉_, Each, Once, in-take, in-snoc, in-left, in-right, here, in-take-more, place-before, not-in-nil}
+use Rattle.lists.specs.Members.{_∈_, _∉_, in-snoc, in-left, in-right, here, in-take-more, place-before, not-in-nil}
 use Rattle.rules.specs.Reading.{Step}
 use Rattle.rules.specs.Graph.{before}
-use Rattle.rules.specs.Stale.{Verdict, verdict}
+use Rattle.rules.specs.Stale.{verdict}
 use Rattle.rules.proofs.Stale.{verdict-local}
-use Rattle.tables.specs.Tables.{bit, Holds, Sorted}
+use Rattle.tables.specs.Tables.{Holds, Sorted}
 use Rattle.stale.specs.declared.Judged.{Judged}
 use Rattle.stale.specs.Judge.{known, timeAt, Told, Judges, JudgeAsked, AllTold, AllAsked}
 

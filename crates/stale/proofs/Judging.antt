@@ -1,8 +1,8 @@
 -- What is read from the tables is what the rules say of the steps that they hold.
-use Prim.Native.Nat.{ℕ, zero, suc, _<_, _≤_, max}
+use Prim.Native.Nat.{ℕ, _<_, _≤_}
 use native.Mathlib.Omega.{arith}
-use mathlib.Core.Path.{_≡_, refl, sym, ap, ap₂, _∙_, fun-ext}
-use mathlib.Core.Bool.{Bool, true, false, _&&_, _||_}
+use mathlib.Core.Path.{_≡_, refl, sym, ap, _∙_, fun-ext}
+use mathlib.Core.Bool.{Bool, true, false, _||_}
 use mathlib.Core.List.{List, [], _∷_, map}
 use lib.Dec.{eqb, ltb}
 use lib.ListN.{length, getD}
@@ -11,11 +11,10 @@ use Rattle.lists.specs.Tests.{ifB, split}
 use Rattle.lists.specs.Members.{any}
 use Rattle.rules.specs.Basics.{isEmpty}
 use Rattle.rules.specs.Reading.{Step}
-use Rattle.rules.specs.Graph.{counted, inputs, stepAt, makers, makersOf}
-use Rattle.rules.specs.Stale.{Verdict, phonyStep, madeTime, timeOf, greatest, newestInput, makerStale, outputMissing, staleCommand, stalePhony, verdict}
-use Rattle.tables.specs.Tables.{bit, makerIn, makersIn, countedIn, inputsIn, outsIn, Holds}
+use Rattle.rules.specs.Graph.{counted, stepAt}
+use Rattle.rules.specs.Stale.{phonyStep, madeTime, timeOf, greatest, newestInput, makerStale, outputMissing, staleCommand, stalePhony, verdict}
+use Rattle.tables.specs.Tables.{bit, makerIn, countedIn, inputsIn, outsIn, Holds}
 use Rattle.tables.proofs.Held.{held-phony, held-makers, held-makersOf, held-counted, held-inputs, held-outs}
-use Rattle.stale.specs.declared.Judged.{Judged}
 use Rattle.stale.specs.Judge.{known, timeAt, lateTime, fileTime, newestOf, staleMaker, outdated, bareMissing, Told}
 
 pub bit-test : (b : Bool) → eqb (bit b) 1 ≡ b

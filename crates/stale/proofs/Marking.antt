@@ -1,17 +1,16 @@
 -- The marks of the stale needed command steps.
-use Prim.Native.Nat.{ℕ, suc, _+_, _≤_, _<_}
+use Prim.Native.Nat.{ℕ, _+_, _≤_, _<_}
 use native.Mathlib.Decide.{decLt, ℕ-discrete}
 use native.Mathlib.Omega.{arith}
 use mathlib.Core.Path.{_≡_, refl, sym, ap, ap₂, _∙_}
-use mathlib.Core.Bool.{Bool, true, false, not, _&&_}
-use mathlib.Core.Logic.{inl, inr}
-use mathlib.Core.List.{List, [], _∷_}
+use mathlib.Core.Bool.{Bool, true, false, _&&_}
+use mathlib.Core.List.{List}
 use lib.Dec.{eqb}
 use lib.ListN.{length, getD, set, length-set, List·getD-eq-default}
 use lib.Seq.{getD-set-same, getD-set-other}
 use Rattle.lists.specs.Tests.{split, differ}
 use Rattle.lists.specs.Fill.{zeros, getD-zeros}
-use Rattle.lists.specs.Members.{_∈_, _∉_, has, has-true, has-false, in-has, not-in-has, keep, in-keep, keep-in, decIn}
+use Rattle.lists.specs.Members.{_∈_, has, has-true, has-false, in-has, not-in-has, keep, in-keep, keep-in, decIn}
 use Rattle.orders.specs.Order.{IsOrder}
 use Rattle.orders.specs.Greedy.{In, By}
 use Rattle.orders.specs.GreedyLaws.{whole-order, order-whole}

@@ -1,5 +1,5 @@
 -- The tables of the graph with a step more.
-use Prim.Native.Nat.{ℕ, suc, _+_, _*_, _<_}
+use Prim.Native.Nat.{ℕ, suc, _+_, _<_}
 use mathlib.Core.Bool.{Bool, true, false, or-false}
 use mathlib.Core.List.{List, [], _∷_, _++_, map, append-assoc, append-nil}
 use mathlib.Core.Path.{_≡_, refl, sym, _∙_, ap}
@@ -41,12 +41,6 @@ ends-more k (x ∷ l) s n e =
     let d = c + length (x .orderOnly) in
     ap (λ (r : List ℕ). a ∷ b ∷ c ∷ d ∷ r)
     (ends-more d l s n (omega (arith, length-append (mentionsOf x) (concat (map mentionsOf l)), length-mentions x)))
-
-pub length-ends : (k : ℕ) (steps : List Step) → length (endsFrom k steps) ≡ 4 * length steps
-unfolding endsFrom
-length-ends k [] = refl
-length-ends k (x ∷ l) =
-    omega (arith, length-ends (k + length (x .outs) + length (x .ins) + length (x .implicit) + length (x .orderOnly)) l)
 
 pub map-more : {B : Type 0} (f : Step → B) (steps : List Step) (s : Step) → map f (steps ++ (s ∷ [])) ≡ map f steps ++ (f s ∷ [])
 map-more f [] s = refl

@@ -51,14 +51,10 @@ lists-ended (ps ∷ pss) h =
     let k = lists-ended pss (withEnd (withPaths ps h)) in
     omega (arith, k, length-append (withPaths ps h .ends) (length (withPaths ps h .mentions) ∷ []), ap length (paths-ends ps h))
 
--- the file's variables and the steps stay
+-- the file's variables stay
 pub lists-vars : (pss : List (List (List ℕ))) (h : Line) → withLists pss h .reading .vars ≡ h .reading .vars
 unfolding mentioned
 lists-vars pss h = ap (λ (rd : Reading). rd .vars) (lists-reading pss h)
-
-pub lists-steps : (pss : List (List (List ℕ))) (h : Line) → withLists pss h .reading .steps ≡ h .reading .steps
-unfolding mentioned
-lists-steps pss h = ap (λ (rd : Reading). rd .steps) (lists-reading pss h)
 
 -- ---- answers
 
@@ -124,26 +120,16 @@ module _ {l : List ℕ} {at : ℕ} {names fileEnds texts bind graph : List ℕ} 
   one-over m =
       record { listed = λ raw s h w q. over (λ more. rw (concat-one (expanded (h .reading) raw)) (marks-over (m .marks raw s h w) more)) }
 
--- the end's place and number are low, for the store
-module _ {t l names fileEnds texts bind graph word : List ℕ} {c : Counts} {at e : ℕ} (a : ListAsks t l names fileEnds texts bind graph word c at e) where
-  pub one-asks : mentions.ListAsks t l names fileEnds texts bind graph word c at
-  one-asks =
-      record { table = a .table; short = a .short; raw = a .raw; stands = a .stands; room = a .room; line = a .line; writing = a .writing }
-
-  pub one-held : {names′ fileEnds′ graph′ : List ℕ} {d : Counts} → MentionsAll l at names fileEnds texts bind graph c names′ fileEnds′ graph′ (On d)
-      → Writing names′ fileEnds′ texts bind graph′ d (withPaths (expanded (a .line .reading) (a .raw)) (a .line))
-  one-held m = marks-on (m .marks (a .raw) (a .stands) (a .line) (a .writing))
+-- what is held of the line then, for the store
+pub one-held : {t l names fileEnds texts bind graph word : List ℕ} {c : Counts} {at : ℕ} (a : mentions.ListAsks t l names fileEnds texts bind graph word c at)
+    → {names′ fileEnds′ graph′ : List ℕ} {d : Counts} → MentionsAll l at names fileEnds texts bind graph c names′ fileEnds′ graph′ (On d)
+    → Writing names′ fileEnds′ texts bind graph′ d (withPaths (expanded (a .line .reading) (a .raw)) (a .line))
+one-held a m = marks-on (m .marks (a .raw) (a .stands) (a .line) (a .writing))
 
 -- ---- room is kept
 
-pub room-kept : {names fileEnds word names′ fileEnds′ word′ : List ℕ} → Room names fileEnds word → length names′ ≡ length names → length fileEnds′ ≡ length fileEnds
-    → length word′ ≡ length word → Room names′ fileEnds′ word′
-room-kept r a b c =
-    record {
-      names-long = omega (arith, r .names-long, a);
-      ends-long = omega (arith, r .ends-long, b);
-      word-long = omega (arith, r .word-long, c);
-    }
+pub room-kept : {names word names′ word′ : List ℕ} → Room names word → length names′ ≡ length names → length word′ ≡ length word → Room names′ word′
+room-kept r a b = record { names-long = omega (arith, r .names-long, a); word-long = omega (arith, r .word-long, b) }
 
 -- ---- two lists
 
@@ -171,29 +157,26 @@ module _ {t l names fileEnds texts bind graph word : List ℕ} {c : Counts} {at 
   pub two-first : ListAsks t l names fileEnds texts bind graph word c at e
   two-first =
       record {
-        table = a .table;
-        short = a .short;
-        raw = a .first;
-        stands = a .first-stands;
-        room = a .room;
-        line = a .line;
-        writing = a .writing;
+        asks = record { table = a .table; short = a .short; raw = a .first; stands = a .first-stands; room = a .room; line = a .line; writing = a .writing };
         ended = a .ended;
         low = omega (arith, a .low);
       }
 
-  pub two-second : {names′ fileEnds′ graph′ word′ : List ℕ} {d : Counts} → length names′ ≡ length names → length fileEnds′ ≡ length fileEnds → length word′ ≡ length word
+  pub two-second : {names′ fileEnds′ graph′ word′ : List ℕ} {d : Counts} → length names′ ≡ length names → length word′ ≡ length word
       → Lists l at e names fileEnds texts bind graph c names′ fileEnds′ graph′ (On d) → ListAsks t l names′ fileEnds′ texts bind graph′ word′ d next (e + 1)
-  two-second p q r x =
+  two-second p q x =
       let pss = expanded (a .line .reading) (a .first) ∷ [] in
       record {
-        table = a .table;
-        short = a .short;
-        raw = a .second;
-        stands = a .second-stands;
-        room = room-kept (a .room) p q r;
-        line = withLists pss (a .line);
-        writing = listed-on (x .listed (a .first) (a .first-stands) (a .line) (a .writing) (a .ended));
+        asks =
+            record {
+              table = a .table;
+              short = a .short;
+              raw = a .second;
+              stands = a .second-stands;
+              room = room-kept (a .room) p q;
+              line = withLists pss (a .line);
+              writing = listed-on (x .listed (a .first) (a .first-stands) (a .line) (a .writing) (a .ended));
+            };
         ended = omega (arith, lists-ended pss (a .line), a .ended);
         low = a .low;
       }
@@ -240,10 +223,10 @@ module _ {t l names fileEnds texts bind graph word : List ℕ} {c : Counts} {p :
         low = omega (arith, a .few);
       }
 
-  pub four-second : {names′ fileEnds′ graph′ word′ : List ℕ} {d : Counts} → length names′ ≡ length names → length fileEnds′ ≡ length fileEnds → length word′ ≡ length word
+  pub four-second : {names′ fileEnds′ graph′ word′ : List ℕ} {d : Counts} → length names′ ≡ length names → length word′ ≡ length word
       → Two l (p .outs) (p .ins) (4 * c .steps) names fileEnds texts bind graph c names′ fileEnds′ graph′ (On d)
       → TwoAsks t l names′ fileEnds′ texts bind graph′ word′ d (p .implicit) (p .order) (4 * c .steps + 2)
-  four-second x y r m =
+  four-second x y m =
       let pss = expanded (a .line .reading) (a .raw .outs) ∷ expanded (a .line .reading) (a .raw .ins) ∷ [] in
       record {
         table = a .table;
@@ -252,7 +235,7 @@ module _ {t l names fileEnds texts bind graph word : List ℕ} {c : Counts} {p :
         second = a .raw .orderOnly;
         first-stands = a .stands .implicit;
         second-stands = a .stands .orderOnly;
-        room = room-kept (a .room) x y r;
+        room = room-kept (a .room) x y;
         line = withLists pss (a .line);
         writing = listed-on (m .listed (a .raw .outs) (a .raw .ins) (a .stands .outs) (a .stands .ins) (a .line) (a .writing) (a .ended));
         ended = omega (arith, lists-ended pss (a .line), a .ended);

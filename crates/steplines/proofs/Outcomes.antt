@@ -1,6 +1,6 @@
 -- What the rules answer to a line without 7 and 8: one law for each answer.
 use Prim.Native.Nat.{ℕ, _*_, _≤_, _<_}
-use mathlib.Core.Bool.{true, false, not, _||_, or-true}
+use mathlib.Core.Bool.{true, false, _||_, or-true}
 use mathlib.Core.List.{List, [], append-nil}
 use mathlib.Core.Path.{_≡_, sym, _∙_, ap, subst}
 use native.Mathlib.Omega.{arith}
@@ -29,7 +29,7 @@ use Rattle.steplines.specs.Joins.{ruleNumber, JoinAsks, Joins}
 use Rattle.steplines.proofs.Listing.{listed-on, listed-short, listed-over}
 use Rattle.steplines.proofs.Closed.{lists-made, concat-lists}
 use Rattle.steplines.proofs.Numbered.{ruled, number-low}
-use Rattle.steplines.proofs.Growing.{length-ends}
+use Rattle.tables.proofs.Places.{length-ends}
 use Rattle.steplines.proofs.Stepped.{lineOf, pathsOf, stepFor, lineAfter, lists-line, step-ready}
 use Rattle.steplines.proofs.Joined.{step-held}
 

@@ -5,17 +5,15 @@ use mathlib.Core.Path.{_≡_, sym, _∙_, ap}
 use native.Mathlib.Decide.{decLt}
 use native.Mathlib.Omega.{arith}
 use lib.ListN.{length, getD, length-append, List·getD-append}
-use lib.Seq.{getD-append-seam, getD-append-add, take-append-seam, drop-append-seam}
+use lib.Seq.{getD-append-seam, getD-append-add}
 use Rattle.lists.specs.Members.{in-at}
 use Rattle.lists.specs.Parts.{part}
-use Rattle.rules.specs.Basics.{concat}
 use Rattle.rules.specs.Limits.{maxSteps}
 use Rattle.rules.specs.Forms.{BuildLine}
 use Rattle.rules.specs.Reading.{Step, Reading, numbersOf, mention}
 use Rattle.rules.specs.Statements.{mentioned, inputsOfLine}
 use Rattle.rules.specs.Graph.{inputs}
 use Rattle.bindings.specs.Log.{Logged}
-use Rattle.tables.specs.Tables as tables
 use Rattle.tables.specs.Tables.{mentionsOf, endsFrom}
 use Rattle.tables.proofs.Held.{held-steps}
 use Rattle.held.specs.declared.Counts.{Counts}
@@ -27,7 +25,7 @@ use Rattle.steplines.specs.Lists.{withLists, listsOf}
 use Rattle.steplines.specs.Joins.{Ready, outsEnd}
 use Rattle.steplines.proofs.Listing.{lists-reading}
 use Rattle.steplines.proofs.Closed.{lists-log, lists-phony, lists-ruled, lists-mentions, lists-ends, endsAfter, concat-lists}
-use Rattle.steplines.proofs.Growing.{length-ends}
+use Rattle.tables.proofs.Places.{part-mid, length-ends}
 
 -- ---- the line that is held, before its first path and after its last
 
@@ -104,12 +102,6 @@ module _ (b : BuildLine) (rd : Reading) where
   pub outs-among : Among (b .outs) (filesWith b rd)
   outs-among = among-front (filesWith b rd) (b .outs) (inputsOfLine b) (among-all (rd .files) (pathsOf b))
 
--- a part between two others
-part-between : (a b c : List ℕ) (f e : ℕ) → f ≡ length a → e ≡ length a + length b → part (a ++ (b ++ c)) f e ≡ b
-part-between a b c f e p q =
-    let d : length a + length b - length a ≡ length b = omega arith in
-    rw (p, q, d, drop-append-seam a (b ++ c)) (take-append-seam b c)
-
 module _ {log : List Logged} {names fileEnds texts bind graph : List ℕ} {c : Counts} {rd : Reading} (w : Holds log names fileEnds texts bind graph c rd) (b : BuildLine)
     (few : c .steps < maxSteps) {names′ fileEnds′ graph₁ : List ℕ} {d : Counts} {made : List ℕ} (x : Writing names′ fileEnds′ texts bind graph₁ d (lineAfter b (lineOf w) made)) where
   abbrev g : Graphed log graph c rd
@@ -169,4 +161,4 @@ module _ {log : List Logged} {names fileEnds texts bind graph : List ℕ} {c : C
   outs-part =
       let f = filesWith b rd in
       rw (numbers-append f (b .outs) (inputsOfLine b))
-      (part-between (g .mentions) (numbersOf f (b .outs)) (numbersOf f (inputsOfLine b)) _ _ (g .paths-counted) (omega (arith, outs-end, length-numbers f (b .outs))))
+      (part-mid (g .mentions) (numbersOf f (b .outs)) (numbersOf f (inputsOfLine b)) _ _ (g .paths-counted) (omega (arith, outs-end, length-numbers f (b .outs))))

@@ -23,7 +23,7 @@ pub record StepAsks (t l names fileEnds texts bind graph word : List ℕ) (c : C
   pub short : length l ≤ maxManifest
   pub line : BuildLine
   pub stands : Stands l p line
-  pub room : Room names fileEnds word
+  pub room : Room names word
   pub whole : Whole names fileEnds texts bind graph c
 
 -- A line whose paths are expanded has no 7 and no 8.

@@ -16,6 +16,7 @@ use Rattle.held.specs.declared.Counts.{Counts}
 use Rattle.mentions.specs.declared.Mentioned.{Mentioned}
 use Rattle.mentions.specs.declared.Mentioned.the-variants.{On, Over}
 use Rattle.mentions.specs.Lines.{Line, Writing, withPaths, overLine}
+use Rattle.mentions.specs.Asks as mentions
 use Rattle.mentions.specs.Asks.{Room}
 
 -- an end more, where the mentions end
@@ -43,14 +44,8 @@ pub data Listed (names fileEnds texts bind graph : List ℕ) (h : Line) (pss : L
 -- ------------------------------------------------------------------ one list, whose end is number e of all
 
 pub record ListAsks (t l names fileEnds texts bind graph word : List ℕ) (c : Counts) (at e : ℕ) : Type 0 where
-  pub table : t ≡ classes
-  pub short : length l ≤ maxManifest
-  pub raw : List (List ℕ)
-  pub stands : PathsAt l at raw
-  pub room : Room names fileEnds word
-  pub line : Line
-  pub writing : Writing names fileEnds texts bind graph c line
-  pub ended : length (line .ends) ≡ e
+  pub asks : mentions.ListAsks t l names fileEnds texts bind graph word c at
+  pub ended : length (asks .line .ends) ≡ e
   pub low : e < 4 * maxSteps
 
 pub record Lists (l : List ℕ) (at e : ℕ) (names fileEnds texts bind graph : List ℕ) (c : Counts) (names′ fileEnds′ graph′ : List ℕ) (r : Mentioned) : Type 0 where
@@ -66,7 +61,7 @@ pub record TwoAsks (t l names fileEnds texts bind graph word : List ℕ) (c : Co
   pub second : List (List ℕ)
   pub first-stands : PathsAt l at first
   pub second-stands : PathsAt l next second
-  pub room : Room names fileEnds word
+  pub room : Room names word
   pub line : Line
   pub writing : Writing names fileEnds texts bind graph c line
   pub ended : length (line .ends) ≡ e
@@ -86,7 +81,7 @@ pub record FourAsks (t l names fileEnds texts bind graph word : List ℕ) (c : C
   pub short : length l ≤ maxManifest
   pub raw : BuildLine
   pub stands : Stands l p raw
-  pub room : Room names fileEnds word
+  pub room : Room names word
   pub line : Line
   pub writing : Writing names fileEnds texts bind graph c line
   pub ended : length (line .ends) ≡ 4 * c .steps

@@ -20,11 +20,15 @@ use Rattle.drafts.specs.declared.Draft.{Draft}
 use Rattle.drafts.specs.Draft.{Remembers, Drafted}
 use Rattle.steptexts.specs.Here.{Files, Here}
 
-pub record FilesAsk (names ends graph : List ℕ) (a : Asked) (buffer : List ℕ) (place : ℕ) : Type 0 where
+-- files of the step, from a place of the mentions to another
+pub record FilesAsk (names ends graph : List ℕ) (a : Asked) (from to : ℕ) (buffer : List ℕ) (d : Draft) : Type 0 where
   pub reading : Reading
   pub step : Step
   pub files : Files names ends graph a reading step
-  pub free : Open buffer place
+  pub first : a .outs ≤ from
+  pub ordered : from ≤ to
+  pub last : to ≤ a .rest
+  pub free : Open buffer (d .at)
 
 -- ------------------------------------------------------------------ what is written as it is
 

@@ -1,5 +1,4 @@
 // A step's text written into the lent buffer: a name's text as it is, or a rule's text expanded by the same lookup. Each rule key is expanded once.
-ghost use mathlib.Core.List.{List};
 ghost use Rattle.steptexts.specs.Asks.{TextAsk, NameAsk, KeyAsk, WritesText, WritesName, WritesKey};
 use bindings::value;
 use drafts::Draft;

@@ -1,9 +1,12 @@
 // Texts that are written as they are: the step's files, and values.
-ghost use Rattle.rules.specs.Text.{joinedBy, namesOf};
-ghost use Rattle.rules.specs.Reading.{Step, Reading};
-ghost use Rattle.output.specs.Puts.{Puts};
+ghost use mathlib.Core.List.{List};
+ghost use Prim.Native.Nat.{ℕ};
+ghost use Rattle.lists.specs.Parts.{part};
+ghost use Rattle.rules.specs.Text.{joinedBy};
+ghost use Rattle.names.specs.Table.{Holds};
+ghost use Rattle.output.specs.Puts.{namesIn};
+ghost use Rattle.drafts.specs.Draft.{Writes};
 ghost use Rattle.steptexts.specs.Asks.{FilesAsk, PlainAsk, WritesPlain};
-ghost use Rattle.steptexts.specs.Here.{Files};
 use bindings::value;
 use drafts::Draft;
 use drafts::moved;
@@ -12,59 +15,34 @@ use lookups::Asked;
 use lookups::Source;
 use output::put_files;
 
-// "`$in` is the explicit inputs"
-fn put_inputs(
+// The names of the step's files from one place of the mentions to another.
+fn write_files(
     names: &[u8],
     ends: &[u32],
     graph: &[u32],
     a: Asked,
+    from: usize,
+    to: usize,
     separator: u8,
     buffer: &mut [u8],
-    place: usize,
-) -> usize
-    requires { ⌜ FilesAsk (now names) (now ends) (now graph) a (now buffer) place ⌝ }
-    ensures { λ r. ⌜ ((rd : Reading) (s : Step) → Files (now (names .entry)) (now (ends .entry)) (now (graph .entry)) a rd s → Puts (now (buffer .entry)) place (joinedBy separator (namesOf rd (s .ins))) (now (buffer .exit)) r) ⌝ }
+    d: Draft,
+) -> Draft
+    requires { ⌜ FilesAsk (now names) (now ends) (now graph) a from to (now buffer) d ⌝ }
+    ensures { λ r. ⌜ ((files : List (List ℕ)) → Holds (now (names .entry)) (now (ends .entry)) (a .files) files → Writes (now (buffer .entry)) d (joinedBy separator (namesIn files (part (now (graph .entry)) from to))) (now (buffer .exit)) r) ⌝ }
 {
-    let from = a.ins;
-    let to = a.rest;
-    put_files(
+    let n = put_files(
         names,
         ends,
         a.files,
         &graph[from..to],
         separator,
         buffer,
-        place,
-    )
+        d.at,
+    );
+    moved(d, n)
 }
 
-// "`$out` the outputs"
-fn put_outputs(
-    names: &[u8],
-    ends: &[u32],
-    graph: &[u32],
-    a: Asked,
-    separator: u8,
-    buffer: &mut [u8],
-    place: usize,
-) -> usize
-    requires { ⌜ FilesAsk (now names) (now ends) (now graph) a (now buffer) place ⌝ }
-    ensures { λ r. ⌜ ((rd : Reading) (s : Step) → Files (now (names .entry)) (now (ends .entry)) (now (graph .entry)) a rd s → Puts (now (buffer .entry)) place (joinedBy separator (namesOf rd (s .outs))) (now (buffer .exit)) r) ⌝ }
-{
-    let from = a.outs;
-    let to = a.ins;
-    put_files(
-        names,
-        ends,
-        a.files,
-        &graph[from..to],
-        separator,
-        buffer,
-        place,
-    )
-}
-
-// Whatever a name stands for, but for a rule's text.
+// Whatever a name stands for, but for a rule's text: "`$in` is the explicit inputs", "`$out` the outputs".
 pub fn write_plain(
     names: &[u8],
     ends: &[u32],
@@ -79,11 +57,13 @@ pub fn write_plain(
     requires { ⌜ PlainAsk (now names) (now ends) (now texts) (now bind) (now graph) a source (now buffer) d ⌝ }
     ensures { λ r. ⌜ WritesPlain (now (names .entry)) (now (ends .entry)) (now (texts .entry)) (now (bind .entry)) (now (graph .entry)) a source (now (buffer .entry)) d (now (buffer .exit)) r ⌝ }
 {
-    let place = d.at;
+    let outs = a.outs;
+    let ins = a.ins;
+    let rest = a.rest;
     match source {
-        Source::Inputs => moved(d, put_inputs(names, ends, graph, a, b' ', buffer, place)),
-        Source::InputLines => moved(d, put_inputs(names, ends, graph, a, b'\n', buffer, place)),
-        Source::Outputs => moved(d, put_outputs(names, ends, graph, a, b' ', buffer, place)),
+        Source::Inputs => write_files(names, ends, graph, a, ins, rest, b' ', buffer, d),
+        Source::InputLines => write_files(names, ends, graph, a, ins, rest, b'\n', buffer, d),
+        Source::Outputs => write_files(names, ends, graph, a, outs, ins, b' ', buffer, d),
         Source::Value(k) => write(buffer, d, value(texts, bind, k)),
         Source::Text(_) => d,
         Source::Unset => d,

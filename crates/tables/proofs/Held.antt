@@ -3,8 +3,7 @@ use Prim.Native.Nat.{ℕ, zero, suc, _+_, _*_, _-_, _≤_, _<_}
 use native.Mathlib.Decide.{decLt}
 use native.Mathlib.Omega.{arith}
 use mathlib.Core.Path.{_≡_, refl, sym, ap, _∙_, fun-ext}
-use mathlib.Core.Bool.{Bool, true, false}
-use mathlib.Core.List.{List, [], _∷_, _++_, map}
+use mathlib.Core.List.{List, [], _∷_, map}
 use lib.ListN.{length, getD, drop, length-take, length-drop, length-map, List·getD-map, List·getD-eq-default}
 use Rattle.lists.specs.Members.{_∈_, here, in-at, in-take, in-drop, in-left, in-right, not-in-nil}
 use Rattle.lists.specs.Parts.{part}
@@ -14,26 +13,10 @@ use Rattle.rules.specs.Limits.{maxMentions}
 use Rattle.rules.specs.Reading.{Step, isPhony}
 use Rattle.rules.specs.Graph.{inputs, counted, noStep, stepAt, makers, makersOf, before, needed}
 use Rattle.rules.specs.Stale.{phonyStep}
-use Rattle.rules.specs.Words.{Makes}
 use Rattle.rules.proofs.Graph.{in-makers}
-use Rattle.tables.specs.Tables.{bit, mentionsOf, endsFrom, madeBy, Holds, startIn, outsIn, countedIn, inputsIn, makerIn, makersIn, beforeIn, neededIn, Placed, Sound, Files}
+use Rattle.tables.specs.Tables.{bit, mentionsOf, madeBy, Holds, startIn, outsIn, countedIn, inputsIn, makerIn, makersIn, beforeIn, neededIn, Sound, Files}
 use Rattle.tables.proofs.Makers.{makers-small}
 use Rattle.tables.proofs.Places.{read-inputs, read-counted, read-outs, read-placed}
-
--- tables that hold nothing
-pub holds-nothing : Holds [] 0 [] [] [] []
-unfolding endsFrom concat
-holds-nothing = record {
-  mentioned = refl;
-  ended = refl;
-  phonies = refl;
-  counted = refl;
-  makes = λ f b. absurd (omega arith);
-  low = λ f h. absurd (not-in-nil h);
-  few-steps = omega arith;
-  few-files = omega arith;
-  few-mentions = omega arith;
-}
 
 pub in-part : (l : List ℕ) (f e : ℕ) {x : ℕ} → x ∈ part l f e → x ∈ l
 in-part l f e h = in-drop f l (in-take (e - f) (drop f l) h)

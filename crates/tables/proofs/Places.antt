@@ -2,14 +2,14 @@
 use Prim.Native.Nat.{ℕ, zero, suc, _+_, _*_, _-_, _≤_, _<_}
 use native.Mathlib.Nat.{add-zero, not-suc-le-zero, le-of-suc-le-suc}
 use native.Mathlib.Omega.{arith}
-use mathlib.Core.Path.{_≡_, refl, sym, ap, _∙_}
+use mathlib.Core.Path.{_≡_, refl, sym}
 use mathlib.Core.List.{List, [], _∷_, _++_, map, append-assoc}
-use lib.ListN.{length, getD, take, drop, length-append}
+use lib.ListN.{length, getD, length-append}
 use lib.Seq.{take-append-seam, drop-append-seam}
 use Rattle.lists.specs.Parts.{part}
 use Rattle.rules.specs.Basics.{concat}
 use Rattle.rules.specs.Reading.{Step}
-use Rattle.rules.specs.Graph.{inputs, counted, noStep, stepAt}
+use Rattle.rules.specs.Graph.{inputs, counted, stepAt}
 use Rattle.tables.specs.Tables.{mentionsOf, endsFrom, startIn, outsIn, countedIn, inputsIn, Placed}
 
 pub start-zero : (ends : List ℕ) (s : ℕ) → s ≡ 0 → 0 ≡ startIn ends s
@@ -22,7 +22,7 @@ start-suc ends zero d = absurd (d refl)
 start-suc ends (suc s) d = let e : 4 * suc s - 1 ≡ 4 * s + 3 = omega arith in rw e
 
 -- a part between two others
-part-mid : (a b c : List ℕ) (f e : ℕ) → f ≡ length a → e ≡ length a + length b → part (a ++ (b ++ c)) f e ≡ b
+pub part-mid : (a b c : List ℕ) (f e : ℕ) → f ≡ length a → e ≡ length a + length b → part (a ++ (b ++ c)) f e ≡ b
 part-mid a b c f e p q =
     let d : length a + length b - length a ≡ length b = omega arith in
     rw (p, q, d, drop-append-seam a (b ++ c)) (take-append-seam b c)
@@ -34,6 +34,11 @@ skip-four a b c d r i j e = let q : i ≡ suc (suc (suc (suc j))) = omega arith 
 -- where the files of step x end, that start at k
 after : ℕ → Step → ℕ
 after k x = k + length (x .outs) + length (x .ins) + length (x .implicit) + length (x .orderOnly)
+
+pub length-ends : (k : ℕ) (steps : List Step) → length (endsFrom k steps) ≡ 4 * length steps
+unfolding endsFrom after
+length-ends k [] = refl
+length-ends k (x ∷ l) = omega (arith, length-ends (after k x) l)
 
 -- the end of number j of step s
 abbrev endOf : ℕ → List Step → ℕ → ℕ → ℕ

@@ -1,31 +1,29 @@
 -- The walk over a target list that puts each name's number into the buffer.
-use Prim.Native.Nat.{ℕ, suc, _+_, _^_, _≤_, _<_}
+use Prim.Native.Nat.{ℕ, _+_, _^_, _≤_, _<_}
 use mathlib.Core.Bool.{true, false}
 use mathlib.Core.List.{List, [], _∷_, _++_}
 use mathlib.Core.Option.{some}
-use mathlib.Core.Path.{_≡_, refl, sym, _∙_, ap, subst}
+use mathlib.Core.Path.{_≡_, refl, sym, _∙_, ap}
 use native.Mathlib.Numerals.{add-one}
 use native.Mathlib.Decide.{decLt}
 use native.Mathlib.Nat.{not-suc-le-zero}
 use native.Mathlib.Omega.{arith}
-use lib.ListN.{length, take, getD, set, length-set, length-append}
+use lib.ListN.{length, take, getD, set, length-set}
 use lib.Seq.{length-take-le, take-suc-set, getD-set-same, getD-set-other}
-use Rattle.lists.specs.Tests.{ifB, split}
 use Rattle.lists.specs.Parts.{part}
-use Rattle.rules.specs.Basics.{among}
 use Rattle.rules.specs.Limits.{maxTargets}
 use Rattle.rules.specs.Reading.{numberOf}
-use Rattle.rules.specs.Targets.{malformed, targetsOf, badTarget}
+use Rattle.rules.specs.Targets.{malformed}
 use Rattle.names.specs.declared.Found.{Found}
 use Rattle.names.specs.declared.Found.the-variants.{At, Missing}
-use Rattle.names.specs.Table.{Holds, Sound, found, Finds}
+use Rattle.names.specs.Table.{Holds, Sound, Finds}
 use Rattle.names.proofs.Laws.{find-at, find-missing}
 use Rattle.targets.specs.declared.Next.{Next}
 use Rattle.targets.specs.declared.Next.the-variants.{End, Bad as BadName, Name}
 use Rattle.targets.specs.Next.{nextIn}
 use Rattle.targets.proofs.Walk.{namesFrom, Turn, Walking, walk-malformed, walk-begin, walk-end, walk-bad, walk-turn, walk-missing, walk-more}
 use Rattle.targetfiles.specs.declared.Numbered.the-variants.{All, Bad}
-use Rattle.targetfiles.specs.Numbered.{Asked, numbersOf, Numbers, Says, NumbersTargets}
+use Rattle.targetfiles.specs.Numbered.{Asked, numbersOf, NumbersTargets}
 
 -- the numbers of the names up to a place are there, whatever names are held
 pub record Walked (targets names ends : List ℕ) (count : ℕ) (start : List ℕ) (from n : ℕ) (out : List ℕ) : Type 0 where

@@ -30,7 +30,7 @@ use Rattle.output.specs.Puts.{Puts}
 use Rattle.steptexts.specs.Here.{Here}
 use Rattle.textask.specs.Steps.{Picks, Reads}
 use Rattle.textask.proofs.One.{sound-any}
-use Rattle.textask.specs.Asks.{InAsk, WritesWanted, StepAsk, textOfIn, TextIn, TextAsk, TextOf}
+use Rattle.textask.specs.Asks.{StepAsk, WholeAsk, WritesWhole, textOfIn, TextIn, TextAsk, TextOf}
 
 -- ---- the buffer
 
@@ -76,19 +76,10 @@ module _ {t names ends texts bind graph before : List ℕ} {a : Asked} (wanted :
   in-endless {exit} e z = record { meets = λ log rd s h. rw (sym (q log rd s (h .scope)) ∙ e) (meets-endless k before before refl z) }
 
   module _ (e : b ≡ false) where
-    pub wants : InAsk t names ends texts bind graph a wanted before
-    wants =
-        record {
-          table = w .table;
-          room = w .room;
-          log = w .log;
-          reading = w .reading;
-          step = w .step;
-          here = w .here;
-          ended = sym (q (w .log) (w .reading) (w .step) (w .here .scope)) ∙ e;
-        }
+    pub wants : WholeAsk t names ends texts bind graph a (wantedName wanted) before
+    wants = record { asked = w; ended = sym (q (w .log) (w .reading) (w .step) (w .here .scope)) ∙ e }
 
-    module _ {after : List ℕ} {n : ℕ} (p : WritesWanted names ends texts bind graph a wanted before after n) {exit : List ℕ} where
+    module _ {after : List ℕ} {n : ℕ} (p : WritesWhole names ends texts bind graph a (wantedName wanted) before after n) {exit : List ℕ} where
       pub in-long : maxText < n → exit ≡ zeroed after 0 (length after) → TextIn names ends texts bind graph a k wanted before exit (Refused (LongText k))
       unfolding textOfIn
       in-long h z =

@@ -7,12 +7,12 @@ use native.Mathlib.Decide.{ℕ-discrete}
 use native.Mathlib.Omega.{arith}
 use borrow.Author.Tests.{eq-eqb, ne-eqb, le-leb}
 use lib.Dec.{leb}
-use lib.ListN.{length, take, drop, getD}
-use lib.Seq.{take-take, getD-take}
+use lib.ListN.{length, take, getD}
+use lib.Seq.{getD-take}
 use Rattle.lists.specs.Tests.{split}
 use Rattle.lists.specs.Bytes.{eq-eqBytes}
 use Rattle.lists.specs.Members.{in-at}
-use Rattle.lists.specs.Parts.{part, drop-take}
+use Rattle.lists.specs.Parts.{part}
 use Rattle.rules.specs.Reading.{Reading, isPhony, keysOf}
 use Rattle.rules.specs.Graph.{stepAt}
 use Rattle.arena.proofs.Laws.{lies-column, lies-read}
@@ -27,6 +27,7 @@ use Rattle.bindings.proofs.Lookups.{newest-below, entry-kept, entry-newest, key
 use Rattle.held.specs.declared.Counts.{Counts}
 use Rattle.held.specs.Held.{capacities, Ruled, phony, declared, Bound, Graphed}
 use Rattle.lookups.specs.declared.Asked.{Asked}
+use Rattle.drafts.proofs.Spans.{part-front}
 use Rattle.textask.specs.declared.StepAsked.{StepAsked}
 use Rattle.textask.specs.declared.StepAsked.the-variants.{NoCommand, Step}
 use Rattle.textask.specs.Steps.{HasRule, Declares, InGraph, outputsFrom, Picked, Picks, PickAsk, Reads, Asks}
@@ -93,9 +94,6 @@ ruled-phony (phony e) z = e
 ruled-phony (declared {k = k} b o n e) z = absurd (omega arith)
 
 -- ---- the columns
-
-part-front : (l : List ℕ) (f e n : ℕ) → e ≤ n → part (take n l) f e ≡ part l f e
-part-front l f e n h = ap (take (e - f)) (drop-take f n l) ∙ take-take (e - f) (n - f) (drop f l) (omega arith)
 
 module _ {log : List Logged} {texts bind graph : List ℕ} {c : Counts} {rd : Reading} (b : Bound log texts bind c rd) (g : Graphed log graph c rd) where
   columns : List (List ℕ)

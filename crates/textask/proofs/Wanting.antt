@@ -9,11 +9,9 @@ use lib.ListN.{length}
 use Rattle.lists.specs.Tests.{split}
 use Rattle.lists.specs.Text.{bytes}
 use Rattle.lists.specs.Bytes.{eqBytes}
-use Rattle.rules.specs.declared.Wanted.{Wanted}
 use Rattle.rules.specs.Limits.{maxText}
 use Rattle.rules.specs.Reading.{Step, Reading}
 use Rattle.rules.specs.Text.{leadsBack, textOf, deep}
-use Rattle.rules.specs.TextAsk.{wantedName}
 use Rattle.lookups.specs.declared.Asked.{Asked}
 use Rattle.endless.specs.Depth.{goesDeep}
 use Rattle.endless.specs.Depth as depth
@@ -21,7 +19,7 @@ use Rattle.endless.proofs.Circles.{leads-back-deep}
 use Rattle.drafts.specs.declared.Draft.{Draft}
 use Rattle.drafts.specs.Draft.{span, spanFor, Remembers}
 use Rattle.steptexts.specs.Asks.{NameAsk, WritesName}
-use Rattle.textask.specs.Asks.{InAsk, WritesWanted, StepAsk}
+use Rattle.textask.specs.Asks.{StepAsk, WholeAsk, WritesWhole}
 
 -- nothing is written
 abbrev pub blank : Draft
@@ -46,22 +44,30 @@ blank-remembers text buffer h =
 shallow : (rd : Reading) (s : Step) (n : List ℕ) → leadsBack rd s deep [] n ≡ false → goesDeep rd s deep n ≡ false
 shallow rd s n e = sym (leads-back-deep rd s n) ∙ e
 
-module _ {t names ends texts bind graph buffer : List ℕ} {a : Asked} {wanted : Wanted} (w : InAsk t names ends texts bind graph a wanted buffer) {n : List ℕ} (e : wantedName wanted ≡ n) where
-  pub wanted-asked : NameAsk t names ends texts bind graph a n 4 buffer blank
-  wanted-asked =
+module _ {t names ends texts bind graph name buffer : List ℕ} {a : Asked} (w : WholeAsk t names ends texts bind graph a name buffer) where
+  pub whole-asked : NameAsk t names ends texts bind graph a name 4 buffer blank
+  whole-asked =
+      let q = w .asked in
       record {
-        table = w .table;
+        table = q .table;
         low = le-refl 4;
-        asking = record { log = w .log; reading = w .reading; step = w .step; here = w .here; remembers = blank-remembers (textOf (w .reading) (w .step) deep) buffer (w .room) };
-        shallow = shallow (w .reading) (w .step) n (rw e at (w .ended));
+        asking = record { log = q .log; reading = q .reading; step = q .step; here = q .here; remembers = blank-remembers (textOf (q .reading) (q .step) deep) buffer (q .room) };
+        shallow = shallow (q .reading) (q .step) name (w .ended);
       }
 
-  pub wanted-written : {after : List ℕ} {r : Draft} → WritesName names ends texts bind graph a n 4 buffer blank after r → WritesWanted names ends texts bind graph a wanted buffer after (r .at)
-  wanted-written {after} {r} p =
+  pub whole-written : {after : List ℕ} {r : Draft} → WritesName names ends texts bind graph a name 4 buffer blank after r → WritesWhole names ends texts bind graph a name buffer after (r .at)
+  whole-written p =
       record {
-        writes = λ log rd s h q.
-            rw e (p .writes log rd s h (shallow rd s n (rw e at q)) (blank-remembers (textOf rd s deep) buffer (w .room)) .puts);
+        writes = λ log rd s h q. p .writes log rd s h (shallow rd s name q) (blank-remembers (textOf rd s deep) buffer (w .asked .room)) .puts;
       }
+
+-- a name by its bytes
+module _ {t names ends texts bind graph buffer : List ℕ} {a : Asked} {name n : List ℕ} (w : WholeAsk t names ends texts bind graph a name buffer) (e : name ≡ n) where
+  pub wanted-asked : WholeAsk t names ends texts bind graph a n buffer
+  wanted-asked = rw e at w
+
+  pub wanted-written : {after : List ℕ} {r : ℕ} → WritesWhole names ends texts bind graph a n buffer after r → WritesWhole names ends texts bind graph a name buffer after r
+  wanted-written p = rw e p
 
 -- ---- what the functions ask
 

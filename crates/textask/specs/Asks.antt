@@ -26,19 +26,6 @@ use Rattle.steptexts.specs.Here.{Here}
 
 -- ------------------------------------------------------------------ one step
 
-pub record InAsk (t names ends texts bind graph : List ℕ) (a : Asked) (wanted : Wanted) (buffer : List ℕ) : Type 0 where
-  pub table : t ≡ classes
-  pub room : maxText ≤ length buffer
-  pub log : List Logged
-  pub reading : Reading
-  pub step : Step
-  pub here : Here names ends texts bind graph a log reading step
-  pub ended : leadsBack reading step deep [] (wantedName wanted) ≡ false
-
-pub record WritesWanted (names ends texts bind graph : List ℕ) (a : Asked) (wanted : Wanted) (before after : List ℕ) (r : ℕ) : Type 0 where
-  pub writes : (log : List Logged) (rd : Reading) (s : Step) → Here names ends texts bind graph a log rd s → leadsBack rd s deep [] (wantedName wanted) ≡ false
-      → Puts before 0 (textOf rd s deep (wantedName wanted)) after r
-
 pub record StepAsk (t names ends texts bind graph : List ℕ) (a : Asked) (buffer : List ℕ) : Type 0 where
   pub table : t ≡ classes
   pub room : maxText ≤ length buffer
@@ -46,6 +33,15 @@ pub record StepAsk (t names ends texts bind graph : List ℕ) (a : Asked) (buffe
   pub reading : Reading
   pub step : Step
   pub here : Here names ends texts bind graph a log reading step
+
+-- the same, for the text of a name that is not endless
+pub record WholeAsk (t names ends texts bind graph : List ℕ) (a : Asked) (name buffer : List ℕ) : Type 0 where
+  pub asked : StepAsk t names ends texts bind graph a buffer
+  pub ended : leadsBack (asked .reading) (asked .step) deep [] name ≡ false
+
+pub record WritesWhole (names ends texts bind graph : List ℕ) (a : Asked) (name before after : List ℕ) (r : ℕ) : Type 0 where
+  pub writes : (log : List Logged) (rd : Reading) (s : Step) → Here names ends texts bind graph a log rd s → leadsBack rd s deep [] name ≡ false
+      → Puts before 0 (textOf rd s deep name) after r
 
 -- "16, 17 for a text", once 18 is out
 unfoldable pub textOfIn : ℕ → List ℕ → Reading → Step → TextOutcome

@@ -1,5 +1,6 @@
 // The text of a step from what a manifest was read into: 18, 16, 17, or the text.
-ghost use Rattle.textask.specs.Asks.{InAsk, WritesWanted, StepAsk, TextIn, TextAsk, TextOf};
+ghost use Rattle.rules.specs.TextAsk.{wantedName};
+ghost use Rattle.textask.specs.Asks.{StepAsk, WholeAsk, WritesWhole, TextIn, TextAsk, TextOf};
 use drafts::Draft;
 use drafts::Span;
 use endless::leads_back;
@@ -21,7 +22,33 @@ pub enum StepAsked {
     Step(Asked),
 }
 
-// Writes the text that is wanted, and gives where it ends.
+// Writes the text of a name into an empty buffer, and gives where it ends.
+fn write_whole(
+    t: &[u8; 256],
+    names: &[u8],
+    ends: &[u32],
+    texts: &[u8],
+    bind: &[u32],
+    graph: &[u32],
+    a: Asked,
+    name: &[u8],
+    buffer: &mut [u8],
+) -> usize
+    requires { ⌜ WholeAsk (now t) (now names) (now ends) (now texts) (now bind) (now graph) a (now name) (now buffer) ⌝ }
+    ensures { λ r. ⌜ WritesWhole (now (names .entry)) (now (ends .entry)) (now (texts .entry)) (now (bind .entry)) (now (graph .entry)) a (now (name .entry)) (now (buffer .entry)) (now (buffer .exit)) r ⌝ }
+{
+    let none = Span { from: 1, to: 0 };
+    let d = Draft {
+        at: 0,
+        command: none,
+        description: none,
+        generator: none,
+    };
+    let x = write_name(t, names, ends, texts, bind, graph, a, name, 4, buffer, d);
+    x.at
+}
+
+// Writes the text that is wanted.
 fn write_wanted(
     t: &[u8; 256],
     names: &[u8],
@@ -33,35 +60,13 @@ fn write_wanted(
     wanted: Wanted,
     buffer: &mut [u8],
 ) -> usize
-    requires { ⌜ InAsk (now t) (now names) (now ends) (now texts) (now bind) (now graph) a wanted (now buffer) ⌝ }
-    ensures { λ r. ⌜ WritesWanted (now (names .entry)) (now (ends .entry)) (now (texts .entry)) (now (bind .entry)) (now (graph .entry)) a wanted (now (buffer .entry)) (now (buffer .exit)) r ⌝ }
+    requires { ⌜ WholeAsk (now t) (now names) (now ends) (now texts) (now bind) (now graph) a (wantedName wanted) (now buffer) ⌝ }
+    ensures { λ r. ⌜ WritesWhole (now (names .entry)) (now (ends .entry)) (now (texts .entry)) (now (bind .entry)) (now (graph .entry)) a (wantedName wanted) (now (buffer .entry)) (now (buffer .exit)) r ⌝ }
 {
-    let none = Span { from: 1, to: 0 };
-    let d = Draft {
-        at: 0,
-        command: none,
-        description: none,
-        generator: none,
-    };
     match wanted {
-        Wanted::Command => {
-            let x = write_name(
-                t,
-                names,
-                ends,
-                texts,
-                bind,
-                graph,
-                a,
-                b"command",
-                4,
-                buffer,
-                d,
-            );
-            x.at
-        }
+        Wanted::Command => write_whole(t, names, ends, texts, bind, graph, a, b"command", buffer),
         Wanted::Description => {
-            let x = write_name(
+            write_whole(
                 t,
                 names,
                 ends,
@@ -70,11 +75,8 @@ fn write_wanted(
                 graph,
                 a,
                 b"description",
-                4,
                 buffer,
-                d,
-            );
-            x.at
+            )
         }
     }
 }

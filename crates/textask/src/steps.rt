@@ -1,9 +1,6 @@
 // The step that a text is asked of: its rule and its files.
 ghost use mathlib.Core.Path.{_≡_};
-ghost use mathlib.Core.List.{List};
-ghost use Prim.Native.Nat.{ℕ, _<_};
-ghost use lib.ListN.{length};
-ghost use Rattle.bindings.specs.Log.{Logged};
+ghost use Prim.Native.Nat.{_<_};
 ghost use Rattle.textask.specs.Steps.{HasRule, Declares, outputsFrom, InGraph, PickAsk, Picks, Reads, Asks};
 use crate::StepAsked;
 use bindings::Found;

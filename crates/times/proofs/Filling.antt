@@ -1,11 +1,11 @@
 -- The column of times, filled from the front.
 use Prim.Native.Nat.{ℕ, suc, _+_, _≤_, _<_}
 use mathlib.Core.Bool.{true}
-use mathlib.Core.List.{List, [], _∷_, _++_, map}
+use mathlib.Core.List.{List, [], _∷_, _++_}
 use mathlib.Core.Path.{_≡_, refl, sym, _∙_, ap}
 use native.Mathlib.Numerals.{add-one}
 use native.Mathlib.Omega.{arith}
-use lib.ListN.{length, take, drop, getD, set, length-set, length-append, length-take}
+use lib.ListN.{length, take, drop, getD, set, length-set, length-take}
 use lib.Seq.{take-all, take-suc, drop-cons, set-append-seam, append-snoc}
 use Rattle.rules.specs.Card.{soundCard, cardEntries, timeIn}
 use Rattle.names.specs.Table.{Holds, Sound, Names}

@@ -1,5 +1,5 @@
 -- What a column of times holds: "Every other file has the card's time", "a file that the card does not list is missing".
-use Prim.Native.Nat.{ℕ, _≤_, _<_}
+use Prim.Native.Nat.{ℕ, _≤_}
 use mathlib.Core.Bool.{true}
 use mathlib.Core.List.{List, _++_, map}
 use mathlib.Core.Path.{_≡_}

@@ -1,9 +1,8 @@
 -- `cases::fill_bytes` meets its contract.
-use lib.ListN.{length-set}
+use lib.ListN.{length-set, length}
 use native.Mathlib.Omega.{arith}
 use Prim.Native.Nat.{_-_, _≤_}
 use mathlib.Core.Path.{_≡_}
-use lib.ListN.{length}
 use borrow.Author.Needs.{needs}
 use Rattle.cases.proofs.fill_bytes.Statement.{statement}
 use Rattle.cases.proofs.fill_bytes.Tie as tie

@@ -1,19 +1,12 @@
-use lib.ListN.{length-set}
+-- `graph::explore` meets its contract.
+use lib.ListN.{length-set, length, take}
 use Prim.Native.Nat.{_+_, _*_, _-_, _<_}
 use native.Mathlib.Omega.{arith}
 use Rattle.graph.specs.Walk.{Explored}
-use lib.ListN.{length, take}
 use Rattle.graph.proofs.Exploring.{Exploring, Turn, explore-begin, top-low, top-files, top-start, numbers, open-low, open-maker, push-room, explore-push, explore-circle, pop-room, explore-pop, explore-end}
 use borrow.Author.Needs.{needs}
 use Rattle.graph.proofs.explore.Statement.{statement}
 use Rattle.graph.proofs.explore.Tie as tie
-use Rattle.graph.proofs.explore.Reads as reads
-use Rattle.graph.proofs.explore.Lts as lts
-use Rattle.graph.proofs.next_open.Reads as next-open-reads
-use Rattle.graph.proofs.place.Reads as place-reads
-use Rattle.lists.proofs.words.at.Reads as at-reads
-use Rattle.tables.proofs.inputs.Reads as inputs-reads
-use Rattle.tables.proofs.maker.Reads as maker-reads
 
 abbrev Inv-loop : tie.InvT-loop
 Inv-loop mentions ends made seen₀ next₀ path₀ order₀ root already depth₀ done₀ seen next path order depth done =
@@ -41,180 +34,136 @@ turn c = record {
 push : (c : tie.Else2 Inv-loop μ-loop) → (c .before .before .before .maker .result - 1 < length (c .before .before .before .before .before .before .before .before .before .before .before .before .before .before .before .before .before .before .before .before .before .args .order .now)) × (c .before .before .before .before .before .before .before .before .before .before .before .before .before .loop .depth < length (c .before .before .before .before .before .before .before .before .before .before .before .before .before .before .before .before .before .before .before .before .before .args .order .now))
 push c = (open-low (turn (c .before .before .before .before .before)) (c .before .before .before .before .if1 .taken) (c .before .before .before .maker .ensures), push-room (turn (c .before .before .before .before .before)) (c .before .before .before .before .if1 .taken) (c .before .before .before .maker .ensures) (c .before .at3 .ensures) (c .if2 .left))
 
--- src/lib.rt:56:5
 mul-seen : tie.Need-mul-seen Inv-loop μ-loop
 mul-seen c = search needs
 
--- src/lib.rt:56:5
 slice-write-seen : tie.Need-slice-write-seen Inv-loop μ-loop
 slice-write-seen c = search needs
 
--- src/lib.rt:57:15
 cast-path : tie.Need-cast-path Inv-loop μ-loop
 cast-path c = search needs
 
--- src/lib.rt:57:5
 slice-write-path : tie.Need-slice-write-path Inv-loop μ-loop
 slice-write-path c = search needs
 
--- src/lib.rt:60:5
 loop-holds : tie.Need-loop-holds Inv-loop μ-loop
 loop-holds c = explore-begin (c .before .before .before .before .before .before .before .pre)
 
--- src/lib.rt:61:26
 sub-at : tie.Need-sub-at Inv-loop μ-loop
 sub-at c = search needs
 
--- src/lib.rt:61:13
 at-requires : tie.Need-at-requires Inv-loop μ-loop
 at-requires c κs = search needs
 
--- src/lib.rt:62:13
 inputs-requires : tie.Need-inputs-requires Inv-loop μ-loop
 inputs-requires c κs = c .before .before .before .before .before .before .before .before .before .before .before .pre .sound .placed (c .at .result) (top-low (c .before .before .before .loop .inv) (c .before .before .loop-test .taken) (c .at .ensures))
 
--- src/lib.rt:63:43
 at-requires-2 : tie.Need-at-requires-2 Inv-loop μ-loop
 at-requires-2 c κs = omega (arith, top-low (c .before .before .before .before .before .before .loop .inv) (c .before .before .before .before .before .loop-test .taken) (c .before .before .before .at .ensures), c .before .before .before .before .before .before .loop .inv .next-long)
 
--- src/lib.rt:63:13
 next-open-requires : tie.Need-next-open-requires Inv-loop μ-loop
 next-open-requires c κs = (rw (c .before .before .before .before .before .before .before .loop .inv .walk .long) (top-files (c .before .before .before .before .before .before .before .loop .inv) (c .before .before .before .before .before .before .loop-test .taken) (c .before .before .before .before .at .ensures) (c .before .before .before .before .before .before .before .before .before .before .before .before .before .before .before .pre .sound) (c .before .before .before .inputs .ensures)), top-start (c .before .before .before .before .before .before .before .loop .inv) (c .before .before .before .before .before .before .loop-test .taken) (c .before .before .before .before .at .ensures) (c .before .before .before .before .before .before .before .before .before .before .before .before .before .before .before .pre .sound) (c .before .before .before .inputs .ensures) (c .at2 .ensures))
 
--- src/lib.rt:64:19
 cast-next : tie.Need-cast-next Inv-loop μ-loop
 cast-next c = omega (arith, numbers (turn c))
 
--- src/lib.rt:64:9
 mul-next : tie.Need-mul-next Inv-loop μ-loop
 mul-next c = omega (arith, numbers (turn c))
 
--- src/lib.rt:64:9
 slice-write-next : tie.Need-slice-write-next Inv-loop μ-loop
 slice-write-next c = omega (arith, numbers (turn c))
 
--- src/lib.rt:66:21
 maker-requires : tie.Need-maker-requires Inv-loop μ-loop
 maker-requires c κs = (c .if1 .taken, top-files (c .before .before .before .before .before .before .before .before .before .loop .inv) (c .before .before .before .before .before .before .before .before .loop-test .taken) (c .before .before .before .before .before .before .at .ensures) (c .before .before .before .before .before .before .before .before .before .before .before .before .before .before .before .before .before .pre .sound) (c .before .before .before .before .before .inputs .ensures) .low (c .before .next-open .result) (c .if1 .taken))
 
--- src/lib.rt:66:21
 sub-m : tie.Need-sub-m Inv-loop μ-loop
 sub-m c = omega (arith, open-maker (turn (c .before .before)) (c .before .if1 .taken) (c .maker .ensures))
 
--- src/lib.rt:67:16
 at-requires-3 : tie.Need-at-requires-3 Inv-loop μ-loop
 at-requires-3 c κs = omega (arith, open-low (turn (c .before .before .before)) (c .before .before .if1 .taken) (c .before .maker .ensures), numbers (turn (c .before .before .before)))
 
--- src/lib.rt:68:38
 place-requires : tie.Need-place-requires Inv-loop μ-loop
 place-requires c κs = search needs
 
--- src/lib.rt:68:17
 same-length : tie.Need-same-length Inv-loop μ-loop
 same-length c = omega (arith, numbers (turn (c .before .before .before .before .before .before .before)), c .before .before .before .before .before .before .before .before .before .before .before .before .before .before .before .before .before .before .before .before .before .before .before .pre .visited .walk .long)
 
--- src/lib.rt:68:17
 same-length-2 : tie.Need-same-length-2 Inv-loop μ-loop
 same-length-2 c = simp length-set (omega (arith, numbers (turn (c .before .before .before .before .before .before .before)), c .before .before .before .before .before .before .before .before .before .before .before .before .before .before .before .before .before .before .before .before .before .before .before .pre .visited .next-long))
 
--- src/lib.rt:68:17
 same-length-3 : tie.Need-same-length-3 Inv-loop μ-loop
 same-length-3 c = omega (arith, numbers (turn (c .before .before .before .before .before .before .before)), c .before .before .before .before .before .before .before .before .before .before .before .before .before .before .before .before .before .before .before .before .before .before .before .pre .path-long)
 
--- src/lib.rt:68:17
 same-length-4 : tie.Need-same-length-4 Inv-loop μ-loop
 same-length-4 c = omega (arith, numbers (turn (c .before .before .before .before .before .before .before)))
 
--- src/lib.rt:68:17
 returns : tie.Need-returns Inv-loop μ-loop
 unfolding Explored
 returns c = explore-circle (turn (c .before .before .before .before .before .before .before)) (c .before .before .before .before .before .before .if1 .taken) (c .before .before .before .before .before .maker .ensures) (c .before .before .before .at3 .ensures) (c .before .before .if2 .taken) (c .place .ensures)
 
--- src/lib.rt:70:13
 mul-seen-2 : tie.Need-mul-seen-2 Inv-loop μ-loop
 mul-seen-2 c = omega (arith, push c, numbers (turn (c .before .before .before .before .before)))
 
--- src/lib.rt:70:13
 slice-write-seen-2 : tie.Need-slice-write-seen-2 Inv-loop μ-loop
 slice-write-seen-2 c = omega (arith, push c, numbers (turn (c .before .before .before .before .before)))
 
--- src/lib.rt:71:27
 cast-path-2 : tie.Need-cast-path-2 Inv-loop μ-loop
 cast-path-2 c = omega (arith, push c, numbers (turn (c .before .before .before .before .before)))
 
--- src/lib.rt:71:13
 mul-path : tie.Need-mul-path Inv-loop μ-loop
 mul-path c = omega (arith, push c, numbers (turn (c .before .before .before .before .before)))
 
--- src/lib.rt:71:13
 slice-write-path-2 : tie.Need-slice-write-path-2 Inv-loop μ-loop
 slice-write-path-2 c = omega (arith, push c, numbers (turn (c .before .before .before .before .before)))
 
--- src/lib.rt:72:13
 add-depth : tie.Need-add-depth Inv-loop μ-loop
 add-depth c = omega (arith, push c, numbers (turn (c .before .before .before .before .before)))
 
--- src/lib.rt:60:5
 loop-less : tie.Need-loop-less Inv-loop μ-loop
 loop-less c = omega (arith, push c, numbers (turn (c .before .before .before .before .before)))
 
--- src/lib.rt:60:5
 loop-again : tie.Need-loop-again Inv-loop μ-loop
 loop-again c = explore-push (turn (c .before .before .before .before .before)) (c .before .before .before .before .if1 .taken) (c .before .before .before .maker .ensures) (c .before .at3 .ensures) (c .if2 .left)
 
--- src/lib.rt:74:13
 mul-seen-3 : tie.Need-mul-seen-3 Inv-loop μ-loop
 mul-seen-3 c = omega (arith, numbers (turn (c .before)))
 
--- src/lib.rt:74:13
 slice-write-seen-3 : tie.Need-slice-write-seen-3 Inv-loop μ-loop
 slice-write-seen-3 c = omega (arith, numbers (turn (c .before)))
 
--- src/lib.rt:75:27
 cast-order : tie.Need-cast-order Inv-loop μ-loop
 cast-order c = omega (arith, numbers (turn (c .before)))
 
--- src/lib.rt:75:13
 mul-order : tie.Need-mul-order Inv-loop μ-loop
 mul-order c = omega (arith, numbers (turn (c .before)))
 
--- src/lib.rt:75:13
 slice-write-order : tie.Need-slice-write-order Inv-loop μ-loop
 slice-write-order c = omega (arith, pop-room (turn (c .before)) (c .if1 .left), numbers (turn (c .before)))
 
--- src/lib.rt:76:13
 add-done : tie.Need-add-done Inv-loop μ-loop
 add-done c = omega (arith, numbers (turn (c .before)))
 
--- src/lib.rt:77:13
 sub-depth : tie.Need-sub-depth Inv-loop μ-loop
 sub-depth c = c .before .before .before .before .before .before .before .before .loop-test .taken
 
--- src/lib.rt:60:5
 loop-less-2 : tie.Need-loop-less-2 Inv-loop μ-loop
 loop-less-2 c = omega (arith, pop-room (turn (c .before)) (c .if1 .left), numbers (turn (c .before)), c .before .before .before .before .before .before .before .before .loop-test .taken)
 
--- src/lib.rt:60:5
 loop-again-2 : tie.Need-loop-again-2 Inv-loop μ-loop
 loop-again-2 c = explore-pop (turn (c .before)) (c .if1 .left)
 
--- src/lib.rt:52:1
 same-length-5 : tie.Need-same-length-5 Inv-loop μ-loop
 same-length-5 c = omega (arith, c .before .loop .inv .walk .long, c .before .before .before .before .before .before .before .before .before .pre .visited .walk .long)
 
--- src/lib.rt:52:1
 same-length-6 : tie.Need-same-length-6 Inv-loop μ-loop
 same-length-6 c = omega (arith, c .before .loop .inv .next-long, c .before .before .before .before .before .before .before .before .before .pre .visited .next-long)
 
--- src/lib.rt:52:1
 same-length-7 : tie.Need-same-length-7 Inv-loop μ-loop
 same-length-7 c = omega (arith, c .before .loop .inv .path-long, c .before .before .before .before .before .before .before .before .before .pre .path-long)
 
--- src/lib.rt:52:1
 same-length-8 : tie.Need-same-length-8 Inv-loop μ-loop
 same-length-8 c = c .before .loop .inv .order-long
 
--- src/lib.rt:52:1
 returns-2 : tie.Need-returns-2 Inv-loop μ-loop
 unfolding Explored
 returns-2 c = explore-end (c .before .loop .inv) (c .loop-test .left)

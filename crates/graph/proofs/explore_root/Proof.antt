@@ -1,66 +1,49 @@
+-- `graph::explore_root` meets its contract.
 use native.Mathlib.Omega.{arith}
 use Rattle.graph.specs.Walk.{RootSeen}
 use Rattle.graph.proofs.Roots.{root-low, root-none, root-done, root-starts, root-found}
 use borrow.Author.Needs.{needs}
 use Rattle.graph.proofs.explore_root.Statement.{statement}
 use Rattle.graph.proofs.explore_root.Tie as tie
-use Rattle.graph.proofs.explore_root.Reads as reads
-use Rattle.graph.proofs.explore_root.Lts as lts
-use Rattle.graph.proofs.explore.Reads as explore-reads
-use Rattle.lists.proofs.words.at.Reads as at-reads
-use Rattle.tables.proofs.maker.Reads as maker-reads
 
--- src/lib.rt:99:9
 maker-requires : tie.Need-maker-requires
 maker-requires c κs = (c .before .before .before .before .before .before .before .before .pre .one-more, c .before .before .before .before .before .before .before .before .pre .files .low (c .before .before .before .before .before .before .before .before .args .i) (c .before .before .before .before .before .before .before .before .pre .one-more))
 
--- src/lib.rt:101:9
 returns : tie.Need-returns
 unfolding RootSeen
 returns c = root-none (c .before .before .before .before .before .before .before .before .before .before .pre) (c .before .maker .ensures) (c .if1 .taken)
 
--- src/lib.rt:103:17
 sub-at : tie.Need-sub-at
 sub-at c = search needs
 
--- src/lib.rt:103:8
 at-requires : tie.Need-at-requires
 at-requires c κs = omega (arith, root-low (c .before .before .before .before .before .before .before .before .before .before .before .pre) (c .before .before .maker .ensures), c .before .if1 .left, c .before .before .before .before .before .before .before .before .before .before .before .pre .state .visited .walk .long)
 
--- src/lib.rt:104:9
 same-length : tie.Need-same-length
 same-length c = search needs
 
--- src/lib.rt:104:9
 returns-2 : tie.Need-returns-2
 unfolding RootSeen
 returns-2 c = root-done (c .before .before .before .before .before .before .before .before .before .before .before .before .before .pre) (c .before .before .before .before .maker .ensures) (c .before .before .before .if1 .left) (c .before .at .ensures) (c .if2 .taken)
 
--- src/lib.rt:106:60
 sub-explore : tie.Need-sub-explore
 sub-explore c = search needs
 
--- src/lib.rt:106:5
 explore-requires : tie.Need-explore-requires
 explore-requires c κs = root-starts (c .before .before .before .before .before .before .before .before .before .before .before .before .before .before .before .before .before .pre) (c .before .before .before .before .before .before .before .before .maker .ensures) (c .before .before .before .before .before .before .before .if1 .left) (c .before .before .before .before .before .at .ensures) (c .before .before .before .before .if2 .left)
 
--- src/lib.rt:95:1
 same-length-2 : tie.Need-same-length-2
 same-length-2 c = search needs
 
--- src/lib.rt:95:1
 same-length-3 : tie.Need-same-length-3
 same-length-3 c = search needs
 
--- src/lib.rt:95:1
 same-length-4 : tie.Need-same-length-4
 same-length-4 c = search needs
 
--- src/lib.rt:95:1
 same-length-5 : tie.Need-same-length-5
 same-length-5 c = search needs
 
--- src/lib.rt:95:1
 returns-3 : tie.Need-returns-3
 returns-3 c = root-found (c .before .before .before .before .before .before .before .before .before .before .before .before .before .before .before .before .before .before .before .before .before .before .before .before .before .before .pre) (c .before .before .before .before .before .before .before .before .before .before .before .before .before .before .before .before .before .maker .ensures) (c .before .before .before .before .before .before .before .before .before .before .before .before .before .before .before .before .if1 .left) _ _ _ _ (c .before .before .before .before .before .before .before .before .explore .result) (c .before .before .before .before .before .before .before .before .explore .ensures)
 

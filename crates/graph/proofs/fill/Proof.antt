@@ -1,3 +1,4 @@
+-- `graph::fill` meets its contract.
 use Prim.Native.Nat.{_-_}
 use mathlib.Core.Path.{_∙_}
 use lib.ListN.{length}
@@ -5,9 +6,6 @@ use Rattle.graph.proofs.Filling.{Filling, fill-begin, fill-more, fill-e
 use borrow.Author.Needs.{needs}
 use Rattle.graph.proofs.fill.Statement.{statement}
 use Rattle.graph.proofs.fill.Tie as tie
-use Rattle.graph.proofs.fill.Reads as reads
-use Rattle.graph.proofs.fill.Lts as lts
-use Rattle.lists.proofs.words.zero_from.Reads as zero-from-reads
 
 abbrev Inv-loop : tie.InvT-loop
 Inv-loop list₀ l i₀ list i = Filling l list₀ list i
@@ -15,47 +13,36 @@ Inv-loop list₀ l i₀ list i = Filling l list₀ list i
 abbrev μ-loop : tie.MeasureT-loop
 μ-loop list₀ l i₀ list i = length l - i
 
--- src/lib.rt:174:5
 loop-holds : tie.Need-loop-holds Inv-loop μ-loop
 loop-holds c = fill-begin
 
--- src/lib.rt:175:19
 mul-list : tie.Need-mul-list Inv-loop μ-loop
 mul-list c = search needs
 
--- src/lib.rt:175:19
 shared-slice-read-list : tie.Need-shared-slice-read-list Inv-loop μ-loop
 shared-slice-read-list c = search needs
 
--- src/lib.rt:175:9
 mul-list-2 : tie.Need-mul-list-2 Inv-loop μ-loop
 mul-list-2 c = search needs
 
--- src/lib.rt:175:9
 slice-write-list : tie.Need-slice-write-list Inv-loop μ-loop
 slice-write-list c = search needs
 
--- src/lib.rt:176:9
 add-i : tie.Need-add-i Inv-loop μ-loop
 add-i c = search needs
 
--- src/lib.rt:174:5
 loop-less : tie.Need-loop-less Inv-loop μ-loop
 loop-less c = search needs
 
--- src/lib.rt:174:5
 loop-again : tie.Need-loop-again Inv-loop μ-loop
 loop-again c = fill-more (c .before .before .loop .inv) (c .before .before .before .before .before .pre) (c .before .loop-test .taken)
 
--- src/lib.rt:178:5
 zero-from-requires : tie.Need-zero-from-requires Inv-loop μ-loop
 zero-from-requires c κs = search needs
 
--- src/lib.rt:169:1
 same-length : tie.Need-same-length Inv-loop μ-loop
 same-length c = search needs
 
--- src/lib.rt:169:1
 returns : tie.Need-returns Inv-loop μ-loop
 returns c = c .before .before .zero-from .ensures ∙ fill-end (c .before .before .before .before .before .loop .inv) (c .before .before .before .before .before .before .before .before .pre) (c .before .before .before .before .loop-test .left)
 

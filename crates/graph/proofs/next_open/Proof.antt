@@ -1,3 +1,4 @@
+-- `graph::next_open` meets its contract.
 use Rattle.tables.proofs.Makers.{maker-low}
 use Prim.Native.Nat.{_-_}
 use native.Mathlib.Omega.{arith}
@@ -6,10 +7,6 @@ use Rattle.graph.proofs.Opens.{Opening, opening, open-none, open-done, 
 use borrow.Author.Needs.{needs}
 use Rattle.graph.proofs.next_open.Statement.{statement}
 use Rattle.graph.proofs.next_open.Tie as tie
-use Rattle.graph.proofs.next_open.Reads as reads
-use Rattle.graph.proofs.next_open.Lts as lts
-use Rattle.lists.proofs.words.at.Reads as at-reads
-use Rattle.tables.proofs.maker.Reads as maker-reads
 
 abbrev Inv-loop : tie.InvT-loop
 Inv-loop fs made seen from i₀ i = Opening fs made seen from i
@@ -17,51 +14,39 @@ Inv-loop fs made seen from i₀ i = Opening fs made seen from i
 abbrev μ-loop : tie.MeasureT-loop
 μ-loop fs made seen from i₀ i = length fs - i
 
--- src/lib.rt:22:5
 loop-holds : tie.Need-loop-holds Inv-loop μ-loop
 loop-holds c = opening (c .before .before .before .pre .1)
 
--- src/lib.rt:23:13
 maker-requires : tie.Need-maker-requires Inv-loop μ-loop
 maker-requires c κs = (c .loop-test .taken, c .before .before .before .before .before .pre .0 .low (c .before .loop .i) (c .loop-test .taken))
 
--- src/lib.rt:25:13
 add-i : tie.Need-add-i Inv-loop μ-loop
 add-i c = search needs
 
--- src/lib.rt:22:5
 loop-less : tie.Need-loop-less Inv-loop μ-loop
 loop-less c = search needs
 
--- src/lib.rt:22:5
 loop-again : tie.Need-loop-again Inv-loop μ-loop
 loop-again c = open-none (c .before .before .before .loop .inv) (c .before .before .loop-test .taken) (c .before .maker .ensures) (c .if1 .taken)
 
--- src/lib.rt:27:25
 sub-at : tie.Need-sub-at Inv-loop μ-loop
 sub-at c = search needs
 
--- src/lib.rt:27:16
 at-requires : tie.Need-at-requires Inv-loop μ-loop
 at-requires c κs = omega (arith, maker-low (c .before .before .before .before .before .before .before .pre .0) (c .before .before .loop-test .taken) (c .before .maker .ensures))
 
--- src/lib.rt:28:17
 returns : tie.Need-returns Inv-loop μ-loop
 returns c = open-found (c .before .before .before .before .before .loop .inv) (c .before .before .before .before .loop-test .taken) (c .before .before .before .maker .ensures) (c .before .at .ensures) (c .if2 .taken) (c .before .before .if1 .left)
 
--- src/lib.rt:30:13
 add-i-2 : tie.Need-add-i-2 Inv-loop μ-loop
 add-i-2 c = search needs
 
--- src/lib.rt:22:5
 loop-less-2 : tie.Need-loop-less-2 Inv-loop μ-loop
 loop-less-2 c = search needs
 
--- src/lib.rt:22:5
 loop-again-2 : tie.Need-loop-again-2 Inv-loop μ-loop
 loop-again-2 c = open-done (c .before .before .before .before .before .loop .inv) (c .before .before .before .before .loop-test .taken) (c .before .before .before .maker .ensures) (c .before .at .ensures) (c .if2 .left)
 
--- src/lib.rt:17:1
 returns-2 : tie.Need-returns-2 Inv-loop μ-loop
 returns-2 c = open-end (c .before .loop .inv) (c .loop-test .left)
 

@@ -1,37 +1,28 @@
+-- `graph::order_needed` meets its contract.
 use mathlib.Core.Path.{sym}
 use Rattle.tables.proofs.Blank.{take-blank, length-blank}
 use borrow.Author.Needs.{needs}
 use Rattle.graph.proofs.order_needed.Statement.{statement}
 use Rattle.graph.proofs.order_needed.Tie as tie
-use Rattle.graph.proofs.order_needed.Reads as reads
-use Rattle.graph.proofs.order_needed.Lts as lts
-use Rattle.graph.proofs.sort_or_show.Reads as sort-or-show-reads
 
--- src/lib.rt:223:47
 array-borrow-prefix-seen : tie.Need-array-borrow-prefix-seen
 array-borrow-prefix-seen c = search needs
 
--- src/lib.rt:223:47
 slice-aggregate-sort-or-show : tie.Need-slice-aggregate-sort-or-show
 slice-aggregate-sort-or-show c = length-blank _ 512 (c .before .before .before .before .before .before .before .pre .sound .few-steps)
 
--- src/lib.rt:223:63
 array-borrow-prefix-next : tie.Need-array-borrow-prefix-next
 array-borrow-prefix-next c = search needs
 
--- src/lib.rt:223:63
 slice-aggregate-sort-or-show-2 : tie.Need-slice-aggregate-sort-or-show-2
 slice-aggregate-sort-or-show-2 c = length-blank _ 512 (c .before .before .before .before .before .before .before .before .pre .sound .few-steps)
 
--- src/lib.rt:223:79
 array-borrow-prefix-path : tie.Need-array-borrow-prefix-path
 array-borrow-prefix-path c = search needs
 
--- src/lib.rt:223:79
 slice-aggregate-sort-or-show-3 : tie.Need-slice-aggregate-sort-or-show-3
 slice-aggregate-sort-or-show-3 c = length-blank _ 512 (c .before .before .before .before .before .before .before .before .before .pre .sound .few-steps)
 
--- src/lib.rt:223:5
 sort-or-show-requires : tie.Need-sort-or-show-requires
 sort-or-show-requires c κs = record {
   asked = record {
@@ -44,15 +35,12 @@ sort-or-show-requires c κs = record {
   room = c .before .before .before .before .before .before .before .before .before .before .before .pre .room;
 }
 
--- src/lib.rt:215:1
 same-length : tie.Need-same-length
 same-length c = search needs
 
--- src/lib.rt:215:1
 same-length-2 : tie.Need-same-length-2
 same-length-2 c = search needs
 
--- src/lib.rt:215:1
 returns : tie.Need-returns
 returns c = search needs
 

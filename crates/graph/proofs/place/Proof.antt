@@ -1,3 +1,4 @@
+-- `graph::place` meets its contract.
 use Prim.Native.Nat.{ℕ, _-_, _≤_, _<_}
 use mathlib.Core.Path.{_≡_, sym, _∙_}
 use native.Mathlib.Omega.{arith}
@@ -6,9 +7,6 @@ use lib.ListN.{length, getD}
 use borrow.Author.Needs.{needs}
 use Rattle.graph.proofs.place.Statement.{statement}
 use Rattle.graph.proofs.place.Tie as tie
-use Rattle.graph.proofs.place.Reads as reads
-use Rattle.graph.proofs.place.Lts as lts
-use Rattle.lists.proofs.words.at.Reads as at-reads
 
 abbrev Inv-loop : tie.InvT-loop
 Inv-loop l x j₀ j = (j ≤ length l) × ((i : ℕ) → i < j → getD l i 0 ≡ x → ⊥)
@@ -16,31 +14,24 @@ Inv-loop l x j₀ j = (j ≤ length l) × ((i : ℕ) → i < j → getD l i 0 �
 abbrev μ-loop : tie.MeasureT-loop
 μ-loop l x j₀ j = length l - j
 
--- src/lib.rt:41:5
 loop-holds : tie.Need-loop-holds Inv-loop μ-loop
 loop-holds c = (omega arith, λ i b. absurd (omega arith))
 
--- src/lib.rt:42:12
 at-requires : tie.Need-at-requires Inv-loop μ-loop
 at-requires c κs = search needs
 
--- src/lib.rt:43:13
 returns : tie.Need-returns Inv-loop μ-loop
 returns c = record { within = omega arith; first = c .before .before .before .loop .inv .1; found = λ b. sym (c .before .at .ensures) ∙ c .if1 .taken }
 
--- src/lib.rt:45:9
 add-j : tie.Need-add-j Inv-loop μ-loop
 add-j c = search needs
 
--- src/lib.rt:41:5
 loop-less : tie.Need-loop-less Inv-loop μ-loop
 loop-less c = search needs
 
--- src/lib.rt:41:5
 loop-again : tie.Need-loop-again Inv-loop μ-loop
 loop-again c = (omega arith, below-more _ _ (c .before .before .before .loop .inv .1) (λ e. c .if1 .left (c .before .at .ensures ∙ e)))
 
--- src/lib.rt:37:1
 returns-2 : tie.Need-returns-2 Inv-loop μ-loop
 returns-2 c = record { within = omega arith; first = c .before .loop .inv .1; found = λ b. absurd (omega arith) }
 

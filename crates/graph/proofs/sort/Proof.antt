@@ -1,3 +1,4 @@
+-- `graph::sort` meets its contract.
 use Prim.Native.Nat.{_-_}
 use native.Mathlib.Omega.{arith}
 use lib.ListN.{length}
@@ -6,9 +7,6 @@ use Rattle.graph.proofs.Roots.{Rooting, asked-lengths, roots-begin, roo
 use borrow.Author.Needs.{needs}
 use Rattle.graph.proofs.sort.Statement.{statement}
 use Rattle.graph.proofs.sort.Tie as tie
-use Rattle.graph.proofs.sort.Reads as reads
-use Rattle.graph.proofs.sort.Lts as lts
-use Rattle.graph.proofs.explore_root.Reads as explore-root-reads
 
 abbrev Inv-loop : tie.InvT-loop
 Inv-loop mentions ends made roots seen₀ next₀ path₀ order₀ done₀ i₀ seen next path order done i = Rooting mentions ends made roots (length order₀) seen next path order done i
@@ -16,72 +14,55 @@ Inv-loop mentions ends made roots seen₀ next₀ path₀ order₀ done₀ i₀ 
 abbrev μ-loop : tie.MeasureT-loop
 μ-loop mentions ends made roots seen₀ next₀ path₀ order₀ done₀ i₀ seen next path order done i = length roots - i
 
--- src/lib.rt:116:5
 loop-holds : tie.Need-loop-holds Inv-loop μ-loop
 loop-holds c = roots-begin (c .before .before .before .before .before .before .before .before .pre)
 
--- src/lib.rt:117:15
 explore-root-requires : tie.Need-explore-root-requires Inv-loop μ-loop
 explore-root-requires c κs = roots-ask (c .before .before .before .before .before .before .before .before .before .before .before .before .before .before .pre .sound) (c .before .before .before .before .before .before .before .before .before .before .before .before .before .before .pre .files) (c .before .before .before .before .before .loop .inv) (c .before .before .before .before .loop-test .taken)
 
--- src/lib.rt:118:25
 enum-known-k : tie.Need-enum-known-k Inv-loop μ-loop
 enum-known-k c = search needs
 
--- src/lib.rt:120:17
 add-i : tie.Need-add-i Inv-loop μ-loop
 add-i c = search needs
 
--- src/lib.rt:116:5
 loop-less : tie.Need-loop-less Inv-loop μ-loop
 loop-less c = search needs
 
--- src/lib.rt:116:5
 loop-again : tie.Need-loop-again Inv-loop μ-loop
 loop-again c = roots-more (c .before .before .before .before .before .before .before .before .before .before .before .before .before .before .before .before .before .before .before .before .before .before .before .before .before .before .pre .sound) (c .before .before .before .before .before .before .before .before .before .before .before .before .before .before .before .before .before .before .before .before .before .before .before .before .before .before .pre .files) (c .before .before .before .before .before .before .before .before .before .before .before .before .before .before .before .before .before .loop .inv) _ _ _ _ (c .before .before .before .before .before .before .before .before .before .before .before .before .before .before .before .before .loop-test .taken) (c .before .before .before .before .before .before .before .before .before .before .before .explore-root .ensures) (c .before .k .given .1) (c .before .before .before .before .before .before .before .before .before .before .before .explore-root .kept .1 .1 .1 .1 .1 .1 .1 .0)
 
--- src/lib.rt:122:27
 enum-known-from : tie.Need-enum-known-from Inv-loop μ-loop
 enum-known-from c = search needs
 
--- src/lib.rt:123:17
 same-length : tie.Need-same-length Inv-loop μ-loop
 same-length c = omega (arith, c .before .before .before .before .before .before .before .before .before .before .before .explore-root .kept, c .before .before .before .before .before .before .before .before .before .before .before .before .before .before .before .before .before .loop .inv .state .visited, asked-lengths (c .before .before .before .before .before .before .before .before .before .before .before .before .before .before .before .before .before .before .before .before .before .before .before .before .before .before .pre))
 
--- src/lib.rt:123:17
 same-length-2 : tie.Need-same-length-2 Inv-loop μ-loop
 same-length-2 c = omega (arith, c .before .before .before .before .before .before .before .before .before .before .before .explore-root .kept, c .before .before .before .before .before .before .before .before .before .before .before .before .before .before .before .before .before .loop .inv .state .visited, asked-lengths (c .before .before .before .before .before .before .before .before .before .before .before .before .before .before .before .before .before .before .before .before .before .before .before .before .before .before .pre))
 
--- src/lib.rt:123:17
 same-length-3 : tie.Need-same-length-3 Inv-loop μ-loop
 same-length-3 c = omega (arith, c .before .before .before .before .before .before .before .before .before .before .before .explore-root .kept, c .before .before .before .before .before .before .before .before .before .before .before .before .before .before .before .before .before .loop .inv .path-long, c .before .before .before .before .before .before .before .before .before .before .before .before .before .before .before .before .before .before .before .before .before .before .before .before .before .before .pre .path-long)
 
--- src/lib.rt:123:17
 same-length-4 : tie.Need-same-length-4 Inv-loop μ-loop
 same-length-4 c = omega (arith, c .before .before .before .before .before .before .before .before .before .before .before .explore-root .kept, c .before .before .before .before .before .before .before .before .before .before .before .before .before .before .before .before .before .loop .inv .state .visited)
 
--- src/lib.rt:123:17
 returns : tie.Need-returns Inv-loop μ-loop
 unfolding Sorted
 returns c = roots-circle (c .before .before .before .before .before .before .before .before .before .before .before .before .before .before .before .before .before .before .before .before .before .before .before .before .before .before .pre .sound) (c .before .before .before .before .before .before .before .before .before .before .before .before .before .before .before .before .before .before .before .before .before .before .before .before .before .before .pre .files) (c .before .before .before .before .before .before .before .before .before .before .before .before .before .before .before .before .before .loop .inv) _ _ _ _ (c .before .before .before .before .before .before .before .before .before .before .before .explore-root .ensures) (c .before .from .given .1)
 
--- src/lib.rt:110:1
 same-length-5 : tie.Need-same-length-5 Inv-loop μ-loop
 same-length-5 c = omega (arith, c .before .loop .inv .state .visited, asked-lengths (c .before .before .before .before .before .before .before .before .before .before .pre))
 
--- src/lib.rt:110:1
 same-length-6 : tie.Need-same-length-6 Inv-loop μ-loop
 same-length-6 c = omega (arith, c .before .loop .inv .state .visited, asked-lengths (c .before .before .before .before .before .before .before .before .before .before .pre))
 
--- src/lib.rt:110:1
 same-length-7 : tie.Need-same-length-7 Inv-loop μ-loop
 same-length-7 c = omega (arith, c .before .loop .inv .path-long, c .before .before .before .before .before .before .before .before .before .before .pre .path-long)
 
--- src/lib.rt:110:1
 same-length-8 : tie.Need-same-length-8 Inv-loop μ-loop
 same-length-8 c = search needs
 
--- src/lib.rt:110:1
 returns-2 : tie.Need-returns-2 Inv-loop μ-loop
 unfolding Sorted
 returns-2 c = roots-end (c .before .before .before .before .before .before .before .before .before .before .pre .sound) (c .before .before .before .before .before .before .before .before .before .before .pre .files) (c .before .loop .inv) (c .loop-test .left)

@@ -1,12 +1,10 @@
+-- `graphs::all_below` meets its contract.
 use Prim.Native.Nat.{_-_}
 use lib.ListN.{length}
 use Rattle.graphs.proofs.Deciding.{Checked, check-begin, check-more, check-fails, check-ends}
 use borrow.Author.Needs.{needs}
 use Rattle.graphs.proofs.all_below.Statement.{statement}
 use Rattle.graphs.proofs.all_below.Tie as tie
-use Rattle.graphs.proofs.all_below.Reads as reads
-use Rattle.graphs.proofs.all_below.Lts as lts
-use Rattle.lists.proofs.words.at.Reads as at-reads
 
 abbrev Inv-loop : tie.InvT-loop
 Inv-loop l n i₀ i = Checked l n i
@@ -14,31 +12,24 @@ Inv-loop l n i₀ i = Checked l n i
 abbrev μ-loop : tie.MeasureT-loop
 μ-loop l n i₀ i = length l - i
 
--- src/lib.rt:26:5
 loop-holds : tie.Need-loop-holds Inv-loop μ-loop
 loop-holds c = check-begin _
 
--- src/lib.rt:27:17
 at-requires : tie.Need-at-requires Inv-loop μ-loop
 at-requires c κs = search needs
 
--- src/lib.rt:28:13
 returns : tie.Need-returns Inv-loop μ-loop
 returns c = check-fails (c .before .before .before .loop .inv) (c .before .before .loop-test .taken) (c .before .at .ensures) (c .if1 .taken)
 
--- src/lib.rt:30:9
 add-i : tie.Need-add-i Inv-loop μ-loop
 add-i c = search needs
 
--- src/lib.rt:26:5
 loop-less : tie.Need-loop-less Inv-loop μ-loop
 loop-less c = search needs
 
--- src/lib.rt:26:5
 loop-again : tie.Need-loop-again Inv-loop μ-loop
 loop-again c = check-more (c .before .before .before .loop .inv) (c .before .before .loop-test .taken) (c .before .at .ensures) (c .if1 .left)
 
--- src/lib.rt:22:1
 returns-2 : tie.Need-returns-2 Inv-loop μ-loop
 returns-2 c = check-ends (c .before .loop .inv) (c .loop-test .left)
 

@@ -1,3 +1,4 @@
+-- `graphs::all_placed` meets its contract.
 use Prim.Native.Nat.{_-_}
 use borrow.Author.Tests.{not-true, not-false}
 use native.Mathlib.Omega.{arith}
@@ -5,10 +6,6 @@ use Rattle.graphs.proofs.Deciding.{Placing, place-begin, place-more, pl
 use borrow.Author.Needs.{needs}
 use Rattle.graphs.proofs.all_placed.Statement.{statement}
 use Rattle.graphs.proofs.all_placed.Tie as tie
-use Rattle.graphs.proofs.all_placed.Reads as reads
-use Rattle.graphs.proofs.all_placed.Lts as lts
-use Rattle.graphs.proofs.is_placed.Reads as is-placed-reads
-use Rattle.lists.proofs.words.at.Reads as at-reads
 
 abbrev Inv-loop : tie.InvT-loop
 Inv-loop mentions ends n from₀ s₀ from s = Placing mentions ends n from s
@@ -16,43 +13,33 @@ Inv-loop mentions ends n from₀ s₀ from s = Placing mentions ends n from s
 abbrev μ-loop : tie.MeasureT-loop
 μ-loop mentions ends n from₀ s₀ from s = n - s
 
--- src/lib.rt:75:5
 loop-holds : tie.Need-loop-holds Inv-loop μ-loop
 loop-holds c = place-begin _ _
 
--- src/lib.rt:76:13
 is-placed-requires : tie.Need-is-placed-requires Inv-loop μ-loop
 is-placed-requires c κs = (omega (arith, c .loop-test .taken, c .before .before .before .before .pre), c .before .loop .inv .starts)
 
--- src/lib.rt:77:13
 returns : tie.Need-returns Inv-loop μ-loop
 returns c = place-fails (c .before .before .before .loop .inv) (c .before .is-placed .ensures) (c .before .before .loop-test .taken) (not-true _ (c .if1 .taken))
 
--- src/lib.rt:79:25
 mul-at : tie.Need-mul-at Inv-loop μ-loop
 mul-at c = search needs
 
--- src/lib.rt:79:25
 add-at : tie.Need-add-at Inv-loop μ-loop
 add-at c = search needs
 
--- src/lib.rt:79:9
 at-requires : tie.Need-at-requires Inv-loop μ-loop
 at-requires c κs = c .before .is-placed .ensures .yes (not-false _ (c .if1 .left)) .within
 
--- src/lib.rt:80:9
 add-s : tie.Need-add-s Inv-loop μ-loop
 add-s c = search needs
 
--- src/lib.rt:75:5
 loop-less : tie.Need-loop-less Inv-loop μ-loop
 loop-less c = search needs
 
--- src/lib.rt:75:5
 loop-again : tie.Need-loop-again Inv-loop μ-loop
 loop-again c = place-more (c .before .before .before .before .loop .inv) (c .before .before .is-placed .ensures) (c .before .before .before .loop-test .taken) (not-false _ (c .before .if1 .left)) (c .at .ensures)
 
--- src/lib.rt:69:1
 returns-2 : tie.Need-returns-2 Inv-loop μ-loop
 returns-2 c = place-ends (c .before .loop .inv) (c .loop-test .left)
 

@@ -1,42 +1,31 @@
+-- `graphs::is_askable` meets its contract.
 use borrow.Author.Tests.{not-true, not-false}
 use Rattle.graphs.proofs.Deciding.{room-fails, times-fail, tables-fail, defaults-fail, asked-so}
 use borrow.Author.Needs.{needs}
 use Rattle.graphs.proofs.is_askable.Statement.{statement}
 use Rattle.graphs.proofs.is_askable.Tie as tie
-use Rattle.graphs.proofs.is_askable.Reads as reads
-use Rattle.graphs.proofs.is_askable.Lts as lts
-use Rattle.graphs.proofs.all_below.Reads as all-below-reads
-use Rattle.graphs.proofs.is_sound.Reads as is-sound-reads
 
--- src/lib.rt:121:9
 returns : tie.Need-returns
 returns c = room-fails (c .if1 .taken)
 
--- src/lib.rt:124:9
 returns-2 : tie.Need-returns-2
 returns-2 c = times-fail (c .if2 .taken)
 
--- src/lib.rt:126:9
 is-sound-requires : tie.Need-is-sound-requires
 is-sound-requires c κs = search needs
 
--- src/lib.rt:127:9
 returns-3 : tie.Need-returns-3
 returns-3 c = tables-fail (c .before .is-sound .ensures) (not-true _ (c .if3 .taken))
 
--- src/lib.rt:129:9
 all-below-requires : tie.Need-all-below-requires
 all-below-requires c κs = search needs
 
--- src/lib.rt:130:9
 returns-4 : tie.Need-returns-4
 returns-4 c = defaults-fail (c .before .all-below .ensures) (not-true _ (c .if4 .taken))
 
--- src/lib.rt:132:5
 all-below-requires-2 : tie.Need-all-below-requires-2
 all-below-requires-2 c κs = search needs
 
--- src/lib.rt:108:1
 returns-5 : tie.Need-returns-5
 returns-5 c = asked-so (c .before .before .before .before .before .before .if1 .left) (c .before .before .before .before .before .if2 .left) (c .before .before .before .before .is-sound .ensures) (not-false _ (c .before .before .before .if3 .left)) (c .before .before .all-below .ensures) (not-false _ (c .before .if4 .left)) (c .all-below2 .ensures)
 

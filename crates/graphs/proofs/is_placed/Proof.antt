@@ -1,61 +1,45 @@
+-- `graphs::is_placed` meets its contract.
 use Rattle.graphs.proofs.Deciding.{not-within, placed-so}
 use borrow.Author.Needs.{needs}
 use Rattle.graphs.proofs.is_placed.Statement.{statement}
 use Rattle.graphs.proofs.is_placed.Tie as tie
-use Rattle.graphs.proofs.is_placed.Reads as reads
-use Rattle.graphs.proofs.is_placed.Lts as lts
-use Rattle.graphs.proofs.is_rising.Reads as is-rising-reads
-use Rattle.lists.proofs.words.at.Reads as at-reads
 
--- src/lib.rt:59:22
 mul-if1 : tie.Need-mul-if1
 mul-if1 c = search needs
 
--- src/lib.rt:59:22
 add-if1 : tie.Need-add-if1
 add-if1 c = search needs
 
--- src/lib.rt:60:9
 returns : tie.Need-returns
 returns c = not-within _ _ (c .if1 .taken)
 
--- src/lib.rt:62:25
 mul-at : tie.Need-mul-at
 mul-at c = search needs
 
--- src/lib.rt:62:9
 at-requires : tie.Need-at-requires
 at-requires c κs = search needs
 
--- src/lib.rt:63:28
 mul-at-2 : tie.Need-mul-at-2
 mul-at-2 c = search needs
 
--- src/lib.rt:63:28
 add-at : tie.Need-add-at
 add-at c = search needs
 
--- src/lib.rt:63:9
 at-requires-2 : tie.Need-at-requires-2
 at-requires-2 c κs = search needs
 
--- src/lib.rt:64:23
 mul-at-3 : tie.Need-mul-at-3
 mul-at-3 c = search needs
 
--- src/lib.rt:64:23
 add-at-2 : tie.Need-add-at-2
 add-at-2 c = search needs
 
--- src/lib.rt:64:9
 at-requires-3 : tie.Need-at-requires-3
 at-requires-3 c κs = search needs
 
--- src/lib.rt:65:5
 is-rising-requires : tie.Need-is-rising-requires
 is-rising-requires c κs = search needs
 
--- src/lib.rt:55:1
 returns-2 : tie.Need-returns-2
 returns-2 c = placed-so _ _ (c .before .before .before .before .if1 .left) (c .before .before .before .before .before .before .before .pre .1) (c .before .before .before .at .ensures) (c .before .before .at2 .ensures) (c .before .at3 .ensures) (c .is-rising .ensures)
 

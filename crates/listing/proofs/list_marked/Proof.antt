@@ -1,13 +1,9 @@
+-- `listing::list_marked` meets its contract.
 use Rattle.listing.proofs.Marked.{ask-list, stale-listed}
 use borrow.Author.Needs.{needs}
 use Rattle.listing.proofs.list_marked.Statement.{statement}
 use Rattle.listing.proofs.list_marked.Tie as tie
-use Rattle.listing.proofs.list_marked.Reads as reads
-use Rattle.listing.proofs.list_marked.Lts as lts
-use Rattle.listing.proofs.list_pending.Reads as list-pending-reads
-use Rattle.stale.proofs.stale_commands.Reads as stale-commands-reads
 
--- src/lib.rt:113:5
 stale-commands-requires : tie.Need-stale-commands-requires
 stale-commands-requires c κs = record {
   sound = c .before .before .before .before .before .before .before .before .before .before .pre .asked .sound;
@@ -16,23 +12,18 @@ stale-commands-requires c κs = record {
   unmarked = c .before .before .before .before .before .before .before .before .before .before .pre .unmarked;
 }
 
--- src/lib.rt:114:5
 list-pending-requires : tie.Need-list-pending-requires
 list-pending-requires c κs = ask-list (c .before .before .before .before .before .before .before .before .before .before .before .before .before .before .before .before .pre) (c .before .before .before .before .before .stale-commands .ensures)
 
--- src/lib.rt:109:1
 same-length : tie.Need-same-length
 same-length c = search needs
 
--- src/lib.rt:109:1
 same-length-2 : tie.Need-same-length-2
 same-length-2 c = search needs
 
--- src/lib.rt:109:1
 same-length-3 : tie.Need-same-length-3
 same-length-3 c = search needs
 
--- src/lib.rt:109:1
 returns : tie.Need-returns
 returns c = stale-listed (c .before .before .before .before .before .before .before .before .before .before .before .before .stale-commands .ensures) (c .before .before .before .before .before .before .list-pending .ensures)
 

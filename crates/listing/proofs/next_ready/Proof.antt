@@ -1,3 +1,4 @@
+-- `listing::next_ready` meets its contract.
 use Prim.Native.Nat.{_-_}
 use mathlib.Core.Path.{_∙_, sym}
 use lib.ListN.{length}
@@ -5,10 +6,6 @@ use Rattle.listing.proofs.Passing.{Passing, pass-begin, pass-ask, pass-
 use borrow.Author.Needs.{needs}
 use Rattle.listing.proofs.next_ready.Statement.{statement}
 use Rattle.listing.proofs.next_ready.Tie as tie
-use Rattle.listing.proofs.next_ready.Reads as reads
-use Rattle.listing.proofs.next_ready.Lts as lts
-use Rattle.listing.proofs.look.Reads as look-reads
-use Rattle.lists.proofs.words.at.Reads as at-reads
 
 abbrev Inv-loop : tie.InvT-loop
 Inv-loop mentions ends made order pending clear₀ best₀ i₀ clear best i = Passing mentions ends made order pending clear best i
@@ -16,35 +13,27 @@ Inv-loop mentions ends made order pending clear₀ best₀ i₀ clear best i = P
 abbrev μ-loop : tie.MeasureT-loop
 μ-loop mentions ends made order pending clear₀ best₀ i₀ clear best i = length order - i
 
--- src/lib.rt:59:5
 loop-holds : tie.Need-loop-holds Inv-loop μ-loop
 loop-holds c = pass-begin (c .before .before .before .before .before .before .pre)
 
--- src/lib.rt:60:59
 at-requires : tie.Need-at-requires Inv-loop μ-loop
 at-requires c κs = search needs
 
--- src/lib.rt:60:9
 look-requires : tie.Need-look-requires Inv-loop μ-loop
 look-requires c κs = pass-ask (c .before .before .before .before .before .before .before .before .before .before .pre) (c .before .before .before .loop .inv) (c .before .before .loop-test .taken) (c .at .ensures)
 
--- src/lib.rt:61:9
 add-i : tie.Need-add-i Inv-loop μ-loop
 add-i c = search needs
 
--- src/lib.rt:59:5
 loop-less : tie.Need-loop-less Inv-loop μ-loop
 loop-less c = search needs
 
--- src/lib.rt:59:5
 loop-again : tie.Need-loop-again Inv-loop μ-loop
 loop-again c = pass-more (c .before .before .before .before .before .before .before .before .before .before .before .before .before .pre .sorted) (c .before .before .before .before .before .before .loop .inv) (c .before .before .before .before .before .loop-test .taken) (c .before .before .before .at .ensures) (c .before .before .look .ensures)
 
--- src/lib.rt:53:1
 same-length : tie.Need-same-length Inv-loop μ-loop
 same-length c = c .before .loop .inv .long ∙ sym (c .before .before .before .before .before .before .before .before .pre .long)
 
--- src/lib.rt:53:1
 returns : tie.Need-returns Inv-loop μ-loop
 returns c = pass-end (c .before .loop .inv) (c .loop-test .left)
 

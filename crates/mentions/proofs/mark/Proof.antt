@@ -71,7 +71,7 @@ same-length-8 : tie.Need-same-length-8
 same-length-8 c = search needs
 
 returns-3 : tie.Need-returns-3
-returns-3 c = record { marks = λ texts bind h w. path-full (c .before .before .before .before .before .before .add .ensures) (within (c .before .before .before .before .before .before .before .before .before .before .before .before .before)) w (c .before .before .before .before .before .before .before .before .before .before .before .before .before .pre .names-long) (c .before .before .before .before .before .before .before .before .before .before .before .before .before .pre .ends-long) (c .enum-told .given .1) }
+returns-3 c = record { marks = λ texts bind h w. path-full (c .before .before .before .before .before .before .add .ensures) (within (c .before .before .before .before .before .before .before .before .before .before .before .before .before)) w (c .before .before .before .before .before .before .before .before .before .before .before .before .before .pre .names-long) (c .enum-told .given .1) }
 
 pub mark-spec : {M : Type 1} → statement M
 mark-spec =

@@ -1,10 +1,9 @@
 -- `plan::write_steps` meets its contract.
-use mathlib.Core.Path.{sym}
+use mathlib.Core.Path.{sym, _≡_}
 use lib.Seq.{length-take-le}
 use Rattle.printing.proofs.Putting.{leaves-within}
 use native.Mathlib.Omega.{arith}
 use Prim.Native.Nat.{_-_, _≤_}
-use mathlib.Core.Path.{_≡_}
 use lib.ListN.{length}
 use borrow.Author.Needs.{needs}
 use Rattle.plan.proofs.write_steps.Statement.{statement}

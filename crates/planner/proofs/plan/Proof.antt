@@ -1,24 +1,18 @@
+-- `planner::plan` meets its contract.
 use Rattle.planner.proofs.Planned.{short}
 use borrow.Author.Needs.{needs}
 use Rattle.planner.proofs.plan.Statement.{statement}
 use Rattle.planner.proofs.plan.Tie as tie
-use Rattle.planner.proofs.plan.Reads as reads
-use Rattle.planner.proofs.plan.Lts as lts
-use Rattle.planner.proofs.plans.plan_buffered.Reads as plan-buffered-reads
 
--- src/lib.rt:15:9
 returns : tie.Need-returns
 returns c = short (c .before .before .before .before .before .args .manifest .now) (c .before .before .before .before .before .args .card .now) (c .before .before .before .before .before .args .targets .now) (c .before .before .before .before .before .args .list .now) (c .if1 .taken)
 
--- src/lib.rt:17:5
 plan-buffered-requires : tie.Need-plan-buffered-requires
 plan-buffered-requires c κs = search needs
 
--- src/lib.rt:11:1
 same-length : tie.Need-same-length
 same-length c = search needs
 
--- src/lib.rt:11:1
 returns-2 : tie.Need-returns-2
 returns-2 c = search needs
 

@@ -1,39 +1,28 @@
+-- `planning::list_or_missing` meets its contract.
 use mathlib.Core.Path.{_∙_}
 use Rattle.planning.proofs.Outcomes.{cleared, needed-order, plan-missing, plan-listed, ask-missing, ask-list}
 use borrow.Author.Needs.{needs}
 use Rattle.planning.proofs.list_or_missing.Statement.{statement}
 use Rattle.planning.proofs.list_or_missing.Tie as tie
-use Rattle.planning.proofs.list_or_missing.Reads as reads
-use Rattle.planning.proofs.list_or_missing.Lts as lts
-use Rattle.listing.proofs.list_stale.Reads as list-stale-reads
-use Rattle.lists.proofs.words.zero_from.Reads as zero-from-reads
-use Rattle.sources.proofs.missing_source.Reads as missing-source-reads
 
--- src/lib.rt:17:9
 missing-source-requires : tie.Need-missing-source-requires
 missing-source-requires c κs = ask-missing (c .before .before .before .before .before .before .before .before .pre)
 
--- src/lib.rt:19:9
 zero-from-requires : tie.Need-zero-from-requires
 zero-from-requires c κs = search needs
 
--- src/lib.rt:20:9
 same-length : tie.Need-same-length
 same-length c = search needs
 
--- src/lib.rt:20:9
 returns : tie.Need-returns
 returns c = λ steps files h. plan-missing h _ _ _ _ (needed-order h _ (c .before .before .before .before .before .before .before .before .before .before .before .before .before .before .pre .order-now)) (c .before .before .before .before .before .missing-source .ensures) (c .before .before .before .before .if1 .taken) (c .before .before .zero-from .ensures ∙ cleared _)
 
--- src/lib.rt:22:24
 list-stale-requires : tie.Need-list-stale-requires
 list-stale-requires c κs = ask-list (c .before .before .before .before .before .before .before .before .before .before .before .pre)
 
--- src/lib.rt:13:1
 same-length-2 : tie.Need-same-length-2
 same-length-2 c = search needs
 
--- src/lib.rt:13:1
 returns-2 : tie.Need-returns-2
 returns-2 c = λ steps files h. plan-listed h _ _ _ _ (needed-order h _ (c .before .before .before .before .before .before .before .before .before .before .before .before .before .before .pre .order-now)) (c .before .before .before .before .before .missing-source .ensures) (c .before .before .before .before .if1 .left) (c .before .before .list-stale .ensures steps files _ h (needed-order h _ (c .before .before .before .before .before .before .before .before .before .before .before .before .before .before .pre .order-now)))
 

@@ -1,37 +1,28 @@
+-- `planning::plan_all` meets its contract.
 use Rattle.tables.proofs.Blank.{length-blank}
 use Rattle.planning.proofs.Choosing.{ask-tops}
 use borrow.Author.Needs.{needs}
 use Rattle.planning.proofs.plan_all.Statement.{statement}
 use Rattle.planning.proofs.plan_all.Tie as tie
-use Rattle.planning.proofs.plan_all.Reads as reads
-use Rattle.planning.proofs.plan_all.Lts as lts
-use Rattle.planning.proofs.plan_tops.Reads as plan-tops-reads
 
--- src/lib.rt:154:9
 array-borrow-prefix-marks : tie.Need-array-borrow-prefix-marks
 array-borrow-prefix-marks c = search needs
 
--- src/lib.rt:154:9
 slice-aggregate-plan-tops : tie.Need-slice-aggregate-plan-tops
 slice-aggregate-plan-tops c = length-blank _ 1024 (c .before .before .before .before .before .before .before .pre .sound .few-files)
 
--- src/lib.rt:155:9
 array-borrow-prefix-out : tie.Need-array-borrow-prefix-out
 array-borrow-prefix-out c = search needs
 
--- src/lib.rt:155:9
 slice-aggregate-plan-tops-2 : tie.Need-slice-aggregate-plan-tops-2
 slice-aggregate-plan-tops-2 c = length-blank _ 4096 (c .before .before .before .before .before .before .before .before .pre .sound .few-mentions)
 
--- src/lib.rt:148:5
 plan-tops-requires : tie.Need-plan-tops-requires
 plan-tops-requires c κs = ask-tops (c .before .before .before .before .before .before .before .before .before .pre)
 
--- src/lib.rt:133:1
 same-length : tie.Need-same-length
 same-length c = search needs
 
--- src/lib.rt:133:1
 returns : tie.Need-returns
 returns c = search needs
 

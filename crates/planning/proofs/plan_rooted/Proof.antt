@@ -1,47 +1,35 @@
+-- `planning::plan_rooted` meets its contract.
 use mathlib.Core.Path.{_∙_}
 use Rattle.planning.proofs.Outcomes.{cleared}
 use Rattle.planning.proofs.Choosing.{rooted-some, rooted-none, rooted-refused}
 use borrow.Author.Needs.{needs}
 use Rattle.planning.proofs.plan_rooted.Statement.{statement}
 use Rattle.planning.proofs.plan_rooted.Tie as tie
-use Rattle.planning.proofs.plan_rooted.Reads as reads
-use Rattle.planning.proofs.plan_rooted.Lts as lts
-use Rattle.lists.proofs.words.zero_from.Reads as zero-from-reads
-use Rattle.planning.proofs.plan_from.Reads as plan-from-reads
 
--- src/lib.rt:105:9
 plan-from-requires : tie.Need-plan-from-requires
 plan-from-requires c κs = c .before .before .before .before .before .before .before .before .before .pre
 
--- src/lib.rt:105:9
 same-length : tie.Need-same-length
 same-length c = search needs
 
--- src/lib.rt:105:9
 returns : tie.Need-returns
 returns c = λ steps files h. rooted-some (c .before .before .before .before .before .before .before .before .before .before .before .before .pre) h _ (c .before .before .before .before .if1 .taken) _ (c .before .before .plan-from .ensures steps files h)
 
--- src/lib.rt:108:9
 plan-from-requires-2 : tie.Need-plan-from-requires-2
 plan-from-requires-2 c κs = c .before .before .before .before .before .before .before .before .before .before .pre
 
--- src/lib.rt:108:9
 same-length-2 : tie.Need-same-length-2
 same-length-2 c = search needs
 
--- src/lib.rt:108:9
 returns-2 : tie.Need-returns-2
 returns-2 c = λ steps files h. rooted-none (c .before .before .before .before .before .before .before .before .before .before .before .before .before .pre) h _ (c .before .before .before .before .if2 .taken) _ (c .before .before .plan-from2 .ensures steps files h)
 
--- src/lib.rt:110:5
 zero-from-requires : tie.Need-zero-from-requires
 zero-from-requires c κs = search needs
 
--- src/lib.rt:92:1
 same-length-3 : tie.Need-same-length-3
 same-length-3 c = search needs
 
--- src/lib.rt:92:1
 returns-3 : tie.Need-returns-3
 returns-3 c = λ steps files h. rooted-refused (c .before .before .before .before .before .before .before .before .before .before .before .before .before .pre) h _ (c .before .before .before .before .before .if1 .left) (c .before .before .before .before .if2 .left) (c .before .before .zero-from .ensures ∙ cleared _)
 

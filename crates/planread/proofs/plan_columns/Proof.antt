@@ -1,95 +1,72 @@
+-- `planread::plan_columns` meets its contract.
 use mathlib.Core.Path.{sym}
 use lib.Seq.{length-take-le}
 use native.Mathlib.Omega.{arith}
-use Rattle.planread.proofs.Columns.{Spread, spread, askable, planned}
+use Rattle.planread.proofs.Columns.{spread, askable, planned}
 use borrow.Author.Needs.{needs}
 use Rattle.planread.proofs.plan_columns.Statement.{statement}
 use Rattle.planread.proofs.plan_columns.Tie as tie
-use Rattle.planread.proofs.plan_columns.Reads as reads
-use Rattle.planread.proofs.plan_columns.Lts as lts
-use Rattle.planning.proofs.plan_graph.Reads as plan-graph-reads
 
--- src/lib.rt:25:9
 slice-aggregate-mentions : tie.Need-slice-aggregate-mentions
 slice-aggregate-mentions c = let s = spread (c .before .before .before .before .before .pre .tabled) in sym (length-take-le _ _ (omega (arith, s .few-paths, s .long)))
 
--- src/lib.rt:26:36
 mul-ends : tie.Need-mul-ends
 mul-ends c = let s = spread (c .before .before .before .before .before .pre .tabled) in search needs
 
--- src/lib.rt:26:29
 add-ends : tie.Need-add-ends
 add-ends c = let s = spread (c .before .before .before .before .before .pre .tabled) in search needs
 
--- src/lib.rt:26:16
 sub-ends : tie.Need-sub-ends
 sub-ends c = let s = spread (c .before .before .before .before .before .pre .tabled) in search needs
 
--- src/lib.rt:26:16
 part-ends-start : tie.Need-part-ends-start
 part-ends-start c = let s = spread (c .before .before .before .before .before .pre .tabled) in search needs
 
--- src/lib.rt:26:16
 part-ends-end : tie.Need-part-ends-end
 part-ends-end c = let s = spread (c .before .before .before .before .before .pre .tabled) in search needs
 
--- src/lib.rt:27:30
 add-phony : tie.Need-add-phony
 add-phony c = let s = spread (c .before .before .before .before .before .before .pre .tabled) in search needs
 
--- src/lib.rt:27:17
 sub-phony : tie.Need-sub-phony
 sub-phony c = let s = spread (c .before .before .before .before .before .before .pre .tabled) in search needs
 
--- src/lib.rt:27:17
 part-phony-start : tie.Need-part-phony-start
 part-phony-start c = let s = spread (c .before .before .before .before .before .before .pre .tabled) in search needs
 
--- src/lib.rt:27:17
 part-phony-end : tie.Need-part-phony-end
 part-phony-end c = let s = spread (c .before .before .before .before .before .before .pre .tabled) in search needs
 
--- src/lib.rt:28:29
 add-made : tie.Need-add-made
 add-made c = let s = spread (c .before .before .before .before .before .before .before .before .pre .tabled) in search needs
 
--- src/lib.rt:28:16
 sub-made : tie.Need-sub-made
 sub-made c = let s = spread (c .before .before .before .before .before .before .before .before .pre .tabled) in search needs
 
--- src/lib.rt:28:16
 part-made-start : tie.Need-part-made-start
 part-made-start c = let s = spread (c .before .before .before .before .before .before .before .before .pre .tabled) in search needs
 
--- src/lib.rt:28:16
 part-made-end : tie.Need-part-made-end
 part-made-end c = let s = spread (c .before .before .before .before .before .before .before .before .pre .tabled) in search needs
 
--- src/lib.rt:29:33
 add-defaults : tie.Need-add-defaults
 add-defaults c = let s = spread (c .before .before .before .before .before .before .before .before .before .before .pre .tabled) in search needs
 
--- src/lib.rt:29:20
 sub-defaults : tie.Need-sub-defaults
 sub-defaults c = let s = spread (c .before .before .before .before .before .before .before .before .before .before .pre .tabled) in search needs
 
--- src/lib.rt:29:20
 part-defaults-start : tie.Need-part-defaults-start
 part-defaults-start c = let s = spread (c .before .before .before .before .before .before .before .before .before .before .pre .tabled) in search needs
 
--- src/lib.rt:29:20
 part-defaults-end : tie.Need-part-defaults-end
 part-defaults-end c = let s = spread (c .before .before .before .before .before .before .before .before .before .before .pre .tabled) in search needs
 
--- src/lib.rt:30:5
 plan-graph-requires : tie.Need-plan-graph-requires
 plan-graph-requires c κs = askable (c .before .before .before .before .before .before .before .before .before .before .before .before .pre)
 
--- src/lib.rt:14:1
 same-length : tie.Need-same-length
 same-length c = search needs
 
--- src/lib.rt:14:1
 returns : tie.Need-returns
 returns c = planned (c .before .before .plan-graph .ensures)
 

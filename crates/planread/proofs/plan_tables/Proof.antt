@@ -1,3 +1,4 @@
+-- `planread::plan_tables` meets its contract.
 use mathlib.Core.Path.{sym, _∙_}
 use native.Mathlib.Omega.{arith}
 use lib.Seq.{length-take-le}
@@ -6,95 +7,67 @@ use borrow.Author.Tests.{not-true, not-false}
 use borrow.Author.Needs.{needs}
 use Rattle.planread.proofs.plan_tables.Statement.{statement}
 use Rattle.planread.proofs.plan_tables.Tie as tie
-use Rattle.planread.proofs.plan_tables.Reads as reads
-use Rattle.planread.proofs.plan_tables.Lts as lts
-use Rattle.card.proofs.sound.Reads as sound-reads
-use Rattle.lists.proofs.words.zero_from.Reads as zero-from-reads
-use Rattle.planread.proofs.plan_columns.Reads as plan-columns-reads
-use Rattle.targetfiles.proofs.number_targets.Reads as number-targets-reads
-use Rattle.times.proofs.fill_times.Reads as fill-times-reads
 
--- src/lib.rt:48:9
 sound-requires : tie.Need-sound-requires
 sound-requires c κs = search needs
 
--- src/lib.rt:49:9
 zero-from-requires : tie.Need-zero-from-requires
 zero-from-requires c κs = search needs
 
--- src/lib.rt:50:9
 same-length : tie.Need-same-length
 same-length c = search needs
 
--- src/lib.rt:50:9
 returns : tie.Need-returns
 returns c = bad-card (c .before .before .zero-from .ensures) (sym (c .before .before .before .before .before .sound .ensures) ∙ not-true _ (c .before .before .before .before .if1 .taken))
 
--- src/lib.rt:53:11
 number-targets-requires : tie.Need-number-targets-requires
 number-targets-requires c κs = record { named = named (c .before .before .before .before .before .before .before .before .before .before .before .pre .asked); room = c .before .before .before .before .before .before .before .before .before .before .before .pre .numbers-room }
 
--- src/lib.rt:54:23
 enum-known-place : tie.Need-enum-known-place
 enum-known-place c = search needs
 
--- src/lib.rt:55:13
 zero-from-requires-2 : tie.Need-zero-from-requires-2
 zero-from-requires-2 c κs = search needs
 
--- src/lib.rt:58:23
 enum-known-n : tie.Need-enum-known-n
 enum-known-n c = search needs
 
--- src/lib.rt:59:13
 fill-times-requires : tie.Need-fill-times-requires
 fill-times-requires c κs = record { sound = sym (c .before .before .before .before .before .before .before .before .before .sound .ensures) ∙ not-false _ (c .before .before .before .before .before .before .before .before .if1 .left); named = named (c .before .before .before .before .before .before .before .before .before .before .before .before .before .before .before .before .before .before .pre .asked); room = omega (arith, few-files (c .before .before .before .before .before .before .before .before .before .before .before .before .before .before .before .before .before .before .pre .asked), c .before .before .before .before .before .before .before .before .before .before .before .before .before .before .before .before .before .before .pre .times-room) }
 
--- src/lib.rt:60:36
 slice-reshare-prefix-plan-columns : tie.Need-slice-reshare-prefix-plan-columns
 slice-reshare-prefix-plan-columns c = omega (arith, few-files (c .before .before .before .before .before .before .before .before .before .before .before .before .before .before .before .before .before .before .before .before .before .pre .asked), c .before .before .before .before .before .before .before .before .before .before .before .before .before .before .before .before .before .before .before .before .before .pre .times-room, c .before .before .fill-times .kept)
 
--- src/lib.rt:60:36
 slice-aggregate-plan-columns : tie.Need-slice-aggregate-plan-columns
 slice-aggregate-plan-columns c = sym (length-take-le _ _ (omega (arith, few-files (c .before .before .before .before .before .before .before .before .before .before .before .before .before .before .before .before .before .before .before .before .before .before .pre .asked), c .before .before .before .before .before .before .before .before .before .before .before .before .before .before .before .before .before .before .before .before .before .before .pre .times-room, c .before .before .before .fill-times .kept)))
 
--- src/lib.rt:60:53
 slice-reshare-prefix-plan-columns-2 : tie.Need-slice-reshare-prefix-plan-columns-2
 slice-reshare-prefix-plan-columns-2 c = omega (arith, numbers-within (sym (c .before .before .before .before .before .before .before .before .before .before .before .before .before .sound .ensures) ∙ not-false _ (c .before .before .before .before .before .before .before .before .before .before .before .before .if1 .left)) (c .before .before .before .before .before .before .before .before .before .before .number-targets .ensures) (c .before .before .before .before .before .before .n .given .1) (c .before .before .before .fill-times .ensures) (c .before .before .before .before .before .before .before .before .before .before .before .before .before .before .before .before .before .before .before .before .before .before .pre .asked))
 
--- src/lib.rt:60:53
 slice-aggregate-plan-columns-2 : tie.Need-slice-aggregate-plan-columns-2
 slice-aggregate-plan-columns-2 c = sym (length-take-le _ _ (numbers-within (sym (c .before .before .before .before .before .before .before .before .before .before .before .before .before .before .sound .ensures) ∙ not-false _ (c .before .before .before .before .before .before .before .before .before .before .before .before .before .if1 .left)) (c .before .before .before .before .before .before .before .before .before .before .before .number-targets .ensures) (c .before .before .before .before .before .before .before .n .given .1) (c .before .before .before .before .fill-times .ensures) (c .before .before .before .before .before .before .before .before .before .before .before .before .before .before .before .before .before .before .before .before .before .before .before .pre .asked)))
 
--- src/lib.rt:60:13
 plan-columns-requires : tie.Need-plan-columns-requires
 plan-columns-requires c κs = columns (sym (c .before .before .before .before .before .before .before .before .before .before .before .before .before .before .before .sound .ensures) ∙ not-false _ (c .before .before .before .before .before .before .before .before .before .before .before .before .before .before .if1 .left)) (c .before .before .before .before .before .before .before .before .before .before .before .before .number-targets .ensures) (c .before .before .before .before .before .before .before .before .n .given .1) (c .before .before .before .before .before .fill-times .ensures) (c .before .before .before .before .before .before .before .before .before .before .before .before .before .before .before .before .before .before .before .before .before .before .before .before .pre .asked)
 
--- src/lib.rt:34:1
 same-length-2 : tie.Need-same-length-2
 same-length-2 c = search needs
 
--- src/lib.rt:34:1
 same-length-3 : tie.Need-same-length-3
 same-length-3 c = search needs
 
--- src/lib.rt:34:1
 returns-2 : tie.Need-returns-2
 returns-2 c = bad-target (c .before .before .zero-from2 .ensures) (sym (c .before .before .before .before .before .before .before .before .before .before .before .before .sound .ensures) ∙ not-false _ (c .before .before .before .before .before .before .before .before .before .before .before .if1 .left)) (c .before .before .before .before .before .before .before .before .before .number-targets .ensures) (c .before .before .before .before .before .place .given .1)
 
--- src/lib.rt:34:1
 same-length-4 : tie.Need-same-length-4
 same-length-4 c = search needs
 
--- src/lib.rt:34:1
 same-length-5 : tie.Need-same-length-5
 same-length-5 c = search needs
 
--- src/lib.rt:34:1
 same-length-6 : tie.Need-same-length-6
 same-length-6 c = search needs
 
--- src/lib.rt:34:1
 returns-3 : tie.Need-returns-3
 returns-3 c = plans (sym (c .before .before .before .before .before .before .before .before .before .before .before .before .before .before .before .before .before .before .sound .ensures) ∙ not-false _ (c .before .before .before .before .before .before .before .before .before .before .before .before .before .before .before .before .before .if1 .left)) (c .before .before .before .before .before .before .before .before .before .before .before .before .before .before .before .number-targets .ensures) (c .before .before .before .before .before .before .before .before .before .before .before .n .given .1) (c .before .before .before .before .before .before .before .before .fill-times .ensures) (c .before .before .plan-columns .ensures)
 

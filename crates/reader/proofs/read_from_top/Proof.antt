@@ -1,9 +1,8 @@
 -- `reader::read_from_top` meets its contract.
-use Rattle.reader.proofs.Turns.{same-begin}
+use Rattle.reader.proofs.Turns.{same-begin, Same, Turning, turn-begin, turn-asks, turn-on, turn-refused, turn-sound, turn-end}
 use Prim.Native.Nat.{_-_}
 use native.Mathlib.Omega.{arith}
 use lib.ListN.{length}
-use Rattle.reader.proofs.Turns.{Same, Turning, turn-begin, turn-asks, turn-on, turn-refused, turn-sound, turn-end}
 use borrow.Author.Needs.{needs}
 use Rattle.reader.proofs.read_from_top.Statement.{statement}
 use Rattle.reader.proofs.read_from_top.Tie as tie

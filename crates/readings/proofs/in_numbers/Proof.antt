@@ -1,35 +1,26 @@
+-- `readings::in_numbers` meets its contract.
 use Rattle.readings.specs.Numbers.{inNumbers}
 use Rattle.readings.proofs.Judging.{counted, refused-so}
 use borrow.Author.Needs.{needs}
 use Rattle.readings.proofs.in_numbers.Statement.{statement}
 use Rattle.readings.proofs.in_numbers.Tie as tie
-use Rattle.readings.proofs.in_numbers.Reads as reads
-use Rattle.readings.proofs.in_numbers.Lts as lts
-use Rattle.answers.proofs.of_refusal.Reads as of-refusal-reads
-use Rattle.readings.proofs.uncounted.Reads as uncounted-reads
 
--- src/lib.rt:76:30
 enum-known-a : tie.Need-enum-known-a
 enum-known-a c = search needs
 
--- src/lib.rt:89:29
 enum-known-a-2 : tie.Need-enum-known-a-2
 enum-known-a-2 c = search needs
 
--- src/lib.rt:90:17
 of-refusal-requires : tie.Need-of-refusal-requires
 of-refusal-requires c κs = search needs
 
--- src/lib.rt:91:13
 uncounted-requires : tie.Need-uncounted-requires
 uncounted-requires c κs = search needs
 
--- src/lib.rt:72:1
 returns : tie.Need-returns
 unfolding inNumbers
 returns c = counted (c .before .a .given .1)
 
--- src/lib.rt:72:1
 returns-2 : tie.Need-returns-2
 returns-2 c = refused-so _ (c .before .before .before .a2 .given .1) (c .before .of-refusal .ensures) (c .uncounted .ensures)
 

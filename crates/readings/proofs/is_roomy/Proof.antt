@@ -1,39 +1,29 @@
+-- `readings::is_roomy` meets its contract.
 use Rattle.readings.proofs.Judging.{few-names, many-names, few-ends, few-texts, few-rows, few-columns, short-word, has-room}
-use borrow.Author.Needs.{needs}
 use Rattle.readings.proofs.is_roomy.Statement.{statement}
 use Rattle.readings.proofs.is_roomy.Tie as tie
-use Rattle.readings.proofs.is_roomy.Reads as reads
-use Rattle.readings.proofs.is_roomy.Lts as lts
 
--- src/lib.rt:30:9
 returns : tie.Need-returns
 returns c = few-names (c .if1 .taken)
 
--- src/lib.rt:33:9
 returns-2 : tie.Need-returns-2
 returns-2 c = many-names (c .if2 .taken)
 
--- src/lib.rt:36:9
 returns-3 : tie.Need-returns-3
 returns-3 c = few-ends (c .if3 .taken)
 
--- src/lib.rt:39:9
 returns-4 : tie.Need-returns-4
 returns-4 c = few-texts (c .if4 .taken)
 
--- src/lib.rt:42:9
 returns-5 : tie.Need-returns-5
 returns-5 c = few-rows (c .if5 .taken)
 
--- src/lib.rt:45:9
 returns-6 : tie.Need-returns-6
 returns-6 c = few-columns (c .if6 .taken)
 
--- src/lib.rt:48:9
 returns-7 : tie.Need-returns-7
 returns-7 c = short-word (c .if7 .taken)
 
--- src/lib.rt:26:1
 returns-8 : tie.Need-returns-8
 returns-8 c = has-room (c .before .before .before .before .before .before .if1 .left) (c .before .before .before .before .before .if2 .left) (c .before .before .before .before .if3 .left) (c .before .before .before .if4 .left) (c .before .before .if5 .left) (c .before .if6 .left) (c .if7 .left)
 

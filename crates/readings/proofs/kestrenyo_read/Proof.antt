@@ -1,89 +1,64 @@
+-- `readings::kestrenyo_read` meets its contract.
 use borrow.Author.Tests.{not-true, not-false}
 use Rattle.readings.proofs.Judging.{too-small, has-read, lent}
 use borrow.Author.Needs.{needs}
 use Rattle.readings.proofs.kestrenyo_read.Statement.{statement}
 use Rattle.readings.proofs.kestrenyo_read.Tie as tie
-use Rattle.readings.proofs.kestrenyo_read.Reads as reads
-use Rattle.readings.proofs.kestrenyo_read.Lts as lts
-use Rattle.classes.proofs.table.Reads as table-reads
-use Rattle.reader.proofs.read.Reads as read-reads
-use Rattle.readings.proofs.in_numbers.Reads as in-numbers-reads
-use Rattle.readings.proofs.is_roomy.Reads as is-roomy-reads
-use Rattle.readings.proofs.uncounted.Reads as uncounted-reads
 
--- src/lib.rt:109:9
 is-roomy-requires : tie.Need-is-roomy-requires
 is-roomy-requires c κs = search needs
 
--- src/lib.rt:110:9
 uncounted-requires : tie.Need-uncounted-requires
 uncounted-requires c κs = search needs
 
--- src/lib.rt:110:9
 same-length : tie.Need-same-length
 same-length c = search needs
 
--- src/lib.rt:110:9
 same-length-2 : tie.Need-same-length-2
 same-length-2 c = search needs
 
--- src/lib.rt:110:9
 same-length-3 : tie.Need-same-length-3
 same-length-3 c = search needs
 
--- src/lib.rt:110:9
 same-length-4 : tie.Need-same-length-4
 same-length-4 c = search needs
 
--- src/lib.rt:110:9
 same-length-5 : tie.Need-same-length-5
 same-length-5 c = search needs
 
--- src/lib.rt:110:9
 same-length-6 : tie.Need-same-length-6
 same-length-6 c = search needs
 
--- src/lib.rt:110:9
 returns : tie.Need-returns
 returns c = too-small (c .before .before .is-roomy .ensures) (not-true _ (c .before .if1 .taken)) (c .uncounted .ensures)
 
--- src/lib.rt:112:13
 table-requires : tie.Need-table-requires
 table-requires c κs = search needs
 
--- src/lib.rt:113:16
 read-requires : tie.Need-read-requires
 read-requires c κs = lent (c .before .before .before .before .before .before .before .table .ensures) (c .before .before .before .before .before .before .before .before .before .is-roomy .ensures .enough (not-false _ (c .before .before .before .before .before .before .before .before .if1 .left)))
 
--- src/lib.rt:113:5
 in-numbers-requires : tie.Need-in-numbers-requires
 in-numbers-requires c κs = search needs
 
--- src/lib.rt:97:1
 same-length-7 : tie.Need-same-length-7
 same-length-7 c = search needs
 
--- src/lib.rt:97:1
 same-length-8 : tie.Need-same-length-8
 same-length-8 c = search needs
 
--- src/lib.rt:97:1
 same-length-9 : tie.Need-same-length-9
 same-length-9 c = search needs
 
--- src/lib.rt:97:1
 same-length-10 : tie.Need-same-length-10
 same-length-10 c = search needs
 
--- src/lib.rt:97:1
 same-length-11 : tie.Need-same-length-11
 same-length-11 c = search needs
 
--- src/lib.rt:97:1
 same-length-12 : tie.Need-same-length-12
 same-length-12 c = search needs
 
--- src/lib.rt:97:1
 returns-2 : tie.Need-returns-2
 returns-2 c = has-read (c .before .before .before .before .before .before .before .before .before .before .before .before .before .before .before .before .before .before .before .before .before .before .before .is-roomy .ensures) _ (not-false _ (c .before .before .before .before .before .before .before .before .before .before .before .before .before .before .before .before .before .before .before .before .before .before .if1 .left)) (c .before .before .before .before .before .before .before .before .before .before .before .before .before .read .ensures) (c .in-numbers .ensures)
 

@@ -1,9 +1,8 @@
 -- `report::step_line` meets its contract.
-use Rattle.report.proofs.Texts.{back-length}
+use Rattle.report.proofs.Texts.{back-length, text-fits, step-fine, step-refused}
 use mathlib.Core.Path.{_∙_}
 use native.Mathlib.Omega.{arith}
 use denote.Ref.{now}
-use Rattle.report.proofs.Texts.{text-fits, step-fine, step-refused}
 use borrow.Author.Needs.{needs}
 use Rattle.report.proofs.step_line.Statement.{statement}
 use Rattle.report.proofs.step_line.Tie as tie

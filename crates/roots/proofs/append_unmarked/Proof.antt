@@ -1,3 +1,4 @@
+-- `roots::append_unmarked` meets its contract.
 use Prim.Native.Nat.{_-_, _≤_, _<_}
 use native.Mathlib.Omega.{arith}
 use lib.ListN.{length}
@@ -5,9 +6,6 @@ use Rattle.roots.proofs.Appending.{Appending, append-begin, append-skip
 use borrow.Author.Needs.{needs}
 use Rattle.roots.proofs.append_unmarked.Statement.{statement}
 use Rattle.roots.proofs.append_unmarked.Tie as tie
-use Rattle.roots.proofs.append_unmarked.Reads as reads
-use Rattle.roots.proofs.append_unmarked.Lts as lts
-use Rattle.lists.proofs.words.at.Reads as at-reads
 
 abbrev Inv-loop : tie.InvT-loop
 Inv-loop fs marks out₀ k n₀ i₀ out n i = Appending fs marks out₀ k out n i
@@ -19,63 +17,48 @@ abbrev μ-loop : tie.MeasureT-loop
 low : (c : tie.Else1 Inv-loop μ-loop) → (c .before .before .at .result < length (c .before .before .before .before .before .before .before .before .args .marks .now)) × (length (c .before .before .before .before .before .before .before .before .args .marks .now) ≤ 1024)
 low c = (rw (c .before .before .at .ensures) (c .before .before .before .before .before .before .before .before .pre .low (c .before .before .before .before .loop .i) (c .before .before .before .loop-test .taken)), c .before .before .before .before .before .before .before .before .pre .few)
 
--- src/lib.rt:40:5
 loop-holds : tie.Need-loop-holds Inv-loop μ-loop
 loop-holds c = append-begin
 
--- src/lib.rt:41:13
 at-requires : tie.Need-at-requires Inv-loop μ-loop
 at-requires c κs = search needs
 
--- src/lib.rt:42:12
 at-requires-2 : tie.Need-at-requires-2 Inv-loop μ-loop
 at-requires-2 c κs = rw (c .at .ensures) (c .before .before .before .before .before .before .pre .low (c .before .before .loop .i) (c .before .loop-test .taken))
 
--- src/lib.rt:43:13
 add-i : tie.Need-add-i Inv-loop μ-loop
 add-i c = search needs
 
--- src/lib.rt:40:5
 loop-less : tie.Need-loop-less Inv-loop μ-loop
 loop-less c = search needs
 
--- src/lib.rt:40:5
 loop-again : tie.Need-loop-again Inv-loop μ-loop
 loop-again c = append-skip (c .before .before .before .before .loop .inv) (c .before .before .before .loop-test .taken) (c .before .before .at .ensures) (c .before .at2 .ensures) (c .if1 .taken)
 
--- src/lib.rt:45:22
 cast-out : tie.Need-cast-out Inv-loop μ-loop
 cast-out c = omega (arith, low c)
 
--- src/lib.rt:45:13
 mul-out : tie.Need-mul-out Inv-loop μ-loop
 mul-out c = search needs
 
--- src/lib.rt:45:13
 slice-write-out : tie.Need-slice-write-out Inv-loop μ-loop
 slice-write-out c = search needs
 
--- src/lib.rt:46:13
 add-n : tie.Need-add-n Inv-loop μ-loop
 add-n c = search needs
 
--- src/lib.rt:47:13
 add-i-2 : tie.Need-add-i-2 Inv-loop μ-loop
 add-i-2 c = search needs
 
--- src/lib.rt:40:5
 loop-less-2 : tie.Need-loop-less-2 Inv-loop μ-loop
 loop-less-2 c = search needs
 
--- src/lib.rt:40:5
 loop-again-2 : tie.Need-loop-again-2 Inv-loop μ-loop
 loop-again-2 c = append-more (c .before .before .before .before .loop .inv) (c .before .before .before .loop-test .taken) (c .before .before .at .ensures) (c .before .at2 .ensures) (c .if1 .left) (c .before .before .before .before .before .before .before .before .pre .room)
 
--- src/lib.rt:34:1
 same-length : tie.Need-same-length Inv-loop μ-loop
 same-length c = c .before .loop .inv .long
 
--- src/lib.rt:34:1
 returns : tie.Need-returns Inv-loop μ-loop
 returns c = append-end (c .before .loop .inv) (c .loop-test .left)
 

@@ -1,3 +1,4 @@
+-- `roots::mark` meets its contract.
 use Prim.Native.Nat.{_-_, _<_}
 use native.Mathlib.Omega.{arith}
 use lib.ListN.{length}
@@ -5,9 +6,6 @@ use Rattle.roots.proofs.Marking.{Marking, mark-begin, mark-more, mark-e
 use borrow.Author.Needs.{needs}
 use Rattle.roots.proofs.mark.Statement.{statement}
 use Rattle.roots.proofs.mark.Tie as tie
-use Rattle.roots.proofs.mark.Reads as reads
-use Rattle.roots.proofs.mark.Lts as lts
-use Rattle.lists.proofs.words.at.Reads as at-reads
 
 abbrev Inv-loop : tie.InvT-loop
 Inv-loop fs marks₀ i₀ marks i = Marking fs marks₀ marks i
@@ -19,39 +17,30 @@ abbrev μ-loop : tie.MeasureT-loop
 low : (c : tie.After-at Inv-loop μ-loop) → c .at .result < length (c .before .before .before .before .before .args .marks .now)
 low c = rw (c .at .ensures) (c .before .before .before .before .before .pre (c .before .before .loop .i) (c .before .loop-test .taken))
 
--- src/lib.rt:15:5
 loop-holds : tie.Need-loop-holds Inv-loop μ-loop
 loop-holds c = mark-begin
 
--- src/lib.rt:16:15
 at-requires : tie.Need-at-requires Inv-loop μ-loop
 at-requires c κs = search needs
 
--- src/lib.rt:16:9
 mul-marks : tie.Need-mul-marks Inv-loop μ-loop
 mul-marks c = omega (arith, low c, c .before .before .before .before .before .good)
 
--- src/lib.rt:16:9
 slice-write-marks : tie.Need-slice-write-marks Inv-loop μ-loop
 slice-write-marks c = rw (c .before .before .loop .inv .state .long) (low c)
 
--- src/lib.rt:17:9
 add-i : tie.Need-add-i Inv-loop μ-loop
 add-i c = search needs
 
--- src/lib.rt:15:5
 loop-less : tie.Need-loop-less Inv-loop μ-loop
 loop-less c = search needs
 
--- src/lib.rt:15:5
 loop-again : tie.Need-loop-again Inv-loop μ-loop
 loop-again c = mark-more (c .before .before .loop .inv) (c .before .loop-test .taken) (c .at .ensures) (low c)
 
--- src/lib.rt:10:1
 same-length : tie.Need-same-length Inv-loop μ-loop
 same-length c = c .before .loop .inv .state .long
 
--- src/lib.rt:10:1
 returns : tie.Need-returns Inv-loop μ-loop
 returns c = mark-end (c .before .loop .inv) (c .loop-test .left)
 

@@ -1,16 +1,12 @@
-use Prim.Native.Nat.{_-_, _<_}
+-- `roots::mark_inputs` meets its contract.
+use Prim.Native.Nat.{_-_}
 use mathlib.Core.Path.{_∙_, sym}
-use native.Mathlib.Omega.{arith}
 use lib.ListN.{length}
 use Rattle.tables.proofs.Held.{inputs-low}
 use Rattle.roots.proofs.Marking.{Inputs, inputs-begin, inputs-more, inputs-end}
 use borrow.Author.Needs.{needs}
 use Rattle.roots.proofs.mark_inputs.Statement.{statement}
 use Rattle.roots.proofs.mark_inputs.Tie as tie
-use Rattle.roots.proofs.mark_inputs.Reads as reads
-use Rattle.roots.proofs.mark_inputs.Lts as lts
-use Rattle.roots.proofs.mark.Reads as mark-reads
-use Rattle.tables.proofs.inputs.Reads as inputs-reads
 
 abbrev Inv-loop : tie.InvT-loop
 Inv-loop mentions ends phony made marks₀ s₀ marks s = Inputs mentions ends (length phony) (length made) marks s
@@ -18,35 +14,27 @@ Inv-loop mentions ends phony made marks₀ s₀ marks s = Inputs mentions ends (
 abbrev μ-loop : tie.MeasureT-loop
 μ-loop mentions ends phony made marks₀ s₀ marks s = length phony - s
 
--- src/lib.rt:28:5
 loop-holds : tie.Need-loop-holds Inv-loop μ-loop
 loop-holds c = inputs-begin (c .before .before .before .before .before .pre)
 
--- src/lib.rt:29:14
 inputs-requires : tie.Need-inputs-requires Inv-loop μ-loop
 inputs-requires c κs = c .before .before .before .before .before .before .before .pre .sound .placed (c .before .loop .s) (c .loop-test .taken)
 
--- src/lib.rt:29:9
 mark-requires : tie.Need-mark-requires Inv-loop μ-loop
 mark-requires c κs = rw (c .before .before .before .loop .inv .state .long) (inputs-low (c .before .before .before .before .before .before .before .before .before .pre .sound .low) _ _ (c .before .inputs .ensures))
 
--- src/lib.rt:30:9
 add-s : tie.Need-add-s Inv-loop μ-loop
 add-s c = search needs
 
--- src/lib.rt:28:5
 loop-less : tie.Need-loop-less Inv-loop μ-loop
 loop-less c = search needs
 
--- src/lib.rt:28:5
 loop-again : tie.Need-loop-again Inv-loop μ-loop
 loop-again c = inputs-more (c .before .before .before .before .before .before .loop .inv) (c .before .before .before .before .before .loop-test .taken) (c .before .before .before .before .inputs .ensures) (c .before .before .mark .ensures)
 
--- src/lib.rt:23:1
 same-length : tie.Need-same-length Inv-loop μ-loop
 same-length c = c .before .loop .inv .state .long ∙ sym (inputs-begin (c .before .before .before .before .before .before .before .pre) .state .long)
 
--- src/lib.rt:23:1
 returns : tie.Need-returns Inv-loop μ-loop
 returns c = inputs-end (c .before .loop .inv) (c .loop-test .left)
 

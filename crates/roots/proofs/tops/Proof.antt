@@ -1,16 +1,10 @@
-use Prim.Native.Nat.{_-_, _<_}
-use mathlib.Core.Path.{_∙_, sym}
+-- `roots::tops` meets its contract.
+use Prim.Native.Nat.{_-_}
 use lib.ListN.{length}
-use Rattle.roots.proofs.Marking.{inputs-begin}
 use Rattle.roots.proofs.Gathering.{Gathering, gather-begin, gather-ask, gather-more, gather-end}
 use borrow.Author.Needs.{needs}
 use Rattle.roots.proofs.tops.Statement.{statement}
 use Rattle.roots.proofs.tops.Tie as tie
-use Rattle.roots.proofs.tops.Reads as reads
-use Rattle.roots.proofs.tops.Lts as lts
-use Rattle.roots.proofs.append_unmarked.Reads as append-unmarked-reads
-use Rattle.roots.proofs.mark_inputs.Reads as mark-inputs-reads
-use Rattle.tables.proofs.outs.Reads as outs-reads
 
 abbrev Inv-loop : tie.InvT-loop
 Inv-loop mentions ends phony made marks out₀ k₀ s₀ out k s = Gathering mentions ends phony marks out₀ out k s
@@ -18,43 +12,33 @@ Inv-loop mentions ends phony made marks out₀ k₀ s₀ out k s = Gathering men
 abbrev μ-loop : tie.MeasureT-loop
 μ-loop mentions ends phony made marks out₀ k₀ s₀ out k s = length phony - s
 
--- src/lib.rt:59:5
 mark-inputs-requires : tie.Need-mark-inputs-requires Inv-loop μ-loop
 mark-inputs-requires c κs = record { sound = c .before .before .before .before .before .before .before .pre .sound; blank = c .before .before .before .before .before .before .before .pre .blank }
 
--- src/lib.rt:62:5
 loop-holds : tie.Need-loop-holds Inv-loop μ-loop
 loop-holds c = gather-begin
 
--- src/lib.rt:63:29
 outs-requires : tie.Need-outs-requires Inv-loop μ-loop
 outs-requires c κs = c .before .before .before .before .before .before .before .before .before .before .before .before .pre .sound .placed (c .before .loop .s) (c .loop-test .taken)
 
--- src/lib.rt:63:9
 append-unmarked-requires : tie.Need-append-unmarked-requires Inv-loop μ-loop
 append-unmarked-requires c κs = gather-ask (c .before .before .before .before .before .before .before .before .before .before .before .before .before .before .before .pre) (c .before .before .before .before .before .before .before .mark-inputs .ensures) (c .before .before .before .before .loop .inv) (c .before .before .before .loop-test .taken) (c .before .before .outs .ensures)
 
--- src/lib.rt:64:9
 add-s : tie.Need-add-s Inv-loop μ-loop
 add-s c = search needs
 
--- src/lib.rt:62:5
 loop-less : tie.Need-loop-less Inv-loop μ-loop
 loop-less c = search needs
 
--- src/lib.rt:62:5
 loop-again : tie.Need-loop-again Inv-loop μ-loop
 loop-again c = gather-more (c .before .before .before .before .before .before .before .before .before .before .before .before .before .before .before .before .before .before .pre) (c .before .before .before .before .before .before .before .before .before .before .mark-inputs .ensures) (c .before .before .before .before .before .before .before .loop .inv) (c .before .before .before .before .before .before .loop-test .taken) (c .before .before .before .before .before .outs .ensures) (c .before .before .append-unmarked .ensures)
 
--- src/lib.rt:55:1
 same-length : tie.Need-same-length Inv-loop μ-loop
 same-length c = search needs
 
--- src/lib.rt:55:1
 same-length-2 : tie.Need-same-length-2 Inv-loop μ-loop
 same-length-2 c = c .before .loop .inv .long
 
--- src/lib.rt:55:1
 returns : tie.Need-returns Inv-loop μ-loop
 returns c = gather-end (c .before .before .before .before .before .before .before .before .before .before .before .before .pre) (c .before .before .before .before .mark-inputs .ensures) (c .before .loop .inv) (c .loop-test .left)
 

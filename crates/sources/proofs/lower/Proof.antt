@@ -1,35 +1,25 @@
+-- `sources::lower` meets its contract.
 use mathlib.Core.Path.{sym, _∙_}
 use Rattle.sources.proofs.Absent.{lower-kept, lower-found}
-use native.Mathlib.Omega.{arith}
 use borrow.Author.Needs.{needs}
 use Rattle.sources.proofs.lower.Statement.{statement}
 use Rattle.sources.proofs.lower.Tie as tie
-use Rattle.sources.proofs.lower.Reads as reads
-use Rattle.sources.proofs.lower.Lts as lts
-use Rattle.lists.proofs.words.at.Reads as at-reads
-use Rattle.tables.proofs.time.Reads as time-reads
 
--- src/lib.rt:250:9
 returns : tie.Need-returns
 returns c = lower-kept (λ a. c .if1 .taken)
 
--- src/lib.rt:252:8
 at-requires : tie.Need-at-requires
 at-requires c κs = search needs
 
--- src/lib.rt:253:9
 returns-2 : tie.Need-returns-2
 returns-2 c = lower-kept (λ a. absurd (c .if2 .taken (c .before .at .ensures ∙ a .1)))
 
--- src/lib.rt:255:8
 time-requires : tie.Need-time-requires
 time-requires c κs = search needs
 
--- src/lib.rt:256:9
 returns-3 : tie.Need-returns-3
 returns-3 c = lower-kept (λ a. absurd (c .if3 .taken (c .before .time .ensures ∙ a .0)))
 
--- src/lib.rt:245:1
 returns-4 : tie.Need-returns-4
 returns-4 c = lower-found (c .before .before .before .before .if1 .left) (sym (c .before .time .ensures) ∙ c .if3 .left, sym (c .before .before .before .at .ensures) ∙ c .before .before .if2 .left)
 

@@ -1,15 +1,10 @@
+-- `sources::lowest_absent` meets its contract.
 use Prim.Native.Nat.{_-_}
-use mathlib.Core.Path.{_≡_}
-use native.Mathlib.Omega.{arith}
 use lib.ListN.{length}
 use Rattle.sources.proofs.Absent.{Lowering, lower-begin, lower-more, lower-end}
 use borrow.Author.Needs.{needs}
 use Rattle.sources.proofs.lowest_absent.Statement.{statement}
 use Rattle.sources.proofs.lowest_absent.Tie as tie
-use Rattle.sources.proofs.lowest_absent.Reads as reads
-use Rattle.sources.proofs.lowest_absent.Lts as lts
-use Rattle.sources.proofs.lower.Reads as lower-reads
-use Rattle.lists.proofs.words.at.Reads as at-reads
 
 abbrev Inv-loop : tie.InvT-loop
 Inv-loop fs made times best low₀ i₀ low i = Lowering times made fs best low i
@@ -17,31 +12,24 @@ Inv-loop fs made times best low₀ i₀ low i = Lowering times made fs best low 
 abbrev μ-loop : tie.MeasureT-loop
 μ-loop fs made times best low₀ i₀ low i = length fs - i
 
--- src/lib.rt:268:5
 loop-holds : tie.Need-loop-holds Inv-loop μ-loop
 loop-holds c = lower-begin
 
--- src/lib.rt:269:21
 at-requires : tie.Need-at-requires Inv-loop μ-loop
 at-requires c κs = search needs
 
--- src/lib.rt:269:9
 lower-requires : tie.Need-lower-requires Inv-loop μ-loop
 lower-requires c κs = (rw (c .at .ensures) (c .before .before .before .before .before .before .pre .0 (c .before .before .loop .i) (c .before .loop-test .taken)), c .before .before .before .before .before .before .pre .1)
 
--- src/lib.rt:270:9
 add-i : tie.Need-add-i Inv-loop μ-loop
 add-i c = search needs
 
--- src/lib.rt:268:5
 loop-less : tie.Need-loop-less Inv-loop μ-loop
 loop-less c = search needs
 
--- src/lib.rt:268:5
 loop-again : tie.Need-loop-again Inv-loop μ-loop
 loop-again c = lower-more (c .before .before .before .loop .inv) (c .before .before .loop-test .taken) (c .before .at .ensures) (c .lower .ensures)
 
--- src/lib.rt:262:1
 returns : tie.Need-returns Inv-loop μ-loop
 returns c = lower-end (c .before .loop .inv) (c .loop-test .left)
 

@@ -1,3 +1,4 @@
+-- `sources::missing_source` meets its contract.
 use Prim.Native.Nat.{_-_}
 use lib.ListN.{length}
 use Rattle.tables.proofs.Held.{inputs-low}
@@ -5,11 +6,6 @@ use Rattle.sources.proofs.Absent.{Searching, lowest-begin, lowest-more,
 use borrow.Author.Needs.{needs}
 use Rattle.sources.proofs.missing_source.Statement.{statement}
 use Rattle.sources.proofs.missing_source.Tie as tie
-use Rattle.sources.proofs.missing_source.Reads as reads
-use Rattle.sources.proofs.missing_source.Lts as lts
-use Rattle.sources.proofs.lowest_absent.Reads as lowest-absent-reads
-use Rattle.lists.proofs.words.at.Reads as at-reads
-use Rattle.tables.proofs.inputs.Reads as inputs-reads
 
 abbrev Inv-loop : tie.InvT-loop
 Inv-loop mentions ends made times roots order low₀ i₀ low i = Searching mentions ends made times roots order (length made) low i
@@ -17,39 +13,30 @@ Inv-loop mentions ends made times roots order low₀ i₀ low i = Searching ment
 abbrev μ-loop : tie.MeasureT-loop
 μ-loop mentions ends made times roots order low₀ i₀ low i = length order - i
 
--- src/lib.rt:280:9
 lowest-absent-requires : tie.Need-lowest-absent-requires Inv-loop μ-loop
 lowest-absent-requires c κs = (c .before .before .before .before .before .before .pre .roots-low, c .before .before .before .before .before .before .pre .timed)
 
--- src/lib.rt:282:5
 loop-holds : tie.Need-loop-holds Inv-loop μ-loop
 loop-holds c = lowest-begin (c .lowest-absent .ensures)
 
--- src/lib.rt:283:41
 at-requires : tie.Need-at-requires Inv-loop μ-loop
 at-requires c κs = search needs
 
--- src/lib.rt:283:13
 inputs-requires : tie.Need-inputs-requires Inv-loop μ-loop
 inputs-requires c κs = rw (c .at .ensures) (c .before .before .before .before .before .before .before .before .before .before .pre .placed (c .before .before .loop .i) (c .before .loop-test .taken))
 
--- src/lib.rt:284:9
 lowest-absent-requires-2 : tie.Need-lowest-absent-requires-2 Inv-loop μ-loop
 lowest-absent-requires-2 c κs = (inputs-low (c .before .before .before .before .before .before .before .before .before .before .before .pre .low) _ _ (c .inputs .ensures), c .before .before .before .before .before .before .before .before .before .before .before .pre .timed)
 
--- src/lib.rt:285:9
 add-i : tie.Need-add-i Inv-loop μ-loop
 add-i c = search needs
 
--- src/lib.rt:282:5
 loop-less : tie.Need-loop-less Inv-loop μ-loop
 loop-less c = search needs
 
--- src/lib.rt:282:5
 loop-again : tie.Need-loop-again Inv-loop μ-loop
 loop-again c = lowest-more (c .before .before .before .before .loop .inv) (c .before .before .before .loop-test .taken) (c .before .before .at .ensures) (c .before .inputs .ensures) (c .lowest-absent2 .ensures)
 
--- src/lib.rt:276:1
 returns : tie.Need-returns Inv-loop μ-loop
 returns c = lowest-end (c .before .loop .inv) (c .loop-test .left)
 

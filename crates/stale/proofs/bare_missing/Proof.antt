@@ -1,31 +1,22 @@
+-- `stale::bare_missing` meets its contract.
 use Rattle.tables.proofs.Held.{outs-low}
 use Rattle.stale.proofs.Judging.{bare-not, bare-is}
 use borrow.Author.Needs.{needs}
 use Rattle.stale.proofs.bare_missing.Statement.{statement}
 use Rattle.stale.proofs.bare_missing.Tie as tie
-use Rattle.stale.proofs.bare_missing.Reads as reads
-use Rattle.stale.proofs.bare_missing.Lts as lts
-use Rattle.stale.proofs.is_outdated.Reads as is-outdated-reads
-use Rattle.tables.proofs.inputs.Reads as inputs-reads
-use Rattle.tables.proofs.outs.Reads as outs-reads
 
--- src/lib.rt:110:9
 inputs-requires : tie.Need-inputs-requires
 inputs-requires c κs = search needs
 
--- src/lib.rt:112:9
 returns : tie.Need-returns
 returns c = bare-not _ _ _ _ (c .before .inputs .ensures) (c .if1 .taken)
 
--- src/lib.rt:114:17
 outs-requires : tie.Need-outs-requires
 outs-requires c κs = search needs
 
--- src/lib.rt:114:5
 is-outdated-requires : tie.Need-is-outdated-requires
 is-outdated-requires c κs = outs-low (c .before .before .before .before .before .before .pre .1) _ _ (c .outs .ensures)
 
--- src/lib.rt:106:1
 returns-2 : tie.Need-returns-2
 returns-2 c = bare-is _ _ _ _ (c .before .before .before .inputs .ensures) (c .before .before .if1 .left) (c .before .outs .ensures) (c .is-outdated .ensures)
 

@@ -1,49 +1,36 @@
+-- `stale::file_time` meets its contract.
 use Rattle.stale.proofs.Times.{time-own, time-none, time-command, time-phony}
 use borrow.Author.Needs.{needs}
 use Rattle.stale.proofs.file_time.Statement.{statement}
 use Rattle.stale.proofs.file_time.Tie as tie
-use Rattle.stale.proofs.file_time.Reads as reads
-use Rattle.stale.proofs.file_time.Lts as lts
-use Rattle.lists.proofs.words.at.Reads as at-reads
-use Rattle.tables.proofs.time.Reads as time-reads
 
--- src/lib.rt:34:9
 time-requires : tie.Need-time-requires
 time-requires c κs = search needs
 
--- src/lib.rt:36:9
 returns : tie.Need-returns
 returns c = time-own _ _ _ _ _ (c .before .time .ensures) (c .if1 .taken)
 
--- src/lib.rt:38:9
 at-requires : tie.Need-at-requires
 at-requires c κs = search needs
 
--- src/lib.rt:40:9
 returns-2 : tie.Need-returns-2
 returns-2 c = time-none _ _ _ _ _ (c .before .before .before .time .ensures) (c .before .before .if1 .left) (c .before .at .ensures) (c .if2 .taken)
 
--- src/lib.rt:42:18
 sub-at : tie.Need-sub-at
 sub-at c = search needs
 
--- src/lib.rt:42:8
 at-requires-2 : tie.Need-at-requires-2
 at-requires-2 c κs = search needs
 
--- src/lib.rt:43:9
 returns-3 : tie.Need-returns-3
 returns-3 c = time-command _ _ _ _ _ (c .before .before .before .before .before .time .ensures) (c .before .before .before .before .if1 .left) (c .before .before .before .at .ensures) (c .before .before .if2 .left) (c .before .at2 .ensures) (c .if3 .taken)
 
--- src/lib.rt:45:16
 sub-time : tie.Need-sub-time
 sub-time c = search needs
 
--- src/lib.rt:45:5
 time-requires-2 : tie.Need-time-requires-2
 time-requires-2 c κs = search needs
 
--- src/lib.rt:30:1
 returns-4 : tie.Need-returns-4
 returns-4 c = time-phony _ _ _ _ _ (c .before .before .before .before .before .before .time .ensures) (c .before .before .before .before .before .if1 .left) (c .before .before .before .before .at .ensures) (c .before .before .before .if2 .left) (c .before .before .at2 .ensures) (c .before .if3 .left) (c .time2 .ensures)
 

@@ -1,3 +1,4 @@
+-- `stale::is_outdated` meets its contract.
 use Prim.Native.Nat.{_-_}
 use lib.ListN.{length}
 use Rattle.tables.proofs.Looking.{Looking, look-begin, look-more, look-found, look-end}
@@ -6,10 +7,6 @@ use Rattle.stale.proofs.Times.{time-missing, time-older, time-kept, out
 use borrow.Author.Needs.{needs}
 use Rattle.stale.proofs.is_outdated.Statement.{statement}
 use Rattle.stale.proofs.is_outdated.Tie as tie
-use Rattle.stale.proofs.is_outdated.Reads as reads
-use Rattle.stale.proofs.is_outdated.Lts as lts
-use Rattle.lists.proofs.words.at.Reads as at-reads
-use Rattle.tables.proofs.time.Reads as time-reads
 
 abbrev Inv-loop : tie.InvT-loop
 Inv-loop fs times t i₀ i = Looking (outdated times t) fs i
@@ -17,39 +14,30 @@ Inv-loop fs times t i₀ i = Looking (outdated times t) fs i
 abbrev μ-loop : tie.MeasureT-loop
 μ-loop fs times t i₀ i = length fs - i
 
--- src/lib.rt:88:5
 loop-holds : tie.Need-loop-holds Inv-loop μ-loop
 loop-holds c = look-begin _
 
--- src/lib.rt:89:29
 at-requires : tie.Need-at-requires Inv-loop μ-loop
 at-requires c κs = search needs
 
--- src/lib.rt:89:13
 time-requires : tie.Need-time-requires Inv-loop μ-loop
 time-requires c κs = rw (c .at .ensures) (c .before .before .before .before .before .pre (c .before .before .loop .i) (c .before .loop-test .taken))
 
--- src/lib.rt:91:13
 returns : tie.Need-returns Inv-loop μ-loop
 returns c = look-found (c .before .before .before .before .loop .inv) (c .before .before .before .loop-test .taken) (time-missing _ _ _ _ (rw (c .before .before .at .ensures) at (c .before .time .ensures)) (c .if1 .taken))
 
--- src/lib.rt:94:13
 returns-2 : tie.Need-returns-2 Inv-loop μ-loop
 returns-2 c = look-found (c .before .before .before .before .before .loop .inv) (c .before .before .before .before .loop-test .taken) (time-older _ _ _ _ (rw (c .before .before .before .at .ensures) at (c .before .before .time .ensures)) (c .before .if1 .left) (c .if2 .taken))
 
--- src/lib.rt:96:9
 add-i : tie.Need-add-i Inv-loop μ-loop
 add-i c = search needs
 
--- src/lib.rt:88:5
 loop-less : tie.Need-loop-less Inv-loop μ-loop
 loop-less c = search needs
 
--- src/lib.rt:88:5
 loop-again : tie.Need-loop-again Inv-loop μ-loop
 loop-again c = look-more (c .before .before .before .before .before .loop .inv) (c .before .before .before .before .loop-test .taken) (time-kept _ _ _ _ (rw (c .before .before .before .at .ensures) at (c .before .before .time .ensures)) (c .before .if1 .left) (c .if2 .left))
 
--- src/lib.rt:83:1
 returns-3 : tie.Need-returns-3 Inv-loop μ-loop
 returns-3 c = look-end (c .before .loop .inv) (c .loop-test .left) (outdated-none _ _)
 

@@ -1,24 +1,13 @@
+-- `stale::judge` meets its contract.
 use Rattle.tables.proofs.Held.{counted-low, outs-low}
 use Rattle.stale.proofs.Judging.{judge-maker, judge-phony, judge-command}
 use borrow.Author.Needs.{needs}
 use Rattle.stale.proofs.judge.Statement.{statement}
 use Rattle.stale.proofs.judge.Tie as tie
-use Rattle.stale.proofs.judge.Reads as reads
-use Rattle.stale.proofs.judge.Lts as lts
-use Rattle.lists.proofs.words.at.Reads as at-reads
-use Rattle.stale.proofs.bare_missing.Reads as bare-missing-reads
-use Rattle.stale.proofs.flag.Reads as flag-reads
-use Rattle.stale.proofs.is_outdated.Reads as is-outdated-reads
-use Rattle.stale.proofs.newest.Reads as newest-reads
-use Rattle.stale.proofs.stale_maker.Reads as stale-maker-reads
-use Rattle.tables.proofs.counted.Reads as counted-reads
-use Rattle.tables.proofs.outs.Reads as outs-reads
 
--- src/lib.rt:122:9
 counted-requires : tie.Need-counted-requires
 counted-requires c κs = c .before .before .before .before .before .before .before .pre .0 .sound .placed (c .before .before .before .before .before .before .before .args .s) (c .before .before .before .before .before .before .before .pre .1)
 
--- src/lib.rt:123:9
 newest-requires : tie.Need-newest-requires
 newest-requires c κs = record {
   files = record { low = counted-low (c .before .before .before .before .before .before .before .before .pre .0 .sound .low) _ _ (c .counted .ensures); makers = c .before .before .before .before .before .before .before .before .pre .0 .sound .makers };
@@ -26,43 +15,33 @@ newest-requires c κs = record {
   late-long = c .before .before .before .before .before .before .before .before .pre .0 .late-long;
 }
 
--- src/lib.rt:124:8
 stale-maker-requires : tie.Need-stale-maker-requires
 stale-maker-requires c κs = rw (c .before .before .before .before .before .before .before .before .before .pre .0 .stale-long) (record { low = counted-low (c .before .before .before .before .before .before .before .before .before .pre .0 .sound .low) _ _ (c .before .counted .ensures); makers = c .before .before .before .before .before .before .before .before .before .pre .0 .sound .makers })
 
--- src/lib.rt:125:9
 returns : tie.Need-returns
 returns c = λ steps files h. judge-maker h _ _ _ _ (c .before .before .before .counted .ensures) (c .before .before .newest .ensures) (c .before .stale-maker .ensures) (c .if1 .taken)
 
--- src/lib.rt:127:8
 at-requires : tie.Need-at-requires
 at-requires c κs = search needs
 
--- src/lib.rt:129:25
 bare-missing-requires : tie.Need-bare-missing-requires
 bare-missing-requires c κs = (c .before .before .before .before .before .before .before .before .before .before .before .before .before .pre .0 .sound .placed (c .before .before .before .before .before .before .before .before .before .before .before .before .before .args .s) (c .before .before .before .before .before .before .before .before .before .before .before .before .before .pre .1), λ f h. rw (c .before .before .before .before .before .before .before .before .before .before .before .before .before .pre .0 .timed) (c .before .before .before .before .before .before .before .before .before .before .before .before .before .pre .0 .sound .low f h))
 
--- src/lib.rt:129:20
 flag-requires : tie.Need-flag-requires
 flag-requires c κs = search needs
 
--- src/lib.rt:128:9
 returns-2 : tie.Need-returns-2
 returns-2 c = λ steps files h. judge-phony h _ _ _ _ (c .before .before .before .before .before .before .before .counted .ensures) (c .before .before .before .before .before .before .newest .ensures) (c .before .before .before .before .before .stale-maker .ensures) (c .before .before .before .before .if1 .left) (c .before .before .before .at .ensures) (c .before .before .if2 .taken) (c .before .bare-missing .ensures) (c .flag .ensures)
 
--- src/lib.rt:134:33
 outs-requires : tie.Need-outs-requires
 outs-requires c κs = c .before .before .before .before .before .before .before .before .before .before .before .before .before .pre .0 .sound .placed (c .before .before .before .before .before .before .before .before .before .before .before .before .before .args .s) (c .before .before .before .before .before .before .before .before .before .before .before .before .before .pre .1)
 
--- src/lib.rt:134:21
 is-outdated-requires : tie.Need-is-outdated-requires
 is-outdated-requires c κs = outs-low (λ f h. rw (c .before .before .before .before .before .before .before .before .before .before .before .before .before .before .pre .0 .timed) (c .before .before .before .before .before .before .before .before .before .before .before .before .before .before .pre .0 .sound .low f h)) _ _ (c .outs .ensures)
 
--- src/lib.rt:134:16
 flag-requires-2 : tie.Need-flag-requires-2
 flag-requires-2 c κs = search needs
 
--- src/lib.rt:118:1
 returns-3 : tie.Need-returns-3
 returns-3 c = λ steps files h. judge-command h _ _ _ _ (c .before .before .before .before .before .before .before .before .counted .ensures) (c .before .before .before .before .before .before .before .newest .ensures) (c .before .before .before .before .before .before .stale-maker .ensures) (c .before .before .before .before .before .if1 .left) (c .before .before .before .before .at .ensures) (c .before .before .before .if2 .left) (c .before .before .outs .ensures) (c .before .is-outdated .ensures) (c .flag2 .ensures)
 

@@ -1,3 +1,4 @@
+-- `stale::keep_commands` meets its contract.
 use Prim.Native.Nat.{_-_}
 use mathlib.Core.Path.{_∙_, sym}
 use lib.ListN.{length}
@@ -5,9 +6,6 @@ use Rattle.stale.proofs.Marking.{Keeping, keep-begin, keep-off, keep-on
 use borrow.Author.Needs.{needs}
 use Rattle.stale.proofs.keep_commands.Statement.{statement}
 use Rattle.stale.proofs.keep_commands.Tie as tie
-use Rattle.stale.proofs.keep_commands.Reads as reads
-use Rattle.stale.proofs.keep_commands.Lts as lts
-use Rattle.lists.proofs.words.at.Reads as at-reads
 
 abbrev Inv-loop : tie.InvT-loop
 Inv-loop phony marks₀ s₀ marks s = Keeping phony marks₀ marks s
@@ -15,51 +13,39 @@ Inv-loop phony marks₀ s₀ marks s = Keeping phony marks₀ marks s
 abbrev μ-loop : tie.MeasureT-loop
 μ-loop phony marks₀ s₀ marks s = length phony - s
 
--- src/lib.rt:160:5
 loop-holds : tie.Need-loop-holds Inv-loop μ-loop
 loop-holds c = keep-begin (c .before .before .pre)
 
--- src/lib.rt:161:12
 at-requires : tie.Need-at-requires Inv-loop μ-loop
 at-requires c κs = search needs
 
--- src/lib.rt:162:13
 mul-marks : tie.Need-mul-marks Inv-loop μ-loop
 mul-marks c = search needs
 
--- src/lib.rt:162:13
 slice-write-marks : tie.Need-slice-write-marks Inv-loop μ-loop
 slice-write-marks c = search needs
 
--- src/lib.rt:163:13
 add-s : tie.Need-add-s Inv-loop μ-loop
 add-s c = search needs
 
--- src/lib.rt:160:5
 loop-less : tie.Need-loop-less Inv-loop μ-loop
 loop-less c = search needs
 
--- src/lib.rt:160:5
 loop-again : tie.Need-loop-again Inv-loop μ-loop
 loop-again c = keep-off (c .before .before .before .loop .inv) (c .before .before .loop-test .taken) (c .before .at .ensures) (c .if1 .taken)
 
--- src/lib.rt:165:13
 add-s-2 : tie.Need-add-s-2 Inv-loop μ-loop
 add-s-2 c = search needs
 
--- src/lib.rt:160:5
 loop-less-2 : tie.Need-loop-less-2 Inv-loop μ-loop
 loop-less-2 c = search needs
 
--- src/lib.rt:160:5
 loop-again-2 : tie.Need-loop-again-2 Inv-loop μ-loop
 loop-again-2 c = keep-on (c .before .before .before .loop .inv) (c .before .before .loop-test .taken) (c .before .at .ensures) (c .if1 .left)
 
--- src/lib.rt:155:1
 same-length : tie.Need-same-length Inv-loop μ-loop
 same-length c = c .before .loop .inv .long ∙ sym (c .before .before .before .before .pre)
 
--- src/lib.rt:155:1
 returns : tie.Need-returns Inv-loop μ-loop
 returns c = keep-end (c .before .loop .inv) (c .loop-test .left)
 

@@ -1,14 +1,10 @@
+-- `stale::newest` meets its contract.
 use Prim.Native.Nat.{_-_}
 use lib.ListN.{length}
 use Rattle.stale.proofs.Times.{Newest, newest-begin, newest-more, newest-end, file-asked}
 use borrow.Author.Needs.{needs}
 use Rattle.stale.proofs.newest.Statement.{statement}
 use Rattle.stale.proofs.newest.Tie as tie
-use Rattle.stale.proofs.newest.Reads as reads
-use Rattle.stale.proofs.newest.Lts as lts
-use Rattle.lists.proofs.words.at.Reads as at-reads
-use Rattle.stale.proofs.file_time.Reads as file-time-reads
-use Rattle.stale.proofs.later.Reads as later-reads
 
 abbrev Inv-loop : tie.InvT-loop
 Inv-loop fs made phony times late t₀ i₀ t i = Newest made phony times late fs t i
@@ -16,35 +12,27 @@ Inv-loop fs made phony times late t₀ i₀ t i = Newest made phony times late f
 abbrev μ-loop : tie.MeasureT-loop
 μ-loop fs made phony times late t₀ i₀ t i = length fs - i
 
--- src/lib.rt:55:5
 loop-holds : tie.Need-loop-holds Inv-loop μ-loop
 loop-holds c = newest-begin
 
--- src/lib.rt:56:58
 at-requires : tie.Need-at-requires Inv-loop μ-loop
 at-requires c κs = search needs
 
--- src/lib.rt:56:22
 file-time-requires : tie.Need-file-time-requires Inv-loop μ-loop
 file-time-requires c κs = file-asked (c .before .before .before .before .before .before .before .before .pre) (c .before .loop-test .taken) (c .at .ensures)
 
--- src/lib.rt:56:9
 later-requires : tie.Need-later-requires Inv-loop μ-loop
 later-requires c κs = search needs
 
--- src/lib.rt:57:9
 add-i : tie.Need-add-i Inv-loop μ-loop
 add-i c = search needs
 
--- src/lib.rt:55:5
 loop-less : tie.Need-loop-less Inv-loop μ-loop
 loop-less c = search needs
 
--- src/lib.rt:55:5
 loop-again : tie.Need-loop-again Inv-loop μ-loop
 loop-again c = newest-more (c .before .before .before .before .loop .inv) (c .before .before .before .loop-test .taken) (c .before .before .at .ensures) (c .before .file-time .ensures) (c .later .ensures)
 
--- src/lib.rt:49:1
 returns : tie.Need-returns Inv-loop μ-loop
 returns c = newest-end (c .before .loop .inv) (c .loop-test .left)
 

@@ -1,3 +1,4 @@
+-- `stale::stale_maker` meets its contract.
 use Prim.Native.Nat.{_-_}
 use native.Mathlib.Omega.{arith}
 use lib.ListN.{length}
@@ -8,10 +9,6 @@ use Rattle.stale.proofs.Times.{maker-none, maker-stale, maker-fresh, ma
 use borrow.Author.Needs.{needs}
 use Rattle.stale.proofs.stale_maker.Statement.{statement}
 use Rattle.stale.proofs.stale_maker.Tie as tie
-use Rattle.stale.proofs.stale_maker.Reads as reads
-use Rattle.stale.proofs.stale_maker.Lts as lts
-use Rattle.lists.proofs.words.at.Reads as at-reads
-use Rattle.tables.proofs.maker.Reads as maker-reads
 
 abbrev Inv-loop : tie.InvT-loop
 Inv-loop fs made stale i₀ i = Looking (staleMaker made stale) fs i
@@ -19,51 +16,39 @@ Inv-loop fs made stale i₀ i = Looking (staleMaker made stale) fs i
 abbrev μ-loop : tie.MeasureT-loop
 μ-loop fs made stale i₀ i = length fs - i
 
--- src/lib.rt:68:5
 loop-holds : tie.Need-loop-holds Inv-loop μ-loop
 loop-holds c = look-begin _
 
--- src/lib.rt:69:13
 maker-requires : tie.Need-maker-requires Inv-loop μ-loop
 maker-requires c κs = (c .loop-test .taken, c .before .before .before .before .before .pre .low (c .before .loop .i) (c .loop-test .taken))
 
--- src/lib.rt:71:13
 add-i : tie.Need-add-i Inv-loop μ-loop
 add-i c = search needs
 
--- src/lib.rt:68:5
 loop-less : tie.Need-loop-less Inv-loop μ-loop
 loop-less c = search needs
 
--- src/lib.rt:68:5
 loop-again : tie.Need-loop-again Inv-loop μ-loop
 loop-again c = look-more (c .before .before .before .loop .inv) (c .before .before .loop-test .taken) (maker-none _ _ _ _ (c .before .maker .ensures) (c .if1 .taken))
 
--- src/lib.rt:73:26
 sub-at : tie.Need-sub-at Inv-loop μ-loop
 sub-at c = search needs
 
--- src/lib.rt:73:16
 at-requires : tie.Need-at-requires Inv-loop μ-loop
 at-requires c κs = omega (arith, maker-low (c .before .before .before .before .before .before .before .pre) (c .before .before .loop-test .taken) (c .before .maker .ensures))
 
--- src/lib.rt:74:17
 returns : tie.Need-returns Inv-loop μ-loop
 returns c = look-found (c .before .before .before .before .before .loop .inv) (c .before .before .before .before .loop-test .taken) (maker-stale _ _ _ _ (c .before .before .before .maker .ensures) (c .before .before .if1 .left) (c .before .at .ensures) (c .if2 .taken))
 
--- src/lib.rt:76:13
 add-i-2 : tie.Need-add-i-2 Inv-loop μ-loop
 add-i-2 c = search needs
 
--- src/lib.rt:68:5
 loop-less-2 : tie.Need-loop-less-2 Inv-loop μ-loop
 loop-less-2 c = search needs
 
--- src/lib.rt:68:5
 loop-again-2 : tie.Need-loop-again-2 Inv-loop μ-loop
 loop-again-2 c = look-more (c .before .before .before .before .before .loop .inv) (c .before .before .before .before .loop-test .taken) (maker-fresh _ _ _ _ (c .before .before .before .maker .ensures) (c .before .before .if1 .left) (c .before .at .ensures) (c .if2 .left))
 
--- src/lib.rt:63:1
 returns-2 : tie.Need-returns-2 Inv-loop μ-loop
 returns-2 c = look-end (c .before .loop .inv) (c .loop-test .left) (maker-end _ _)
 

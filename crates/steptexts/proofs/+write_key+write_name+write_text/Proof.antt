@@ -1,5 +1,5 @@
 -- `steptexts::write_key`, `steptexts::write_name` and `steptexts::write_text`, which call one another, meet their contracts. Each rule text goes one less deep, and of one depth the text comes before its names, and a name before its key.
-use Prim.Native.Nat.{_+_, _*_, _-_, _<_}
+use Prim.Native.Nat.{_+_, _*_, _-_, _<_, ℕ}
 use mathlib.Core.List.{[], _∷_}
 use mathlib.Core.Logic.{inl, inr}
 use mathlib.Core.Path.{_≡_, subst}
@@ -14,7 +14,6 @@ use Rattle.pieces.proofs.Turns.{as-bytes, as-name}
 use Rattle.steptexts.proofs.Writing.{Writing, write-begin, bytes-on, bytes-over, name-asked, name-on, name-over, write-end}
 use Rattle.steptexts.proofs.Keys.{in-scope, key-asked, plain-asked, plain-written, again-behind, again-written, depth-left, text-asked, key-written}
 use borrow.Author.Needs.{needs}
-use Prim.Native.Nat.{ℕ}
 use borrow.Fn.Kinds.{In}
 use borrow.Fn.PlainCycle.{Measures, is, falls, and}
 use Rattle.steptexts.proofs.write_key.Reads as write-key

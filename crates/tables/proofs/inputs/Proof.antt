@@ -1,48 +1,36 @@
+-- `tables::inputs` meets its contract.
 use borrow.Author.Needs.{needs}
 use Rattle.tables.specs.Tables.{inputsIn}
 use Rattle.tables.proofs.inputs.Statement.{statement}
 use Rattle.tables.proofs.inputs.Tie as tie
-use Rattle.tables.proofs.inputs.Reads as reads
-use Rattle.tables.proofs.inputs.Lts as lts
-use Rattle.lists.proofs.words.at.Reads as at-reads
 
--- src/lib.rt:13:25
 mul-at : tie.Need-mul-at
 mul-at c = search needs
 
--- src/lib.rt:13:9
 at-requires : tie.Need-at-requires
 at-requires c κs = search needs
 
--- src/lib.rt:14:23
 mul-at-2 : tie.Need-mul-at-2
 mul-at-2 c = search needs
 
--- src/lib.rt:14:23
 add-at : tie.Need-add-at
 add-at c = search needs
 
--- src/lib.rt:14:9
 at-requires-2 : tie.Need-at-requires-2
 at-requires-2 c κs = search needs
 
--- src/lib.rt:15:5
 mul-result : tie.Need-mul-result
 mul-result c = search needs
 
--- src/lib.rt:15:5
 sub-result : tie.Need-sub-result
 sub-result c = search needs
 
--- src/lib.rt:15:5
 part-result-start : tie.Need-part-result-start
 part-result-start c = search needs
 
--- src/lib.rt:15:5
 part-result-end : tie.Need-part-result-end
 part-result-end c = search needs
 
--- src/lib.rt:9:1
 returns : tie.Need-returns
 unfolding inputsIn
 returns c = rw (c .before .at2 .ensures, c .before .before .at .ensures)

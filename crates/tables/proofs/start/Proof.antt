@@ -1,29 +1,22 @@
+-- `tables::start` meets its contract.
 use mathlib.Core.Path.{_∙_}
 use borrow.Author.Needs.{needs}
 use Rattle.tables.proofs.Places.{start-zero, start-suc}
 use Rattle.tables.proofs.start.Statement.{statement}
 use Rattle.tables.proofs.start.Tie as tie
-use Rattle.tables.proofs.start.Reads as reads
-use Rattle.tables.proofs.start.Lts as lts
-use Rattle.lists.proofs.words.at.Reads as at-reads
 
--- src/lib.rt:34:9
 returns : tie.Need-returns
 returns c = start-zero _ _ (c .if1 .taken)
 
--- src/lib.rt:36:14
 mul-at : tie.Need-mul-at
 mul-at c = search needs
 
--- src/lib.rt:36:14
 sub-at : tie.Need-sub-at
 sub-at c = search needs
 
--- src/lib.rt:36:5
 at-requires : tie.Need-at-requires
 at-requires c κs = search needs
 
--- src/lib.rt:29:1
 returns-2 : tie.Need-returns-2
 returns-2 c = c .at .ensures ∙ start-suc _ _ (c .before .if1 .left)
 

@@ -1,3 +1,4 @@
+-- `targetfiles::number_targets` meets its contract.
 use mathlib.Core.Path.{sym, _∙_}
 use native.Mathlib.Omega.{arith}
 use Prim.Native.Nat.{_+_, _-_}
@@ -6,11 +7,6 @@ use Rattle.targetfiles.proofs.Numbering.{Walked, form-bad, begin, ended
 use borrow.Author.Needs.{needs}
 use Rattle.targetfiles.proofs.number_targets.Statement.{statement}
 use Rattle.targetfiles.proofs.number_targets.Tie as tie
-use Rattle.targetfiles.proofs.number_targets.Reads as reads
-use Rattle.targetfiles.proofs.number_targets.Lts as lts
-use Rattle.names.proofs.find.Reads as find-reads
-use Rattle.targets.proofs.bad_form.Reads as bad-form-reads
-use Rattle.targets.proofs.name_at.Reads as name-at-reads
 
 abbrev Inv-loop : tie.InvT-loop
 Inv-loop targets names ends count out₀ from₀ n₀ out from n = Walked targets names ends count out₀ from n out
@@ -18,107 +14,81 @@ Inv-loop targets names ends count out₀ from₀ n₀ out from n = Walked target
 abbrev μ-loop : tie.MeasureT-loop
 μ-loop targets names ends count out₀ from₀ n₀ out from n = length targets + 1 - from
 
--- src/lib.rt:27:8
 bad-form-requires : tie.Need-bad-form-requires Inv-loop μ-loop
 bad-form-requires c κs = search needs
 
--- src/lib.rt:28:9
 returns : tie.Need-returns Inv-loop μ-loop
 returns c = form-bad (sym (c .before .bad-form .ensures) ∙ c .if1 .taken)
 
--- src/lib.rt:32:5
 loop-holds : tie.Need-loop-holds Inv-loop μ-loop
 loop-holds c = begin (c .before .before .before .before .before .before .pre) (sym (c .before .bad-form .ensures) ∙ c .if1 .left)
 
--- src/lib.rt:33:15
 name-at-requires : tie.Need-name-at-requires Inv-loop μ-loop
 name-at-requires c κs = search needs
 
--- src/lib.rt:35:17
 enum-told : tie.Need-enum-told Inv-loop μ-loop
 enum-told c = search needs
 
--- src/lib.rt:35:17
 same-length : tie.Need-same-length Inv-loop μ-loop
 same-length c = search needs
 
--- src/lib.rt:35:17
 returns-2 : tie.Need-returns-2 Inv-loop μ-loop
 returns-2 c = ended (c .before .before .before .loop .inv) (c .before .before .name-at .ensures) (c .enum-told .given .1)
 
--- src/lib.rt:38:17
 enum-told-2 : tie.Need-enum-told-2 Inv-loop μ-loop
 enum-told-2 c = search needs
 
--- src/lib.rt:38:17
 same-length-2 : tie.Need-same-length-2 Inv-loop μ-loop
 same-length-2 c = search needs
 
--- src/lib.rt:38:17
 returns-3 : tie.Need-returns-3 Inv-loop μ-loop
 returns-3 c = bad (c .before .before .before .loop .inv) (c .before .before .name-at .ensures) (c .enum-told2 .given .1)
 
--- src/lib.rt:40:24
 enum-known-end : tie.Need-enum-known-end Inv-loop μ-loop
 enum-known-end c = search needs
 
--- src/lib.rt:41:48
 sub-find : tie.Need-sub-find Inv-loop μ-loop
 sub-find c = let t = turn (c .before .before .before .before .loop .inv) (c .before .before .before .name-at .ensures) (c .before .end .given .1) in omega (arith, t .some, t .within)
 
--- src/lib.rt:41:48
 part-find-start : tie.Need-part-find-start Inv-loop μ-loop
 part-find-start c = let t = turn (c .before .before .before .before .loop .inv) (c .before .before .before .name-at .ensures) (c .before .end .given .1) in omega (arith, t .some, t .within)
 
--- src/lib.rt:41:48
 part-find-end : tie.Need-part-find-end Inv-loop μ-loop
 part-find-end c = let t = turn (c .before .before .before .before .loop .inv) (c .before .before .before .name-at .ensures) (c .before .end .given .1) in omega (arith, t .some, t .within)
 
--- src/lib.rt:41:23
 find-requires : tie.Need-find-requires Inv-loop μ-loop
 find-requires c κs = search needs
 
--- src/lib.rt:43:25
 enum-told-3 : tie.Need-enum-told-3 Inv-loop μ-loop
 enum-told-3 c = search needs
 
--- src/lib.rt:43:25
 same-length-3 : tie.Need-same-length-3 Inv-loop μ-loop
 same-length-3 c = search needs
 
--- src/lib.rt:43:25
 returns-4 : tie.Need-returns-4 Inv-loop μ-loop
 returns-4 c = unknown (c .before .before .before .before .before .before .before .before .loop .inv) (c .before .before .before .before .before .before .before .name-at .ensures) (c .before .before .before .before .before .end .given .1) (c .before .before .find .ensures) (c .enum-told3 .given .1)
 
--- src/lib.rt:45:31
 enum-known-k : tie.Need-enum-known-k Inv-loop μ-loop
 enum-known-k c = search needs
 
--- src/lib.rt:46:34
 cast-out : tie.Need-cast-out Inv-loop μ-loop
 cast-out c = let h = known (c .before .before .before .before .before .before .before .before .before .loop .inv) (c .before .before .before .before .before .before .before .before .name-at .ensures) (c .before .before .before .before .before .before .end .given .1) (c .before .before .before .find .ensures) (c .before .k .given .1) in search needs
 
--- src/lib.rt:46:25
 mul-out : tie.Need-mul-out Inv-loop μ-loop
 mul-out c = search needs
 
--- src/lib.rt:46:25
 slice-write-out : tie.Need-slice-write-out Inv-loop μ-loop
 slice-write-out c = search needs
 
--- src/lib.rt:47:25
 add-n : tie.Need-add-n Inv-loop μ-loop
 add-n c = search needs
 
--- src/lib.rt:48:32
 add-from : tie.Need-add-from Inv-loop μ-loop
 add-from c = let t = turn (c .before .before .before .before .before .before .before .before .before .loop .inv) (c .before .before .before .before .before .before .before .before .name-at .ensures) (c .before .before .before .before .before .before .end .given .1) in search needs
 
--- src/lib.rt:32:5
 loop-less : tie.Need-loop-less Inv-loop μ-loop
 loop-less c = let t = turn (c .before .before .before .before .before .before .before .before .before .loop .inv) (c .before .before .before .before .before .before .before .before .name-at .ensures) (c .before .before .before .before .before .before .end .given .1) in omega (arith, t .some, t .within)
 
--- src/lib.rt:32:5
 loop-again : tie.Need-loop-again Inv-loop μ-loop
 loop-again c = more (c .before .before .before .before .before .before .before .before .before .loop .inv) (c .before .before .before .before .before .before .before .before .name-at .ensures) (c .before .before .before .before .before .before .end .given .1) (c .before .before .before .find .ensures) (c .before .k .given .1)
 

@@ -1,51 +1,38 @@
+-- `planner::plans::plan_buffered` meets its contract.
 use Prim.Native.Nat.{ℕ}
 use lib.ListN.{length-replicate}
 use Rattle.planner.proofs.Planned.{roomy}
 use borrow.Author.Needs.{needs}
 use Rattle.planner.proofs.plans.plan_buffered.Statement.{statement}
 use Rattle.planner.proofs.plans.plan_buffered.Tie as tie
-use Rattle.planner.proofs.plans.plan_buffered.Reads as reads
-use Rattle.planner.proofs.plans.plan_buffered.Lts as lts
-use Rattle.classes.proofs.table.Reads as table-reads
-use Rattle.planner.proofs.plans.plan_in.Reads as plan-in-reads
 
--- src/plans.rt:45:13
 table-requires : tie.Need-table-requires
 table-requires c κs = search needs
 
--- src/plans.rt:57:9
 slice-aggregate-plan-in : tie.Need-slice-aggregate-plan-in
 slice-aggregate-plan-in c = search needs
 
--- src/plans.rt:58:9
 slice-aggregate-plan-in-2 : tie.Need-slice-aggregate-plan-in-2
 slice-aggregate-plan-in-2 c = search needs
 
--- src/plans.rt:59:9
 slice-aggregate-plan-in-3 : tie.Need-slice-aggregate-plan-in-3
 slice-aggregate-plan-in-3 c = search needs
 
--- src/plans.rt:60:9
 slice-aggregate-plan-in-4 : tie.Need-slice-aggregate-plan-in-4
 slice-aggregate-plan-in-4 c = search needs
 
--- src/plans.rt:61:9
 slice-aggregate-plan-in-5 : tie.Need-slice-aggregate-plan-in-5
 slice-aggregate-plan-in-5 c = search needs
 
--- src/plans.rt:62:9
 slice-aggregate-plan-in-6 : tie.Need-slice-aggregate-plan-in-6
 slice-aggregate-plan-in-6 c = search needs
 
--- src/plans.rt:52:5
 plan-in-requires : tie.Need-plan-in-requires
 plan-in-requires c κs = record { roomy = roomy (c .before .before .before .before .before .before .before .before .table .ensures) (length-replicate {A = ℕ} 60000 0) (length-replicate {A = ℕ} 3072 0) (length-replicate {A = ℕ} 133728 0) (length-replicate {A = ℕ} 3456 0) (length-replicate {A = ℕ} 61440 0) (length-replicate {A = ℕ} 60000 0); room = c .before .before .before .before .before .before .before .before .before .before .before .before .before .pre }
 
--- src/plans.rt:41:1
 same-length : tie.Need-same-length
 same-length c = search needs
 
--- src/plans.rt:41:1
 returns : tie.Need-returns
 returns c = search needs
 

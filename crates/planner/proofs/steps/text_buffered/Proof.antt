@@ -1,51 +1,38 @@
+-- `planner::steps::text_buffered` meets its contract.
 use Prim.Native.Nat.{ℕ}
 use lib.ListN.{length-replicate}
 use Rattle.planner.proofs.Planned.{roomy}
 use borrow.Author.Needs.{needs}
 use Rattle.planner.proofs.steps.text_buffered.Statement.{statement}
 use Rattle.planner.proofs.steps.text_buffered.Tie as tie
-use Rattle.planner.proofs.steps.text_buffered.Reads as reads
-use Rattle.planner.proofs.steps.text_buffered.Lts as lts
-use Rattle.classes.proofs.table.Reads as table-reads
-use Rattle.planner.proofs.steps.text_in.Reads as text-in-reads
 
--- src/steps.rt:57:13
 table-requires : tie.Need-table-requires
 table-requires c κs = search needs
 
--- src/steps.rt:69:9
 slice-aggregate-text-in : tie.Need-slice-aggregate-text-in
 slice-aggregate-text-in c = search needs
 
--- src/steps.rt:70:9
 slice-aggregate-text-in-2 : tie.Need-slice-aggregate-text-in-2
 slice-aggregate-text-in-2 c = search needs
 
--- src/steps.rt:71:9
 slice-aggregate-text-in-3 : tie.Need-slice-aggregate-text-in-3
 slice-aggregate-text-in-3 c = search needs
 
--- src/steps.rt:72:9
 slice-aggregate-text-in-4 : tie.Need-slice-aggregate-text-in-4
 slice-aggregate-text-in-4 c = search needs
 
--- src/steps.rt:73:9
 slice-aggregate-text-in-5 : tie.Need-slice-aggregate-text-in-5
 slice-aggregate-text-in-5 c = search needs
 
--- src/steps.rt:74:9
 slice-aggregate-text-in-6 : tie.Need-slice-aggregate-text-in-6
 slice-aggregate-text-in-6 c = search needs
 
--- src/steps.rt:64:5
 text-in-requires : tie.Need-text-in-requires
 text-in-requires c κs = record { roomy = roomy (c .before .before .before .before .before .before .before .before .table .ensures) (length-replicate {A = ℕ} 60000 0) (length-replicate {A = ℕ} 3072 0) (length-replicate {A = ℕ} 133728 0) (length-replicate {A = ℕ} 3456 0) (length-replicate {A = ℕ} 61440 0) (length-replicate {A = ℕ} 60000 0); room = c .before .before .before .before .before .before .before .before .before .before .before .pre }
 
--- src/steps.rt:53:1
 same-length : tie.Need-same-length
 same-length c = search needs
 
--- src/steps.rt:53:1
 returns : tie.Need-returns
 returns c = search needs
 

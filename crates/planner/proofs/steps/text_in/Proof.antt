@@ -1,95 +1,70 @@
+-- `planner::steps::text_in` meets its contract.
 use Rattle.reader.proofs.Answers.{read-accepted, read-refused}
 use Rattle.planner.proofs.Written.{unread, askable, written}
 use borrow.Author.Needs.{needs}
 use Rattle.planner.proofs.steps.text_in.Statement.{statement}
 use Rattle.planner.proofs.steps.text_in.Tie as tie
-use Rattle.planner.proofs.steps.text_in.Reads as reads
-use Rattle.planner.proofs.steps.text_in.Lts as lts
-use Rattle.lists.proofs.bytes.zero_from.Reads as zero-from-reads
-use Rattle.reader.proofs.read.Reads as read-reads
-use Rattle.textask.proofs.text_of.Reads as text-of-reads
 
--- src/steps.rt:32:11
 read-requires : tie.Need-read-requires
 read-requires c κs = search needs
 
--- src/steps.rt:33:30
 enum-known-c : tie.Need-enum-known-c
 enum-known-c c = search needs
 
--- src/steps.rt:33:36
 text-of-requires : tie.Need-text-of-requires
 text-of-requires c κs = askable _ _ (c .before .before .before .before .before .before .before .before .before .before .before .before .before .before .before .before .before .before .before .before .before .before .before .before .before .before .before .before .before .before .before .before .before .before .before .before .pre .room) (read-accepted _ _ _ _ _ _ (c .before .before .before .before .before .before .before .before .before .before .before .before .before .before .before .before .before .before .before .before .before .read .ensures) (c .before .before .before .before .before .before .before .c .given .1)) (c .before .before .before .before .before .before .before .before .before .before .before .before .before .before .before .before .before .before .before .before .before .before .before .before .before .before .before .before .before .before .before .before .before .before .before .before .pre .roomy .table)
 
--- src/steps.rt:45:29
 enum-known-r : tie.Need-enum-known-r
 enum-known-r c = search needs
 
--- src/steps.rt:46:13
 zero-from-requires : tie.Need-zero-from-requires
 zero-from-requires c κs = search needs
 
--- src/steps.rt:16:1
 same-length : tie.Need-same-length
 same-length c = search needs
 
--- src/steps.rt:16:1
 same-length-2 : tie.Need-same-length-2
 same-length-2 c = search needs
 
--- src/steps.rt:16:1
 same-length-3 : tie.Need-same-length-3
 same-length-3 c = search needs
 
--- src/steps.rt:16:1
 same-length-4 : tie.Need-same-length-4
 same-length-4 c = search needs
 
--- src/steps.rt:16:1
 same-length-5 : tie.Need-same-length-5
 same-length-5 c = search needs
 
--- src/steps.rt:16:1
 same-length-6 : tie.Need-same-length-6
 same-length-6 c = search needs
 
--- src/steps.rt:16:1
 same-length-7 : tie.Need-same-length-7
 same-length-7 c = search needs
 
--- src/steps.rt:16:1
 returns : tie.Need-returns
 returns c = written _ _ (c .before .before .before .before .before .before .before .before .before .before .before .before .before .before .before .before .before .before .before .before .before .before .before .before .before .before .before .before .before .before .before .before .before .before .before .before .before .before .before .pre .room) (read-accepted _ _ _ _ _ _ (c .before .before .before .before .before .before .before .before .before .before .before .before .before .before .before .before .before .before .before .before .before .before .before .before .read .ensures) (c .before .before .before .before .before .before .before .before .before .before .c .given .1)) (c .before .before .text-of .ensures)
 
--- src/steps.rt:16:1
 same-length-8 : tie.Need-same-length-8
 same-length-8 c = search needs
 
--- src/steps.rt:16:1
 same-length-9 : tie.Need-same-length-9
 same-length-9 c = search needs
 
--- src/steps.rt:16:1
 same-length-10 : tie.Need-same-length-10
 same-length-10 c = search needs
 
--- src/steps.rt:16:1
 same-length-11 : tie.Need-same-length-11
 same-length-11 c = search needs
 
--- src/steps.rt:16:1
 same-length-12 : tie.Need-same-length-12
 same-length-12 c = search needs
 
--- src/steps.rt:16:1
 same-length-13 : tie.Need-same-length-13
 same-length-13 c = search needs
 
--- src/steps.rt:16:1
 same-length-14 : tie.Need-same-length-14
 same-length-14 c = search needs
 
--- src/steps.rt:16:1
 returns-2 : tie.Need-returns-2
 returns-2 c = unread _ _ (c .before .before .before .before .before .before .before .before .before .before .before .before .before .before .before .before .before .before .before .before .before .before .before .before .before .before .before .before .before .before .before .before .before .before .pre .room) _ _ (read-refused _ _ _ _ _ _ (c .before .before .before .before .before .before .before .before .before .before .before .before .before .before .before .before .before .before .before .read .ensures) (c .before .before .before .before .before .r .given .1)) (c .before .before .zero-from .ensures)
 

@@ -2,12 +2,12 @@
 use native.Mathlib.Omega.{arith}
 use borrow.Author.Needs.{needs}
 use Rattle.mentions.proofs.Columns.{graph-long}
-use Rattle.steplines.proofs.Listing.{one-asks, one-held, one-on, one-over}
+use Rattle.steplines.proofs.Listing.{one-held, one-on, one-over}
 use Rattle.steplines.proofs.parts.one.Statement.{statement}
 use Rattle.steplines.proofs.parts.one.Tie as tie
 
 mention-all-requires : tie.Need-mention-all-requires
-mention-all-requires c κs = one-asks (c .before .before .before .before .before .before .before .before .before .before .before .pre)
+mention-all-requires c κs = c .before .before .before .before .before .before .before .before .before .before .before .pre .asks
 
 enum-known-d : tie.Need-enum-known-d
 enum-known-d c = search needs
@@ -18,7 +18,7 @@ add-put c = omega (arith, c .before .before .before .before .before .before .bef
 put-requires : tie.Need-put-requires
 put-requires c κs =
     let a = c .before .before .before .before .before .before .before .before .before .before .before .before .before .before .before .before .before .before .before .before .before .before .before .before .pre in
-    let w = one-held a (rw (c .before .before .d .given .1) at (c .before .before .before .before .before .before .before .before .before .before .before .before .mention-all .ensures)) in
+    let w = one-held (a .asks) (rw (c .before .before .d .given .1) at (c .before .before .before .before .before .before .before .before .before .before .before .before .mention-all .ensures)) in
     (omega (arith, a .low, graph-long (w .columns)), omega (arith, w .few-mentions, w .mentions-low))
 
 enum-told : tie.Need-enum-told

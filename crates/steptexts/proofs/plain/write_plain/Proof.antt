@@ -1,5 +1,5 @@
 -- `steptexts::plain::write_plain` meets its contract.
-use Rattle.steptexts.proofs.Plainly.{files-ask, plain-inputs, plain-lines, plain-outputs, plain-value, plain-text, plain-unset}
+use Rattle.steptexts.proofs.Plainly.{plain-inputs, plain-lines, plain-outputs, plain-value, plain-text, plain-unset}
 use borrow.Author.Needs.{needs}
 use Rattle.steptexts.proofs.plain.write_plain.Statement.{statement}
 use Rattle.steptexts.proofs.plain.write_plain.Tie as tie
@@ -7,29 +7,20 @@ use Rattle.steptexts.proofs.plain.write_plain.Tie as tie
 enum-told : tie.Need-enum-told
 enum-told c = search needs
 
-put-inputs-requires : tie.Need-put-inputs-requires
-put-inputs-requires c κs = files-ask (c .before .before .before .before .before .before .before .before .before .pre)
-
-moved-requires : tie.Need-moved-requires
-moved-requires c κs = search needs
+write-files-requires : tie.Need-write-files-requires
+write-files-requires c κs = search needs
 
 enum-told-2 : tie.Need-enum-told-2
 enum-told-2 c = search needs
 
-put-inputs-requires-2 : tie.Need-put-inputs-requires-2
-put-inputs-requires-2 c κs = files-ask (c .before .before .before .before .before .before .before .before .before .pre)
-
-moved-requires-2 : tie.Need-moved-requires-2
-moved-requires-2 c κs = search needs
+write-files-requires-2 : tie.Need-write-files-requires-2
+write-files-requires-2 c κs = search needs
 
 enum-told-3 : tie.Need-enum-told-3
 enum-told-3 c = search needs
 
-put-outputs-requires : tie.Need-put-outputs-requires
-put-outputs-requires c κs = files-ask (c .before .before .before .before .before .before .before .before .before .pre)
-
-moved-requires-3 : tie.Need-moved-requires-3
-moved-requires-3 c κs = search needs
+write-files-requires-3 : tie.Need-write-files-requires-3
+write-files-requires-3 c κs = search needs
 
 enum-known-source : tie.Need-enum-known-source
 enum-known-source c = search needs
@@ -50,19 +41,19 @@ same-length : tie.Need-same-length
 same-length c = search needs
 
 returns : tie.Need-returns
-returns c = plain-inputs (c .before .before .before .before .before .enum-told .given .1) (c .before .before .before .put-inputs .ensures) (c .moved .ensures)
+returns c = plain-inputs (c .before .before .before .before .enum-told .given .1) (c .before .before .write-files .ensures)
 
 same-length-2 : tie.Need-same-length-2
 same-length-2 c = search needs
 
 returns-2 : tie.Need-returns-2
-returns-2 c = plain-lines (c .before .before .before .before .before .enum-told2 .given .1) (c .before .before .before .put-inputs2 .ensures) (c .moved2 .ensures)
+returns-2 c = plain-lines (c .before .before .before .before .enum-told2 .given .1) (c .before .before .write-files2 .ensures)
 
 same-length-3 : tie.Need-same-length-3
 same-length-3 c = search needs
 
 returns-3 : tie.Need-returns-3
-returns-3 c = plain-outputs (c .before .before .before .before .before .enum-told3 .given .1) (c .before .before .before .put-outputs .ensures) (c .moved3 .ensures)
+returns-3 c = plain-outputs (c .before .before .before .before .enum-told3 .given .1) (c .before .before .write-files3 .ensures)
 
 same-length-4 : tie.Need-same-length-4
 same-length-4 c = search needs
@@ -81,14 +72,11 @@ write-plain-spec =
     tie.close
     (tie.spec
     enum-told
-    put-inputs-requires
-    moved-requires
+    write-files-requires
     enum-told-2
-    put-inputs-requires-2
-    moved-requires-2
+    write-files-requires-2
     enum-told-3
-    put-outputs-requires
-    moved-requires-3
+    write-files-requires-3
     enum-known-source
     value-requires
     write-requires
