@@ -39,7 +39,7 @@ slice-aggregate-plan-in-6 c = search needs
 
 -- src/plans.rt:52:5
 plan-in-requires : tie.Need-plan-in-requires
-plan-in-requires c κs = record { roomy = roomy (c .before .before .before .before .before .before .before .before .table .ensures) (length-replicate {A = ℕ} 60000 0) (length-replicate {A = ℕ} 3072 0) (length-replicate {A = ℕ} 133728 0) (length-replicate {A = ℕ} 3456 0) (length-replicate {A = ℕ} 61440 0) (length-replicate {A = ℕ} 60000 0); room = c .before .before .before .before .before .before .before .before .before .before .before .before .before .pre }
+plan-in-requires c κs = record { roomy = roomy (c .before .before .before .before .before .before .before .before .table .ensures) (length-replicate {A = ℕ} 60000 0) (length-replicate {A = ℕ} 3072 0) (length-replicate {A = ℕ} 133728 0) (length-replicate {A = ℕ} 4608 0) (length-replicate {A = ℕ} 61440 0) (length-replicate {A = ℕ} 60000 0); room = c .before .before .before .before .before .before .before .before .before .before .before .before .before .pre }
 
 -- src/plans.rt:41:1
 same-length : tie.Need-same-length
