@@ -4,12 +4,15 @@ use mathlib.Core.List.{List, [], _∷_, _++_, append-assoc, append-nil}
 use mathlib.Core.Path.{_≡_, refl, sym, _∙_, ap}
 use native.Mathlib.Decide.{decLe}
 use native.Mathlib.Omega.{arith}
-use lib.ListN.{length, take, drop, getD, set, length-append, length-drop, length-set, drop-of-length-le}
-use lib.Seq.{take-take, take-append-seam, drop-append-seam, drop-cons, drop-nil, getD-take, getD-append-add, take-suc-set, take-length, paste, length-paste, take-paste}
-use Rattle.lists.specs.Parts.{part, drop-take}
+use lib.ListN.{length, take, drop, getD, set, length-append, length-take, length-drop, length-set}
+use lib.Seq.{take-take, take-at, drop-at, take-append-le, take-append-seam, drop-append-seam, drop-cons, drop-nil, drop-set-lt, getD-take, getD-append-add, take-suc-set, take-length, length-take-le, paste, length-paste, take-paste}
+use Rattle.lists.specs.Parts.{part, part-to-end, drop-take}
 use Rattle.rules.specs.Limits.{maxName}
+use Rattle.arena.specs.Inserted.{inserted, Shifted}
 use Rattle.bindings.specs.Log.{Logged, noEntry, entryAt, asOf}
-use Rattle.bindings.specs.Held.{maxTexts, maxRows, textsOf, rowOf, rowsOf, valuesIn, ShortNames, Holds, HasEntry, Room, startIn, Row}
+use Rattle.bindings.specs.Index.{Indexed}
+use Rattle.bindings.specs.Held.{maxEntries, maxTexts, maxRows, rowsEnd, textsOf, rowOf, rowsOf, valuesIn, ShortNames, indexIn, Rows, Holds, HasEntry, Room, HasRoom, startIn, Row, PlaceOf, Pushed}
+use Rattle.bindings.proofs.Indexing.{nothing-indexed, indexed-more}
 
 -- ---- lengths
 
@@ -23,7 +26,7 @@ unfolding textsOf valuesIn
 length-texts [] s = omega arith
 length-texts (e ∷ l) s = simp length-append (omega (arith, length-texts l (s .1)))
 
-pub texts-fit : {log : List Logged} {texts bind : List ℕ} {count : ℕ} → Holds log texts bind count → length (textsOf log) ≤ maxTexts
+pub texts-fit : {log : List Logged} {texts bind : List ℕ} {count : ℕ} → Rows log texts bind count → length (textsOf log) ≤ maxTexts
 texts-fit {log} h = omega (arith, h .counted, h .few, h .values, length-texts log (h .names))
 
 -- ---- parts of what a list begins with
@@ -48,6 +51,35 @@ prefix-last p q r t h =
     let g : take (length (p ++ q ++ (r ++ []))) t ≡ p ++ q ++ (r ++ []) = rw (append-nil r, append-assoc p q r) h in
     rw length-append at (prefix-part (p ++ q) r [] t g)
 
+-- ---- the rows of what is held
+
+pub rows-of : {log : List Logged} {texts bind : List ℕ} {count : ℕ} → Holds log texts bind count → Rows log texts bind count
+rows-of h =
+    record {
+      counted = h .counted;
+      few = h .few;
+      names = h .names;
+      values = h .values;
+      texts-long = h .texts-long;
+      bind-long = h .bind-long;
+      texts-held = h .texts-held;
+      bind-held = h .bind-held;
+    }
+
+pub with-index : {log : List Logged} {texts bind : List ℕ} {count : ℕ} → Rows log texts bind count → Indexed log (indexIn bind count) → Holds log texts bind count
+with-index h x =
+    record {
+      counted = h .counted;
+      few = h .few;
+      names = h .names;
+      values = h .values;
+      texts-long = h .texts-long;
+      bind-long = h .bind-long;
+      texts-held = h .texts-held;
+      bind-held = h .bind-held;
+      index = x;
+    }
+
 pub held-none : (texts bind : List ℕ) → maxTexts ≤ length texts → maxRows ≤ length bind → Holds [] texts bind 0
 unfolding textsOf rowsOf valuesIn
 held-none texts bind t b =
@@ -60,13 +92,14 @@ held-none texts bind t b =
       bind-long = b;
       texts-held = refl;
       bind-held = refl;
+      index = nothing-indexed;
     }
 
 -- ---- the newest entry
 
-module _ (e : Logged) (l : List Logged) {texts bind : List ℕ} {count : ℕ} (h : Holds (e ∷ l) texts bind count) where
-  -- The buffers hold every older state of the log too.
-  pub held-before : Holds l texts bind (length l)
+module _ (e : Logged) (l : List Logged) {texts bind : List ℕ} {count : ℕ} (h : Rows (e ∷ l) texts bind count) where
+  -- The texts and the rows hold every older state of the log too.
+  held-before : Rows l texts bind (length l)
   unfolding textsOf rowsOf valuesIn
   held-before =
       record {
@@ -99,12 +132,12 @@ module _ (e : Logged) (l : List Logged) {texts bind : List ℕ} {count : ℕ} (h
   value-end = in-row 1 (omega arith)
 
 -- The next name starts where the log's texts end.
-pub start-held : (log : List Logged) {texts bind : List ℕ} {count : ℕ} → Holds log texts bind count → startIn bind (length log) ≡ length (textsOf log)
+start-held : (log : List Logged) {texts bind : List ℕ} {count : ℕ} → Rows log texts bind count → startIn bind (length log) ≡ length (textsOf log)
 unfolding startIn textsOf
 start-held [] h = refl
 start-held (e ∷ l) h = value-end e l h ∙ simp length-append (omega arith)
 
-row-top : (e : Logged) (l : List Logged) {texts bind : List ℕ} {count : ℕ} → Holds (e ∷ l) texts bind count → Row e texts bind (length l)
+row-top : (e : Logged) (l : List Logged) {texts bind : List ℕ} {count : ℕ} → Rows (e ∷ l) texts bind count → Row e texts bind (length l)
 unfolding textsOf rowOf
 row-top e l {texts} {bind} h =
     let s = start-held l (held-before e l h) in
@@ -125,25 +158,17 @@ row-top e l {texts} {bind} h =
 
 -- ---- entries by number
 
-pub length-asOf : (log : List Logged) (k : ℕ) → k ≤ length log → length (asOf k log) ≡ k
+length-asOf : (log : List Logged) (k : ℕ) → k ≤ length log → length (asOf k log) ≡ k
 unfolding asOf
 length-asOf log k b = rw length-drop (omega arith)
 
-pub asOf-none : (log : List Logged) → asOf 0 log ≡ []
-unfolding asOf
-asOf-none log = drop-of-length-le log {i = length log - 0} (omega arith)
-
-pub asOf-all : (log : List Logged) → asOf (length log) log ≡ log
-unfolding asOf
-asOf-all log = let z : length log - length log ≡ 0 = omega arith in rw z
-
-pub asOf-suc : (log : List Logged) (k : ℕ) → k < length log → asOf (suc k) log ≡ entryAt k log ∷ asOf k log
+asOf-suc : (log : List Logged) (k : ℕ) → k < length log → asOf (suc k) log ≡ entryAt k log ∷ asOf k log
 unfolding asOf entryAt
 asOf-suc log k b =
     let z : suc (length log - suc k) ≡ length log - k = omega arith in
     rw (← z) (drop-cons log (length log - suc k) noEntry (omega arith))
 
-pub older : (log : List Logged) (k : ℕ) {texts bind : List ℕ} {count : ℕ} → Holds log texts bind count → k ≤ length log → Holds (asOf k log) texts bind k
+older : (log : List Logged) (k : ℕ) {texts bind : List ℕ} {count : ℕ} → Rows log texts bind count → k ≤ length log → Rows (asOf k log) texts bind k
 unfolding asOf
 older [] k {texts} {bind} {count} h b =
     let z : k ≡ count = omega (arith, h .counted) in
@@ -156,7 +181,7 @@ older (e ∷ l) k {texts} {bind} {count} h b = elim (decLe k (length l)) [
 pub row-at : (log : List Logged) (k : ℕ) {texts bind : List ℕ} {count : ℕ} → Holds log texts bind count → k < count → Row (entryAt k log) texts bind k
 row-at log k {texts} {bind} {count} h b =
     let c : k < length log = omega (arith, h .counted) in
-    let o : Holds (entryAt k log ∷ asOf k log) texts bind (suc k) = rw (asOf-suc log k c) at (older log (suc k) h c) in
+    let o : Rows (entryAt k log ∷ asOf k log) texts bind (suc k) = rw (asOf-suc log k c) at (older log (suc k) (rows-of h) c) in
     rw (length-asOf log k (omega arith)) at (row-top (entryAt k log) (asOf k log) o)
 
 pub row-of : {texts bind : List ℕ} {k : ℕ} (h : HasEntry texts bind k) → Row (entryAt k (h .log)) texts bind k
@@ -197,19 +222,19 @@ length-copied l a b i m q h =
 
 module _ {log : List Logged} {texts bind : List ℕ} {count : ℕ} (e : Logged) (r : Room log texts bind count e) where
   room-start : startIn bind count ≡ length (textsOf log)
-  room-start = rw (r .held .counted) (start-held log (r .held))
+  room-start = rw (r .held .counted) (start-held log (rows-of (r .held)))
 
   -- The entry's name ends at m and its value at t.
   module _ (m t : ℕ) (hm : m ≡ startIn bind count + length (e .name)) (ht : t ≡ m + length (e .value)) where
     pub room-fits : t ≤ maxTexts
     room-fits = omega (arith, room-start, length-texts log (r .held .names), r .held .counted, r .few, r .name, r .value)
 
-    pub pushed : Holds (e ∷ log)
+    rows-pushed : Rows (e ∷ log)
         (paste (paste texts (startIn bind count) (e .name) (length (e .name))) m (e .value) (length (e .value)))
         (set (set (set bind (3 * count) m) (3 * count + 1) t) (3 * count + 2) (e .owner))
         (count + 1)
     unfolding textsOf rowsOf rowOf valuesIn
-    pushed =
+    rows-pushed =
         let f = room-fits in
         let s = room-start in
         let n : length (textsOf (e ∷ log)) ≡ m + length (e .value) = simp length-append (omega arith) in
@@ -230,3 +255,68 @@ module _ {log : List Logged} {texts bind : List ℕ} {count : ℕ} (e : Logged) 
               rw (k, x, y)
               (stored bind (rowsOf log) (3 * count) m t (e .owner) (omega (arith, r .few, r .held .bind-long)) (rw (← j) (r .held .bind-held)));
         }
+
+-- Behind the rows nothing changes.
+pub pushed : {texts bind : List ℕ} {count : ℕ} (e : Logged) → HasRoom texts bind count e → (m t : ℕ) → m ≡ startIn bind count + length (e .name) → t ≡ m + length (e .value)
+    → Pushed texts bind count e
+    (paste (paste texts (startIn bind count) (e .name) (length (e .name))) m (e .value) (length (e .value)))
+    (set (set (set bind (3 * count) m) (3 * count + 1) t) (3 * count + 2) (e .owner))
+pushed {bind = bind} {count = count} e h m t hm ht =
+    let f : count < maxEntries = h .room .few in
+    record {
+      long = simp length-set;
+      rows = λ log r. rows-pushed e r m t hm ht;
+      behind =
+          drop-set-lt rowsEnd (set (set bind (3 * count) m) (3 * count + 1) t) (3 * count + 2) (e .owner) (omega arith)
+          ∙ drop-set-lt rowsEnd (set bind (3 * count) m) (3 * count + 1) t (omega arith)
+          ∙ drop-set-lt rowsEnd bind (3 * count) m (omega arith);
+    }
+
+-- ---- the index of an entry more
+
+-- Buffers that agree in front of the index hold the same rows.
+rows-kept : {log : List Logged} {texts bind bind′ : List ℕ} {count : ℕ} → Rows log texts bind count → length bind′ ≡ length bind → take rowsEnd bind′ ≡ take rowsEnd bind → Rows log texts bind′ count
+rows-kept {log} {bind = bind} {bind′ = bind′} h l e =
+    let n : length (rowsOf log) ≤ rowsEnd = omega (arith, length-rows log, h .counted, h .few) in
+    record {
+      counted = h .counted;
+      few = h .few;
+      names = h .names;
+      values = h .values;
+      texts-long = h .texts-long;
+      bind-long = rw l (h .bind-long);
+      texts-held = h .texts-held;
+      bind-held = sym (take-take (length (rowsOf log)) rowsEnd bind′ n) ∙ ap (take (length (rowsOf log))) e ∙ take-take (length (rowsOf log)) rowsEnd bind n ∙ h .bind-held;
+    }
+
+-- The rows are those of one entry more, and behind them the index was lent and comes back as m with that entry's number put in.
+module _ {log : List Logged} {texts bind : List ℕ} {count : ℕ} {e : Logged} (r : Room log texts bind count e)
+    {p : ℕ} (place : PlaceOf texts bind count (e .owner) (e .name) p) {texts′ bind′ : List ℕ} (w : Pushed texts bind count e texts′ bind′)
+    {m : List ℕ} (x : Shifted (part bind′ rowsEnd (length bind′)) count p count m) where
+  abbrev back : List ℕ
+  back = take rowsEnd bind′ ++ (m ++ drop (length bind′ - rowsEnd) (drop rowsEnd bind′))
+
+  roomy : maxRows ≤ length bind′
+  roomy = rw (w .long) (r .held .bind-long)
+
+  long-back : length m ≡ length bind′ - rowsEnd
+  long-back = x .long ∙ simp (length-take, length-drop) (omega (arith, roomy))
+
+  length-back : length back ≡ length bind′
+  length-back = simp (length-append, length-take, length-drop) (omega (arith, roomy, long-back))
+
+  front-back : take rowsEnd back ≡ take rowsEnd bind′
+  front-back = take-at (take rowsEnd bind′) (m ++ drop (length bind′ - rowsEnd) (drop rowsEnd bind′)) rowsEnd (length-take-le rowsEnd bind′ (omega (arith, roomy)))
+
+  index-back : indexIn back (count + 1) ≡ inserted (indexIn bind count) p (length log)
+  index-back =
+      ap (take (count + 1)) (drop-at (take rowsEnd bind′) (m ++ drop (length bind′ - rowsEnd) (drop rowsEnd bind′)) rowsEnd (length-take-le rowsEnd bind′ (omega (arith, roomy))))
+      ∙ take-append-le (count + 1) m (drop (length bind′ - rowsEnd) (drop rowsEnd bind′)) (omega (arith, roomy, long-back, r .few))
+      ∙ x .entries
+      ∙ ap (λ (l : List ℕ). inserted (take count l) p count) (part-to-end bind′ rowsEnd ∙ w .behind)
+      ∙ ap (inserted (indexIn bind count) p) (r .held .counted)
+
+  pub entry-held : Holds (e ∷ log) texts′ back (count + 1)
+  entry-held =
+      with-index (rows-kept (w .rows log r) length-back front-back)
+      (rw index-back (indexed-more e log (r .held .index) (place .between log (r .held))))

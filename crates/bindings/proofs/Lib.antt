@@ -1,3 +1,4 @@
+pub mod Lookups
+pub mod Indexing
 pub mod Entries
 pub mod Seeking
-pub mod Lookups

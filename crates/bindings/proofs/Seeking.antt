@@ -1,16 +1,18 @@
--- The search for the newest entry of a name: one test of an entry, and the loop from the newest entry on.
-use Prim.Native.Nat.{ℕ, suc, _+_, _*_, _-_, _≤_, _<_}
+-- The newest entry of a name: one entry against the name, the halving of the index, and the entry in front of the name's place.
+use Prim.Native.Nat.{ℕ, _+_, _*_, _-_, _≤_, _<_}
 use mathlib.Core.Bool.{Bool, true, false}
 use mathlib.Core.List.{List, _∷_}
 use mathlib.Core.Path.{_≡_, sym, _∙_, ap}
 use native.Mathlib.Omega.{arith}
 use borrow.Author.Tests.{eq-eqb, ne-eqb}
-use lib.ListN.{getD}
-use Rattle.lists.specs.Bytes.{eqBytes}
+use lib.ListN.{length, take, drop, getD, length-take, length-drop}
+use lib.Seq.{getD-take, getD-drop}
+use Rattle.lists.specs.Bytes.{eqBytes, lessBytes, less-same, less-lower, less-higher}
 use Rattle.bindings.specs.declared.Found.the-variants.{At, Missing}
-use Rattle.bindings.specs.Log.{Logged, entryAt, asOf, isNamed, newest}
-use Rattle.bindings.specs.Held.{Holds, Row}
-use Rattle.bindings.proofs.Entries.{length-asOf, asOf-none, asOf-all, asOf-suc}
+use Rattle.bindings.specs.Log.{Logged, entryAt, isNamed, newest}
+use Rattle.bindings.specs.Index.{keyOf, keyAt, Between}
+use Rattle.bindings.specs.Held.{rowsEnd, indexIn, Holds, Row, PlaceOf}
+use Rattle.bindings.proofs.Indexing.{between-all, between-lower, between-higher, none-in-front, last-named, last-other}
 
 -- Entry k is e, and x is the owner that was read.
 module _ {e : Logged} {texts bind : List ℕ} {k : ℕ} (w : Row e texts bind k) (o : ℕ) (n : List ℕ) {x : ℕ} (p : x ≡ getD bind (3 * k + 2) 0) where
@@ -22,41 +24,89 @@ module _ {e : Logged} {texts bind : List ℕ} {k : ℕ} (w : Row e texts bind k)
   unfolding isNamed
   owned q r = rw (← (w .owner), ← p, eq-eqb x o q, r)
 
--- No entry from k on is the one.
-pub record Seeking (texts bind : List ℕ) (count o : ℕ) (n : List ℕ) (k : ℕ) : Type 0 where
-  pub within : k ≤ count
-  pub rest : (log : List Logged) → Holds log texts bind count → newest o n log ≡ newest o n (asOf k log)
+  pub owner-before : o < x → true ≡ lessBytes (o ∷ n) (keyOf e)
+  owner-before q = sym (less-lower o (e .owner) n (e .name) (omega (arith, w .owner)))
 
-pub seek-begin : {texts bind : List ℕ} {count o : ℕ} {n : List ℕ} → Seeking texts bind count o n count
-seek-begin {o = o} {n = n} =
-    record { within = omega arith; rest = λ log h. ap (newest o n) (sym (ap (λ (k : ℕ). asOf k log) (h .counted) ∙ asOf-all log)) }
+  pub owner-after : x < o → false ≡ lessBytes (o ∷ n) (keyOf e)
+  owner-after q = sym (less-higher o (e .owner) n (e .name) (omega (arith, w .owner)))
 
--- A turn of the loop, which is at k and tests the entry before it.
-module _ {texts bind : List ℕ} {count o : ℕ} {n : List ℕ} {k : ℕ} (s : Seeking texts bind count o n k) (p : 0 < k) {r : Bool}
-    (t : (log : List Logged) (c : ℕ) → Holds log texts bind c → k - 1 < c → r ≡ isNamed o n (entryAt (k - 1) log)) where
-  here : (log : List Logged) → Holds log texts bind count → asOf k log ≡ entryAt (k - 1) log ∷ asOf (k - 1) log
-  here log h =
-      let z : suc (k - 1) ≡ k = omega arith in
-      ap (λ (j : ℕ). asOf j log) (sym z) ∙ asOf-suc log (k - 1) (omega (arith, s .within, h .counted))
+  pub owner-same : x ≤ o → o ≤ x → {m : List ℕ} → m ≡ e .name → lessBytes n m ≡ lessBytes (o ∷ n) (keyOf e)
+  owner-same q s r = rw r (sym (less-same o (e .owner) n (e .name) (omega (arith, w .owner))))
 
-  pub seek-found : r ≡ true → (log : List Logged) → Holds log texts bind count → At (k - 1) ≡ newest o n log
-  unfolding newest
-  seek-found q log h =
-      sym
-      (s .rest log h
-      ∙ rw (here log h, ← (t log count h (omega (arith, s .within))), q)
-      (ap At (length-asOf log (k - 1) (omega (arith, s .within, h .counted)))))
+-- ---- the index in the buffer
 
-  pub seek-on : r ≡ false → Seeking texts bind count o n (k - 1)
-  unfolding newest
-  seek-on q =
-      record {
-        within = omega (arith, s .within);
-        rest = λ log h. s .rest log h ∙ rw (here log h, ← (t log count h (omega (arith, s .within))), q);
-      }
+module _ {log : List Logged} {texts bind : List ℕ} {count : ℕ} (h : Holds log texts bind count) where
+  length-index : length (indexIn bind count) ≡ count
+  length-index = h .index .long ∙ sym (h .counted)
 
-pub seek-end : {texts bind : List ℕ} {count o : ℕ} {n : List ℕ} {k : ℕ} → Seeking texts bind count o n k → k ≤ 0 → (log : List Logged) → Holds log texts bind count → Missing ≡ newest o n log
-unfolding newest
-seek-end {o = o} {n = n} {k = k} s z log h =
-    let y : k ≡ 0 = omega arith in
-    sym (s .rest log h ∙ rw (y, asOf-none log))
+  index-at : (i : ℕ) → i < count → getD (indexIn bind count) i 0 ≡ getD bind (rowsEnd + i) 0
+  index-at i a = getD-take count (drop rowsEnd bind) i 0 a ∙ getD-drop rowsEnd bind i 0
+
+  pub index-below : {i k : ℕ} → i < count → k ≡ getD bind (rowsEnd + i) 0 → k < count
+  index-below {i} a e = omega (arith, e, index-at i a, h .index .below i (omega (arith, length-index)), h .counted)
+
+-- ---- halving
+
+pub record Halving (texts bind : List ℕ) (count o : ℕ) (n : List ℕ) (low high : ℕ) : Type 0 where
+  pub ordered : low ≤ high
+  pub within : high ≤ count
+  pub between : (log : List Logged) → Holds log texts bind count → Between log (indexIn bind count) (o ∷ n) low high
+
+pub half-begin : {texts bind : List ℕ} {count o : ℕ} {n : List ℕ} → Halving texts bind count o n 0 count
+half-begin {bind = bind} {count = count} {o = o} {n = n} =
+    record {
+      ordered = omega arith;
+      within = omega arith;
+      between = λ log h. rw (length-index h) at (between-all log (indexIn bind count) (o ∷ n));
+    }
+
+module _ {texts bind : List ℕ} {count o : ℕ} {n : List ℕ} {low high : ℕ} (x : Halving texts bind count o n low high) where
+  -- The entry in the middle is k, and r says whether the name comes before it.
+  module _ {mid k : ℕ} (above : low ≤ mid) (below : mid < high) (q : k ≡ getD bind (rowsEnd + mid) 0) {r : Bool}
+      (t : (log : List Logged) (c : ℕ) → Holds log texts bind c → k < c → r ≡ lessBytes (o ∷ n) (keyAt log k)) where
+    compared : (log : List Logged) → Holds log texts bind count → lessBytes (o ∷ n) (keyAt log (getD (indexIn bind count) mid 0)) ≡ r
+    compared log h =
+        let a : mid < count = omega (arith, x .within) in
+        sym (t log count h (index-below h a q) ∙ ap (λ (j : ℕ). lessBytes (o ∷ n) (keyAt log j)) (q ∙ sym (index-at h mid a)))
+
+    pub half-lower : r ≡ true → Halving texts bind count o n low mid
+    half-lower e =
+        record {
+          ordered = above;
+          within = omega (arith, x .within);
+          between = λ log h. between-lower (x .between log h) (h .index) below (compared log h ∙ e);
+        }
+
+    pub half-higher : r ≡ false → Halving texts bind count o n (mid + 1) high
+    half-higher e =
+        record {
+          ordered = omega arith;
+          within = x .within;
+          between = λ log h. between-higher (x .between log h) (h .index) below (compared log h ∙ e);
+        }
+
+  pub half-end : high ≤ low → PlaceOf texts bind count o n low
+  half-end e =
+      let z : high ≡ low = omega (arith, x .ordered) in
+      record { within = omega (arith, x .within); between = λ log h. rw z at (x .between log h) }
+
+-- ---- the newest entry
+
+module _ {texts bind : List ℕ} {count o : ℕ} {n : List ℕ} {p : ℕ} (w : PlaceOf texts bind count o n p) where
+  pub seek-none : p ≡ 0 → (log : List Logged) → Holds log texts bind count → Missing ≡ newest o n log
+  seek-none z log h = sym (none-in-front (h .index) (w .between log h) z)
+
+  -- The entry in front of place p is k, and r says whether it is named.
+  module _ (a : 0 < p) {k : ℕ} (q : k ≡ getD bind (rowsEnd + (p - 1)) 0) {r : Bool}
+      (t : (log : List Logged) (c : ℕ) → Holds log texts bind c → k < c → r ≡ isNamed o n (entryAt k log)) where
+    entry-in-front : {log : List Logged} → Holds log texts bind count → getD (indexIn bind count) (p - 1) 0 ≡ k
+    entry-in-front h = index-at h (p - 1) (omega (arith, w .within)) ∙ sym q
+
+    tested : {log : List Logged} → Holds log texts bind count → {b : Bool} → r ≡ b → isNamed o n (entryAt (getD (indexIn bind count) (p - 1) 0) log) ≡ b
+    tested {log} h e = rw (entry-in-front h) (sym (t log count h (index-below h (omega (arith, w .within)) q)) ∙ e)
+
+    pub seek-found : r ≡ true → (log : List Logged) → Holds log texts bind count → At k ≡ newest o n log
+    seek-found e log h = sym (last-named (h .index) (w .between log h) a (tested h e) ∙ ap At (entry-in-front h))
+
+    pub seek-other : r ≡ false → (log : List Logged) → Holds log texts bind count → Missing ≡ newest o n log
+    seek-other e log h = sym (last-other (h .index) (w .between log h) a (tested h e))

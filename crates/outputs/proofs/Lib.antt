@@ -2,7 +2,6 @@ pub mod Walking
 pub mod Makers
 pub mod Rising
 pub mod Repeats
-pub mod Shifting
 pub mod Sorting
 pub mod Joining
 pub mod Behind

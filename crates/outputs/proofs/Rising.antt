@@ -1,48 +1,20 @@
 -- Rising lists: halving finds where one more belongs, and put in there it leaves the list rising.
-use Prim.Native.Nat.{ℕ, zero, suc, _+_, _-_, _≤_, _<_}
+use Prim.Native.Nat.{ℕ, zero, suc, _+_, _<_}
 use mathlib.Core.Bool.{Bool, true, false, _||_}
 use mathlib.Core.List.{List, [], _∷_, _++_}
 use mathlib.Core.Path.{_≡_, refl, sym, _∙_, ap}
 use native.Mathlib.Decide.{decLt}
 use native.Mathlib.Nat.{not-suc-le-zero, le-of-suc-le-suc}
 use native.Mathlib.Omega.{arith}
-use lib.ListN.{length, take, drop, getD, length-append, length-take, length-drop, take-append-drop, List·getD-append}
-use lib.Seq.{getD-at, getD-append-add, getD-take, getD-drop, length-take-le}
+use lib.ListN.{length, take, drop, getD, take-append-drop}
 use Rattle.lists.specs.Tests.{or-false}
 use Rattle.lists.specs.Bytes.{eqBytes, lessBytes, eq-eqBytes, ne-eqBytes, less-trans, less-ne}
 use Rattle.lists.specs.Members.{any}
 use Rattle.rules.specs.Basics.{among}
-use Rattle.outputs.specs.Sorted.{Rising, Between, inserted}
+use Rattle.arena.specs.Inserted.{inserted}
+use Rattle.arena.proofs.Inserting.{pairs-inserted}
+use Rattle.outputs.specs.Sorted.{Rising, Between}
 use Rattle.outputs.proofs.Walking.{any-append}
-
--- ---- an entry put in
-
-module _ {A : Type 0} (l : List A) (p : ℕ) (x d : A) (h : p ≤ length l) where
-  before-inserted : (i : ℕ) → i < p → getD (inserted l p x) i d ≡ getD l i d
-  before-inserted i a = List·getD-append (take p l) (x ∷ drop p l) d i (omega (arith, length-take-le p l h)) ∙ getD-take p l i d a
-
-  at-inserted : getD (inserted l p x) p d ≡ x
-  at-inserted = getD-at (take p l) x (drop p l) d p (length-take-le p l h)
-
-  after-inserted : (i : ℕ) → p < i → getD (inserted l p x) i d ≡ getD l (i - 1) d
-  after-inserted i a =
-      let z : i ≡ length (take p l) + suc (i - 1 - p) = omega (arith, length-take-le p l h) in
-      let w : p + (i - 1 - p) ≡ i - 1 = omega arith in
-      ap (λ (k : ℕ). getD (inserted l p x) k d) z ∙ getD-append-add (take p l) (x ∷ drop p l) (suc (i - 1 - p)) d ∙ getD-drop p l (i - 1 - p) d ∙ ap (λ (k : ℕ). getD l k d) w
-
-  pub length-inserted : length (inserted l p x) ≡ suc (length l)
-  length-inserted = simp (length-append, length-take, length-drop) (omega arith)
-
-  -- what holds of x and of each holds of each
-  pub each-inserted : (P : A → Type 0) → P x → ((k : ℕ) → k < length l → P (getD l k d)) → (k : ℕ) → k < length (inserted l p x) → P (getD (inserted l p x) k d)
-  each-inserted P a f k b =
-      elim (decLt k p) [
-        | yes y ↦ rw (before-inserted k y) (f k (omega arith))
-        | no y ↦ elim (decLt p k) [
-          | yes z ↦ rw (after-inserted k z) (f (k - 1) (omega (arith, length-inserted)))
-          | no z ↦ (let e : k ≡ p = omega arith in rw (e, at-inserted) a)
-        ]
-      ]
 
 -- ---- where x belongs
 
@@ -114,30 +86,5 @@ among-inserted q ps p x =
 -- ---- the list with x put in
 
 pub inserted-rising : {ps : List (List ℕ)} {x : List ℕ} {p : ℕ} → Rising ps → Between ps x p p → Rising (inserted ps p x)
-inserted-rising {ps} {x} {p} r b = record { less = less }
-  where
-    first : (i : ℕ) → i < p → getD (inserted ps p x) i [] ≡ getD ps i []
-    first = before-inserted ps p x [] (b .within)
-
-    at : getD (inserted ps p x) p [] ≡ x
-    at = at-inserted ps p x [] (b .within)
-
-    last : (i : ℕ) → p < i → getD (inserted ps p x) i [] ≡ getD ps (i - 1) []
-    last = after-inserted ps p x [] (b .within)
-
-    less : (i j : ℕ) → i < j → j < length (inserted ps p x) → lessBytes (getD (inserted ps p x) i []) (getD (inserted ps p x) j []) ≡ true
-    less i j a k =
-        let w = length-inserted ps p x [] (b .within) in
-        elim (decLt j p) [
-          | yes y ↦ rw (first i (omega arith), first j y) (r .less i j a (omega arith))
-          | no y ↦ elim (decLt p j) [
-            | no z ↦ (let e : j ≡ p = omega arith in rw (e, at, first i (omega arith)) (b .before i (omega arith)))
-            | yes z ↦ elim (decLt i p) [
-              | yes v ↦ rw (first i v, last j z) (r .less i (j - 1) (omega arith) (omega arith))
-              | no v ↦ elim (decLt p i) [
-                | yes u ↦ rw (last i u, last j z) (r .less (i - 1) (j - 1) (omega arith) (omega arith))
-                | no u ↦ (let e : i ≡ p = omega arith in rw (e, at, last j z) (b .after (j - 1) (omega arith) (omega arith)))
-              ]
-            ]
-          ]
-        ]
+inserted-rising {ps} {x} {p} r b =
+    record { less = pairs-inserted ps p x [] (b .within) (λ s t. lessBytes s t ≡ true) (r .less) (b .before) (b .after) }

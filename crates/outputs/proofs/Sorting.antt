@@ -18,6 +18,8 @@ use Rattle.rules.specs.Statements.{expanded, twice}
 use Rattle.scan.specs.Texts.{PathNext}
 use Rattle.forms.specs.Paths.{PathsAt}
 use Rattle.forms.proofs.Walks.{walk-on}
+use Rattle.arena.specs.Inserted.{inserted, Shifted}
+use Rattle.arena.proofs.Inserting.{each-inserted}
 use Rattle.bindings.specs.Log.{Logged}
 use Rattle.bindings.specs.Held.{Holds as BindingsHold}
 use Rattle.expand.specs.Runs.{expanded as expandedBy, Ready}
@@ -25,9 +27,9 @@ use Rattle.held.specs.Held.{Bound}
 use Rattle.held.specs.declared.Counts.{Counts}
 use Rattle.outputs.specs.declared.Place.the-variants.{Taken, Free}
 use Rattle.outputs.specs.Asks.{pathOf, columnsEnd}
-use Rattle.outputs.specs.Sorted.{Between, inserted, entryOf, rawOf, Lies, pathsOf, Sorted, PlaceAsks, Ordered, Belongs, PlaceIn, Shifted, Added, TwiceAsks, Compared, Twice}
+use Rattle.outputs.specs.Sorted.{Between, entryOf, rawOf, Lies, pathsOf, Sorted, PlaceAsks, Ordered, Belongs, PlaceIn, Added, TwiceAsks, Compared, Twice}
 use Rattle.outputs.proofs.Makers.{path-held}
-use Rattle.outputs.proofs.Rising.{between-all, between-lower, between-higher, among-at, free-among, among-inserted, inserted-rising, each-inserted}
+use Rattle.outputs.proofs.Rising.{between-all, between-lower, between-higher, among-at, free-among, among-inserted, inserted-rising}
 use Rattle.outputs.proofs.Repeats.{repeats, repeats-begin, repeats-found, repeats-on, repeats-end}
 use Rattle.outputs.proofs.Walking.{ready-path}
 

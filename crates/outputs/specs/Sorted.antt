@@ -1,10 +1,10 @@
 -- Equal outputs in a line, found by a table of the outputs so far that is sorted by what they expand to.
 use Prim.Native.Nat.{ℕ, _+_, _*_, _/_, _%_, _≤_, _<_}
 use mathlib.Core.Bool.{Bool, true, false, _||_}
-use mathlib.Core.List.{List, [], _∷_, _++_, map}
+use mathlib.Core.List.{List, [], map}
 use mathlib.Core.Option.{none}
 use mathlib.Core.Path.{_≡_}
-use lib.ListN.{length, take, drop, getD}
+use lib.ListN.{length, take, getD}
 use Rattle.lists.specs.Bytes.{eqBytes, lessBytes}
 use Rattle.lists.specs.Order.{orderBytes}
 use Rattle.lists.specs.Parts.{part}
@@ -34,10 +34,6 @@ pub record Between (ps : List (List ℕ)) (x : List ℕ) (low high : ℕ) : Type
   pub within : high ≤ length ps
   pub before : (i : ℕ) → i < low → lessBytes (getD ps i []) x ≡ true
   pub after : (i : ℕ) → high ≤ i → i < length ps → lessBytes x (getD ps i []) ≡ true
-
--- x put in at place p, in front of what stood there
-abbrev pub inserted : {A : Type 0} → List A → ℕ → A → List A
-inserted l p x = take p l ++ x ∷ drop p l
 
 -- ---- the table
 
@@ -92,11 +88,6 @@ pub record Belongs (l texts bind : List ℕ) (c : Counts) (from to : ℕ) (table
 pub record PlaceIn (l texts bind : List ℕ) (c : Counts) (from to : ℕ) (table : List ℕ) (r : Place) : Type 0 where
   pub taken : r ≡ Taken → (log : List Logged) (rd : Reading) → Bound log texts bind c rd → among (pathOf rd (part l from to)) (pathsOf rd l table) ≡ true
   pub free : {p : ℕ} → r ≡ Free p → Belongs l texts bind c from to table p
-
--- the first n numbers of a table with one more at place p
-pub record Shifted (table : List ℕ) (n p v : ℕ) (table′ : List ℕ) : Type 0 where
-  pub long : length table′ ≡ length table
-  pub entries : take (n + 1) table′ ≡ inserted (take n table) p v
 
 pub record AddAsks (t l texts bind : List ℕ) (c : Counts) (from to : ℕ) (table : List ℕ) (n : ℕ) : Type 0 where
   pub path : PlaceAsks t l texts bind (c .entries) from to

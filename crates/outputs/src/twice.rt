@@ -1,9 +1,7 @@
 // Two equal outputs in a line. The outputs so far stand in a table that is sorted by what they expand to, so each is compared with few others.
-ghost use Prim.Native.Nat.{_≤_, _<_};
-ghost use lib.ListN.{length};
-ghost use Rattle.outputs.specs.Sorted.{EntryAsks, Ordered, SortedAsks, PlaceIn, Shifted, AddAsks, Added, TableAsks, Compared, RoomAsks, Twice};
+ghost use Rattle.outputs.specs.Sorted.{EntryAsks, Ordered, SortedAsks, PlaceIn, AddAsks, Added, TableAsks, Compared, RoomAsks, Twice};
 use crate::Place;
-use arena::put;
+use arena::insert;
 use expand::order;
 use forms::Next;
 use forms::paths::next_path;
@@ -64,19 +62,6 @@ fn place_for(
         }
     }
     Place::Free(low)
-}
-
-// Puts a number in at place p of the first n. Those from p on move up by one, the last one first.
-fn insert(table: &mut [u32], n: usize, p: usize, v: usize)
-    requires { ⌜ (p ≤ n) × (n < length (now table)) × (v < 4294967296) ⌝ }
-    ensures { λ _. ⌜ Shifted (now (table .entry)) n p v (now (table .exit)) ⌝ }
-{
-    let mut i = n;
-    while p < i {
-        table[i] = table[i - 1];
-        i -= 1;
-    }
-    put(table, p, v);
 }
 
 // Whether the path from one place to another is in the table of n entries. Where it is not, it is put in.

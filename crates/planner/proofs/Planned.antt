@@ -56,7 +56,7 @@ askable {texts = texts} {bind = bind} r h =
 -- ---- buffers of the asks' own
 
 module _ {t names ends texts bind graph word : List ℕ} (e : t ≡ classes) (n : length names ≡ 60000) (f : length ends ≡ 3072) (x : length texts ≡ 133728)
-    (b : length bind ≡ 3456) (g : length graph ≡ 61440) (w : length word ≡ 60000) where
+    (b : length bind ≡ 4608) (g : length graph ≡ 61440) (w : length word ≡ 60000) where
   pub roomy : Roomy t names ends texts bind graph word
   roomy =
       record {

@@ -33,7 +33,7 @@ module _ {names ends texts bind graph word : List ℕ} where
   pub few-texts : length texts < 133728 → Judges names ends texts bind graph word false
   few-texts h = lacks (λ p. omega (arith, p .texts-room))
 
-  pub few-rows : length bind < 3456 → Judges names ends texts bind graph word false
+  pub few-rows : length bind < 4608 → Judges names ends texts bind graph word false
   few-rows h = lacks (λ p. omega (arith, p .bind-room))
 
   pub few-columns : length graph < 61440 → Judges names ends texts bind graph word false
@@ -42,7 +42,7 @@ module _ {names ends texts bind graph word : List ℕ} where
   pub short-word : length word < 60000 → Judges names ends texts bind graph word false
   short-word h = lacks (λ p. omega (arith, p .room .word-room))
 
-  pub has-room : 60000 ≤ length names → length names ≤ 4294967295 → 3072 ≤ length ends → 133728 ≤ length texts → 3456 ≤ length bind → 61440 ≤ length graph
+  pub has-room : 60000 ≤ length names → length names ≤ 4294967295 → 3072 ≤ length ends → 133728 ≤ length texts → 4608 ≤ length bind → 61440 ≤ length graph
       → 60000 ≤ length word → Judges names ends texts bind graph word true
   has-room n s f x b g w = record {
     enough = λ e. record {

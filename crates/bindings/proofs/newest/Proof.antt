@@ -1,46 +1,43 @@
+use native.Mathlib.Omega.{arith}
+use Rattle.bindings.proofs.Seeking.{index-below, seek-none, seek-found, seek-other}
 -- `bindings::newest` meets its contract.
 use borrow.Author.Needs.{needs}
-use Rattle.bindings.proofs.Seeking.{Seeking, seek-begin, seek-found, seek-on, seek-end}
 use Rattle.bindings.proofs.newest.Statement.{statement}
 use Rattle.bindings.proofs.newest.Tie as tie
 
-abbrev Inv-loop : tie.InvT-loop
-Inv-loop texts bind count owner wanted k₀ k = Seeking texts bind count owner wanted k
+place-of-requires : tie.Need-place-of-requires
+place-of-requires c κs = search needs
 
-abbrev μ-loop : tie.MeasureT-loop
-μ-loop texts bind count owner wanted k₀ k = k
+returns : tie.Need-returns
+returns c = seek-none (c .before .place-of .ensures) (c .if1 .taken)
 
-loop-holds : tie.Need-loop-holds Inv-loop μ-loop
-loop-holds c = seek-begin
+sub-at : tie.Need-sub-at
+sub-at c = search needs
 
-sub-k : tie.Need-sub-k Inv-loop μ-loop
-sub-k c = search needs
+add-at : tie.Need-add-at
+add-at c = search needs
 
-is-named-requires : tie.Need-is-named-requires Inv-loop μ-loop
-is-named-requires c κs = let a = c .before .before .before .before .before .pre in record { log = a .log; count = c .before .before .before .before .before .args .count; held = a .held; below = search needs }
+at-requires : tie.Need-at-requires
+at-requires c κs = search needs
 
-returns : tie.Need-returns Inv-loop μ-loop
-returns c = seek-found (c .before .before .before .loop .inv) (c .before .before .loop-test .taken) (c .before .is-named .ensures) (c .if1 .taken)
+is-named-requires : tie.Need-is-named-requires
+is-named-requires c κs = let a = c .before .before .before .before .before .before .pre in record { log = a .log; count = c .before .before .before .before .before .before .args .count; held = a .held; below = index-below (a .held) (omega (arith, c .before .before .place-of .ensures .within)) (c .at .ensures) }
 
-loop-less : tie.Need-loop-less Inv-loop μ-loop
-loop-less c = search needs
+returns-2 : tie.Need-returns-2
+returns-2 c = seek-found (c .before .before .before .before .place-of .ensures) (omega arith) (c .before .before .at .ensures) (c .before .is-named .ensures) (c .if2 .taken)
 
-loop-again : tie.Need-loop-again Inv-loop μ-loop
-loop-again c = seek-on (c .before .before .before .loop .inv) (c .before .before .loop-test .taken) (c .before .is-named .ensures) (c .if1 .left)
-
-returns-2 : tie.Need-returns-2 Inv-loop μ-loop
-returns-2 c = seek-end (c .before .loop .inv) (c .loop-test .left)
+returns-3 : tie.Need-returns-3
+returns-3 c = seek-other (c .before .before .before .before .place-of .ensures) (omega arith) (c .before .before .at .ensures) (c .before .is-named .ensures) (c .if2 .left)
 
 pub newest-spec : {M : Type 1} → statement M
 newest-spec =
     tie.close
     (tie.spec
-    Inv-loop
-    μ-loop
-    loop-holds
-    sub-k
-    is-named-requires
+    place-of-requires
     returns
-    loop-less
-    loop-again
-    returns-2)
+    sub-at
+    add-at
+    at-requires
+    is-named-requires
+    returns-2
+    returns-3)

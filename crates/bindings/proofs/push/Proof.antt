@@ -1,42 +1,26 @@
+use Rattle.bindings.proofs.Entries.{entry-held}
 -- `bindings::push` meets its contract.
-use Prim.Native.Nat.{_+_, _≤_}
-use mathlib.Core.Path.{refl}
-use native.Mathlib.Omega.{arith}
 use borrow.Author.Needs.{needs}
-use denote.Ref.{now}
-use lib.ListN.{length}
-use Rattle.bindings.proofs.Entries.{room-fits, pushed}
-use Rattle.bindings.specs.Held.{maxTexts}
 use Rattle.bindings.proofs.push.Statement.{statement}
 use Rattle.bindings.proofs.push.Tie as tie
 
-abbrev begin : tie.After-start → tie.Start
-begin s = s .before .before .before .before .before .before
+place-of-requires : tie.Need-place-of-requires
+place-of-requires c κs = search needs
 
-fits : (s : tie.After-start) → s .start .result + length (now (begin s .args .name)) + length (now (begin s .args .value)) ≤ maxTexts
-fits s = omega (arith, s .start .ensures, room-fits _ (begin s .pre .room) _ _ refl refl)
+push-row-requires : tie.Need-push-row-requires
+push-row-requires c κs = search needs
 
-start-requires : tie.Need-start-requires
-start-requires c κs = search needs
+sub-insert : tie.Need-sub-insert
+sub-insert c = search needs
 
-add-mid : tie.Need-add-mid
-add-mid c = omega (arith, fits c)
+part-insert-start : tie.Need-part-insert-start
+part-insert-start c = search needs
 
-add-to : tie.Need-add-to
-add-to c = omega (arith, fits c)
+part-insert-end : tie.Need-part-insert-end
+part-insert-end c = search needs
 
-copy-at-requires : tie.Need-copy-at-requires
-copy-at-requires c κs = let s = c .before in omega (arith, fits s, begin s .pre .room .held)
-
-copy-at-requires-2 : tie.Need-copy-at-requires-2
-copy-at-requires-2 c κs =
-    let s = c .before .before .before .before .before in
-    omega (arith, fits s, begin s .pre .room .held, c .before .before .before .copy-at .kept)
-
-put-row-requires : tie.Need-put-row-requires
-put-row-requires c κs =
-    let s = c .before .before .before .before .before .before .before .before .before in
-    omega (arith, fits s, begin s .pre .room)
+insert-requires : tie.Need-insert-requires
+insert-requires c κs = search needs
 
 same-length : tie.Need-same-length
 same-length c = search needs
@@ -45,20 +29,18 @@ same-length-2 : tie.Need-same-length-2
 same-length-2 c = search needs
 
 returns : tie.Need-returns
-returns c = λ log r.
-    rw (c .before .before .put-row .ensures, c .before .before .before .before .before .before .copy-at2 .ensures, c .before .before .before .before .before .before .before .before .before .before .copy-at .ensures, c .before .before .before .before .before .before .before .before .before .before .before .before .start .ensures)
-    (pushed _ r _ _ refl refl)
+returns c = λ log r. entry-held r (c .before .before .before .before .before .before .before .before .before .before .before .place-of .ensures) (c .before .before .before .before .before .before .before .before .push-row .ensures) (c .before .before .insert .ensures)
 
 pub push-spec : {M : Type 1} → statement M
 push-spec =
     tie.close
     (tie.spec
-    start-requires
-    add-mid
-    add-to
-    copy-at-requires
-    copy-at-requires-2
-    put-row-requires
+    place-of-requires
+    push-row-requires
+    sub-insert
+    part-insert-start
+    part-insert-end
+    insert-requires
     same-length
     same-length-2
     returns)

@@ -6,7 +6,7 @@ use native.Mathlib.Omega.{arith}
 use lib.ListN.{length, take, drop, getD, set, length-set}
 use lib.Seq.{take-take, take-add, take-set-le, getD-take, getD-set-same}
 use Rattle.lists.specs.Parts.{part, part-none, part-cons, part-set-before, drop-take}
-use Rattle.outputs.specs.Sorted.{Shifted}
+use Rattle.arena.specs.Inserted.{Shifted}
 
 -- Those from place i on have moved.
 pub record Shifting (table₀ table : List ℕ) (n p i : ℕ) : Type 0 where

@@ -1,8 +1,8 @@
--- `outputs::twice::insert` meets its contract.
-use Rattle.outputs.proofs.Shifting.{Shifting, shift-begin, shift-on, shift-end}
+-- `arena::insert` meets its contract.
+use Rattle.arena.proofs.Shifting.{Shifting, shift-begin, shift-on, shift-end}
 use borrow.Author.Needs.{needs}
-use Rattle.outputs.proofs.twice.insert.Statement.{statement}
-use Rattle.outputs.proofs.twice.insert.Tie as tie
+use Rattle.arena.proofs.insert.Statement.{statement}
+use Rattle.arena.proofs.insert.Tie as tie
 
 abbrev Inv-loop : tie.InvT-loop
 Inv-loop table₀ n p v i₀ table i = Shifting table₀ table n p i
