@@ -7,7 +7,7 @@ use native.Mathlib.Omega.{arith}
 use borrow.Author.Tests.{eq-eqb, ne-eqb}
 use lib.ListN.{length, take, drop, getD, length-take, length-drop}
 use lib.Seq.{getD-take, getD-drop}
-use Rattle.lists.specs.Bytes.{eqBytes, lessBytes, less-same, less-lower, less-higher}
+use Rattle.lists.specs.Bytes.{eqBytes, lessBytes, less-same, less-lower, less-asym}
 use Rattle.bindings.specs.declared.Found.the-variants.{At, Missing}
 use Rattle.bindings.specs.Log.{Logged, entryAt, isNamed, newest}
 use Rattle.bindings.specs.Index.{keyOf, keyAt, Between}
@@ -28,7 +28,7 @@ module _ {e : Logged} {texts bind : List ℕ} {k : ℕ} (w : Row e texts bind k)
   owner-before q = sym (less-lower o (e .owner) n (e .name) (omega (arith, w .owner)))
 
   pub owner-after : x < o → false ≡ lessBytes (o ∷ n) (keyOf e)
-  owner-after q = sym (less-higher o (e .owner) n (e .name) (omega (arith, w .owner)))
+  owner-after q = sym (less-asym (e .owner ∷ e .name) (o ∷ n) (less-lower (e .owner) o (e .name) n (omega (arith, w .owner))))
 
   pub owner-same : x ≤ o → o ≤ x → {m : List ℕ} → m ≡ e .name → lessBytes n m ≡ lessBytes (o ∷ n) (keyOf e)
   owner-same q s r = rw r (sym (less-same o (e .owner) n (e .name) (omega (arith, w .owner))))
