@@ -16,7 +16,7 @@ use Rattle.bindings.proofs.Indexing.{nothing-indexed, indexed-more}
 
 -- ---- lengths
 
-pub length-rows : (l : List Logged) → length (rowsOf l) ≡ 3 * length l
+length-rows : (l : List Logged) → length (rowsOf l) ≡ 3 * length l
 unfolding rowsOf rowOf
 length-rows [] = refl
 length-rows (e ∷ l) = simp length-append (omega (arith, length-rows l))
@@ -26,7 +26,7 @@ unfolding textsOf valuesIn
 length-texts [] s = omega arith
 length-texts (e ∷ l) s = simp length-append (omega (arith, length-texts l (s .1)))
 
-pub texts-fit : {log : List Logged} {texts bind : List ℕ} {count : ℕ} → Rows log texts bind count → length (textsOf log) ≤ maxTexts
+texts-fit : {log : List Logged} {texts bind : List ℕ} {count : ℕ} → Rows log texts bind count → length (textsOf log) ≤ maxTexts
 texts-fit {log} h = omega (arith, h .counted, h .few, h .values, length-texts log (h .names))
 
 -- ---- parts of what a list begins with
@@ -53,7 +53,7 @@ prefix-last p q r t h =
 
 -- ---- the rows of what is held
 
-pub rows-of : {log : List Logged} {texts bind : List ℕ} {count : ℕ} → Holds log texts bind count → Rows log texts bind count
+rows-of : {log : List Logged} {texts bind : List ℕ} {count : ℕ} → Holds log texts bind count → Rows log texts bind count
 rows-of h =
     record {
       counted = h .counted;
@@ -66,7 +66,7 @@ rows-of h =
       bind-held = h .bind-held;
     }
 
-pub with-index : {log : List Logged} {texts bind : List ℕ} {count : ℕ} → Rows log texts bind count → Indexed log (indexIn bind count) → Holds log texts bind count
+with-index : {log : List Logged} {texts bind : List ℕ} {count : ℕ} → Rows log texts bind count → Indexed log (indexIn bind count) → Holds log texts bind count
 with-index h x =
     record {
       counted = h .counted;

@@ -1,8 +1,8 @@
 -- The index of a log: halving finds a key's place in it, the newest entry of a key stands in front of that place, and an entry more is put in there.
 use Prim.Native.Nat.{ℕ, suc, _+_, _-_, _≤_, _<_}
-use mathlib.Core.Bool.{Bool, true, false}
+use mathlib.Core.Bool.{true, false}
 use mathlib.Core.List.{List, [], _∷_}
-use mathlib.Core.Logic.{_⊎_, inl, inr, ⊎-elim}
+use mathlib.Core.Logic.{inl, inr, ⊎-elim}
 use mathlib.Core.Path.{_≡_, refl, sym, _∙_, ap}
 use native.Mathlib.Decide.{decLt}
 use native.Mathlib.Nat.{not-suc-le-zero}
@@ -11,7 +11,7 @@ use borrow.Author.Tests.{eq-eqb, eqb-true}
 use lib.Dec.{eqb}
 use lib.ListN.{length, getD}
 use Rattle.lists.specs.Tests.{split, differ}
-use Rattle.lists.specs.Bytes.{eqBytes, lessBytes, eqBytes-true, eqBytes-refl, less-trans, less-ne, less-total}
+use Rattle.lists.specs.Bytes.{lessBytes, eqBytes-true, eqBytes-refl, less-trans, less-ne, less-total}
 use Rattle.arena.specs.Inserted.{inserted}
 use Rattle.arena.proofs.Inserting.{length-inserted, each-inserted, pairs-inserted, has-inserted, keeps-inserted}
 use Rattle.bindings.specs.declared.Found.the-variants.{At, Missing}
@@ -71,7 +71,7 @@ module _ {log : List Logged} {index key : List ℕ} {low high : ℕ} (b : Betwee
 -- ---- named entries
 
 module _ (o : ℕ) (n : List ℕ) (e : Logged) where
-  pub named-key : isNamed o n e ≡ true → o ∷ n ≡ keyOf e
+  named-key : isNamed o n e ≡ true → o ∷ n ≡ keyOf e
   unfolding isNamed
   named-key h =
       split (eqb (e .owner) o)
