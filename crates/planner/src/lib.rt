@@ -1,15 +1,15 @@
 // The two asks on lent bytes. Neither asks anything of what it is given: it refuses.
 ghost use Rattle.rules.specs.Promises.{PlanPromise, TextPromise};
+
+mod plans;
+mod texts;
+
+use crate::plans::plan_buffered;
+use crate::texts::text_buffered;
 use rules::PlanAnswer;
 use rules::Refusal;
 use rules::TextAnswer;
 use rules::Wanted;
-
-mod plans;
-mod steps;
-
-use crate::plans::plan_buffered;
-use crate::steps::text_buffered;
 use rules::limits::LIST;
 use rules::limits::TEXT;
 

@@ -1,9 +1,9 @@
--- `planner::steps::text_in` meets its contract.
+-- `planner::texts::text_in` meets its contract.
 use Rattle.reader.proofs.Answers.{read-accepted, read-refused}
 use Rattle.planner.proofs.Written.{unread, askable, written}
 use borrow.Author.Needs.{needs}
-use Rattle.planner.proofs.steps.text_in.Statement.{statement}
-use Rattle.planner.proofs.steps.text_in.Tie as tie
+use Rattle.planner.proofs.texts.text_in.Statement.{statement}
+use Rattle.planner.proofs.texts.text_in.Tie as tie
 
 read-requires : tie.Need-read-requires
 read-requires c κs = search needs
