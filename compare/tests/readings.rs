@@ -1,5 +1,5 @@
 //! The proved reader against the second planner's reading: answers, places, and all that the buffers hold of an accepted
-//! manifest. `MANIFESTS` in the environment runs another number of manifests, from seed `FROM` on.
+//! manifest. `MANIFESTS` in the environment runs another number of manifests, from seed `FROM` on; `LONG_LINES` another number of those with many outputs.
 
 use compare::readings::{Binding, Buffers, Numbers, Reading, LENGTHS};
 use second::generate::{ask, damage, draft::Draft, edges, small_ask};
@@ -46,6 +46,29 @@ fn versions(rng: &mut Rng) -> Vec<u8> {
     let mut manifest = format!("ninja_required_version = {}\n", version.join(".")).into_bytes();
     manifest.extend(Draft::new(rng).mixed(200));
     manifest
+}
+
+/// Some bindings, many of them bound again, and a line of many outputs that refer to them: some outputs are spelt differently and yet the same.
+fn long_line(rng: &mut Rng) -> Vec<u8> {
+    let name = |rng: &mut Rng| format!("{}{}", rng.pick(&["a", "b", "ab", "a.b", "a-"]), rng.below(40));
+    let mut manifest = String::new();
+    for _ in 0..rng.between(0, 200) {
+        manifest += &format!("{}={}{}\n", name(rng), rng.pick(&["", "x", "y", "xy", "yx", "xxxxxxxxx"]), rng.below(3));
+    }
+    manifest += "build";
+    let most = rng.between(1, 12);
+    for _ in 0..rng.between(2, 200) {
+        manifest += rng.pick(&[" x", " y", " z", " xxxxxxxx", " xxxxxxxxx"]);
+        for _ in 0..rng.between(1, most + 1) {
+            match rng.below(4) {
+                0 => manifest += &format!("${{{}}}", name(rng)),
+                1 => manifest += &rng.below(1_000).to_string(),
+                _ => manifest += rng.pick(&["x", "y", "xy", "$$", "$ ", "$:", "/"]),
+            }
+        }
+    }
+    manifest += ": phony\n";
+    manifest.into_bytes()
 }
 
 /// The numbers that answer a refusal.
@@ -129,6 +152,17 @@ fn manifests_agree() {
     println!("{manifests} manifests, by answer: {answers:?}");
     assert_eq!(answers.keys().copied().collect::<Vec<_>>(), [0, 2, 3, 4, 5, 6, 7, 8, 9, 10], "{answers:?}");
     assert!(answers.values().all(|&count| count > manifests / 200), "{answers:?}");
+}
+
+#[test]
+fn long_lines_agree() {
+    let mut buffers = Buffers::default();
+    let mut answers: BTreeMap<usize, u64> = BTreeMap::new();
+    for seed in 0..setting("LONG_LINES", 5_000) {
+        *answers.entry(compare(&mut buffers, &long_line(&mut Rng::new(seed)))).or_default() += 1;
+    }
+    println!("long lines, by answer: {answers:?}");
+    assert!(answers[&0] > 500 && answers[&8] > 500, "{answers:?}");
 }
 
 #[test]
