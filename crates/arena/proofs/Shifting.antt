@@ -4,7 +4,7 @@ use mathlib.Core.List.{List, _∷_, _++_}
 use mathlib.Core.Path.{_≡_, refl, sym, _∙_, ap, ap₂}
 use native.Mathlib.Omega.{arith}
 use lib.ListN.{length, take, drop, getD, set, length-set}
-use lib.Seq.{take-take, take-add, take-set-le, getD-take, getD-set-same}
+use lib.Seq.{take-take, take-add, take-set-le, drop-set-lt, getD-take, getD-set-same}
 use Rattle.lists.specs.Parts.{part, part-none, part-cons, part-set-before, drop-take}
 use Rattle.arena.specs.Inserted.{Shifted}
 
@@ -15,6 +15,7 @@ pub record Shifting (table₀ table : List ℕ) (n p i : ℕ) : Type 0 where
   pub high : i ≤ n
   pub front : take i table ≡ take i table₀
   pub moved : part table (i + 1) (n + 1) ≡ part table₀ i n
+  pub beyond : drop (n + 1) table ≡ drop (n + 1) table₀
 
 pub shift-begin : (table : List ℕ) {n p : ℕ} → p ≤ n → Shifting table table n p n
 shift-begin table {n} h =
@@ -24,6 +25,7 @@ shift-begin table {n} h =
       high = omega arith;
       front = refl;
       moved = part-none table (n + 1) (n + 1) (omega arith) ∙ sym (part-none table n n (omega arith));
+      beyond = refl;
     }
 
 module _ {table₀ table : List ℕ} {n p i : ℕ} (x : Shifting table₀ table n p i) (room : n < length table₀) where
@@ -44,6 +46,7 @@ module _ {table₀ table : List ℕ} {n p i : ℕ} (x : Shifting table₀ table 
         high = omega (arith, x .high);
         front = take-set-le (i - 1) table i (getD table (i - 1) 0) (omega arith) ∙ front-less (i - 1) (omega arith);
         moved = moved;
+        beyond = drop-set-lt (n + 1) table i (getD table (i - 1) 0) (omega (arith, x .high)) ∙ x .beyond;
       }
     where
       same : getD table (i - 1) 0 ≡ getD table₀ (i - 1) 0
@@ -69,4 +72,5 @@ module _ {table₀ table : List ℕ} {n p i : ℕ} (x : Shifting table₀ table 
       record {
         long = length-set table p v ∙ x .long;
         entries = ap (λ (k : ℕ). take k (set table p v)) z ∙ take-add p (n + 1 - p) (set table p v) ∙ ap₂ _++_ a b;
+        beyond = drop-set-lt (n + 1) table p v (omega (arith, x .high)) ∙ x .beyond;
       }
