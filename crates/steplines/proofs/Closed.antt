@@ -11,7 +11,7 @@ use Rattle.rules.specs.Statements.{mentioned, inputsOfLine}
 use Rattle.names.proofs.Numbers.{mention-append}
 use Rattle.mentions.specs.Lines.{Line, withPaths}
 use Rattle.mentions.proofs.Closed.{among-all, numbers-stay, numbers-append, length-numbers, paths-log, paths-phony, paths-ruled, paths-reading, paths-ends, paths-mentions, paths-made}
-use Rattle.steplines.specs.Lists.{withEnd, withLists, listsOf}
+use Rattle.steplists.specs.Lists.{withEnd, withLists, listsOf}
 
 pub lists-log : (pss : List (List (List ℕ))) (h : Line) → withLists pss h .log ≡ h .log
 unfolding withLists withEnd

@@ -16,7 +16,7 @@ use Rattle.rules.specs.Reading.{Step}
 use Rattle.rules.specs.Graph.{inputs, makers, makersFrom}
 use Rattle.tables.specs.Tables.{mentionsOf, endsFrom, madeBy, makerIn, Holds}
 use Rattle.tables.proofs.Held.{held-makers}
-use Rattle.steplines.specs.Joins.{setAll}
+use Rattle.joins.specs.Joins.{setAll}
 
 -- ---- columns
 

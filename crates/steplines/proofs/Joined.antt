@@ -25,11 +25,11 @@ use Rattle.held.specs.Held.{Bound, Ruled, Graphed, Holds}
 use Rattle.mentions.specs.Lines.{Writing}
 use Rattle.mentions.proofs.Limits.{mention-more}
 use Rattle.mentions.proofs.Closed.{numbers-low, length-numbers}
-use Rattle.steplines.specs.Lists.{listsOf}
-use Rattle.steplines.specs.Joins.{setAll, Laid, outsEnd, phonyBit, withRule, countedStep}
+use Rattle.steplists.specs.Lists.{listsOf}
+use Rattle.joins.specs.Joins.{setAll, Laid, outsEnd, phonyBit, withRule, countedStep}
 use Rattle.steplines.proofs.Closed.{endsAfter}
-use Rattle.steplines.proofs.Making.{length-set-all}
-use Rattle.steplines.proofs.Numbered.{ruled-bit}
+use Rattle.joins.proofs.Making.{length-set-all}
+use Rattle.joins.proofs.Numbered.{ruled-bit}
 use Rattle.steplines.proofs.Growing.{mentions-more, ends-more, map-more, makes-more}
 use Rattle.steplines.proofs.Fresh.{line-fresh}
 use Rattle.steplines.proofs.Stepped.{lineOf, pathsOf, filesWith, stepFor, lineAfter, step-mentions, step-ends, outs-among, steps-same, made-long, mentions-low, outs-part}

@@ -1,6 +1,3 @@
-pub mod Listing
-pub mod Making
-pub mod Numbered
 pub mod Growing
 pub mod Fresh
 pub mod Closed

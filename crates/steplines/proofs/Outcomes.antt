@@ -24,11 +24,11 @@ use Rattle.held.specs.Held.{joined, aStep, Ruled, Holds, goes, refuses}
 use Rattle.mentions.specs.declared.Mentioned.the-variants.{On, Over}
 use Rattle.mentions.specs.Lines.{Line, Writing, overLine}
 use Rattle.steplines.specs.Asks.{StepAsks, Clear, Writes}
-use Rattle.steplines.specs.Lists.{withLists, listsOf, FourAsks, Four}
-use Rattle.steplines.specs.Joins.{ruleNumber, JoinAsks, Joins}
-use Rattle.steplines.proofs.Listing.{listed-on, listed-short, listed-over}
+use Rattle.steplists.specs.Lists.{withLists, listsOf, FourAsks, Four}
+use Rattle.joins.specs.Joins.{ruleNumber, JoinAsks, Joins}
+use Rattle.steplists.proofs.Listing.{listed-on, listed-short, listed-over}
 use Rattle.steplines.proofs.Closed.{lists-made, concat-lists}
-use Rattle.steplines.proofs.Numbered.{ruled, number-low}
+use Rattle.joins.proofs.Numbered.{ruled, number-low}
 use Rattle.tables.proofs.Places.{length-ends}
 use Rattle.steplines.proofs.Stepped.{lineOf, pathsOf, stepFor, lineAfter, lists-line, step-ready}
 use Rattle.steplines.proofs.Joined.{step-held}

@@ -21,9 +21,9 @@ use Rattle.held.specs.Held.{Graphed, Holds}
 use Rattle.mentions.specs.Lines.{Line, Writing}
 use Rattle.mentions.proofs.Limits.{mention-more}
 use Rattle.mentions.proofs.Closed.{Among, among-all, numbers-append, numbers-low, length-numbers}
-use Rattle.steplines.specs.Lists.{withLists, listsOf}
-use Rattle.steplines.specs.Joins.{Ready, outsEnd}
-use Rattle.steplines.proofs.Listing.{lists-reading}
+use Rattle.steplists.specs.Lists.{withLists, listsOf}
+use Rattle.joins.specs.Joins.{Ready, outsEnd}
+use Rattle.steplists.proofs.Listing.{lists-reading}
 use Rattle.steplines.proofs.Closed.{lists-log, lists-phony, lists-ruled, lists-mentions, lists-ends, endsAfter, concat-lists}
 use Rattle.tables.proofs.Places.{part-mid, length-ends}
 

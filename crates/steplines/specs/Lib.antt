@@ -1,3 +1,1 @@
 pub mod Asks
-pub mod Lists
-pub mod Joins

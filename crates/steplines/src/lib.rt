@@ -1,10 +1,6 @@
 // A build line is written: its files are mentioned, and its step joins the graph's columns.
 ghost use Prim.Native.Nat.{_<_};
 ghost use Rattle.steplines.specs.Asks.{StepAsks, Writes};
-
-mod joins;
-mod parts;
-
 use forms::BuildPlaces;
 use held::Counts;
 use held::LineAnswer;
@@ -12,9 +8,9 @@ use held::Open;
 use joins::join;
 use joins::rule_number;
 use mentions::Mentioned;
-use parts::four;
 use rules::Refusal;
 use rules::limits::STEPS;
+use steplists::four;
 
 // The step of a line whose 7s and 8s were looked for before: only a limit can be met.
 pub fn write_step(
