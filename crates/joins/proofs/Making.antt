@@ -7,8 +7,8 @@ use lib.ListN.{length, getD, set, length-set}
 use Rattle.lists.specs.Parts.{part, part-cons, part-none}
 use Rattle.arena.specs.Columns.{startOf}
 use Rattle.held.specs.Held.{capacities}
-use Rattle.mentions.specs.Lines.{Line, Columns}
-use Rattle.mentions.proofs.Columns.{graph-long, mentions-fit, made-fit, set-made, read-mention, read-end, push-phony, push-rule}
+use Rattle.marks.specs.Lines.{Line, Columns}
+use Rattle.marks.proofs.Columns.{graph-long, mentions-fit, made-fit, set-made, read-mention, read-end, push-phony, push-rule}
 use Rattle.held.specs.declared.Counts.{Counts}
 use Rattle.joins.specs.Joins.{setAll, Laid, Part, MakeAsks, Makes, Ready, JoinAsks, outsEnd, phonyBit, withRule, countedStep, Joins}
 

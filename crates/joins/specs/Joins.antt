@@ -12,7 +12,7 @@ use Rattle.bindings.specs.declared.Found.the-variants.{At, Missing}
 use Rattle.bindings.specs.Log.{Logged, ofRules, newest}
 use Rattle.bindings.specs.Held.{maxEntries}
 use Rattle.held.specs.declared.Counts.{Counts}
-use Rattle.mentions.specs.Lines.{Line, Columns}
+use Rattle.marks.specs.Lines.{Line, Columns}
 
 -- ------------------------------------------------------------------ the rule's number
 

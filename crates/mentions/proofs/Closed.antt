@@ -11,8 +11,8 @@ use Rattle.rules.specs.Basics.{among}
 use Rattle.rules.specs.Reading.{numberOf, numbersOf, mention}
 use Rattle.rules.specs.Statements.{mentioned}
 use Rattle.names.proofs.Numbers.{among-here, among-there, number-below, number-mention, mention-none, mention-old, mention-new, mention-append, among-mention}
-use Rattle.mentions.specs.Lines.{Line, madeWith, withPath, withPaths}
-use Rattle.mentions.proofs.Limits.{mentioned-append, mentioned-none}
+use Rattle.marks.specs.Lines.{Line, madeWith, withPath, withPaths}
+use Rattle.marks.proofs.Limits.{mentioned-append, mentioned-none}
 
 -- ---- what was mentioned is there
 

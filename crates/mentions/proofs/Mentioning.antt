@@ -14,11 +14,12 @@ use Rattle.expand.specs.Runs as runs
 use Rattle.expand.specs.Runs.{Written}
 use Rattle.expand.proofs.Callers.{expanded-vars, written-whole}
 use Rattle.held.specs.declared.Counts.{Counts}
-use Rattle.mentions.specs.declared.Mentioned.{Mentioned}
-use Rattle.mentions.specs.declared.Mentioned.the-variants.{Over}
-use Rattle.mentions.specs.Lines.{over}
-use Rattle.mentions.specs.Asks.{overCounted, Fits, Marked, Asks, Mentions}
-use Rattle.mentions.proofs.Limits.{path-over, path-within}
+use Rattle.marks.specs.declared.Mentioned.{Mentioned}
+use Rattle.marks.specs.declared.Mentioned.the-variants.{Over}
+use Rattle.marks.specs.Lines.{over}
+use Rattle.marks.specs.Path.{overCounted, Fits, Marked}
+use Rattle.mentions.specs.Asks.{Asks, Mentions}
+use Rattle.marks.proofs.Limits.{path-over, path-within}
 
 module _ {t raw names fileEnds texts bind graph word : List ℕ} {c : Counts} (a : Asks t raw names fileEnds texts bind graph word c) {word′ : List ℕ} {k : ℕ}
     (x : (log : List Logged) → Holds log texts bind (c .entries) → Written word (runs.expanded log raw) word′ k) where

@@ -15,11 +15,11 @@ use Rattle.forms.specs.declared.Next.the-variants.{Path, Stop}
 use Rattle.forms.specs.Paths.{PathsAt, NextAt}
 use Rattle.forms.proofs.Walks.{walk-on}
 use Rattle.held.specs.declared.Counts.{Counts}
-use Rattle.mentions.specs.declared.Mentioned.{Mentioned}
-use Rattle.mentions.specs.declared.Mentioned.the-variants.{On, Over}
-use Rattle.mentions.specs.Lines.{Line, Writing, withPath, withPaths, overLine, Marks, on, over}
+use Rattle.marks.specs.declared.Mentioned.{Mentioned}
+use Rattle.marks.specs.declared.Mentioned.the-variants.{On, Over}
+use Rattle.marks.specs.Lines.{Line, Writing, withPath, withPaths, overLine, Marks, on, over}
 use Rattle.mentions.specs.Asks.{Room, Asks, Mentions, ListAsks, MentionsAll}
-use Rattle.mentions.proofs.Limits.{line-later, short-append, short-none}
+use Rattle.marks.proofs.Limits.{line-later, short-append, short-none}
 
 -- ---- answers
 

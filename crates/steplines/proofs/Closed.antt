@@ -9,7 +9,7 @@ use Rattle.rules.specs.Forms.{BuildLine}
 use Rattle.rules.specs.Reading.{Reading, numbersOf, mention}
 use Rattle.rules.specs.Statements.{mentioned, inputsOfLine}
 use Rattle.names.proofs.Numbers.{mention-append}
-use Rattle.mentions.specs.Lines.{Line, withPaths}
+use Rattle.marks.specs.Lines.{Line, withPaths}
 use Rattle.mentions.proofs.Closed.{among-all, numbers-stay, numbers-append, length-numbers, paths-log, paths-phony, paths-ruled, paths-reading, paths-ends, paths-mentions, paths-made}
 use Rattle.steplists.specs.Lists.{withEnd, withLists, listsOf}
 

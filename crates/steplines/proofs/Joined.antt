@@ -22,8 +22,8 @@ use Rattle.tables.specs.Tables as tables
 use Rattle.tables.specs.Tables.{bit, mentionsOf, endsFrom}
 use Rattle.held.specs.declared.Counts.{Counts}
 use Rattle.held.specs.Held.{Bound, Ruled, Graphed, Holds}
-use Rattle.mentions.specs.Lines.{Writing}
-use Rattle.mentions.proofs.Limits.{mention-more}
+use Rattle.marks.specs.Lines.{Writing}
+use Rattle.marks.proofs.Limits.{mention-more}
 use Rattle.mentions.proofs.Closed.{numbers-low, length-numbers}
 use Rattle.steplists.specs.Lists.{listsOf}
 use Rattle.joins.specs.Joins.{setAll, Laid, outsEnd, phonyBit, withRule, countedStep}

@@ -21,8 +21,8 @@ use Rattle.held.specs.declared.Counts.{Counts}
 use Rattle.held.specs.declared.Open.the-variants.{Step as OpenStep}
 use Rattle.held.specs.declared.LineAnswer.the-variants.{Goes, Refused}
 use Rattle.held.specs.Held.{joined, aStep, Ruled, Holds, goes, refuses}
-use Rattle.mentions.specs.declared.Mentioned.the-variants.{On, Over}
-use Rattle.mentions.specs.Lines.{Line, Writing, overLine}
+use Rattle.marks.specs.declared.Mentioned.the-variants.{On, Over}
+use Rattle.marks.specs.Lines.{Line, Writing, overLine}
 use Rattle.steplines.specs.Asks.{StepAsks, Clear, Writes}
 use Rattle.steplists.specs.Lists.{withLists, listsOf, FourAsks, Four}
 use Rattle.joins.specs.Joins.{ruleNumber, JoinAsks, Joins}

@@ -18,8 +18,8 @@ use Rattle.tables.specs.Tables.{mentionsOf, endsFrom}
 use Rattle.tables.proofs.Held.{held-steps}
 use Rattle.held.specs.declared.Counts.{Counts}
 use Rattle.held.specs.Held.{Graphed, Holds}
-use Rattle.mentions.specs.Lines.{Line, Writing}
-use Rattle.mentions.proofs.Limits.{mention-more}
+use Rattle.marks.specs.Lines.{Line, Writing}
+use Rattle.marks.proofs.Limits.{mention-more}
 use Rattle.mentions.proofs.Closed.{Among, among-all, numbers-append, numbers-low, length-numbers}
 use Rattle.steplists.specs.Lists.{withLists, listsOf}
 use Rattle.joins.specs.Joins.{Ready, outsEnd}

@@ -11,15 +11,15 @@ use Rattle.rules.specs.Reading.{Reading}
 use Rattle.rules.specs.Statements.{expanded, mentioned, overPaths}
 use Rattle.forms.specs.declared.BuildPlaces.{BuildPlaces}
 use Rattle.held.specs.declared.Counts.{Counts}
-use Rattle.mentions.specs.declared.Mentioned.{Mentioned}
-use Rattle.mentions.specs.declared.Mentioned.the-variants.{On, Over}
+use Rattle.marks.specs.declared.Mentioned.{Mentioned}
+use Rattle.marks.specs.declared.Mentioned.the-variants.{On, Over}
 use Rattle.arena.specs.Columns.{startOf}
 use Rattle.held.specs.Held.{capacities}
-use Rattle.mentions.specs.Lines.{Line, Writing, withPaths, overLine}
+use Rattle.marks.specs.Lines.{Line, Writing, withPaths, overLine}
 use Rattle.mentions.specs.Asks as mentions
 use Rattle.mentions.specs.Asks.{Room, MentionsAll}
-use Rattle.mentions.proofs.Columns.{push-end}
-use Rattle.mentions.proofs.Limits.{line-later, short-append, mentioned-append, mentioned-none}
+use Rattle.marks.proofs.Columns.{push-end}
+use Rattle.marks.proofs.Limits.{line-later, short-append, mentioned-append, mentioned-none}
 use Rattle.mentions.proofs.Passing.{marks-on, marks-short, marks-over, expanded-same}
 use Rattle.mentions.proofs.Closed.{paths-reading, paths-ends}
 use Rattle.steplists.specs.Lists.{withEnd, withLists, Listed, on, over, ListAsks, Lists, TwoAsks, Two, FourAsks, Four}

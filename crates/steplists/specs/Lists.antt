@@ -13,9 +13,9 @@ use Rattle.forms.specs.declared.BuildPlaces.{BuildPlaces}
 use Rattle.forms.specs.Paths.{PathsAt}
 use Rattle.forms.specs.Statements.{Stands}
 use Rattle.held.specs.declared.Counts.{Counts}
-use Rattle.mentions.specs.declared.Mentioned.{Mentioned}
-use Rattle.mentions.specs.declared.Mentioned.the-variants.{On, Over}
-use Rattle.mentions.specs.Lines.{Line, Writing, withPaths, overLine}
+use Rattle.marks.specs.declared.Mentioned.{Mentioned}
+use Rattle.marks.specs.declared.Mentioned.the-variants.{On, Over}
+use Rattle.marks.specs.Lines.{Line, Writing, withPaths, overLine}
 use Rattle.mentions.specs.Asks as mentions
 use Rattle.mentions.specs.Asks.{Room}
 

@@ -1,7 +1,7 @@
 -- `joins::join` meets its contract.
 use native.Mathlib.Omega.{arith}
 use borrow.Author.Needs.{needs}
-use Rattle.mentions.proofs.Columns.{graph-long}
+use Rattle.marks.proofs.Columns.{graph-long}
 use Rattle.joins.proofs.Making.{join-make, join-first, join-second, join-done}
 use Rattle.joins.proofs.join.Statement.{statement}
 use Rattle.joins.proofs.join.Tie as tie

@@ -3,7 +3,7 @@ use mathlib.Core.Bool.{false}
 use mathlib.Core.Path.{_≡_, sym, _∙_}
 use native.Mathlib.Omega.{arith}
 use borrow.Author.Needs.{needs}
-use Rattle.mentions.specs.Asks.{overCounted}
+use Rattle.marks.specs.Path.{overCounted}
 use Rattle.mentions.proofs.Mentioning.{mention-over, path-fits, path-counted, mention-fits, mention-marked}
 use Rattle.mentions.proofs.mention.Statement.{statement}
 use Rattle.mentions.proofs.mention.Tie as tie

@@ -1,7 +1,7 @@
 -- `steplists::one` meets its contract.
 use native.Mathlib.Omega.{arith}
 use borrow.Author.Needs.{needs}
-use Rattle.mentions.proofs.Columns.{graph-long}
+use Rattle.marks.proofs.Columns.{graph-long}
 use Rattle.steplists.proofs.Listing.{one-held, one-on, one-over}
 use Rattle.steplists.proofs.one.Statement.{statement}
 use Rattle.steplists.proofs.one.Tie as tie

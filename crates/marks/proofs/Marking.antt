@@ -18,11 +18,11 @@ use Rattle.names.proofs.Laws as named
 use Rattle.names.proofs.Laws.{after-old, after-new, after-full}
 use Rattle.held.specs.declared.Counts.{Counts}
 use Rattle.held.specs.Held.{Bound}
-use Rattle.mentions.specs.declared.Mentioned.the-variants.{On, Over}
-use Rattle.mentions.specs.Lines.{Line, Columns, Writing, madeWith, withPath, withPaths, Marks, on, over}
-use Rattle.mentions.specs.Asks.{countedPath, Again, First}
-use Rattle.mentions.proofs.Columns.{push-mention, push-made}
-use Rattle.mentions.proofs.Limits.{Within, line-files, path-short}
+use Rattle.marks.specs.declared.Mentioned.the-variants.{On, Over}
+use Rattle.marks.specs.Lines.{Line, Columns, Writing, madeWith, withPath, withPaths, Marks, on, over}
+use Rattle.marks.specs.Path.{countedPath, Again, First}
+use Rattle.marks.proofs.Columns.{push-mention, push-made}
+use Rattle.marks.proofs.Limits.{Within, line-files, path-short}
 
 -- ---- the names after a mention
 

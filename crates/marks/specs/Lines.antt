@@ -14,8 +14,8 @@ use Rattle.names.specs.Table.{Holds as NamesHold}
 use Rattle.bindings.specs.Log.{Logged}
 use Rattle.held.specs.declared.Counts.{Counts}
 use Rattle.held.specs.Held.{Bound, capacities}
-use Rattle.mentions.specs.declared.Mentioned.{Mentioned}
-use Rattle.mentions.specs.declared.Mentioned.the-variants.{On, Over}
+use Rattle.marks.specs.declared.Mentioned.{Mentioned}
+use Rattle.marks.specs.declared.Mentioned.the-variants.{On, Over}
 
 -- what is held: the log, the reading, and the columns of the graph but the defaults
 pub record Line : Type 0 where

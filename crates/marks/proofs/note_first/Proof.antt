@@ -1,11 +1,11 @@
--- `mentions::note_first` meets its contract.
+-- `marks::note_first` meets its contract.
 use mathlib.Core.List.{List}
 use mathlib.Core.Path.{refl, _∙_, ap}
 use Prim.Native.Nat.{ℕ, _+_}
 use lib.ListN.{set}
 use borrow.Author.Needs.{needs}
-use Rattle.mentions.proofs.note_first.Statement.{statement}
-use Rattle.mentions.proofs.note_first.Tie as tie
+use Rattle.marks.proofs.note_first.Statement.{statement}
+use Rattle.marks.proofs.note_first.Tie as tie
 
 put-requires : tie.Need-put-requires
 put-requires c κs = search needs

@@ -17,8 +17,8 @@ use Rattle.rules.specs.Reading.{Reading, mention}
 use Rattle.rules.specs.Statements.{mentioned, longerThan, overPaths, overCounts}
 use Rattle.names.proofs.Numbers.{mention-none, mention-old, mention-new, mention-append}
 use Rattle.held.specs.declared.Counts.{Counts}
-use Rattle.mentions.specs.Lines.{Line, Writing, overLine}
-use Rattle.mentions.specs.Asks.{overCounted}
+use Rattle.marks.specs.Lines.{Line, Writing, overLine}
+use Rattle.marks.specs.Path.{overCounted}
 
 pub or-on : (a b : Bool) → b ≡ true → a || b ≡ true
 or-on a b e = rw e (or-true a)

@@ -1,13 +1,13 @@
--- `mentions::mark` meets its contract.
+-- `marks::mark` meets its contract.
 use native.Mathlib.Omega.{arith}
 use denote.Ref.{now}
 use lib.ListN.{length}
 use borrow.Author.Needs.{needs}
-use Rattle.mentions.proofs.Columns.{graph-long}
-use Rattle.mentions.proofs.Limits.{Within, path-within}
-use Rattle.mentions.proofs.Marking.{mentions-short, path-old, path-new, path-full, old-low, new-low}
-use Rattle.mentions.proofs.mark.Statement.{statement}
-use Rattle.mentions.proofs.mark.Tie as tie
+use Rattle.marks.proofs.Columns.{graph-long}
+use Rattle.marks.proofs.Limits.{Within, path-within}
+use Rattle.marks.proofs.Marking.{mentions-short, path-old, path-new, path-full, old-low, new-low}
+use Rattle.marks.proofs.mark.Statement.{statement}
+use Rattle.marks.proofs.mark.Tie as tie
 
 -- the path that was found within the limits
 abbrev within : (s : tie.Start) → Within (length (now (s .args .path))) (s .args .c)

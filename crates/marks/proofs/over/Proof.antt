@@ -1,11 +1,11 @@
--- `mentions::over` meets its contract.
+-- `marks::over` meets its contract.
 use Prim.Native.Nat.{_+_}
 use native.Mathlib.Omega.{arith}
 use borrow.Author.Needs.{needs}
 use borrow.Author.Tests.{lt-ltb, le-ltb}
-use Rattle.mentions.specs.Asks.{overCounted}
-use Rattle.mentions.proofs.over.Statement.{statement}
-use Rattle.mentions.proofs.over.Tie as tie
+use Rattle.marks.specs.Path.{overCounted}
+use Rattle.marks.proofs.over.Statement.{statement}
+use Rattle.marks.proofs.over.Tie as tie
 
 returns : tie.Need-returns
 unfolding overCounted

@@ -8,7 +8,7 @@ use Rattle.rules.specs.Limits.{maxSteps, maxFiles, maxMentions}
 use Rattle.arena.specs.Columns.{startOf}
 use Rattle.arena.proofs.Laws.{lies-column, lies-push, lies-set, lies-read}
 use Rattle.held.specs.Held.{capacities}
-use Rattle.mentions.specs.Lines.{Columns}
+use Rattle.marks.specs.Lines.{Columns}
 
 module _ {graph m e p d r f : List ℕ} (l : Columns graph m e p d r f) where
   pub graph-long : 12288 ≤ length graph
