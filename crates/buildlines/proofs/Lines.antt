@@ -18,8 +18,9 @@ use Rattle.held.specs.declared.LineAnswer.{LineAnswer}
 use Rattle.held.specs.declared.LineAnswer.the-variants.{Refused}
 use Rattle.held.specs.Held.{Bound, Holds, refuses}
 use Rattle.held.specs.Adds.{Adds}
-use Rattle.outputs.specs.Asks.{Checked, Kept}
-use Rattle.outputs.proofs.Behind.{held-kept, whole-kept}
+use Rattle.twice.specs.Kept.{Kept}
+use Rattle.badpaths.specs.Asks.{Checked}
+use Rattle.twice.proofs.Behind.{held-kept, whole-kept}
 use Rattle.steplines.specs.Asks.{StepAsks, Writes}
 use Rattle.buildlines.specs.Asks.{BuildAsks}
 

@@ -10,7 +10,7 @@ use Rattle.forms.specs.Statements.{Stands}
 use Rattle.forms.specs.declared.BuildPlaces.{BuildPlaces}
 use Rattle.held.specs.Adds.{Whole}
 use Rattle.held.specs.declared.Counts.{Counts}
-use Rattle.outputs.specs.Asks.{columnsEnd}
+use Rattle.twice.specs.Kept.{columnsEnd}
 
 -- The word buffer has room for as many bytes as all names that are held, and behind the columns of the graph is room for the table of its outputs.
 pub record BuildAsks (t l names fileEnds texts bind graph word : List ℕ) (c : Counts) (p : BuildPlaces) : Type 0 where

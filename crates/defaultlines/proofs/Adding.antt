@@ -20,8 +20,8 @@ use Rattle.held.specs.declared.Open.the-variants.{Nothing}
 use Rattle.held.specs.declared.LineAnswer.the-variants.{Goes, Refused}
 use Rattle.held.specs.Held.{joined, nothing, Holds, goes, refuses}
 use Rattle.held.specs.Adds.{Whole, Adds}
-use Rattle.outputs.specs.Asks.{pathOf, AnyPath}
-use Rattle.outputs.proofs.Walking.{any-cons}
+use Rattle.emptypaths.specs.Walk.{pathOf, AnyPath}
+use Rattle.emptypaths.proofs.Walking.{any-cons}
 use Rattle.defaultlines.specs.declared.Named.{Named}
 use Rattle.defaultlines.specs.declared.Named.the-variants.{Added, Over}
 use Rattle.defaultlines.specs.Defaults.{defaulted, soundDefaults, Named·is, Names}

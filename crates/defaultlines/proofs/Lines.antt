@@ -17,8 +17,8 @@ use Rattle.held.specs.declared.LineAnswer.{LineAnswer}
 use Rattle.held.specs.declared.LineAnswer.the-variants.{Refused}
 use Rattle.held.specs.Held.{Bound, Holds, refuses}
 use Rattle.held.specs.Adds.{Adds}
-use Rattle.outputs.specs.Asks.{pathOf, AnyPath}
-use Rattle.outputs.proofs.Joining.{any-expanded}
+use Rattle.emptypaths.specs.Walk.{pathOf, AnyPath}
+use Rattle.emptypaths.proofs.Empty.{any-expanded}
 use Rattle.defaultlines.specs.Asks.{DefaultAsks}
 use Rattle.defaultlines.specs.Defaults.{soundDefaults, SoundAsks}
 

@@ -15,8 +15,8 @@ use Rattle.bindings.specs.Held.{Holds as BindingsHold}
 use Rattle.expand.specs.Runs.{expanded, Written}
 use Rattle.expand.proofs.Callers.{written-long, written-whole}
 use Rattle.held.specs.declared.Counts.{Counts}
-use Rattle.outputs.specs.Asks.{pathOf}
-use Rattle.outputs.proofs.Makers.{path-held}
+use Rattle.emptypaths.specs.Walk.{pathOf}
+use Rattle.emptypaths.proofs.Empty.{path-held}
 use Rattle.defaultlines.specs.declared.Named.the-variants.{Added, Over}
 use Rattle.defaultlines.specs.Defaults.{overDefault, countedDefault, Puts, Named·is, Names}
 use Rattle.defaultlines.proofs.Outcomes.{made-among}

@@ -13,7 +13,8 @@ use Rattle.rules.specs.Statements.{Outcome, goesOn, refused, noBlock, mentioned
 use Rattle.bindings.specs.Log.{Logged}
 use Rattle.held.specs.Held.{Holds}
 use Rattle.held.specs.declared.Counts.{Counts}
-use Rattle.outputs.specs.Asks.{pathOf, Files, AnyPath}
+use Rattle.emptypaths.specs.Walk.{pathOf, AnyPath}
+use Rattle.outputs.specs.Asks.{Files}
 use Rattle.defaultlines.specs.declared.Named.{Named}
 use Rattle.defaultlines.specs.declared.Named.the-variants.{Added, Over}
 use Rattle.defaultlines.specs.Asks.{DefaultAsks}

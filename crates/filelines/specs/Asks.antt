@@ -11,7 +11,7 @@ use Rattle.held.specs.declared.Counts.{Counts}
 use Rattle.held.specs.declared.Open.{Open}
 use Rattle.held.specs.declared.LineAnswer.{LineAnswer}
 use Rattle.held.specs.Held.{joined, Opens, Holds, Agrees}
-use Rattle.outputs.specs.Asks.{columnsEnd}
+use Rattle.twice.specs.Kept.{columnsEnd}
 
 -- room that no line uses up: for all names, for one word, and behind the columns of the graph
 pub record Room (names graph word : List ℕ) : Type 0 where

@@ -12,8 +12,10 @@ use Rattle.rules.specs.Forms.{Cut, fits, fails, then, Paths, withPath, paths}
 use Rattle.scan.specs.Texts.{PathsStop, PathNext, PathsBad}
 use Rattle.scan.proofs.PathLists.{Listing, list-begin, list-next, list-stop, list-bad}
 use Rattle.forms.specs.declared.Fault.the-variants.{BadDollar}
+use Rattle.forms.specs.declared.Next.{Next}
+use Rattle.forms.specs.declared.Next.the-variants.{Path, Stop}
 use Rattle.forms.specs.Faults.{Fails}
-use Rattle.forms.specs.Paths.{PathsAt, ListEnds}
+use Rattle.forms.specs.Paths.{PathsAt, NextAt, ListEnds}
 use Rattle.forms.proofs.Faults.{bad-dollar}
 
 -- ---- a list that is known, path by path
@@ -44,6 +46,17 @@ walk-stop a w = ap rawOf (sym (w .cut) ∙ a .is)
 
 pub walk-bad : {l : List ℕ} {at p : ℕ} {ps : List (List ℕ)} → PathsBad l at p → PathsAt l at ps → ps ≡ []
 walk-bad a w = ap rawOf (sym (w .cut) ∙ a .is)
+
+-- ---- what `next_path` answers
+
+module _ (l : List ℕ) (i : ℕ) (r : Next) (n : NextAt l i r) where
+  pub goes-on : {from to : ℕ} → r ≡ Path from to → PathNext l i from to
+  unfolding NextAt
+  goes-on e = rw e at n
+
+  pub stops : r ≡ Stop → (ps : List (List ℕ)) → PathsAt l i ps → ps ≡ []
+  unfolding NextAt
+  stops e = rw e at n
 
 -- ---- a list that is being read
 

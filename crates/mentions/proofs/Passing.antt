@@ -10,9 +10,7 @@ use Rattle.rules.specs.Dollars.{expand}
 use Rattle.rules.specs.Reading.{Reading, fileVar}
 use Rattle.rules.specs.Statements.{expanded, mentioned, overPaths}
 use Rattle.scan.specs.Texts.{PathNext}
-use Rattle.forms.specs.declared.Next.{Next}
-use Rattle.forms.specs.declared.Next.the-variants.{Path, Stop}
-use Rattle.forms.specs.Paths.{PathsAt, NextAt}
+use Rattle.forms.specs.Paths.{PathsAt}
 use Rattle.forms.proofs.Walks.{walk-on}
 use Rattle.held.specs.declared.Counts.{Counts}
 use Rattle.marks.specs.declared.Mentioned.{Mentioned}
@@ -154,14 +152,3 @@ module _ {t l : List ℕ} {at : ℕ} {names₀ fileEnds₀ texts bind graph₀ w
       record {
         marks = λ raw s h k. let g = x .going raw s h k in g .left (rw (f (g .rest) (g .stands)) (on (g .writing) short-none));
       }
-
--- ---- the next path
-
-module _ (l : List ℕ) (i : ℕ) (r : Next) (p : NextAt l i r) where
-  pub next-path : {from to : ℕ} → r ≡ Path from to → PathNext l i from to
-  unfolding NextAt
-  next-path e = rw e at p
-
-  pub next-stop : r ≡ Stop → (rest : List (List ℕ)) → PathsAt l i rest → rest ≡ []
-  unfolding NextAt
-  next-stop e = rw e at p

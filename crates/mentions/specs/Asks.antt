@@ -1,19 +1,15 @@
 -- What mentions ask: room for all that the limits allow, and some line held.
-use Prim.Native.Nat.{ℕ, _+_, _≤_}
-use mathlib.Core.Bool.{Bool, false, _||_}
+use Prim.Native.Nat.{ℕ, _≤_}
 use mathlib.Core.List.{List, [], _∷_}
 use mathlib.Core.Option.{none}
 use mathlib.Core.Path.{_≡_}
-use lib.Dec.{ltb}
-use lib.ListN.{length, set}
-use Rattle.rules.specs.Limits.{maxManifest, maxMentions, maxPath, maxValue, maxWritten}
+use lib.ListN.{length}
+use Rattle.rules.specs.Limits.{maxManifest, maxValue, maxWritten}
 use Rattle.rules.specs.Dollars.{badDollar}
 use Rattle.rules.specs.Statements.{expanded}
 use Rattle.classes.specs.Table.{classes}
-use Rattle.arena.specs.Columns.{startOf}
 use Rattle.forms.specs.Paths.{PathsAt}
 use Rattle.held.specs.declared.Counts.{Counts}
-use Rattle.held.specs.Held.{capacities}
 use Rattle.marks.specs.declared.Mentioned.{Mentioned}
 use Rattle.marks.specs.Lines.{Line, Writing, Marks}
 

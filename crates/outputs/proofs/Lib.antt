@@ -1,7 +1,1 @@
-pub mod Walking
 pub mod Makers
-pub mod Rising
-pub mod Repeats
-pub mod Sorting
-pub mod Joining
-pub mod Behind

@@ -1,6 +1,6 @@
 -- A path is made where its file's entry among the makers is not 0.
 use Prim.Native.Nat.{ℕ, zero, suc, _+_, _≤_, _<_}
-use mathlib.Core.Bool.{Bool, true, false, not}
+use mathlib.Core.Bool.{Bool, true, false, not, Bool·beq}
 use mathlib.Core.List.{List, [], _∷_}
 use mathlib.Core.Path.{_≡_, refl, sym, _∙_, ap}
 use native.Mathlib.Omega.{arith}
@@ -25,11 +25,13 @@ use Rattle.tables.proofs.Held.{held-makers}
 use Rattle.bindings.specs.Log.{Logged}
 use Rattle.bindings.specs.Held.{Holds as BindingsHold, Sound as BindingsSound}
 use Rattle.expand.specs.Runs.{expanded, Written}
-use Rattle.expand.proofs.Callers.{expanded-vars, written-long, written-whole}
+use Rattle.expand.proofs.Callers.{written-long, written-whole}
 use Rattle.held.specs.declared.Counts.{Counts}
-use Rattle.held.specs.Held.{capacities, Bound, Graphed, Holds}
+use Rattle.emptypaths.proofs.Empty.{path-held}
+use Rattle.held.specs.Held.{capacities, Graphed, Holds}
 use Rattle.held.specs.Adds.{Whole}
-use Rattle.outputs.specs.Asks.{pathOf, Filed, Files}
+use Rattle.emptypaths.specs.Walk.{pathOf}
+use Rattle.outputs.specs.Asks.{sameBool, Filed, Files}
 
 -- ---- makers
 
@@ -103,11 +105,6 @@ long-unmade {rd = rd} h path b =
     (λ (e : among path (rd .files) ≡ true). absurd (omega (arith, among-short path (rd .files) e, h .bound .shared, h .bound .few-written)))
     (λ (e : among path (rd .files) ≡ false). unknown-unmade (h .graphed) path e)
 
--- A path as it is expanded.
-pub path-held : {log : List Logged} {texts bind : List ℕ} {c : Counts} {rd : Reading} → Bound log texts bind c rd → (raw : List ℕ) → pathOf rd raw ≡ expanded log raw
-unfolding pathOf
-path-held {log} {rd = rd} b raw = expanded-vars log (rd .vars) raw (b .vars)
-
 pub filed : {log : List Logged} {names ends texts bind graph : List ℕ} {c : Counts} {rd : Reading} → Holds log names ends texts bind graph c rd → Filed log names ends graph c rd
 filed h = record { named = h .named; graphed = h .graphed }
 
@@ -116,15 +113,8 @@ files-held w = record { log = w .log; reading = w .reading; filed = filed (w .ho
 
 -- ---- what the functions on one path answer
 
-none-long : (s : List ℕ) → eqb (length s) 0 ≡ isEmpty s
-none-long [] = refl
-none-long (b ∷ s) = ne-eqb (suc (length s)) 0 (λ e. omega arith)
-
 module _ (raw : List ℕ) {texts bind word word′ : List ℕ} {c : Counts} {n : ℕ}
     (x : (log : List Logged) → BindingsHold log texts bind (c .entries) → Written word (expanded log raw) word′ n) where
-  pub empty-held : (log : List Logged) (rd : Reading) → Bound log texts bind c rd → eqb n 0 ≡ isEmpty (pathOf rd raw)
-  empty-held log rd b = rw (path-held b raw, x log (b .held) .count) (none-long (expanded log raw))
-
   module _ {names ends graph : List ℕ} where
     pub long-held : maxWritten ≤ length word → length word′ < n → (log : List Logged) (rd : Reading) → Holds log names ends texts bind graph c rd → false ≡ isMade (pathOf rd raw) rd
     long-held r l log rd h = rw (path-held (h .bound) raw) (long-unmade h (expanded log raw) (omega (arith, x log (h .bound .held) .count, written-long (x log (h .bound .held)))))
@@ -138,3 +128,11 @@ module _ (raw : List ℕ) {texts bind word word′ : List ℕ} {c : Counts} {n :
 
 pub table-held : {names ends texts bind graph : List ℕ} {c : Counts} → Whole names ends texts bind graph c → BindingsSound texts bind (c .entries)
 table-held w = record { log = w .log; held = w .holds .bound .held }
+
+-- ---- a test that is compared with another
+
+pub beq-same : (a w : Bool) → Bool·beq a w ≡ sameBool w a
+beq-same true true = refl
+beq-same true false = refl
+beq-same false true = refl
+beq-same false false = refl

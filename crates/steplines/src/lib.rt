@@ -7,7 +7,7 @@ use held::LineAnswer;
 use held::Open;
 use joins::join;
 use joins::rule_number;
-use mentions::Mentioned;
+use marks::Mentioned;
 use rules::Refusal;
 use rules::limits::STEPS;
 use steplists::four;

@@ -4,7 +4,7 @@ use arena::put;
 use forms::BuildPlaces;
 use held::Counts;
 use held::columns::ENDS;
-use mentions::Mentioned;
+use marks::Mentioned;
 use mentions::mention_all;
 
 // One list; its end is number e of all ends.

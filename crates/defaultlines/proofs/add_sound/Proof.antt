@@ -6,7 +6,8 @@ use borrow.Author.Needs.{needs}
 use denote.Ref.{now}
 use lib.ListN.{length}
 use Rattle.outputs.proofs.Makers.{table-held}
-use Rattle.outputs.proofs.Walking.{goes-on, stops, ready-path}
+use Rattle.forms.proofs.Walks.{goes-on, stops}
+use Rattle.emptypaths.proofs.Walking.{ready-path}
 use Rattle.scan.specs.Texts.{PathNext}
 use Rattle.defaultlines.proofs.Adding.{Adding, add-begin, add-whole, add-on, add-over, add-end}
 use Rattle.defaultlines.proofs.add_sound.Statement.{statement}

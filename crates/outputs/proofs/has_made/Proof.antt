@@ -8,9 +8,11 @@ use lib.ListN.{length}
 use Rattle.held.specs.Held.{Holds}
 use Rattle.rules.specs.Reading.{isMade}
 use Rattle.scan.specs.Texts.{PathNext}
-use Rattle.outputs.specs.Asks.{pathOf, sameBool}
-use Rattle.outputs.proofs.Makers.{table-held}
-use Rattle.outputs.proofs.Walking.{beq-same, goes-on, stops, ready-path, Looked, look-begin, look-more, look-found, look-end}
+use Rattle.emptypaths.specs.Walk.{pathOf}
+use Rattle.outputs.specs.Asks.{sameBool}
+use Rattle.outputs.proofs.Makers.{table-held, beq-same}
+use Rattle.forms.proofs.Walks.{goes-on, stops}
+use Rattle.emptypaths.proofs.Walking.{ready-path, Looked, look-begin, look-more, look-found, look-end}
 use Rattle.outputs.proofs.has_made.Statement.{statement}
 use Rattle.outputs.proofs.has_made.Tie as tie
 

@@ -1,0 +1,4 @@
+pub mod Sorting
+pub mod Rising
+pub mod Repeats
+pub mod Behind
