@@ -1,3 +1,2 @@
-pub mod Planned
-pub mod Written
+pub mod Short
 pub mod Demands

@@ -1,17 +1,13 @@
 // The two asks on lent bytes. Neither asks anything of what it is given: it refuses.
 ghost use Rattle.rules.specs.Promises.{PlanPromise, TextPromise};
-
-mod plans;
-mod texts;
-
-use crate::plans::plan_buffered;
-use crate::texts::text_buffered;
+use planbuffers::plan_buffered;
 use rules::PlanAnswer;
 use rules::Refusal;
 use rules::TextAnswer;
 use rules::Wanted;
 use rules::limits::LIST;
 use rules::limits::TEXT;
+use textbuffers::text_buffered;
 
 // The list of the stale needed command steps for a manifest, a card of file times and a list of targets.
 pub fn plan(manifest: &[u8], card: &[u8], targets: &[u8], list: &mut [u32]) -> PlanAnswer

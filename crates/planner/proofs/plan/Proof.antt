@@ -1,11 +1,11 @@
 -- `planner::plan` meets its contract.
-use Rattle.planner.proofs.Planned.{short}
+use Rattle.planner.proofs.Short.{short-list}
 use borrow.Author.Needs.{needs}
 use Rattle.planner.proofs.plan.Statement.{statement}
 use Rattle.planner.proofs.plan.Tie as tie
 
 returns : tie.Need-returns
-returns c = short (c .before .before .before .before .before .args .manifest .now) (c .before .before .before .before .before .args .card .now) (c .before .before .before .before .before .args .targets .now) (c .before .before .before .before .before .args .list .now) (c .if1 .taken)
+returns c = short-list (c .before .before .before .before .before .args .manifest .now) (c .before .before .before .before .before .args .card .now) (c .before .before .before .before .before .args .targets .now) (c .before .before .before .before .before .args .list .now) (c .if1 .taken)
 
 plan-buffered-requires : tie.Need-plan-buffered-requires
 plan-buffered-requires c κs = search needs

@@ -1,11 +1,11 @@
 -- `planner::text` meets its contract.
-use Rattle.planner.proofs.Written.{short}
+use Rattle.planner.proofs.Short.{short-text}
 use borrow.Author.Needs.{needs}
 use Rattle.planner.proofs.text.Statement.{statement}
 use Rattle.planner.proofs.text.Tie as tie
 
 returns : tie.Need-returns
-returns c = short (c .before .before .before .args .manifest .now) (c .before .before .before .args .step) (c .before .before .before .args .wanted) (c .before .before .before .args .buffer .now) (c .if1 .taken)
+returns c = short-text (c .before .before .before .args .manifest .now) (c .before .before .before .args .step) (c .before .before .before .args .wanted) (c .before .before .before .args .buffer .now) (c .if1 .taken)
 
 text-buffered-requires : tie.Need-text-buffered-requires
 text-buffered-requires c κs = search needs

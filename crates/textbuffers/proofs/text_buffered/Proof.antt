@@ -1,10 +1,10 @@
--- `planner::texts::text_buffered` meets its contract.
+-- `textbuffers::text_buffered` meets its contract.
 use Prim.Native.Nat.{ℕ}
 use lib.ListN.{length-replicate}
-use Rattle.planner.proofs.Planned.{roomy}
+use Rattle.reader.proofs.Buffers.{roomy}
 use borrow.Author.Needs.{needs}
-use Rattle.planner.proofs.texts.text_buffered.Statement.{statement}
-use Rattle.planner.proofs.texts.text_buffered.Tie as tie
+use Rattle.textbuffers.proofs.text_buffered.Statement.{statement}
+use Rattle.textbuffers.proofs.text_buffered.Tie as tie
 
 table-requires : tie.Need-table-requires
 table-requires c κs = search needs

@@ -3,7 +3,7 @@ ghost use Prim.Native.Nat.{_≤_};
 ghost use lib.ListN.{length};
 ghost use Rattle.rules.specs.Limits.{maxText};
 ghost use Rattle.rules.specs.Promises.{TextPromise};
-ghost use Rattle.planner.specs.Asked.{TextAsked};
+ghost use Rattle.textbuffers.specs.Asked.{TextAsked};
 use bindings::ROWS;
 use bindings::TEXTS;
 use classes::table;

@@ -1,9 +1,9 @@
--- `planner::plans::plan_in` meets its contract.
+-- `planbuffers::plan_in` meets its contract.
 use Rattle.reader.proofs.Answers.{read-accepted, read-refused}
-use Rattle.planner.proofs.Planned.{unread, planned, askable}
+use Rattle.planbuffers.proofs.Planned.{unread, planned, askable}
 use borrow.Author.Needs.{needs}
-use Rattle.planner.proofs.plans.plan_in.Statement.{statement}
-use Rattle.planner.proofs.plans.plan_in.Tie as tie
+use Rattle.planbuffers.proofs.plan_in.Statement.{statement}
+use Rattle.planbuffers.proofs.plan_in.Tie as tie
 
 read-requires : tie.Need-read-requires
 read-requires c κs = search needs

@@ -1,31 +1,22 @@
 -- What the text ask answers by what the reader answers.
-use Prim.Native.Nat.{ℕ, _≤_, _<_}
+use Prim.Native.Nat.{ℕ, _≤_}
 use mathlib.Core.List.{List}
-use mathlib.Core.Path.{_≡_, refl, _∙_}
-use borrow.Author.Tests.{lt-ltb}
+use mathlib.Core.Path.{_≡_, _∙_}
 use lib.ListN.{length}
 use Rattle.lists.specs.Fill.{zeroed}
 use Rattle.rules.specs.declared.Refusal.{Refusal}
-use Rattle.rules.specs.declared.Refusal.the-variants.{ShortBuffer}
 use Rattle.rules.specs.declared.TextAnswer.{TextAnswer}
 use Rattle.rules.specs.declared.TextAnswer.the-variants.{Refused}
 use Rattle.rules.specs.declared.Wanted.{Wanted}
 use Rattle.rules.specs.Limits.{maxText}
-use Rattle.rules.specs.Answers.{numberOfRefusal, textSays}
-use Rattle.rules.specs.TextAsk.{textAsk}
 use Rattle.rules.specs.Manifest.{refusedWith, readManifest}
-use Rattle.rules.specs.Promises.{leftBy, TextMeets, TextPromise}
+use Rattle.rules.specs.Promises.{TextPromise}
 use Rattle.planning.proofs.Outcomes.{cleared}
 use Rattle.classes.specs.Table.{classes}
 use Rattle.held.specs.declared.Counts.{Counts}
 use Rattle.reader.specs.Manifests.{Held}
 use Rattle.textask.specs.Asks.{TextAsk, TextOf}
 use Rattle.textask.proofs.Promise.{text-asked, text-promised, refusal-promised}
-
--- 1
-pub short : (manifest : List ℕ) (step : ℕ) (wanted : Wanted) (buffer : List ℕ) → length buffer < maxText → TextPromise manifest step wanted buffer (Refused ShortBuffer) buffer
-unfolding textAsk TextMeets textSays leftBy numberOfRefusal
-short manifest step wanted buffer h = rw (lt-ltb (length buffer) maxText h) (record { says = refl; leaves = refl })
 
 module _ (manifest buffer : List ℕ) (room : maxText ≤ length buffer) where
   -- 2 to 10

@@ -1,15 +1,14 @@
 -- What the plan ask answers by what the reader answers.
-use Prim.Native.Nat.{ℕ, _≤_, _<_}
+use Prim.Native.Nat.{ℕ, _≤_}
 use mathlib.Core.Bool.{false}
 use mathlib.Core.List.{List}
 use mathlib.Core.Path.{_≡_, refl, _∙_}
 use native.Mathlib.Omega.{arith}
-use borrow.Author.Tests.{lt-ltb, le-ltb, ne-eqb}
+use borrow.Author.Tests.{le-ltb, ne-eqb}
 use lib.Dec.{ltb}
 use lib.ListN.{length}
 use Rattle.lists.specs.Fill.{zeroed}
 use Rattle.rules.specs.declared.Refusal.{Refusal}
-use Rattle.rules.specs.declared.Refusal.the-variants.{ShortBuffer}
 use Rattle.rules.specs.declared.PlanAnswer.{PlanAnswer}
 use Rattle.rules.specs.declared.PlanAnswer.the-variants.{Refused}
 use Rattle.rules.specs.Limits.{leastList}
@@ -21,13 +20,7 @@ use Rattle.rules.proofs.Manifests.{of-reading}
 use Rattle.planning.proofs.Outcomes.{cleared}
 use Rattle.planread.specs.Asked.{ReadAsked, PlansRead}
 use Rattle.held.specs.declared.Counts.{Counts}
-use Rattle.classes.specs.Table.{classes}
-use Rattle.reader.specs.Manifests.{Roomy, Held}
-
--- 1
-pub short : (manifest card targets list : List ℕ) → length list < leastList → PlanPromise manifest card targets list (Refused ShortBuffer) list
-unfolding planAsk PlanMeets planSays leftBy numberOfRefusal
-short manifest card targets list h = rw (lt-ltb (length list) leastList h) (record { says = refl; leaves = refl })
+use Rattle.reader.specs.Manifests.{Held}
 
 module _ (manifest card targets list : List ℕ) (room : leastList ≤ length list) where
   long : ltb (length list) leastList ≡ false
@@ -52,18 +45,3 @@ pub askable : {manifest names ends texts bind graph : List ℕ} {c : Counts} {li
     → ReadAsked names ends graph c list
 askable {texts = texts} {bind = bind} r h =
     record { texts = texts; bind = bind; whole = record { log = h .log; reading = h .reading; holds = h .holds }; room = r }
-
--- ---- buffers of the asks' own
-
-module _ {t names ends texts bind graph word : List ℕ} (e : t ≡ classes) (n : length names ≡ 60000) (f : length ends ≡ 3072) (x : length texts ≡ 133728)
-    (b : length bind ≡ 4608) (g : length graph ≡ 61440) (w : length word ≡ 60000) where
-  pub roomy : Roomy t names ends texts bind graph word
-  roomy =
-      record {
-        table = e;
-        room = record { names-room = omega (arith, n); scratch = omega (arith, g); word-room = omega (arith, w) };
-        names-small = omega (arith, n);
-        numbers-room = omega (arith, f);
-        texts-room = omega (arith, x);
-        bind-room = omega (arith, b);
-      }

@@ -3,7 +3,7 @@ ghost use Prim.Native.Nat.{_≤_};
 ghost use lib.ListN.{length};
 ghost use Rattle.rules.specs.Limits.{leastList};
 ghost use Rattle.rules.specs.Promises.{PlanPromise};
-ghost use Rattle.planner.specs.Asked.{PlanAsked};
+ghost use Rattle.planbuffers.specs.Asked.{PlanAsked};
 use bindings::ROWS;
 use bindings::TEXTS;
 use classes::table;

@@ -1,10 +1,10 @@
--- `planner::plans::plan_buffered` meets its contract.
+-- `planbuffers::plan_buffered` meets its contract.
 use Prim.Native.Nat.{ℕ}
 use lib.ListN.{length-replicate}
-use Rattle.planner.proofs.Planned.{roomy}
+use Rattle.reader.proofs.Buffers.{roomy}
 use borrow.Author.Needs.{needs}
-use Rattle.planner.proofs.plans.plan_buffered.Statement.{statement}
-use Rattle.planner.proofs.plans.plan_buffered.Tie as tie
+use Rattle.planbuffers.proofs.plan_buffered.Statement.{statement}
+use Rattle.planbuffers.proofs.plan_buffered.Tie as tie
 
 table-requires : tie.Need-table-requires
 table-requires c κs = search needs

@@ -1,9 +1,9 @@
--- `planner::texts::text_in` meets its contract.
+-- `textbuffers::text_in` meets its contract.
 use Rattle.reader.proofs.Answers.{read-accepted, read-refused}
-use Rattle.planner.proofs.Written.{unread, askable, written}
+use Rattle.textbuffers.proofs.Written.{unread, askable, written}
 use borrow.Author.Needs.{needs}
-use Rattle.planner.proofs.texts.text_in.Statement.{statement}
-use Rattle.planner.proofs.texts.text_in.Tie as tie
+use Rattle.textbuffers.proofs.text_in.Statement.{statement}
+use Rattle.textbuffers.proofs.text_in.Tie as tie
 
 read-requires : tie.Need-read-requires
 read-requires c κs = search needs
