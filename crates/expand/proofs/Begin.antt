@@ -13,8 +13,8 @@ use Rattle.lists.specs.Parts.{part, length-part, part-none}
 use Rattle.lists.specs.Runs.{isNot, run, afterRun, Reads, part-run}
 use Rattle.rules.specs.Bytes.{dollar}
 use Rattle.rules.specs.Dollars.{badDollar}
-use Rattle.scan.specs.Element.{Element, literal, joins, wrong, element, restOf, Found, FoundName}
-use Rattle.scan.proofs.Places.{at-cons}
+use Rattle.dollars.specs.Element.{Element, literal, joins, wrong, element, restOf, Found, FoundName}
+use Rattle.tokens.proofs.Places.{at-cons}
 use Rattle.scan.proofs.Pieces.{sound-rest, sound-not-bad}
 use Rattle.expand.specs.declared.Run.{Run}
 use Rattle.expand.specs.Runs.{expanded, bytesOf, Placed, leftOf, Begins, Variable, Ready}

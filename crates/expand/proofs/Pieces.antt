@@ -13,7 +13,7 @@ use Rattle.rules.specs.Basics.{isEmpty}
 use Rattle.rules.specs.Bytes.{newline, dollar, openBrace, closeBrace, shortByte}
 use Rattle.rules.specs.Dollars.{escaped, badDollar, fill, expand}
 use Rattle.rules.specs.Forms.{nameOf, afterName}
-use Rattle.scan.specs.Element.{literal, joins, names, wrong, braced, element}
+use Rattle.dollars.specs.Element.{literal, joins, names, wrong, braced, element}
 use Rattle.scan.proofs.Pieces.{pieces-byte, pieces-literal, pieces-join, pieces-name, sound-byte}
 
 module _ (look : List ℕ → List ℕ) where

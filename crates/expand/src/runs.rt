@@ -8,9 +8,9 @@ use crate::Run;
 use bindings::Found;
 use bindings::newest;
 use bindings::value_place;
+use dollars::Begins;
+use dollars::dollar;
 use lists::bytes::find;
-use scan::Dollar;
-use scan::dollars::dollar;
 
 // The value of a name, as a run.
 fn variable(wanted: &[u8], texts: &[u8], bind: &[u32], count: usize, next: usize) -> Run
@@ -51,20 +51,20 @@ pub fn run_at(t: &[u8; 256], raw: &[u8], i: usize, texts: &[u8], bind: &[u32], c
         };
     }
     match dollar(t, raw, i + 1) {
-        Dollar::Byte(_, next) => Run {
+        Begins::Byte(_, next) => Run {
             bound: false,
             from: i + 1,
             to: i + 2,
             next,
         },
-        Dollar::Join(next) => Run {
+        Begins::Join(next) => Run {
             bound: false,
             from: next,
             to: next,
             next,
         },
-        Dollar::Name(from, to, next) => variable(&raw[from..to], texts, bind, count, next),
-        Dollar::Bad => Run {
+        Begins::Name(from, to, next) => variable(&raw[from..to], texts, bind, count, next),
+        Begins::Bad => Run {
             bound: false,
             from: i,
             to: i,

@@ -10,7 +10,7 @@ use Rattle.lists.specs.Runs.{Reads, afterRun}
 use Rattle.lists.specs.Text.{bytes}
 use Rattle.rules.specs.Lines.{isSpace}
 use Rattle.rules.specs.Forms.{nameOf, afterName, cutRule, cutBuild, cutDefault, cutBinding, cutStatement, cutIndented}
-use Rattle.scan.proofs.Names.{part-name}
+use Rattle.tokens.proofs.Names.{part-name}
 
 pub indented-is : {l : List ℕ} {from : ℕ} → Reads (afterRun isSpace) l 0 from → cutIndented l ≡ cutBinding (drop from l)
 unfolding cutIndented

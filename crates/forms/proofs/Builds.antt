@@ -13,7 +13,7 @@ use Rattle.lists.specs.Runs.{Reads}
 use Rattle.rules.specs.Basics.{isEmpty}
 use Rattle.rules.specs.Bytes.{colon, bar}
 use Rattle.rules.specs.Forms.{Cut, fails, noForm, then, gap, nameOf, ruleWord, pathsUp, paths, Form, BuildLine, lineEnd, oneBar, twoBars, otherByte, barsAt, inputsOf, cutOrderOnly, afterImplicit, afterInputs, cutInputs, afterOutputs, cutBuild}
-use Rattle.scan.proofs.Places.{at-cons, at-end}
+use Rattle.tokens.proofs.Places.{at-cons, at-end}
 use Rattle.forms.specs.declared.Fault.{Fault}
 use Rattle.forms.specs.declared.Head.{Head}
 use Rattle.forms.specs.Faults.{Fails}

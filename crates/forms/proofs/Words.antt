@@ -17,7 +17,7 @@ use Rattle.rules.specs.Dollars.{badDollar}
 use Rattle.rules.specs.Lines.{isSpace}
 use Rattle.rules.specs.Forms.{Fault as Rules·Fault, noForm, fits, fails, gap, nameOf, afterName, ruleWord, keyWord, paths, checked, bindingForm, cutRule, cutDefault, rawValue, cutValue, cutBinding}
 use Rattle.scan.specs.Texts.{ValueBad}
-use Rattle.scan.proofs.Places.{at-cons, at-end}
+use Rattle.tokens.proofs.Places.{at-cons, at-end}
 use Rattle.scan.proofs.Faults.{raw-length}
 use Rattle.forms.specs.declared.Fault.{Fault}
 use Rattle.forms.specs.declared.Fault.the-variants.{BadDollar}

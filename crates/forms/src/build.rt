@@ -16,7 +16,7 @@ use crate::Named;
 use crate::Statement;
 use crate::names::rule_name;
 use crate::paths::listed;
-use scan::tokens::gap;
+use tokens::gap;
 
 // `||` is read before `|`.
 fn bars(l: &[u8], at: usize) -> Bars

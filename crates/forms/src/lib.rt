@@ -13,8 +13,8 @@ use crate::names::cut_binding;
 use crate::names::cut_rule;
 use crate::paths::cut_default;
 use lists::bytes::equal;
-use scan::tokens::name;
-use scan::tokens::spaces;
+use tokens::name;
+use tokens::spaces;
 
 // What a line without indent is.
 pub enum Statement {

@@ -11,14 +11,14 @@ use crate::Assignment;
 use crate::Fault;
 use crate::Named;
 use crate::Statement;
+use keywords::Word;
+use keywords::key_word;
+use keywords::rule_word;
 use scan::FirstBad;
-use scan::Word;
 use scan::texts::bad_dollar;
 use scan::texts::raw_value;
-use scan::tokens::gap;
-use scan::tokens::name;
-use scan::words::key_word;
-use scan::words::rule_word;
+use tokens::gap;
+use tokens::name;
 
 // The name of a rule.
 pub fn rule_name(t: &[u8; 256], l: &[u8], from: usize) -> Named

@@ -18,11 +18,11 @@ use Rattle.rules.specs.Manifest.{badByte}
 use Rattle.rules.specs.Targets.{Target, badLength}
 use Rattle.scan.specs.declared.FirstBad.{FirstBad}
 use Rattle.scan.specs.declared.FirstBad.the-variants.{Nowhere, At}
-use Rattle.scan.specs.declared.LineKind.{LineKind}
-use Rattle.scan.specs.declared.LineKind.the-variants.{Comment, Blank, Indented, Statement}
-use Rattle.scan.specs.Element.{element, restOf, Passed}
+use Rattle.lineends.specs.declared.LineKind.{LineKind}
+use Rattle.lineends.specs.declared.LineKind.the-variants.{Comment, Blank, Indented, Statement}
+use Rattle.dollars.specs.Element.{element, restOf, Passed}
 use Rattle.scan.specs.Texts.{PathEnds, PathBad, PathsStop, PathNext, PathsBad, placeOf}
-use Rattle.scan.specs.Endings.{LineEnded, LineOpen, kindOf}
+use Rattle.lineends.specs.Endings.{LineEnded, LineOpen, kindOf}
 use Rattle.targets.specs.declared.Next.{Next}
 use Rattle.targets.specs.declared.Next.the-variants.{End, Bad, Name}
 use Rattle.targets.specs.Next.{nextIn}

@@ -7,7 +7,7 @@ use Rattle.lists.specs.Tests.{ifB}
 use Rattle.rules.specs.Dollars.{plain, badDollar}
 use Rattle.rules.specs.Lines.{indent, lineFrom, endedFrom, isComment, isBlank, isIndented}
 use Rattle.rules.specs.Forms.{Fault, noForm, wrongDollar, notYet, Cut, fits, fails, pathFrom, afterPath, Paths}
-use Rattle.scan.specs.Element.{restOf, element}
+use Rattle.dollars.specs.Element.{restOf, element}
 
 -- 0 for none, p + 1 for place p
 unfoldable pub orNone : Option ℕ → ℕ

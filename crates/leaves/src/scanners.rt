@@ -10,13 +10,13 @@ ghost use Rattle.rules.specs.Forms.{gap, afterName, ruleWord, keyWord, paths};
 ghost use Rattle.rules.specs.Manifest.{badByte};
 ghost use Rattle.classes.specs.Table.{classes};
 ghost use Rattle.leaves.specs.Scanners.{orNone, placeAfter, dollarNumber, pathNumber, pathsNumber, wordNumber, endNumber, kindNumber};
+use dollars::After;
+use keywords::Word;
+use lineends::LineEnd;
+use lineends::LineKind;
 use scan::FirstBad;
-use scan::LineEnd;
-use scan::LineKind;
 use scan::NextPath;
-use scan::Past;
 use scan::PathEnd;
-use scan::Word;
 
 // The class of a byte.
 #[no_mangle]
@@ -42,7 +42,7 @@ pub extern "C" fn kestrenyo_spaces(s: &[u8], from: usize) -> usize
     ensures { λ r. ⌜ r ≡ placeAfter (afterRun isSpace) (now (s .entry)) from ⌝ }
 {
     let i = start_in(s, from);
-    scan::tokens::spaces(s, i)
+    tokens::spaces(s, i)
 }
 
 // Where spaces and joins end.
@@ -51,7 +51,7 @@ pub extern "C" fn kestrenyo_gap(s: &[u8], from: usize) -> usize
     ensures { λ r. ⌜ r ≡ placeAfter gap (now (s .entry)) from ⌝ }
 {
     let i = start_in(s, from);
-    scan::tokens::gap(s, i)
+    tokens::gap(s, i)
 }
 
 // Where a name ends.
@@ -61,7 +61,7 @@ pub extern "C" fn kestrenyo_name(s: &[u8], from: usize) -> usize
 {
     let t = classes::table();
     let i = start_in(s, from);
-    scan::tokens::name(&t, s, i)
+    tokens::name(&t, s, i)
 }
 
 // What the `$` in front of `from` begins, passed.
@@ -71,9 +71,9 @@ pub extern "C" fn kestrenyo_dollar(s: &[u8], from: usize) -> usize
 {
     let t = classes::table();
     let i = start_in(s, from);
-    match scan::dollars::past(&t, s, i) {
-        Past::To(next) => next + 1,
-        Past::Bad => 0,
+    match dollars::past(&t, s, i) {
+        After::To(next) => next + 1,
+        After::Bad => 0,
     }
 }
 
@@ -146,7 +146,7 @@ pub extern "C" fn kestrenyo_bad_dollar(raw: &[u8]) -> usize
 pub extern "C" fn kestrenyo_rule_word(w: &[u8]) -> u8
     ensures { λ r. ⌜ r ≡ wordNumber (ruleWord (now (w .entry))) ⌝ }
 {
-    match scan::words::rule_word(w) {
+    match keywords::rule_word(w) {
         Word::Name => 0,
         Word::NoForm => 4,
         Word::NotYet => 6,
@@ -158,7 +158,7 @@ pub extern "C" fn kestrenyo_rule_word(w: &[u8]) -> u8
 pub extern "C" fn kestrenyo_key_word(w: &[u8]) -> u8
     ensures { λ r. ⌜ r ≡ wordNumber (keyWord (now (w .entry))) ⌝ }
 {
-    match scan::words::key_word(w) {
+    match keywords::key_word(w) {
         Word::Name => 0,
         Word::NoForm => 4,
         Word::NotYet => 6,
@@ -171,7 +171,7 @@ pub extern "C" fn kestrenyo_line_end(m: &[u8], from: usize) -> usize
     ensures { λ r. ⌜ r ≡ endNumber (now (m .entry)) from ⌝ }
 {
     let i = start_in(m, from);
-    match scan::lines::line_end(m, i) {
+    match lineends::line_end(m, i) {
         LineEnd::Ended(end) => end + 1,
         LineEnd::Open => 0,
     }
@@ -182,7 +182,7 @@ pub extern "C" fn kestrenyo_line_end(m: &[u8], from: usize) -> usize
 pub extern "C" fn kestrenyo_line_kind(s: &[u8]) -> u8
     ensures { λ r. ⌜ r ≡ kindNumber (now (s .entry)) ⌝ }
 {
-    match scan::lines::line_kind(s) {
+    match lineends::line_kind(s) {
         LineKind::Comment => 0,
         LineKind::Blank => 1,
         LineKind::Indented => 2,

@@ -14,8 +14,8 @@ use Rattle.rules.specs.Lines.{Line}
 use Rattle.rules.specs.Forms.{cutStatement, cutIndented, Cut, fits, Form}
 use Rattle.rules.specs.Statements.{refused}
 use Rattle.rules.specs.Manifest.{faultOf, ifCut}
-use Rattle.scan.specs.Endings.{LineEnded, LineOpen}
-use Rattle.scan.proofs.Ends.{lines-next, lines-last, lines-end}
+use Rattle.lineends.specs.Endings.{LineEnded, LineOpen}
+use Rattle.lineends.proofs.Ends.{lines-next, lines-last, lines-end}
 use Rattle.scan.proofs.Faults.{fault-place}
 use Rattle.forms.specs.declared.Fault.{Fault}
 use Rattle.forms.specs.declared.Fault.the-variants.{NoForm, BadDollar, NotYet}

@@ -15,7 +15,7 @@ use Rattle.rules.specs.Forms.{Cut, Form, cutStatement, cutIndented}
 use Rattle.rules.specs.Statements.{Outcome, refused}
 use Rattle.rules.specs.Manifest.{ifCut}
 use Rattle.classes.specs.Table.{classes}
-use Rattle.scan.specs.Endings.{linesFrom}
+use Rattle.lineends.specs.Endings.{linesFrom}
 use Rattle.forms.specs.declared.Fault.{Fault}
 use Rattle.forms.specs.declared.Fault.the-variants.{NoForm, BadDollar as WrongDollar, NotYet as Later}
 use Rattle.forms.specs.Statements.{RuleAt, BuildAt, DefaultAt, BindingAt}

@@ -14,9 +14,9 @@ use forms::Fault;
 use forms::Statement;
 use forms::cut_indented;
 use forms::cut_statement;
+use lineends::LineEnd;
+use lineends::line_end;
 use rules::Refusal;
-use scan::LineEnd;
-use scan::lines::line_end;
 
 pub mod cursor;
 

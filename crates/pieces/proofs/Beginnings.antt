@@ -15,8 +15,8 @@ use Rattle.lists.specs.Runs.{isNot, run, afterRun, Reads, part-run}
 use Rattle.rules.specs.Bytes.{dollar}
 use Rattle.rules.specs.Dollars.{badDollar, pieces, byte}
 use Rattle.rules.specs.Dollars as rules
-use Rattle.scan.specs.Element.{Element, literal, joins, wrong, element, restOf, Found, FoundName}
-use Rattle.scan.proofs.Places.{at-cons}
+use Rattle.dollars.specs.Element.{Element, literal, joins, wrong, element, restOf, Found, FoundName}
+use Rattle.tokens.proofs.Places.{at-cons}
 use Rattle.scan.proofs.Pieces.{pieces-byte, pieces-literal, pieces-join, pieces-name, sound-rest, sound-not-bad}
 use Rattle.expand.proofs.Pieces.{sound-run, literal-here}
 use Rattle.pieces.specs.declared.Piece.{Piece}

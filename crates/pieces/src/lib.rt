@@ -2,9 +2,9 @@
 ghost use Prim.Native.Nat.{_<_};
 ghost use lib.ListN.{length};
 ghost use Rattle.pieces.specs.Begins.{Ready, Begins};
+use dollars::Begins;
+use dollars::dollar;
 use lists::bytes::find;
-use scan::Dollar;
-use scan::dollars::dollar;
 
 // A piece from place to place of the raw text, and where the text goes on behind it.
 pub enum Piece {
@@ -22,9 +22,9 @@ pub fn piece_at(t: &[u8; 256], raw: &[u8], i: usize) -> Piece
         return Piece::Bytes(i, end, end);
     }
     match dollar(t, raw, i + 1) {
-        Dollar::Byte(_, next) => Piece::Bytes(i + 1, i + 2, next),
-        Dollar::Join(next) => Piece::Bytes(next, next, next),
-        Dollar::Name(from, to, next) => Piece::Name(from, to, next),
-        Dollar::Bad => Piece::Bytes(i, i, raw.len()),
+        Begins::Byte(_, next) => Piece::Bytes(i + 1, i + 2, next),
+        Begins::Join(next) => Piece::Bytes(next, next, next),
+        Begins::Name(from, to, next) => Piece::Name(from, to, next),
+        Begins::Bad => Piece::Bytes(i, i, raw.len()),
     }
 }

@@ -1,4 +1,3 @@
-pub mod ByKind
 pub mod Turns
 pub mod Answers
 pub mod Buffers

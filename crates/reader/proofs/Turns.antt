@@ -11,8 +11,8 @@ use Rattle.rules.specs.Lines.{Line, linesOf}
 use Rattle.rules.specs.Reading.{nothingRead}
 use Rattle.rules.specs.Statements.{noBlock, Outcome}
 use Rattle.rules.specs.Manifest.{close, andThen, readLine, readLines}
-use Rattle.scan.specs.Endings.{linesFrom}
-use Rattle.scan.proofs.Ends.{lines-begin, lines-end}
+use Rattle.lineends.specs.Endings.{linesFrom}
+use Rattle.lineends.proofs.Ends.{lines-begin, lines-end}
 use Rattle.lines.specs.declared.Span.{Span}
 use Rattle.lines.specs.Cuts.{lineOf, LineSpan}
 use Rattle.held.specs.declared.Counts.{Counts}

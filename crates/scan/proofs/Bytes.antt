@@ -11,7 +11,7 @@ use lib.ListN.{length, drop, getD}
 use Rattle.rules.specs.Bytes.{newline, forbidden, classOf}
 use Rattle.rules.specs.Manifest.{badByte}
 use Rattle.classes.proofs.Sorted.{sorted}
-use Rattle.scan.proofs.Places.{at-cons, at-end}
+use Rattle.tokens.proofs.Places.{at-cons, at-end}
 
 -- i bytes are sound, and the last of them, or the newline before the first, is `last`.
 pub record Checking (m : List ℕ) (last i : ℕ) : Type 0 where

@@ -12,9 +12,9 @@ use Rattle.rules.specs.Bytes.{dollar, classOf}
 use Rattle.rules.specs.Dollars.{Scan, plain, endsBad, badDollar}
 use Rattle.rules.specs.Forms.{pathStop, endsPath}
 use Rattle.classes.proofs.Sorted.{sorted}
-use Rattle.scan.specs.Element.{element, restOf, Passed}
+use Rattle.dollars.specs.Element.{element, restOf, Passed}
 use Rattle.scan.specs.Texts.{PathEnds, PathBad, ValueBad}
-use Rattle.scan.proofs.Places.{Going, going-on, at-cons, at-end}
+use Rattle.tokens.proofs.Places.{Going, going-on, at-cons, at-end}
 use Rattle.scan.proofs.Look.{ends, badAt, Cutting, look, look-dollar, look-stop, look-byte, follow-rest, follow-none, look-ends, look-bad, path-cutting, value-cutting}
 
 module _ {stop : Scan → ℕ → Bool} {text after : Scan → List ℕ → List ℕ} (k : Cutting stop text after) {s : List ℕ} {i j : ℕ} (a : Going (look stop plain 0) s i j) where

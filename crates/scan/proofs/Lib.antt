@@ -1,13 +1,7 @@
-pub mod Places
 pub mod Answers
-pub mod Gaps
-pub mod Names
-pub mod Elements
 pub mod Look
 pub mod Cuts
 pub mod PathLists
-pub mod Ends
-pub mod LineKinds
 pub mod Bytes
 pub mod Faults
 pub mod Pieces

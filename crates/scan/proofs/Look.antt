@@ -17,7 +17,7 @@ use Rattle.rules.specs.Dollars.{Scan, plain, afterJoin, afterDollar, inBraces, 
 use Rattle.rules.specs.Lines.{isSpace}
 use Rattle.rules.specs.Forms.{nameOf, afterName, pathStop, endsPath, pathFrom, afterPath}
 use Rattle.classes.proofs.Sorted.{sorted}
-use Rattle.scan.specs.Element.{Element, literal, joins, names, wrong, braced, element, restOf}
+use Rattle.dollars.specs.Element.{Element, literal, joins, names, wrong, braced, element, restOf}
 
 pub data Look : Type 0 where
   ends : List ℕ → Look

@@ -15,7 +15,7 @@ use Rattle.rules.specs.Bytes.{newline, space, dollar, colon, bar}
 use Rattle.rules.specs.Dollars.{Scan, plain, turn, badDollar}
 use Rattle.rules.specs.Forms.{Cut, fits, fails, wrongDollar, then, gap, pathStop, endsPath, pathFrom, afterPath, Paths, withPath, checked, pathBegins, pathsUp, paths}
 use Rattle.scan.specs.Texts.{PathEnds, PathBad, PathsStop, PathNext, PathsBad}
-use Rattle.scan.proofs.Places.{at-cons, at-end, part-passed}
+use Rattle.tokens.proofs.Places.{at-cons, at-end, part-passed}
 
 -- ---- each path takes a byte at least
 

@@ -15,7 +15,7 @@ use Rattle.rules.specs.Bytes.{newline, space, dollar, openBrace, closeBrace, sh
 use Rattle.rules.specs.Dollars.{plain, afterJoin, afterDollar, inBraces, inName, afterPlain, escaped, afterEscape, turn, badDollar, Piece, byte, ref, plainGives, gives, givesLast, piecesFrom, pieces}
 use Rattle.rules.specs.Lines.{isSpace}
 use Rattle.rules.specs.Forms.{nameOf, afterName}
-use Rattle.scan.specs.Element.{Element, literal, joins, names, wrong, braced, element, restOf}
+use Rattle.dollars.specs.Element.{Element, literal, joins, names, wrong, braced, element, restOf}
 use Rattle.scan.proofs.Look.{ends, badAt, look, look-dollar, look-byte, follow-rest, follow-none, look-ends, look-sound, value-cutting}
 
 join-pieces : (s : List ℕ) → piecesFrom afterJoin s ≡ piecesFrom plain (afterRun isSpace s)

@@ -1,4 +1,1 @@
-pub mod Words
-pub mod Element
 pub mod Texts
-pub mod Endings

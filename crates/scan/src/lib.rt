@@ -1,34 +1,7 @@
-// Scanners over the manifest and its lines: each goes from a place of a lent slice to a place, or answers what it found there.
-pub mod dollars;
-pub mod lines;
+// Raw paths and raw values of a line, and the bytes of a whole manifest: each scanner goes from a place of a lent slice to a place, or
+// answers what it found there.
 pub mod manifest;
 pub mod texts;
-pub mod tokens;
-pub mod words;
-
-// What a word is: a name, or one of those that fit no form (4) or are not yet in this edition (6).
-pub enum Word {
-    Name,
-    NoForm,
-    NotYet,
-}
-
-// What a `$` begins, and where the bytes after it start.
-pub enum Dollar {
-    // `$$`, `$ ` or `$:`: the byte that it gives
-    Byte(u8, usize),
-    // a join, with the next line's leading spaces
-    Join(usize),
-    // `$name` or `${name}`: where the name starts and where it ends
-    Name(usize, usize, usize),
-    Bad,
-}
-
-// Where the bytes after a sound `$` start.
-pub enum Past {
-    To(usize),
-    Bad,
-}
 
 // Where a path ends, or where its first bad `$` stands.
 pub enum PathEnd {
@@ -47,17 +20,4 @@ pub enum NextPath {
 pub enum FirstBad {
     Nowhere,
     At(usize),
-}
-
-// Where the newline that ends a line stands, if the manifest does not end inside that line.
-pub enum LineEnd {
-    Ended(usize),
-    Open,
-}
-
-pub enum LineKind {
-    Comment,
-    Blank,
-    Indented,
-    Statement,
 }

@@ -7,11 +7,11 @@ ghost use Rattle.classes.specs.Table.{classes};
 ghost use Rattle.scan.specs.Texts.{PathAt, NextAt, ValueAt};
 use crate::FirstBad;
 use crate::NextPath;
-use crate::Past;
 use crate::PathEnd;
-use crate::dollars::past;
-use crate::tokens::gap;
-use crate::tokens::spaces;
+use dollars::After;
+use dollars::past;
+use tokens::gap;
+use tokens::spaces;
 
 // One path, with its dollars checked on the way.
 pub fn path(t: &[u8; 256], s: &[u8], from: usize) -> PathEnd
@@ -23,10 +23,10 @@ pub fn path(t: &[u8; 256], s: &[u8], from: usize) -> PathEnd
         let k = classes::class_in(t, s[i]);
         if k == classes::DOLLAR {
             match past(t, s, i + 1) {
-                Past::To(next) => {
+                After::To(next) => {
                     i = next;
                 }
-                Past::Bad => {
+                After::Bad => {
                     return PathEnd::BadDollar(i);
                 }
             }
@@ -77,10 +77,10 @@ pub fn bad_dollar(t: &[u8; 256], raw: &[u8]) -> FirstBad
     while i < raw.len() {
         if raw[i] == b'$' {
             match past(t, raw, i + 1) {
-                Past::To(next) => {
+                After::To(next) => {
                     i = next;
                 }
-                Past::Bad => {
+                After::Bad => {
                     return FirstBad::At(i);
                 }
             }

@@ -1,6 +1,6 @@
 -- `lines::line_at` meets its contract.
 use mathlib.Core.Path.{subst}
-use Rattle.scan.specs.Endings.{LineAt}
+use Rattle.lineends.specs.Endings.{LineAt}
 use Rattle.lines.proofs.Cut.{span-ended, span-open}
 use borrow.Author.Needs.{needs}
 use Rattle.lines.proofs.line_at.Statement.{statement}

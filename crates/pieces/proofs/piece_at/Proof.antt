@@ -1,5 +1,5 @@
 -- `pieces::piece_at` meets its contract.
-use Rattle.scan.proofs.Answers.{tells-byte, tells-join, tells-name, tells-bad}
+use Rattle.dollars.proofs.Answers.{tells-byte, tells-join, tells-name, tells-bad}
 use Rattle.pieces.proofs.Beginnings.{plain-begins, literal-begins, join-begins, name-begins, none-begins}
 use borrow.Author.Needs.{needs}
 use Rattle.pieces.proofs.piece_at.Statement.{statement}

@@ -2,7 +2,7 @@
 use native.Mathlib.Omega.{arith}
 use borrow.Author.Needs.{needs}
 use denote.Ref.{now}
-use Rattle.scan.proofs.Answers.{tells-byte, tells-join, tells-name, tells-bad}
+use Rattle.dollars.proofs.Answers.{tells-byte, tells-join, tells-name, tells-bad}
 use Rattle.expand.proofs.Begin.{plain-begins, literal-begins, join-begins, name-begins, none-begins}
 use Rattle.expand.proofs.runs.run_at.Statement.{statement}
 use Rattle.expand.proofs.runs.run_at.Tie as tie

@@ -1,7 +1,7 @@
 -- `leaves::scanners::kestrenyo_dollar` meets its contract.
 use native.Mathlib.Omega.{arith}
 use borrow.Author.Needs.{needs}
-use Rattle.scan.proofs.Answers.{past-to, past-bad}
+use Rattle.dollars.proofs.Answers.{past-to, past-bad}
 use Rattle.leaves.proofs.Numbers.{dollar-past, dollar-bad}
 use Rattle.leaves.proofs.scanners.kestrenyo_dollar.Statement.{statement}
 use Rattle.leaves.proofs.scanners.kestrenyo_dollar.Tie as tie

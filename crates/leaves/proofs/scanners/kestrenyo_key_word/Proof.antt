@@ -1,6 +1,6 @@
 -- `leaves::scanners::kestrenyo_key_word` meets its contract.
 use borrow.Author.Needs.{needs}
-use Rattle.scan.proofs.Answers.{word-name, word-no-form, word-not-yet}
+use Rattle.keywords.proofs.Answers.{word-name, word-no-form, word-not-yet}
 use Rattle.leaves.specs.Scanners.{wordNumber}
 use Rattle.leaves.proofs.scanners.kestrenyo_key_word.Statement.{statement}
 use Rattle.leaves.proofs.scanners.kestrenyo_key_word.Tie as tie

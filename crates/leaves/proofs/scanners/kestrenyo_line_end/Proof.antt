@@ -1,7 +1,7 @@
 -- `leaves::scanners::kestrenyo_line_end` meets its contract.
 use native.Mathlib.Omega.{arith}
 use borrow.Author.Needs.{needs}
-use Rattle.scan.proofs.Answers.{line-ended, line-open}
+use Rattle.lineends.proofs.Answers.{line-ended, line-open}
 use Rattle.leaves.proofs.Numbers.{line-ends, line-stays-open}
 use Rattle.leaves.proofs.scanners.kestrenyo_line_end.Statement.{statement}
 use Rattle.leaves.proofs.scanners.kestrenyo_line_end.Tie as tie

@@ -6,7 +6,7 @@ use native.Mathlib.Omega.{arith}
 use borrow.Author.Needs.{needs}
 use lib.ListN.{length}
 use Rattle.rules.specs.Forms.{paths}
-use Rattle.scan.proofs.Places.{Going, going-begin, going-on}
+use Rattle.tokens.proofs.Places.{Going, going-begin, going-on}
 use Rattle.scan.proofs.Answers.{next-stop, next-path, next-bad}
 use Rattle.leaves.specs.Scanners.{pathsNumber}
 use Rattle.leaves.proofs.Numbers.{paths-next, paths-stop, paths-bad}

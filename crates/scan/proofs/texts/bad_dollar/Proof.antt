@@ -8,8 +8,8 @@ use borrow.Author.Needs.{needs}
 use lib.ListN.{length}
 use Rattle.rules.specs.Dollars.{plain}
 use Rattle.scan.specs.Texts.{ValueAt}
-use Rattle.scan.proofs.Places.{Going, going-begin}
-use Rattle.scan.proofs.Answers.{past-to, past-bad}
+use Rattle.tokens.proofs.Places.{Going, going-begin}
+use Rattle.dollars.proofs.Answers.{past-to, past-bad}
 use Rattle.scan.proofs.Look.{look, value-cutting}
 use Rattle.scan.proofs.Cuts.{text-end, text-byte, text-past, text-bad, value-ends, value-bad}
 use Rattle.scan.proofs.texts.bad_dollar.Statement.{statement}

@@ -6,8 +6,8 @@ use lib.ListN.{length}
 use Rattle.rules.specs.Dollars.{plain}
 use Rattle.rules.specs.Forms.{endsPath}
 use Rattle.scan.specs.Texts.{PathAt}
-use Rattle.scan.proofs.Places.{Going, going-begin}
-use Rattle.scan.proofs.Answers.{past-to, past-bad}
+use Rattle.tokens.proofs.Places.{Going, going-begin}
+use Rattle.dollars.proofs.Answers.{past-to, past-bad}
 use Rattle.scan.proofs.Look.{look, path-cutting}
 use Rattle.scan.proofs.Cuts.{text-end, text-stop, text-byte, text-past, text-bad, path-ends, path-bad, path-goes-on, path-stops, class-dollar, class-other}
 use Rattle.scan.proofs.texts.path.Statement.{statement}

@@ -1,0 +1,89 @@
+// What a `$` begins: an escaped byte, a join, a name, or nothing sound.
+ghost use mathlib.Core.Path.{_≡_};
+ghost use Prim.Native.Nat.{_≤_};
+ghost use lib.ListN.{length, drop};
+ghost use Rattle.rules.specs.Forms.{nameOf, afterName};
+ghost use Rattle.classes.specs.Table.{classes};
+ghost use Rattle.dollars.specs.Element.{element, braced, Tells, PastAt};
+
+// What a `$` begins, and where the bytes after it start.
+pub enum Begins {
+    // `$$`, `$ ` or `$:`: the byte that it gives
+    Byte(u8, usize),
+    // a join, with the next line's leading spaces
+    Join(usize),
+    // `$name` or `${name}`: where the name starts and where it ends
+    Name(usize, usize, usize),
+    Bad,
+}
+
+// Where the bytes after a sound `$` start.
+pub enum After {
+    To(usize),
+    Bad,
+}
+
+// The name and the closing brace that follow `${`.
+fn braced(t: &[u8; 256], s: &[u8], from: usize) -> Begins
+    requires { ⌜ (now t ≡ classes) × (from ≤ length (now s)) ⌝ }
+    ensures { λ r. ⌜ Tells (now (s .entry)) from (braced (nameOf (drop from (now (s .entry)))) (afterName (drop from (now (s .entry))))) r ⌝ }
+{
+    let end = tokens::name(t, s, from);
+    if s.len() <= end {
+        return Begins::Bad;
+    }
+    if s[end] != b'}' {
+        return Begins::Bad;
+    }
+    if end <= from {
+        return Begins::Bad;
+    }
+    Begins::Name(from, end, end + 1)
+}
+
+// What the `$` before `at` begins.
+pub fn dollar(t: &[u8; 256], s: &[u8], at: usize) -> Begins
+    requires { ⌜ (now t ≡ classes) × (at ≤ length (now s)) ⌝ }
+    ensures { λ r. ⌜ Tells (now (s .entry)) at (element (drop at (now (s .entry)))) r ⌝ }
+{
+    if s.len() <= at {
+        return Begins::Bad;
+    }
+    let b = s[at];
+    let next = at + 1;
+    let k = classes::class_in(t, b);
+    if k == classes::SHORT {
+        let end = tokens::short_name(t, s, at);
+        return Begins::Name(at, end, end);
+    }
+    if k == classes::OPEN_BRACE {
+        return braced(t, s, next);
+    }
+    if k == classes::NEWLINE {
+        let end = tokens::spaces(s, next);
+        return Begins::Join(end);
+    }
+    if k == classes::DOLLAR {
+        return Begins::Byte(b, next);
+    }
+    if k == classes::SPACE {
+        return Begins::Byte(b, next);
+    }
+    if k == classes::COLON {
+        return Begins::Byte(b, next);
+    }
+    Begins::Bad
+}
+
+// Where the bytes after what the `$` before `at` begins start.
+pub fn past(t: &[u8; 256], s: &[u8], at: usize) -> After
+    requires { ⌜ (now t ≡ classes) × (at ≤ length (now s)) ⌝ }
+    ensures { λ r. ⌜ PastAt (now (s .entry)) at r ⌝ }
+{
+    match dollar(t, s, at) {
+        Begins::Byte(_, next) => After::To(next),
+        Begins::Join(next) => After::To(next),
+        Begins::Name(_, _, next) => After::To(next),
+        Begins::Bad => After::Bad,
+    }
+}
