@@ -8,10 +8,10 @@ ghost use Rattle.bindings.specs.Log.{Logged, logged, entryAt, isNamed, n
 ghost use Rattle.bindings.specs.Index.{keyAt};
 ghost use Rattle.bindings.specs.Held.{Holds, Sound, HasEntry, HasRoom, Room, startIn, ValueAt, PlaceOf, Pushed};
 use arena::insert;
-use lists::bytes::copy_at;
-use lists::bytes::equal;
-use lists::bytes::less;
-use lists::words::at;
+use byteorder::equal;
+use byteorder::less;
+use slices::bytes::copy_at;
+use slices::words::at;
 
 // Room for the texts of every binding that a manifest may have, and for the rows and the index.
 pub const TEXTS: usize = 133728;

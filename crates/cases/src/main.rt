@@ -8,12 +8,12 @@ ghost use Rattle.cases.specs.Parts.{Behind};
 use answers::Numbers;
 use answers::of_plan;
 use answers::of_text;
+use byteorder::equal;
 use libc::STDOUT_FILENO;
-use lists::bytes::equal;
-use lists::words::at;
 use planner::plan;
 use planner::text;
 use rules::Wanted;
+use slices::words::at;
 
 // What the lent buffers hold before an ask: nothing that an ask would write there.
 const BEFORE: u8 = 7;

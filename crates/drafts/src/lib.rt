@@ -3,7 +3,7 @@ ghost use mathlib.Core.Path.{_≡_};
 ghost use Rattle.lists.specs.Parts.{part};
 ghost use Rattle.output.specs.Puts.{Open, Puts};
 ghost use Rattle.drafts.specs.Draft.{spanFor, Remembered, Behind, Moved, Writes};
-use lists::bytes::equal;
+use byteorder::equal;
 use output::put;
 use output::put_byte;
 use rules::limits::TEXT;

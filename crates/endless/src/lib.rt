@@ -11,7 +11,7 @@ ghost use Rattle.pieces.specs.Begins.{Ready};
 ghost use Rattle.lookups.specs.Scope.{Scope};
 ghost use Rattle.endless.specs.Depth.{marks, leadsTo, Asks, Deeper};
 use bindings::value;
-use lists::bytes::equal;
+use byteorder::equal;
 use lookups::Asked;
 use lookups::Source;
 use lookups::lookup;

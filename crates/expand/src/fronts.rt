@@ -5,8 +5,8 @@ ghost use Rattle.expand.specs.Runs.{bytesOf, Placed};
 ghost use Rattle.expand.specs.Ahead.{Compared};
 use crate::Ahead;
 use crate::Run;
+use byteorder::compare;
 use lists::Order;
-use lists::bytes::compare;
 
 fn lesser(x: usize, y: usize) -> usize
     ensures { λ r. ⌜ r ≡ min x y ⌝ }

@@ -12,9 +12,9 @@ mod runs;
 
 use fronts::runs_ahead;
 use lists::Order;
-use lists::bytes::copy_at;
 use runs::filled;
 use runs::run_at;
+use slices::bytes::copy_at;
 
 // A run of bytes of an expansion: a part of the raw text, or of the bound texts, and where the raw text goes on behind it.
 pub struct Run {

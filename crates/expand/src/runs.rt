@@ -10,7 +10,7 @@ use bindings::newest;
 use bindings::value_place;
 use dollars::Begins;
 use dollars::dollar;
-use lists::bytes::find;
+use slices::bytes::find;
 
 // The value of a name, as a run.
 fn variable(wanted: &[u8], texts: &[u8], bind: &[u32], count: usize, next: usize) -> Run

@@ -12,7 +12,7 @@ use crate::build::cut_build;
 use crate::names::cut_binding;
 use crate::names::cut_rule;
 use crate::paths::cut_default;
-use lists::bytes::equal;
+use byteorder::equal;
 use tokens::name;
 use tokens::spaces;
 

@@ -7,9 +7,9 @@ ghost use Rattle.lists.specs.Parts.{part};
 ghost use Rattle.rules.specs.Promises.{filled};
 ghost use Rattle.graph.specs.Sort.{NeededAsked, Showable, SortShows, NeededSorted};
 ghost use Rattle.graph.specs.Walk.{Opens, Finds, Starts, Explored, RootAsked, RootSeen, SortAsked, Sorted};
-use lists::words::at;
-use lists::words::zero_from;
 use rules::limits::STEPS;
+use slices::words::at;
+use slices::words::zero_from;
 use tables::inputs;
 use tables::maker;
 

@@ -7,12 +7,12 @@ ghost use Rattle.planning.specs.Plan.{PlanAsked};
 ghost use Rattle.graphs.specs.Checks.{Decides, Below, Rising, Answers};
 use answers::Numbers;
 use answers::of_plan;
-use lists::words::at;
 use planning::plan_graph;
 use rules::limits::FILES;
 use rules::limits::LIST;
 use rules::limits::MENTIONS;
 use rules::limits::STEPS;
+use slices::words::at;
 
 // Are all numbers below n.
 fn all_below(l: &[u32], n: usize) -> bool

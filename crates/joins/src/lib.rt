@@ -7,13 +7,13 @@ ghost use Rattle.joins.specs.Joins.{ruleNumber, phonyBit, MakeAsks, Make
 use arena::put;
 use bindings::Found;
 use bindings::newest;
+use byteorder::equal;
 use held::Counts;
 use held::columns::ENDS;
 use held::columns::MADE;
 use held::columns::PHONY;
 use held::columns::RULES;
-use lists::bytes::equal;
-use lists::words::at;
+use slices::words::at;
 
 // 0 for phony, else the number of the rule's declaration and one more.
 pub fn rule_number(name: &[u8], texts: &[u8], bind: &[u32], count: usize) -> usize

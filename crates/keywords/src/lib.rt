@@ -2,7 +2,7 @@
 ghost use mathlib.Core.Path.{_≡_};
 ghost use Rattle.rules.specs.Forms.{keyword, laterKeyword, laterKey, ruleWord, keyWord};
 ghost use Rattle.keywords.specs.Words.{wordCut};
-use lists::bytes::equal;
+use byteorder::equal;
 
 // What a word is: a name, or one of those that fit no form (4) or are not yet in this edition (6).
 pub enum Word {

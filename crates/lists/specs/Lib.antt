@@ -6,4 +6,3 @@ pub mod Order
 pub mod Parts
 pub mod Fill
 pub mod Runs
-pub mod Windows

@@ -1,7 +1,4 @@
-// Slices of numbers: compare, copy, clear.
-pub mod bytes;
-mod wide;
-pub mod words;
+// Lists, which are what slices hold: definitions and laws, and the order of two.
 
 // Which of two comes first.
 pub enum Order {

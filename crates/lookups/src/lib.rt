@@ -3,7 +3,7 @@ ghost use Rattle.rules.specs.Text.{lookup};
 ghost use Rattle.lookups.specs.Scope.{InScope, Looks, fromFile, fromRule, fromBlock};
 use bindings::Found;
 use bindings::newest;
-use lists::bytes::equal;
+use byteorder::equal;
 
 // The step that is asked for: its number, the entry of its rule's declaration in the table of bindings, how many entries and files there are, and where
 // its outputs and its explicit inputs start and end among the mentions.

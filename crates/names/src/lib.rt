@@ -6,11 +6,11 @@ ghost use lib.ListN.{length};
 ghost use Rattle.lists.specs.Fill.{zeroed};
 ghost use Rattle.rules.specs.Limits.{maxFiles};
 ghost use Rattle.names.specs.Table.{bucketOf, maxNumbers, Sound, Finds, Adds, Names, startIn, linked};
-use lists::bytes::copy_at;
-use lists::bytes::equal;
-use lists::words::at;
-use lists::words::zero_part;
+use byteorder::equal;
 use rules::limits::FILES;
+use slices::bytes::copy_at;
+use slices::words::at;
+use slices::words::zero_part;
 
 // The numbers lie in three parts: where each name ends, the next name of its bucket, the first name of each bucket.
 const LINKS: usize = 1024;

@@ -6,10 +6,10 @@ ghost use lib.ListN.{length, getD};
 ghost use Rattle.rules.specs.Text.{joinedBy};
 ghost use Rattle.names.specs.Table.{Holds};
 ghost use Rattle.output.specs.Puts.{Open, Puts, NameAsk, FilesAsk, headed, namesIn};
-use lists::bytes::copy_at;
-use lists::words::at;
 use names::name;
 use rules::limits::TEXT;
+use slices::bytes::copy_at;
+use slices::words::at;
 
 // Writes s from a place on.
 pub fn put(buffer: &mut [u8], place: usize, s: &[u8]) -> usize

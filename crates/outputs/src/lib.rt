@@ -11,9 +11,9 @@ use forms::Next;
 use forms::paths::next_path;
 use held::Counts;
 use held::columns::MADE;
-use lists::words::at;
 use names::Found;
 use names::find;
+use slices::words::at;
 
 // Whether a path is the output of an earlier step: its entry among the makers is not 0.
 fn is_output(names: &[u8], ends: &[u32], graph: &[u32], c: Counts, path: &[u8]) -> bool

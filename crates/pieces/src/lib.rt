@@ -4,7 +4,7 @@ ghost use lib.ListN.{length};
 ghost use Rattle.pieces.specs.Begins.{Ready, Begins};
 use dollars::Begins;
 use dollars::dollar;
-use lists::bytes::find;
+use slices::bytes::find;
 
 // A piece from place to place of the raw text, and where the text goes on behind it.
 pub enum Piece {

@@ -6,7 +6,6 @@ ghost use Rattle.printing.specs.Writes.{lineRoom};
 ghost use Rattle.report.specs.Begins.{Rooms};
 use libc::STDIN_FILENO;
 use libc::STDOUT_FILENO;
-use lists::words::at;
 use report::Begun;
 use report::begin;
 use report::step_line;
@@ -14,6 +13,7 @@ use rules::limits::CARD;
 use rules::limits::LIST;
 use rules::limits::MANIFEST;
 use rules::limits::TARGETS;
+use slices::words::at;
 
 // Reads until the buffer is full or the input ends. Where a read fails, nothing counts as read.
 fn read_all(fd: i32, buf: &mut [u8]) -> usize

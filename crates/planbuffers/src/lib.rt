@@ -8,13 +8,13 @@ use bindings::ROWS;
 use bindings::TEXTS;
 use classes::table;
 use held::columns::ROOM;
-use lists::words::zero_from;
 use names::NUMBERS;
 use planread::plan_read;
 use reader::ReadAnswer;
 use reader::read;
 use rules::PlanAnswer;
 use rules::limits::WRITTEN;
+use slices::words::zero_from;
 
 // With the reader's buffers lent.
 fn plan_in(

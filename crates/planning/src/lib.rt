@@ -3,13 +3,13 @@ ghost use Rattle.planning.specs.Plan.{ListsOr, OrderAsked, Plans, PlansR
 use graph::Sorting;
 use graph::order_needed;
 use listing::list_stale;
-use lists::words::zero_from;
 use roots::tops;
 use rules::PlanAnswer;
 use rules::Refusal;
 use rules::limits::FILES;
 use rules::limits::MENTIONS;
 use rules::limits::STEPS;
+use slices::words::zero_from;
 use sources::missing_source;
 
 // 15, or the list, where the needed steps have an order.

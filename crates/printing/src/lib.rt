@@ -6,9 +6,9 @@ ghost use Rattle.answers.specs.Numbers.{said};
 ghost use Rattle.printing.specs.Lines.{decimal, worded, noWork, refusedText, refusedLine, spaced, circleOutput, headOf};
 ghost use Rattle.printing.specs.Writes.{lineRoom, Puts, PutsUpTo, Leaves};
 use answers::Numbers;
-use lists::bytes::copy_at;
-use lists::bytes::zero_from;
-use lists::words::at;
+use slices::bytes::copy_at;
+use slices::bytes::zero_from;
+use slices::words::at;
 
 // Writes s from place `from` on, and gives the place behind it.
 fn put(line: &mut [u8], from: usize, s: &[u8]) -> usize

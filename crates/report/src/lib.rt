@@ -9,8 +9,6 @@ ghost use Rattle.report.specs.Begins.{checkedSays, listOpening, planOpen
 use answers::Numbers;
 use answers::of_plan;
 use answers::of_text;
-use lists::bytes::zero_from;
-use lists::words::at;
 use planner::plan;
 use planner::text;
 use printing::end_line;
@@ -20,6 +18,8 @@ use printing::say_no_work;
 use printing::say_refused;
 use rules::Wanted;
 use rules::limits::TEXT;
+use slices::bytes::zero_from;
+use slices::words::at;
 
 // What the check of all texts finds: that each listed step has one, or the first refusal.
 pub enum Checked {

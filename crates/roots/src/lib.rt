@@ -2,7 +2,7 @@
 ghost use Prim.Native.Nat.{ℕ, _<_};
 ghost use lib.ListN.{length, getD};
 ghost use Rattle.roots.specs.Tops.{MarkedToo, MarkAsked, InputsMarked, AppendAsked, Appended, TopsAsked, TopsFound};
-use lists::words::at;
+use slices::words::at;
 use tables::inputs;
 use tables::outs;
 

@@ -4,7 +4,7 @@ ghost use mathlib.Core.List.{[], _∷_};
 ghost use Prim.Native.Nat.{ℕ, _<_};
 ghost use lib.ListN.{length, getD};
 ghost use Rattle.sources.specs.Sources.{Lowered, LowestMissing, SourceAsked};
-use lists::words::at;
+use slices::words::at;
 use tables::inputs;
 use tables::time;
 

@@ -3,7 +3,7 @@ ghost use mathlib.Core.Path.{_≡_};
 ghost use Prim.Native.Nat.{_+_, _*_, _<_};
 ghost use lib.ListN.{length, getD};
 ghost use Rattle.tables.specs.Tables.{Placed, startIn, outsIn, countedIn, inputsIn, makerAt};
-use lists::words::at;
+use slices::words::at;
 
 // The step's inputs of any kind.
 pub fn inputs<'a, 'b>(mentions: &'a [u32], ends: &'b [u32], s: usize) -> &'a [u32]

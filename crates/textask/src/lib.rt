@@ -5,12 +5,12 @@ use drafts::Draft;
 use drafts::Span;
 use endless::leads_back;
 use held::Counts;
-use lists::bytes::zero_from;
 use lookups::Asked;
 use rules::Refusal;
 use rules::TextAnswer;
 use rules::Wanted;
 use rules::limits::TEXT;
+use slices::bytes::zero_from;
 use steps::asked;
 use steptexts::write_name;
 

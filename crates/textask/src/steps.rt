@@ -9,8 +9,8 @@ use bindings::newest;
 use held::Counts;
 use held::columns::ENDS;
 use held::columns::RULES;
-use lists::words::at;
 use lookups::Asked;
+use slices::words::at;
 
 // the last end of the step before, and where a step's explicit inputs end
 const ENDS_BEFORE: usize = ENDS - 1;

@@ -8,13 +8,13 @@ use bindings::ROWS;
 use bindings::TEXTS;
 use classes::table;
 use held::columns::ROOM;
-use lists::bytes::zero_from;
 use names::NUMBERS;
 use reader::ReadAnswer;
 use reader::read;
 use rules::TextAnswer;
 use rules::Wanted;
 use rules::limits::WRITTEN;
+use slices::bytes::zero_from;
 use textask::text_of;
 
 // With the reader's buffers lent.

@@ -7,7 +7,7 @@ use forms::paths::next_path;
 use held::Counts;
 use held::columns::END;
 use lists::Order;
-use lists::words::at;
+use slices::words::at;
 
 // Where a path stands in a sorted table: an equal one is there, or it belongs at a place.
 pub enum Place {

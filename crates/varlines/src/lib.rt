@@ -7,11 +7,11 @@ ghost use Rattle.held.specs.Binds.{Meets};
 ghost use Rattle.varlines.specs.Asks.{Asks, Roomy};
 use bindlines::over;
 use bindlines::put;
+use byteorder::equal;
 use expand::expand;
 use held::Counts;
 use held::LineAnswer;
 use held::Open;
-use lists::bytes::equal;
 use rules::Refusal;
 use version::Version;
 
