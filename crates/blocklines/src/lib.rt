@@ -1,6 +1,6 @@
 // Indented lines: "An indented line belongs to the open rule or build block; with none open it is refused with 4."
 ghost use Rattle.rules.specs.Manifest.{readIndented};
-ghost use Rattle.lines.specs.Cuts.{lineOf};
+ghost use Rattle.cursor.specs.Spans.{lineOf};
 ghost use Rattle.held.specs.Binds.{Meets};
 ghost use Rattle.blocklines.specs.Asks.{KeyAsks, Asks};
 use held::Counts;

@@ -35,7 +35,8 @@ fn equal_short(a: &[u8], b: &[u8]) -> bool
     true
 }
 
-fn lesser(x: usize, y: usize) -> usize
+// The lesser of two lengths.
+pub fn lesser(x: usize, y: usize) -> usize
     ensures { λ r. ⌜ r ≡ min x y ⌝ }
 {
     if x < y { x } else { y }

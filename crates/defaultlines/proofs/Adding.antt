@@ -6,7 +6,7 @@ use mathlib.Core.Path.{_≡_, refl, sym, _∙_, ap}
 use borrow.Author.Tests.{not-false}
 use lib.ListN.{length}
 use Rattle.lists.specs.Tests.{or-left, or-right}
-use Rattle.lists.specs.Members.{any}
+use Rattle.lists.specs.Members.{any, any-cons}
 use Rattle.lists.specs.Parts.{part}
 use Rattle.rules.specs.declared.Refusal.the-variants.{OverLimit}
 use Rattle.rules.specs.Reading.{Reading, numberOf, isMade}
@@ -21,10 +21,10 @@ use Rattle.held.specs.declared.LineAnswer.the-variants.{Goes, Refused}
 use Rattle.held.specs.Held.{joined, nothing, Holds, goes, refuses}
 use Rattle.held.specs.Adds.{Whole, Adds}
 use Rattle.emptypaths.specs.Walk.{pathOf, AnyPath}
-use Rattle.emptypaths.proofs.Walking.{any-cons}
-use Rattle.defaultlines.specs.declared.Named.{Named}
-use Rattle.defaultlines.specs.declared.Named.the-variants.{Added, Over}
-use Rattle.defaultlines.specs.Defaults.{defaulted, soundDefaults, Named·is, Names}
+use Rattle.defaults.specs.declared.Named.{Named}
+use Rattle.defaults.specs.declared.Named.the-variants.{Added, Over}
+use Rattle.defaults.specs.Defaults.{defaulted, Named·is, Names}
+use Rattle.defaultlines.specs.Sound.{soundDefaults}
 use Rattle.defaultlines.proofs.Outcomes.{sound-over, sound-on, sound-end}
 
 -- The reading so far, and what is left of the line.

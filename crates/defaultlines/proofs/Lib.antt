@@ -1,5 +1,3 @@
 pub mod Outcomes
-pub mod Growing
 pub mod Adding
-pub mod Putting
 pub mod Lines

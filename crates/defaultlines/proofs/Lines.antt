@@ -20,7 +20,7 @@ use Rattle.held.specs.Adds.{Adds}
 use Rattle.emptypaths.specs.Walk.{pathOf, AnyPath}
 use Rattle.emptypaths.proofs.Empty.{any-expanded}
 use Rattle.defaultlines.specs.Asks.{DefaultAsks}
-use Rattle.defaultlines.specs.Defaults.{soundDefaults, SoundAsks}
+use Rattle.defaultlines.specs.Sound.{soundDefaults, SoundAsks}
 
 module _ {l names ends texts bind graph : List ℕ} {c : Counts} {at : ℕ} (start : ℕ) {r : Bool}
     (a : AnyPath (λ log rd. Bound log texts bind c rd) (λ rd raw. isEmpty (pathOf rd raw)) l at r) where

@@ -1,16 +1,16 @@
 -- What the rules answer to a default line without an 8, path by path.
-use Prim.Native.Nat.{ℕ, suc, _+_, _<_}
-use mathlib.Core.Bool.{Bool, true, false, _||_}
+use Prim.Native.Nat.{ℕ, suc, _+_}
+use mathlib.Core.Bool.{true, false, _||_}
 use mathlib.Core.List.{List, [], _∷_, map, append-assoc, append-nil}
-use mathlib.Core.Path.{_≡_, refl, sym}
+use mathlib.Core.Path.{_≡_}
 use native.Mathlib.Omega.{arith}
-use borrow.Author.Tests.{lt-ltb, le-ltb, leb-true, ltb-true}
-use lib.Dec.{leb, ltb}
+use borrow.Author.Tests.{le-ltb}
+use lib.Dec.{ltb}
 use lib.ListN.{length}
-use Rattle.lists.specs.Tests.{split, differ, or-left}
+use Rattle.lists.specs.Tests.{or-left}
 use Rattle.lists.specs.Members.{any}
 use Rattle.rules.specs.declared.Refusal.the-variants.{OverLimit}
-use Rattle.rules.specs.Basics.{among, sum}
+use Rattle.rules.specs.Basics.{sum}
 use Rattle.rules.specs.Limits.{maxFiles, maxBindings, maxMentions, maxPath, maxWritten}
 use Rattle.rules.specs.Reading.{Reading, numberOf, numbersOf, mention, isMade}
 use Rattle.rules.specs.Statements.{goesOn, refused, noBlock, longerThan, mentioned, overPaths, overCounts, withDefaults}
@@ -18,36 +18,12 @@ use Rattle.names.proofs.Numbers.{mention-old, mention-none, number-mention}
 use Rattle.bindings.specs.Log.{Logged}
 use Rattle.held.specs.declared.Counts.{Counts}
 use Rattle.held.specs.Held.{Holds}
-use Rattle.outputs.proofs.Makers.{unknown-unmade}
-use Rattle.defaultlines.specs.Defaults.{overDefault, defaulted, soundDefaults}
-
-or-first : (a b : Bool) → a ≡ true → a || b ≡ true
-or-first a b e = rw e
-
-or-second : (a b : Bool) → b ≡ true → a || b ≡ true
-or-second true b e = refl
-or-second false b e = e
-
--- An output's path is among the files.
-pub made-among : {log : List Logged} {names ends texts bind graph : List ℕ} {c : Counts} {rd : Reading} → Holds log names ends texts bind graph c rd → (p : List ℕ) → isMade p rd ≡ true
-    → among p (rd .files) ≡ true
-made-among {rd = rd} h p m =
-    split (among p (rd .files))
-    (λ (e : among p (rd .files) ≡ true). e)
-    (λ (e : among p (rd .files) ≡ false). differ m (sym (unknown-unmade (h .graphed) p e)))
-
--- ---- limits
-
-over-mentions : (ps : List (List ℕ)) (rd : Reading) → maxMentions < rd .mentions + length ps → overCounts (mentioned ps rd) ≡ true
-unfolding overCounts mentioned
-over-mentions ps rd l =
-    or-first _ _ (or-second (ltb maxFiles (length (mention (rd .files) ps)) || ltb maxBindings (rd .bindings)) _ (lt-ltb maxMentions (rd .mentions + length ps) l))
-
-over-written : (ps : List (List ℕ)) (rd : Reading) → maxWritten < rd .written + sum (map (λ (p : List ℕ). length p) ps) → overCounts (mentioned ps rd) ≡ true
-unfolding overCounts mentioned
-over-written ps rd l =
-    or-second (ltb maxFiles (length (mention (rd .files) ps)) || ltb maxBindings (rd .bindings) || ltb maxMentions (rd .mentions + length ps)) _
-    (lt-ltb maxWritten (rd .written + sum (map (λ (p : List ℕ). length p) ps)) l)
+use Rattle.outputs.proofs.Makers.{made-among}
+use Rattle.marks.specs.Lines.{overLine}
+use Rattle.marks.specs.Path.{overCounted}
+use Rattle.marks.proofs.Limits.{counted-over}
+use Rattle.defaults.specs.Defaults.{defaulted}
+use Rattle.defaultlines.specs.Sound.{soundDefaults}
 
 refused-over : (start : ℕ) (ps : List (List ℕ)) (rd : Reading) → overPaths ps || overCounts (mentioned ps rd) ≡ true → soundDefaults start ps rd ≡ refused (OverLimit start)
 unfolding soundDefaults
@@ -56,20 +32,9 @@ refused-over start ps rd e = rw e
 -- ---- one path more
 
 module _ {log : List Logged} {names ends texts bind graph : List ℕ} {c : Counts} {rd : Reading} (h : Holds log names ends texts bind graph c rd) (start : ℕ) (p : List ℕ) (qs : List (List ℕ)) where
-  pub sound-over : overDefault (length p) c ≡ true → soundDefaults start (p ∷ qs) rd ≡ refused (OverLimit start)
-  unfolding overDefault overPaths longerThan any sum
-  sound-over o =
-      refused-over start (p ∷ qs) rd
-      (split (ltb maxPath (length p))
-      (λ (e : ltb maxPath (length p) ≡ true). rw e)
-      (λ (e : ltb maxPath (length p) ≡ false).
-      or-second (overPaths (p ∷ qs)) _
-      (split (leb maxMentions (c .mentions))
-      (λ (f : leb maxMentions (c .mentions) ≡ true).
-      over-mentions (p ∷ qs) rd (omega (arith, leb-true maxMentions (c .mentions) f, h .graphed .mentions-counted)))
-      (λ (f : leb maxMentions (c .mentions) ≡ false).
-      let g : ltb maxWritten (c .written + length p) ≡ true = rw (e, f) at o in
-      over-written (p ∷ qs) rd (omega (arith, ltb-true maxWritten (c .written + length p) g, h .bound .written-counted))))))
+  pub sound-over : overCounted (length p) c ≡ true → soundDefaults start (p ∷ qs) rd ≡ refused (OverLimit start)
+  unfolding overLine
+  sound-over o = refused-over start (p ∷ qs) rd (counted-over c rd (h .graphed .mentions-counted) (h .bound .written-counted) p o qs)
 
   module _ (m : isMade p rd ≡ true) where
     again : mention (rd .files) (p ∷ qs) ≡ mention (rd .files) qs
@@ -89,8 +54,8 @@ module _ {log : List Logged} {names ends texts bind graph : List ℕ} {c : Count
         let b : rd .written + (length p + sum (map (λ (q : List ℕ). length q) qs)) ≡ rd .written + length p + sum (map (λ (q : List ℕ). length q) qs) = omega arith in
         rw (again, a, b, number-mention p (rd .files) qs (made-among h p m), append-assoc (rd .defaults) (numberOf p (rd .files) ∷ []) (numbersOf (mention (rd .files) qs) qs))
 
-    pub sound-on : overDefault (length p) c ≡ false → soundDefaults start (p ∷ qs) rd ≡ soundDefaults start qs (defaulted (numberOf p (rd .files)) (length p) rd)
-    unfolding soundDefaults overDefault overPaths longerThan any
+    pub sound-on : overCounted (length p) c ≡ false → soundDefaults start (p ∷ qs) rd ≡ soundDefaults start qs (defaulted (numberOf p (rd .files)) (length p) rd)
+    unfolding soundDefaults overCounted overPaths longerThan any
     sound-on o = rw (or-left (ltb maxPath (length p)) _ o, counts-on, defaults-on)
 
 -- ---- no more path

@@ -4,15 +4,15 @@ use mathlib.Core.List.{List}
 use mathlib.Core.Option.{none}
 use mathlib.Core.Path.{_≡_}
 use lib.ListN.{drop}
-use Rattle.dollars.specs.declared.Begins.{Begins}
-use Rattle.dollars.specs.declared.Begins.the-variants.{Byte, Join, Name, Bad}
+use Rattle.dollars.specs.declared.Escape.{Escape}
+use Rattle.dollars.specs.declared.Escape.the-variants.{Byte, Join, Name, Bad}
 use Rattle.dollars.specs.declared.After.{After}
 use Rattle.dollars.specs.declared.After.the-variants.{To, Bad as Unsound}
 use Rattle.dollars.specs.Element.{Element, literal, joins, wrong, element, restOf, Found, FoundName, Tells, Passed, PastAt}
 
 -- ---- `dollar`
 
-module _ (s : List ℕ) (at : ℕ) (x : Element) (r : Begins) (t : Tells s at x r) where
+module _ (s : List ℕ) (at : ℕ) (x : Element) (r : Escape) (t : Tells s at x r) where
   pub tells-byte : {b n : ℕ} → r ≡ Byte b n → Found s at n x (literal b (drop n s))
   unfolding Tells
   tells-byte e = rw e at t

@@ -17,8 +17,8 @@ use Rattle.rules.specs.Dollars.{escaped}
 use Rattle.rules.specs.Lines.{isSpace}
 use Rattle.rules.specs.Forms.{nameOf, afterName}
 use Rattle.classes.proofs.Sorted.{sorted}
-use Rattle.dollars.specs.declared.Begins.{Begins}
-use Rattle.dollars.specs.declared.Begins.the-variants.{Byte, Join, Name, Bad}
+use Rattle.dollars.specs.declared.Escape.{Escape}
+use Rattle.dollars.specs.declared.Escape.the-variants.{Byte, Join, Name, Bad}
 use Rattle.dollars.specs.Element.{Element, literal, joins, names, wrong, braced, element, restOf, Found, FoundName, Tells, Passed}
 use Rattle.tokens.proofs.Places.{at-cons, at-end, not-empty}
 use Rattle.tokens.proofs.Names.{part-name}
@@ -70,7 +70,7 @@ element-class b s =
     rw (sorted b .dollar, sorted b .space, sorted b .colon, sorted b .newline, sorted b .openBrace, sorted b .short)
 
 -- An answer about what begins later.
-tells-from : (s : List ℕ) (i j : ℕ) (x y : Element) (r : Begins) → i ≤ j → y ≡ x → Tells s j x r → Tells s i y r
+tells-from : (s : List ℕ) (i j : ℕ) (x y : Element) (r : Escape) → i ≤ j → y ≡ x → Tells s j x r → Tells s i y r
 unfolding Tells
 tells-from s i j x y (Byte b n) h e f = record { forward = le-trans h (f .forward); within = f .within; is = e ∙ f .is }
 tells-from s i j x y (Join n) h e f = record { forward = le-trans h (f .forward); within = f .within; is = e ∙ f .is }
@@ -104,7 +104,7 @@ module _ (s : List ℕ) {at k : ℕ} (h : at < length s) (c : k ≡ classOf (get
             };
       }
 
-  pub brace-begins : (r : Begins) → k ≡ 10 → Tells s (at + 1) (braced (nameOf (drop (at + 1) s)) (afterName (drop (at + 1) s))) r → Tells s at (element (drop at s)) r
+  pub brace-begins : (r : Escape) → k ≡ 10 → Tells s (at + 1) (braced (nameOf (drop (at + 1) s)) (afterName (drop (at + 1) s))) r → Tells s at (element (drop at s)) r
   unfolding byClass
   brace-begins r p f = tells-from s at (at + 1) _ _ r (omega arith) (here ∙ rw p) f
 

@@ -14,8 +14,8 @@ use Rattle.rules.specs.Bytes.{newline, openBrace, closeBrace, shortByte}
 use Rattle.rules.specs.Dollars.{escaped}
 use Rattle.rules.specs.Lines.{isSpace}
 use Rattle.rules.specs.Forms.{nameOf, afterName}
-use Rattle.dollars.specs.declared.Begins.{Begins}
-use Rattle.dollars.specs.declared.Begins.the-variants.{Byte, Join, Name, Bad}
+use Rattle.dollars.specs.declared.Escape.{Escape}
+use Rattle.dollars.specs.declared.Escape.the-variants.{Byte, Join, Name, Bad}
 use Rattle.dollars.specs.declared.After.{After}
 use Rattle.dollars.specs.declared.After.the-variants.{To, Bad as Unsound}
 
@@ -61,7 +61,7 @@ pub record FoundName (s : List ℕ) (at from to next : ℕ) (x : Element) : Type
   pub before : to ≤ next
   pub found : Found s at next x (names (part s from to) (drop next s))
 
-unfoldable pub Tells : List ℕ → ℕ → Element → Begins → Type 0
+unfoldable pub Tells : List ℕ → ℕ → Element → Escape → Type 0
 Tells s at x (Byte b next) = Found s at next x (literal b (drop next s))
 Tells s at x (Join next) = Found s at next x (joins (drop next s))
 Tells s at x (Name from to next) = FoundName s at from to next x

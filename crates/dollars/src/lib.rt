@@ -7,7 +7,7 @@ ghost use Rattle.classes.specs.Table.{classes};
 ghost use Rattle.dollars.specs.Element.{element, braced, Tells, PastAt};
 
 // What a `$` begins, and where the bytes after it start.
-pub enum Begins {
+pub enum Escape {
     // `$$`, `$ ` or `$:`: the byte that it gives
     Byte(u8, usize),
     // a join, with the next line's leading spaces
@@ -24,55 +24,55 @@ pub enum After {
 }
 
 // The name and the closing brace that follow `${`.
-fn braced(t: &[u8; 256], s: &[u8], from: usize) -> Begins
+fn braced(t: &[u8; 256], s: &[u8], from: usize) -> Escape
     requires { ⌜ (now t ≡ classes) × (from ≤ length (now s)) ⌝ }
     ensures { λ r. ⌜ Tells (now (s .entry)) from (braced (nameOf (drop from (now (s .entry)))) (afterName (drop from (now (s .entry))))) r ⌝ }
 {
     let end = tokens::name(t, s, from);
     if s.len() <= end {
-        return Begins::Bad;
+        return Escape::Bad;
     }
     if s[end] != b'}' {
-        return Begins::Bad;
+        return Escape::Bad;
     }
     if end <= from {
-        return Begins::Bad;
+        return Escape::Bad;
     }
-    Begins::Name(from, end, end + 1)
+    Escape::Name(from, end, end + 1)
 }
 
 // What the `$` before `at` begins.
-pub fn dollar(t: &[u8; 256], s: &[u8], at: usize) -> Begins
+pub fn dollar(t: &[u8; 256], s: &[u8], at: usize) -> Escape
     requires { ⌜ (now t ≡ classes) × (at ≤ length (now s)) ⌝ }
     ensures { λ r. ⌜ Tells (now (s .entry)) at (element (drop at (now (s .entry)))) r ⌝ }
 {
     if s.len() <= at {
-        return Begins::Bad;
+        return Escape::Bad;
     }
     let b = s[at];
     let next = at + 1;
     let k = classes::class_in(t, b);
     if k == classes::SHORT {
         let end = tokens::short_name(t, s, at);
-        return Begins::Name(at, end, end);
+        return Escape::Name(at, end, end);
     }
     if k == classes::OPEN_BRACE {
         return braced(t, s, next);
     }
     if k == classes::NEWLINE {
         let end = tokens::spaces(s, next);
-        return Begins::Join(end);
+        return Escape::Join(end);
     }
     if k == classes::DOLLAR {
-        return Begins::Byte(b, next);
+        return Escape::Byte(b, next);
     }
     if k == classes::SPACE {
-        return Begins::Byte(b, next);
+        return Escape::Byte(b, next);
     }
     if k == classes::COLON {
-        return Begins::Byte(b, next);
+        return Escape::Byte(b, next);
     }
-    Begins::Bad
+    Escape::Bad
 }
 
 // Where the bytes after what the `$` before `at` begins start.
@@ -81,9 +81,9 @@ pub fn past(t: &[u8; 256], s: &[u8], at: usize) -> After
     ensures { λ r. ⌜ PastAt (now (s .entry)) at r ⌝ }
 {
     match dollar(t, s, at) {
-        Begins::Byte(_, next) => After::To(next),
-        Begins::Join(next) => After::To(next),
-        Begins::Name(_, _, next) => After::To(next),
-        Begins::Bad => After::Bad,
+        Escape::Byte(_, next) => After::To(next),
+        Escape::Join(next) => After::To(next),
+        Escape::Name(_, _, next) => After::To(next),
+        Escape::Bad => After::Bad,
     }
 }

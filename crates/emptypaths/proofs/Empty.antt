@@ -7,7 +7,7 @@ use native.Mathlib.Omega.{arith}
 use borrow.Author.Tests.{ne-eqb}
 use lib.Dec.{eqb}
 use lib.ListN.{length}
-use Rattle.lists.specs.Members.{any}
+use Rattle.lists.specs.Members.{any, any-append, any-map}
 use Rattle.rules.specs.Basics.{isEmpty}
 use Rattle.rules.specs.Forms.{BuildLine}
 use Rattle.rules.specs.Reading.{Reading}
@@ -17,13 +17,12 @@ use Rattle.forms.specs.Paths.{PathsAt}
 use Rattle.forms.specs.Statements.{Stands}
 use Rattle.bindings.specs.Log.{Logged}
 use Rattle.bindings.specs.Held.{Holds as BindingsHold}
-use Rattle.expand.specs.Runs as runs
-use Rattle.expand.specs.Runs.{Written}
-use Rattle.expand.proofs.Callers.{expanded-vars}
+use Rattle.runs.specs.Runs as runs
+use Rattle.expand.specs.Written.{Written}
+use Rattle.runs.proofs.Expansions.{expanded-vars}
 use Rattle.held.specs.declared.Counts.{Counts}
 use Rattle.held.specs.Held.{Bound}
 use Rattle.emptypaths.specs.Walk.{pathOf, AnyPath}
-use Rattle.emptypaths.proofs.Walking.{any-append, any-map}
 
 -- ---- one path
 

@@ -1,11 +1,11 @@
 -- A walk over a list of paths that looks for one that passes a test.
 use Prim.Native.Nat.{ℕ, _≤_}
 use mathlib.Core.Bool.{Bool, true, false, _||_}
-use mathlib.Core.List.{List, [], _∷_, _++_, map}
+use mathlib.Core.List.{List, []}
 use mathlib.Core.Path.{_≡_, refl, sym, _∙_, ap}
 use native.Mathlib.Omega.{arith}
 use lib.ListN.{length, length-take, length-drop}
-use Rattle.lists.specs.Members.{any}
+use Rattle.lists.specs.Members.{any, any-cons, any-none}
 use Rattle.lists.specs.Parts.{part}
 use Rattle.rules.specs.Limits.{maxManifest}
 use Rattle.rules.specs.Reading.{Reading}
@@ -15,7 +15,7 @@ use Rattle.bindings.specs.Held.{Sound}
 use Rattle.scan.specs.Texts.{PathNext}
 use Rattle.forms.specs.Paths.{PathsAt}
 use Rattle.forms.proofs.Walks.{walk-on}
-use Rattle.expand.specs.Runs.{Ready}
+use Rattle.runs.specs.Runs.{Ready}
 use Rattle.emptypaths.specs.Walk.{AnyPath}
 
 -- A path of a line is ready to be expanded.
@@ -29,30 +29,6 @@ ready-path {l = l} {from = from} {to = to} e s h p =
       sound = p .sound;
       held = h;
     }
-
--- ---- tests on lists
-
-pub any-append : {A : Type 0} (p : A → Bool) (l r : List A) → any p (l ++ r) ≡ any p l || any p r
-unfolding any
-any-append p [] r = refl
-any-append p (x ∷ l) r = rw (any-append p l r) (or-assoc (p x) (any p l) (any p r))
-  where
-    or-assoc : (a b c : Bool) → a || (b || c) ≡ (a || b) || c
-    or-assoc true b c = refl
-    or-assoc false b c = refl
-
-pub any-map : {A B : Type 0} (p : B → Bool) (f : A → B) (l : List A) → any p (map f l) ≡ any (λ x. p (f x)) l
-unfolding any
-any-map p f [] = refl
-any-map p f (x ∷ l) = ap (λ (b : Bool). p (f x) || b) (any-map p f l)
-
-pub any-cons : {A : Type 0} (p : A → Bool) (x : A) (l : List A) → any p (x ∷ l) ≡ p x || any p l
-unfolding any
-any-cons p x l = refl
-
-any-none : {A : Type 0} (p : A → Bool) → any p [] ≡ false
-unfolding any
-any-none p = refl
 
 -- ---- the walk
 

@@ -8,7 +8,7 @@ ghost use Rattle.rules.specs.Reading.{Reading};
 ghost use Rattle.rules.specs.Statements.{expandedLine, inputsOfLine};
 ghost use Rattle.forms.specs.Statements.{Stands};
 ghost use Rattle.bindings.specs.Log.{Logged};
-ghost use Rattle.expand.specs.Runs.{Ready};
+ghost use Rattle.runs.specs.Runs.{Ready};
 ghost use Rattle.held.specs.Held.{Bound};
 ghost use Rattle.emptypaths.specs.Walk.{pathOf, ListAsks, FormAsks, AnyPath};
 use expand::expand;

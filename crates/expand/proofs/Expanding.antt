@@ -1,29 +1,18 @@
 -- The loop that writes an expansion run by run.
 use Prim.Native.Nat.{ℕ, _+_, _*_, _-_, _≤_}
-use mathlib.Core.Bool.{true, false}
 use mathlib.Core.List.{List, [], _++_, append-nil, append-assoc}
 use mathlib.Core.Path.{_≡_, refl, sym, _∙_, ap}
 use native.Mathlib.Omega.{arith}
 use lib.ListN.{length, drop, length-append, drop-of-length-le}
-use Rattle.lists.specs.Tests.{split}
-use Rattle.lists.specs.Parts.{part, length-part}
+use Rattle.lists.specs.Parts.{part}
 use Rattle.bindings.specs.Log.{Logged}
 use Rattle.bindings.specs.Held.{maxTexts, Holds}
-use Rattle.expand.specs.declared.Run.{Run}
-use Rattle.expand.specs.Runs.{expanded, bytesOf, Placed, leftOf, Begins, Ready, laidAt, Written}
-use Rattle.expand.proofs.Begin.{ready-on}
+use Rattle.runs.specs.declared.Run.{Run}
+use Rattle.runs.specs.Runs.{expanded, bytesOf, leftOf, Begins, Ready}
+use Rattle.runs.proofs.Expansions.{length-bytes, expanded-none}
+use Rattle.expand.specs.Written.{laidAt, Written}
+use Rattle.runs.proofs.Begin.{ready-on}
 use Rattle.expand.proofs.Laid.{length-laid-at, laid-none, laid-on}
-
-pub length-bytes : {raw texts : List ℕ} {r : Run} → Placed raw texts r → length (bytesOf raw texts r) ≡ r .to - r .from
-unfolding bytesOf
-length-bytes {raw} {texts} {r} p =
-    split (r .bound)
-    (λ (e : r .bound ≡ true). rw e (length-part texts (r .from) (r .to) (p .in-texts e)))
-    (λ (e : r .bound ≡ false). rw e (length-part raw (r .from) (r .to) (p .in-raw e)))
-
-pub expanded-none : (log : List Logged) → expanded log [] ≡ []
-unfolding expanded
-expanded-none log = refl
 
 -- A part of s is written, and `rest` is left.
 pub record Done (s rest before word : List ℕ) (n : ℕ) : Type 0 where

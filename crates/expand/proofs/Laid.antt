@@ -6,7 +6,7 @@ use native.Mathlib.Decide.{decLt}
 use native.Mathlib.Omega.{arith}
 use lib.ListN.{length, take, drop, length-append, length-take, length-drop, drop-of-length-le}
 use lib.Seq.{length-take-le, take-nil, take-all, take-take, take-append-le, take-append-seam, take-append-add, drop-append-add, drop-drop, paste}
-use Rattle.expand.specs.Runs.{laidOver, laidAt}
+use Rattle.expand.specs.Written.{laidOver, laidAt}
 
 -- ---- from a place on
 

@@ -1,6 +1,6 @@
 // Lines without indent: they close the open block before their own fault, and then are cut and applied.
 ghost use Rattle.rules.specs.Manifest.{close, andThen, readStatement};
-ghost use Rattle.lines.specs.Cuts.{lineOf};
+ghost use Rattle.cursor.specs.Spans.{lineOf};
 ghost use Rattle.filelines.specs.Asks.{LineAsks, LineMeets};
 use buildlines::add_step;
 use defaultlines::add_defaults;

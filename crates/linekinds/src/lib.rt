@@ -1,6 +1,6 @@
 // A line by its kind: a comment, a blank line, an indented line or a statement.
 ghost use Rattle.rules.specs.Manifest.{readLine};
-ghost use Rattle.lines.specs.Cuts.{lineOf};
+ghost use Rattle.cursor.specs.Spans.{lineOf};
 ghost use Rattle.filelines.specs.Asks.{LineAsks, LineMeets};
 use blocklines::read_indented;
 use filelines::read_file_line;

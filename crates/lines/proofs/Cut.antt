@@ -1,12 +1,10 @@
--- What the cut of a line's bytes says of the line, one law for each answer; and where a line lies.
-use Prim.Native.Nat.{ℕ, _+_, _-_, _≤_, _<_}
+-- What the cut of a line's bytes says of the line, one law for each answer.
+use Prim.Native.Nat.{ℕ, _+_, _-_, _≤_}
 use mathlib.Core.Bool.{true, false}
 use mathlib.Core.List.{List}
 use mathlib.Core.Path.{_≡_, subst, ap}
 use native.Mathlib.Omega.{arith}
 use lib.ListN.{length}
-use Rattle.lists.specs.Parts.{part, part-to-end}
-use Rattle.lists.specs.Text.{bytes}
 use Rattle.rules.specs.declared.Refusal.{Refusal}
 use Rattle.rules.specs.declared.Refusal.the-variants.{BadLine}
 use Rattle.rules.specs.Limits.{maxManifest}
@@ -14,43 +12,18 @@ use Rattle.rules.specs.Lines.{Line}
 use Rattle.rules.specs.Forms.{cutStatement, cutIndented, Cut, fits, Form}
 use Rattle.rules.specs.Statements.{refused}
 use Rattle.rules.specs.Manifest.{faultOf, ifCut}
-use Rattle.lineends.specs.Endings.{LineEnded, LineOpen}
-use Rattle.lineends.proofs.Ends.{lines-next, lines-last, lines-end}
 use Rattle.scan.proofs.Faults.{fault-place}
 use Rattle.forms.specs.declared.Fault.{Fault}
 use Rattle.forms.specs.declared.Fault.the-variants.{NoForm, BadDollar, NotYet}
 use Rattle.forms.specs.Faults.{faultIn, Within, Fails}
 use Rattle.forms.specs.declared.BuildPlaces.{BuildPlaces}
 use Rattle.forms.specs.Statements.{RuleAt, BuildAt, DefaultAt, BindingAt}
-use Rattle.lines.specs.Cuts.{LineSpan, refusalOf, Near, Wrong, SoundBinding, FileLineAt, BlockLineAt}
+use Rattle.lines.specs.Cuts.{refusalOf, Near, Wrong, SoundBinding, FileLineAt, BlockLineAt}
 use Rattle.lines.specs.declared.FileLine.{FileLine}
 use Rattle.lines.specs.declared.FileLine.the-variants.{Rule, Build, Default, Binding, Refused}
 use Rattle.lines.specs.declared.BlockLine.{BlockLine}
 use Rattle.lines.specs.declared.BlockLine.the-variants.{Binding as Setting, Refused as NoSetting}
 use Rattle.lines.proofs.Dollars.{Sound}
-
--- ---- where a line lies
-
-module _ (m : List ℕ) {i : ℕ} (h : i < length m) where
-  pub span-ended : {e : ℕ} → LineEnded m i e → LineSpan m i (record { end = e; ended = true; next = e + 1 })
-  span-ended a =
-      record {
-        forward = a .forward;
-        within = omega (arith, a .within);
-        on = omega (arith, a .forward);
-        most = omega (arith, a .within);
-        lines = lines-next m h a;
-      }
-
-  pub span-open : LineOpen m i → LineSpan m i (record { end = length m; ended = false; next = length m })
-  span-open a =
-      record {
-        forward = omega arith;
-        within = omega arith;
-        on = h;
-        most = omega arith;
-        lines = rw (part-to-end m i, lines-end m (length m) (omega arith)) (lines-last m h a);
-      }
 
 -- ---- a fault, and a line that is not ended
 

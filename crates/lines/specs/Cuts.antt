@@ -1,11 +1,10 @@
 -- What is said of a line: where it lies in the manifest, and its cut.
-use Prim.Native.Nat.{ℕ, _+_, _≤_, _<_}
-use mathlib.Core.Bool.{Bool, true}
-use mathlib.Core.List.{List, _∷_}
+use Prim.Native.Nat.{ℕ, _+_, _≤_}
+use mathlib.Core.Bool.{true}
+use mathlib.Core.List.{List}
 use mathlib.Core.Option.{none}
 use mathlib.Core.Path.{_≡_}
 use lib.ListN.{length, drop}
-use Rattle.lists.specs.Parts.{part}
 use Rattle.rules.specs.declared.Refusal.{Refusal}
 use Rattle.rules.specs.declared.Refusal.the-variants.{BadLine, BadDollar, NotYet}
 use Rattle.rules.specs.Limits.{maxManifest}
@@ -15,27 +14,13 @@ use Rattle.rules.specs.Forms.{Cut, Form, cutStatement, cutIndented}
 use Rattle.rules.specs.Statements.{Outcome, refused}
 use Rattle.rules.specs.Manifest.{ifCut}
 use Rattle.classes.specs.Table.{classes}
-use Rattle.lineends.specs.Endings.{linesFrom}
 use Rattle.forms.specs.declared.Fault.{Fault}
 use Rattle.forms.specs.declared.Fault.the-variants.{NoForm, BadDollar as WrongDollar, NotYet as Later}
 use Rattle.forms.specs.Statements.{RuleAt, BuildAt, DefaultAt, BindingAt}
-use Rattle.lines.specs.declared.Span.{Span}
 use Rattle.lines.specs.declared.FileLine.{FileLine}
 use Rattle.lines.specs.declared.FileLine.the-variants.{Rule, Build, Default, Binding, Refused}
 use Rattle.lines.specs.declared.BlockLine.{BlockLine}
 use Rattle.lines.specs.declared.BlockLine.the-variants.{Binding as Setting, Refused as NoSetting}
-
--- a line of the manifest by its start, its bytes without the newline that ends it, and whether such a newline is there
-abbrev pub lineOf : ℕ → List ℕ → Bool → Line
-lineOf at s b = record { start = at; text = s; ended = b }
-
--- The line that starts at place i, and the lines behind it.
-pub record LineSpan (m : List ℕ) (i : ℕ) (s : Span) : Type 0 where
-  pub forward : i ≤ s .end
-  pub within : s .end ≤ length m
-  pub on : i < s .next
-  pub most : s .next ≤ length m
-  pub lines : linesFrom i (drop i m) ≡ lineOf i (part m i (s .end)) (s .ended) ∷ linesFrom (s .next) (drop (s .next) m)
 
 -- ---- faults
 

@@ -3,7 +3,7 @@ use mathlib.Core.Path.{_≡_, refl, sym, ap, ap₂}
 use mathlib.Core.Logic.{_⊎_, inl, inr}
 use mathlib.Core.Bool.{Bool, true, false, not, cond, _&&_, _||_, true≢false, false≢true}
 use mathlib.Core.Option.{Option, none, some, Option·none-ne-some, Option·some-injective}
-use mathlib.Core.List.{List, [], _∷_, _++_}
+use mathlib.Core.List.{List, [], _∷_, _++_, map}
 use Prim.Native.Nat.{ℕ, zero, suc, _+_, _≤_, _<_}
 use native.Mathlib.Nat.{not-suc-le-zero, le-of-suc-le-suc, le-of-lt}
 use native.Mathlib.Decide.{decLt, ℕ-discrete}
@@ -174,6 +174,28 @@ any-false p (y ∷ l) e (there h) = any-false p l (or-right (p y) (any p l) e) h
 
 pub true-any : (p : ℕ → Bool) (l : List ℕ) {x : ℕ} → x ∈ l → p x ≡ true → any p l ≡ true
 true-any p l h e = split (any p l) (λ (a : any p l ≡ true). a) (λ (b : any p l ≡ false). differ e (any-false p l b h))
+
+pub any-append : {A : Type 0} (p : A → Bool) (l r : List A) → any p (l ++ r) ≡ any p l || any p r
+unfolding any
+any-append p [] r = refl
+any-append p (x ∷ l) r = rw (any-append p l r) (or-assoc (p x) (any p l) (any p r))
+  where
+    or-assoc : (a b c : Bool) → a || (b || c) ≡ (a || b) || c
+    or-assoc true b c = refl
+    or-assoc false b c = refl
+
+pub any-map : {A B : Type 0} (p : B → Bool) (f : A → B) (l : List A) → any p (map f l) ≡ any (λ x. p (f x)) l
+unfolding any
+any-map p f [] = refl
+any-map p f (x ∷ l) = ap (λ (b : Bool). p (f x) || b) (any-map p f l)
+
+pub any-cons : {A : Type 0} (p : A → Bool) (x : A) (l : List A) → any p (x ∷ l) ≡ p x || any p l
+unfolding any
+any-cons p x l = refl
+
+pub any-none : {A : Type 0} (p : A → Bool) → any p [] ≡ false
+unfolding any
+any-none p = refl
 
 pub find-some : (p : ℕ → Bool) (l : List ℕ) {x : ℕ} → find p l ≡ some x → (x ∈ l) × (p x ≡ true)
 unfolding find

@@ -10,7 +10,7 @@ use lib.Dec.{ltb}
 use lib.ListN.{length, length-append}
 use Rattle.lists.specs.Tests.{split, or-left, or-right}
 use Rattle.lists.specs.Tests as tests
-use Rattle.lists.specs.Members.{any}
+use Rattle.lists.specs.Members.{any, any-append}
 use Rattle.rules.specs.Basics.{among, sum}
 use Rattle.rules.specs.Limits.{maxFiles, maxBindings, maxMentions, maxPath, maxWritten}
 use Rattle.rules.specs.Reading.{Reading, mention}
@@ -88,12 +88,6 @@ module _ (p : List ℕ) (rd : Reading) where
 
 -- ---- lists, one after another
 
-any-append : (t : List ℕ → Bool) (l r : List (List ℕ)) → any t (l ++ r) ≡ any t l || any t r
-unfolding any
-any-append t [] r = refl
-any-append t (x ∷ l) r =
-    split (t x) (λ (e : t x ≡ true). rw e) (λ (e : t x ≡ false). rw e (any-append t l r))
-
 sum-append : (l r : List (List ℕ)) → sum (map (λ (p : List ℕ). length p) (l ++ r)) ≡ sum (map (λ (p : List ℕ). length p) l) + sum (map (λ (p : List ℕ). length p) r)
 unfolding sum
 sum-append [] r = omega arith
@@ -134,19 +128,23 @@ mentioned-none rd =
 
 -- ---- by the counts of one path
 
-module _ {names fileEnds texts bind graph : List ℕ} {c : Counts} {h : Line} (w : Writing names fileEnds texts bind graph c h) (p : List ℕ) where
-  pub path-over : overCounted (length p) c ≡ true → (more : List (List ℕ)) → overLine (p ∷ more) (h .reading) ≡ true
-  unfolding overCounted
-  path-over e =
-      let b = ltb maxMentions (c .mentions + 1) in
-      let d = ltb maxWritten (c .written + length p) in
-      elim (tests.or-true (ltb maxPath (length p)) (b || d) e) [
-        | inl a ↦ line-long p (h .reading) (ltb-true maxPath (length p) a)
-        | inr f ↦ elim (tests.or-true b d f) [
-          | inl x ↦ line-mentions p (h .reading) (omega (arith, ltb-true maxMentions (c .mentions + 1) x, w .mentions-counted))
-          | inr y ↦ line-written p (h .reading) (omega (arith, ltb-true maxWritten (c .written + length p) y, w .bound .written-counted))
-        ]
+pub counted-over : (c : Counts) (rd : Reading) → c .mentions ≡ rd .mentions → c .written ≡ rd .written → (p : List ℕ) → overCounted (length p) c ≡ true → (more : List (List ℕ))
+    → overLine (p ∷ more) rd ≡ true
+unfolding overCounted
+counted-over c rd m n p e =
+    let b = ltb maxMentions (c .mentions + 1) in
+    let d = ltb maxWritten (c .written + length p) in
+    elim (tests.or-true (ltb maxPath (length p)) (b || d) e) [
+      | inl a ↦ line-long p rd (ltb-true maxPath (length p) a)
+      | inr f ↦ elim (tests.or-true b d f) [
+        | inl x ↦ line-mentions p rd (omega (arith, ltb-true maxMentions (c .mentions + 1) x))
+        | inr y ↦ line-written p rd (omega (arith, ltb-true maxWritten (c .written + length p) y))
       ]
+    ]
+
+pub path-over : {names fileEnds texts bind graph : List ℕ} {c : Counts} {h : Line} → Writing names fileEnds texts bind graph c h → (p : List ℕ) → overCounted (length p) c ≡ true
+    → (more : List (List ℕ)) → overLine (p ∷ more) (h .reading) ≡ true
+path-over {c = c} {h = h} w p e = counted-over c (h .reading) (w .mentions-counted) (w .bound .written-counted) p e
 
 -- a path that is within them
 pub record Within (n : ℕ) (c : Counts) : Type 0 where

@@ -10,9 +10,10 @@ use Rattle.rules.specs.Reading.{fileVar}
 use Rattle.rules.specs.Statements.{expanded}
 use Rattle.bindings.specs.Log.{Logged}
 use Rattle.bindings.specs.Held.{Holds}
-use Rattle.expand.specs.Runs as runs
-use Rattle.expand.specs.Runs.{Written}
-use Rattle.expand.proofs.Callers.{expanded-vars, written-whole}
+use Rattle.runs.specs.Runs as runs
+use Rattle.expand.specs.Written.{Written}
+use Rattle.runs.proofs.Expansions.{expanded-vars}
+use Rattle.expand.proofs.Callers.{written-whole}
 use Rattle.held.specs.declared.Counts.{Counts}
 use Rattle.marks.specs.declared.Mentioned.{Mentioned}
 use Rattle.marks.specs.declared.Mentioned.the-variants.{Over}

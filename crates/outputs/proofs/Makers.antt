@@ -24,7 +24,8 @@ use Rattle.tables.specs.Tables.{madeBy, makerIn}
 use Rattle.tables.proofs.Held.{held-makers}
 use Rattle.bindings.specs.Log.{Logged}
 use Rattle.bindings.specs.Held.{Holds as BindingsHold, Sound as BindingsSound}
-use Rattle.expand.specs.Runs.{expanded, Written}
+use Rattle.runs.specs.Runs.{expanded}
+use Rattle.expand.specs.Written.{Written}
 use Rattle.expand.proofs.Callers.{written-long, written-whole}
 use Rattle.held.specs.declared.Counts.{Counts}
 use Rattle.emptypaths.proofs.Empty.{path-held}
@@ -82,6 +83,14 @@ unfolding isMade
 unknown-unmade {rd = rd} g path m =
     let z : getD (g .made) (length (rd .files)) 0 ≡ 0 = List·getD-eq-default (g .made) 0 {n = length (rd .files)} (omega (arith, g .tables .counted)) in
     sym (output-entry g (numberOf path (rd .files)) ∙ rw (number-missing path (rd .files) m, z))
+
+-- An output's path is among the files.
+pub made-among : {log : List Logged} {names ends texts bind graph : List ℕ} {c : Counts} {rd : Reading} → Holds log names ends texts bind graph c rd → (p : List ℕ) → isMade p rd ≡ true
+    → among p (rd .files) ≡ true
+made-among {rd = rd} h p m =
+    split (among p (rd .files))
+    (λ (e : among p (rd .files) ≡ true). e)
+    (λ (e : among p (rd .files) ≡ false). differ m (sym (unknown-unmade (h .graphed) p e)))
 
 pub missing-unmade : {log : List Logged} {names ends graph : List ℕ} {c : Counts} {rd : Reading} (h : Filed log names ends graph c rd) {path : List ℕ} {r : Found}
     → Finds names ends (c .files) path r → r ≡ Missing → false ≡ isMade path rd

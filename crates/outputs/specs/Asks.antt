@@ -8,7 +8,7 @@ use Rattle.rules.specs.Limits.{maxManifest, maxWritten}
 use Rattle.rules.specs.Reading.{Reading}
 use Rattle.classes.specs.Table.{classes}
 use Rattle.bindings.specs.Log.{Logged}
-use Rattle.expand.specs.Runs.{Ready}
+use Rattle.runs.specs.Runs.{Ready}
 use Rattle.names.specs.Table.{Holds as NamesHold}
 use Rattle.held.specs.Held.{Graphed}
 use Rattle.held.specs.Adds.{Whole}

@@ -18,7 +18,7 @@ use Rattle.rules.specs.Dollars as rules
 use Rattle.dollars.specs.Element.{Element, literal, joins, wrong, element, restOf, Found, FoundName}
 use Rattle.tokens.proofs.Places.{at-cons}
 use Rattle.scan.proofs.Pieces.{pieces-byte, pieces-literal, pieces-join, pieces-name, sound-rest, sound-not-bad}
-use Rattle.expand.proofs.Pieces.{sound-run, literal-here}
+use Rattle.runs.proofs.Pieces.{sound-run, literal-here}
 use Rattle.pieces.specs.declared.Piece.{Piece}
 use Rattle.pieces.specs.declared.Piece.the-variants.{Bytes, Name}
 use Rattle.pieces.specs.Begins.{plainly, Begins}

@@ -2,7 +2,7 @@
 ghost use Prim.Native.Nat.{_<_};
 ghost use lib.ListN.{length};
 ghost use Rattle.pieces.specs.Begins.{Ready, Begins};
-use dollars::Begins;
+use dollars::Escape;
 use dollars::dollar;
 use slices::bytes::find;
 
@@ -22,9 +22,9 @@ pub fn piece_at(t: &[u8; 256], raw: &[u8], i: usize) -> Piece
         return Piece::Bytes(i, end, end);
     }
     match dollar(t, raw, i + 1) {
-        Begins::Byte(_, next) => Piece::Bytes(i + 1, i + 2, next),
-        Begins::Join(next) => Piece::Bytes(next, next, next),
-        Begins::Name(from, to, next) => Piece::Name(from, to, next),
-        Begins::Bad => Piece::Bytes(i, i, raw.len()),
+        Escape::Byte(_, next) => Piece::Bytes(i + 1, i + 2, next),
+        Escape::Join(next) => Piece::Bytes(next, next, next),
+        Escape::Name(from, to, next) => Piece::Name(from, to, next),
+        Escape::Bad => Piece::Bytes(i, i, raw.len()),
     }
 }

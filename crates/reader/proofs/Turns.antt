@@ -13,8 +13,8 @@ use Rattle.rules.specs.Statements.{noBlock, Outcome}
 use Rattle.rules.specs.Manifest.{close, andThen, readLine, readLines}
 use Rattle.lineends.specs.Endings.{linesFrom}
 use Rattle.lineends.proofs.Ends.{lines-begin, lines-end}
-use Rattle.lines.specs.declared.Span.{Span}
-use Rattle.lines.specs.Cuts.{lineOf, LineSpan}
+use Rattle.cursor.specs.declared.Span.{Span}
+use Rattle.cursor.specs.Spans.{lineOf, LineSpan}
 use Rattle.held.specs.declared.Counts.{Counts}
 use Rattle.held.specs.declared.Open.{Open}
 use Rattle.held.specs.declared.Open.the-variants.{Nothing}

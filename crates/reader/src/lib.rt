@@ -1,12 +1,12 @@
 // The manifest reader: 2 and 3 for the whole manifest, then its lines from the top.
 ghost use Rattle.reader.specs.Manifests.{Roomy, LinesAsk, TopAsk, LinesRead, IsRead};
+use cursor::left_from;
+use cursor::line_from;
+use cursor::top;
 use held::Counts;
 use held::LineAnswer;
 use held::Open;
 use linekinds::read_line;
-use lines::left_from;
-use lines::line_from;
-use lines::top;
 use names::clear;
 use rulelines::close;
 use rules::Refusal;

@@ -9,12 +9,11 @@ use native.Mathlib.Omega.{arith}
 use lib.ListN.{length, take, drop, getD, take-append-drop}
 use Rattle.lists.specs.Tests.{or-false}
 use Rattle.lists.specs.Bytes.{eqBytes, lessBytes, eq-eqBytes, ne-eqBytes, less-trans, less-ne}
-use Rattle.lists.specs.Members.{any}
+use Rattle.lists.specs.Members.{any, any-append}
 use Rattle.rules.specs.Basics.{among}
 use Rattle.arena.specs.Inserted.{inserted}
 use Rattle.arena.proofs.Inserting.{pairs-inserted}
 use Rattle.twice.specs.Sorted.{Rising, Between}
-use Rattle.emptypaths.proofs.Walking.{any-append}
 
 -- ---- where x belongs
 

@@ -22,7 +22,7 @@ use Rattle.arena.specs.Inserted.{inserted, Shifted}
 use Rattle.arena.proofs.Inserting.{each-inserted}
 use Rattle.bindings.specs.Log.{Logged}
 use Rattle.bindings.specs.Held.{Holds as BindingsHold}
-use Rattle.expand.specs.Runs.{expanded as expandedBy, Ready}
+use Rattle.runs.specs.Runs.{expanded as expandedBy, Ready}
 use Rattle.held.specs.Held.{Bound}
 use Rattle.held.specs.declared.Counts.{Counts}
 use Rattle.twice.specs.declared.Place.the-variants.{Taken, Free}

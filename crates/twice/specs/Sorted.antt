@@ -17,7 +17,7 @@ use Rattle.rules.specs.Statements.{expanded, twice}
 use Rattle.classes.specs.Table.{classes}
 use Rattle.forms.specs.Paths.{PathsAt}
 use Rattle.bindings.specs.Log.{Logged}
-use Rattle.expand.specs.Runs.{Ready}
+use Rattle.runs.specs.Runs.{Ready}
 use Rattle.held.specs.Held.{Bound}
 use Rattle.held.specs.declared.Counts.{Counts}
 use Rattle.twice.specs.declared.Place.{Place}

@@ -1,13 +1,13 @@
 // Two equal outputs in a line. The outputs so far stand in a table that is sorted by what they expand to, so each is compared with few others.
 ghost use Rattle.twice.specs.Sorted.{EntryAsks, Ordered, SortedAsks, PlaceIn, AddAsks, Added, TableAsks, Compared, RoomAsks, Twice};
 use arena::insert;
-use expand::order;
 use forms::Next;
 use forms::paths::next_path;
 use held::Counts;
 use held::columns::END;
 use lists::Order;
 use slices::words::at;
+use textorder::order;
 
 // Where a path stands in a sorted table: an equal one is there, or it belongs at a place.
 pub enum Place {

@@ -13,7 +13,8 @@ use Rattle.rules.specs.Statements.{Block, refused, addVar, addToBlock, blockLin
 use Rattle.rules.specs.Manifest.{withStep}
 use Rattle.bindings.specs.Log.{Logged, logged, ofFile, ofStep}
 use Rattle.bindings.specs.Held.{Holds}
-use Rattle.expand.specs.Runs.{expanded, Written}
+use Rattle.runs.specs.Runs.{expanded}
+use Rattle.expand.specs.Written.{Written}
 use Rattle.held.specs.declared.Counts.{Counts}
 use Rattle.held.specs.declared.Open.the-variants.{Nothing, Step as OpenStep}
 use Rattle.held.specs.declared.LineAnswer.{LineAnswer}

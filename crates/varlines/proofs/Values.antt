@@ -12,7 +12,8 @@ use Rattle.rules.specs.Statements.{Block, noBlock, ruleBlock, buildBlock}
 use Rattle.rules.specs.Manifest.{withRule, withStep}
 use Rattle.bindings.specs.Log.{Logged}
 use Rattle.bindings.specs.Held.{Holds}
-use Rattle.expand.specs.Runs.{expanded, laidOver, Written}
+use Rattle.runs.specs.Runs.{expanded}
+use Rattle.expand.specs.Written.{laidOver, Written}
 use Rattle.held.specs.declared.Counts.{Counts}
 use Rattle.held.specs.declared.Open.{Open}
 use Rattle.held.specs.Held.{joined, Bound}

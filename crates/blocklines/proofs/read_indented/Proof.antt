@@ -1,5 +1,5 @@
 -- `blocklines::read_indented` meets its contract.
-use Rattle.lines.specs.Cuts.{lineOf}
+use Rattle.cursor.specs.Spans.{lineOf}
 use Rattle.blocklines.proofs.Outcomes.{no-block, key-asks}
 use borrow.Author.Needs.{needs}
 use Rattle.blocklines.proofs.read_indented.Statement.{statement}

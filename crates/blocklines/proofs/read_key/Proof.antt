@@ -1,6 +1,6 @@
 -- `blocklines::read_key` meets its contract.
 use native.Mathlib.Omega.{arith}
-use Rattle.lines.specs.Cuts.{lineOf}
+use Rattle.cursor.specs.Spans.{lineOf}
 use Rattle.lines.proofs.Cut.{setting-told, wrong-told}
 use Rattle.blocklines.proofs.Outcomes.{line-applied, wrong-key}
 use borrow.Author.Needs.{needs}

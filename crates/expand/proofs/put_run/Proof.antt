@@ -1,6 +1,6 @@
 -- `expand::put_run` meets its contract.
 use borrow.Author.Needs.{needs}
-use Rattle.expand.specs.Runs.{bytesOf}
+use Rattle.runs.specs.Runs.{bytesOf}
 use Rattle.expand.proofs.put_run.Statement.{statement}
 use Rattle.expand.proofs.put_run.Tie as tie
 

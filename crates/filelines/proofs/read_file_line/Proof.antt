@@ -1,5 +1,5 @@
 -- `filelines::read_file_line` meets its contract.
-use Rattle.lines.specs.Cuts.{lineOf}
+use Rattle.cursor.specs.Spans.{lineOf}
 use Rattle.rules.specs.Manifest.{readStatement}
 use Rattle.filelines.proofs.Outcomes.{between-sound, closed-asks, closed-then, not-closed}
 use borrow.Author.Needs.{needs}

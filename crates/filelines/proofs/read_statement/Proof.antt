@@ -1,6 +1,6 @@
 -- `filelines::read_statement` meets its contract.
 use native.Mathlib.Omega.{arith}
-use Rattle.lines.specs.Cuts.{lineOf}
+use Rattle.cursor.specs.Spans.{lineOf}
 use Rattle.lines.proofs.Cut.{rule-told, build-told, default-told, binding-told, refused-told}
 use Rattle.filelines.proofs.Outcomes.{between-sound, rule-read, build-read, default-read, var-read, wrong-read, build-asks, default-asks, value-asks}
 use borrow.Author.Needs.{needs}

@@ -1,5 +1,5 @@
 -- `linekinds::read_line` meets its contract.
-use Rattle.lines.specs.Cuts.{lineOf}
+use Rattle.cursor.specs.Spans.{lineOf}
 use Rattle.filelines.proofs.Outcomes.{between-sound}
 use Rattle.linekinds.proofs.ByKind.{comment-read, blank-read, indented-read, statement-read, indented-asks}
 use borrow.Author.Needs.{needs}

@@ -1,7 +1,8 @@
 -- `lines::cut_block_line` meets its contract.
 use mathlib.Core.Path.{subst}
 use Rattle.forms.specs.Statements.{BindingAt, AssignmentAt}
-use Rattle.lines.specs.Cuts.{lineOf, BlockLineAt}
+use Rattle.cursor.specs.Spans.{lineOf}
+use Rattle.lines.specs.Cuts.{BlockLineAt}
 use Rattle.lines.proofs.Dollars.{sound-indented}
 use Rattle.lines.proofs.Cut.{line-wrong, line-open, line-binds, fault-near}
 use borrow.Author.Needs.{needs}

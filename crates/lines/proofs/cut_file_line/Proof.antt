@@ -1,7 +1,8 @@
 -- `lines::cut_file_line` meets its contract.
 use mathlib.Core.Path.{subst}
 use Rattle.forms.specs.Statements.{RuleAt, BuildAt, DefaultAt, BindingAt, StatementAt}
-use Rattle.lines.specs.Cuts.{lineOf, FileLineAt}
+use Rattle.cursor.specs.Spans.{lineOf}
+use Rattle.lines.specs.Cuts.{FileLineAt}
 use Rattle.lines.proofs.Dollars.{sound-statement}
 use Rattle.lines.proofs.Cut.{line-wrong, line-open, line-binds, fault-near}
 use borrow.Author.Needs.{needs}
