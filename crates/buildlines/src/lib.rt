@@ -8,7 +8,7 @@ use badpaths::bad_paths;
 use forms::BuildPlaces;
 use held::Counts;
 use held::LineAnswer;
-use rulelines::is_declared;
+use rulekeys::is_declared;
 use rules::Refusal;
 use steplines::write_step;
 

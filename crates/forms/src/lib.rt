@@ -1,20 +1,5 @@
-// A line cut into its form by its bytes alone: refusals 4, 5 and 6. A line is lent without the newline that ends it.
-ghost use mathlib.Core.Path.{_≡_};
-ghost use Rattle.rules.specs.Forms.{cutStatement, cutIndented};
-ghost use Rattle.classes.specs.Table.{classes};
-ghost use Rattle.forms.specs.Statements.{StatementAt, AssignmentAt};
-
-mod build;
-mod names;
+// The forms that a line is cut into, where their parts stand in it, and the cut of a list of paths.
 pub mod paths;
-
-use crate::build::cut_build;
-use crate::names::cut_binding;
-use crate::names::cut_rule;
-use crate::paths::cut_default;
-use byteorder::equal;
-use tokens::name;
-use tokens::spaces;
 
 // What a line without indent is.
 pub enum Statement {
@@ -55,38 +40,6 @@ pub struct BuildPlaces {
 pub enum Next {
     Path(usize, usize),
     Stop,
-}
-
-// A line without indent; a keyword at its start always begins its statement.
-pub fn cut_statement(t: &[u8; 256], l: &[u8]) -> Statement
-    requires { ⌜ now t ≡ classes ⌝ }
-    ensures { λ r. ⌜ StatementAt (now (l .entry)) (cutStatement (now (l .entry))) r ⌝ }
-{
-    let end = name(t, l, 0);
-    let w = &l[..end];
-    if equal(w, b"rule") {
-        return cut_rule(t, l, end);
-    }
-    if equal(w, b"build") {
-        return cut_build(t, l, end);
-    }
-    if equal(w, b"default") {
-        return cut_default(t, l, end);
-    }
-    match cut_binding(t, l, 0, end) {
-        Assignment::Binding(from, to, at) => Statement::Binding(from, to, at),
-        Assignment::Wrong(f) => Statement::Wrong(f),
-    }
-}
-
-// An indented line; in a block the first word is always a key.
-pub fn cut_indented(t: &[u8; 256], l: &[u8]) -> Assignment
-    requires { ⌜ now t ≡ classes ⌝ }
-    ensures { λ r. ⌜ AssignmentAt (now (l .entry)) (cutIndented (now (l .entry))) r ⌝ }
-{
-    let from = spaces(l, 0);
-    let to = name(t, l, from);
-    cut_binding(t, l, from, to)
 }
 
 // A list of paths: whether it has any, and where it ends.

@@ -6,9 +6,9 @@ use forms::Assignment;
 use forms::BuildPlaces;
 use forms::Fault;
 use forms::Statement;
-use forms::cut_indented;
-use forms::cut_statement;
 use rules::Refusal;
+use statements::cut_indented;
+use statements::cut_statement;
 
 // A line at file level. Places are in the line.
 pub enum FileLine {

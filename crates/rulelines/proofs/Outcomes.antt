@@ -26,8 +26,8 @@ use Rattle.held.proofs.Grow.{newest-rule-below, bound-room, bound-rule, bound-k
 use Rattle.held.proofs.Lift.{joined-none, none-bound, refused-by}
 use Rattle.bindlines.specs.Limits.{overCounted, Ready, Put}
 use Rattle.bindlines.proofs.Entries.{over-counted, within}
-use Rattle.rulelines.specs.Tests.{OfRule, keyed, badKey}
-use Rattle.rulelines.proofs.Lookups.{keyed-held, bad-held, key-short}
+use Rattle.rulekeys.specs.Tests.{OfRule, keyed, badKey}
+use Rattle.rulekeys.proofs.Lookups.{keyed-held, bad-held, key-short}
 
 -- ---- `rule NAME`
 
