@@ -10,7 +10,6 @@ use Rattle.lists.specs.Parts.{part, part-to-end, drop-take}
 use Rattle.rules.specs.Limits.{maxName}
 use Rattle.arena.specs.Inserted.{inserted, Shifted}
 use Rattle.bindings.specs.Log.{Logged, noEntry, entryAt, asOf}
-use Rattle.bindings.specs.Index.{Indexed}
 use Rattle.bindings.specs.Held.{maxEntries, maxTexts, maxRows, rowsEnd, textsOf, rowOf, rowsOf, valuesIn, ShortNames, indexIn, Rows, Holds, HasEntry, Room, HasRoom, startIn, Row, PlaceOf, Pushed}
 use Rattle.bindings.proofs.Indexing.{nothing-indexed, indexed-more}
 
@@ -51,47 +50,23 @@ prefix-last p q r t h =
     let g : take (length (p ++ q ++ (r ++ []))) t ≡ p ++ q ++ (r ++ []) = rw (append-nil r, append-assoc p q r) h in
     rw length-append at (prefix-part (p ++ q) r [] t g)
 
--- ---- the rows of what is held
-
-rows-of : {log : List Logged} {texts bind : List ℕ} {count : ℕ} → Holds log texts bind count → Rows log texts bind count
-rows-of h =
-    record {
-      counted = h .counted;
-      few = h .few;
-      names = h .names;
-      values = h .values;
-      texts-long = h .texts-long;
-      bind-long = h .bind-long;
-      texts-held = h .texts-held;
-      bind-held = h .bind-held;
-    }
-
-with-index : {log : List Logged} {texts bind : List ℕ} {count : ℕ} → Rows log texts bind count → Indexed log (indexIn bind count) → Holds log texts bind count
-with-index h x =
-    record {
-      counted = h .counted;
-      few = h .few;
-      names = h .names;
-      values = h .values;
-      texts-long = h .texts-long;
-      bind-long = h .bind-long;
-      texts-held = h .texts-held;
-      bind-held = h .bind-held;
-      index = x;
-    }
+-- ---- nothing is held yet
 
 pub held-none : (texts bind : List ℕ) → maxTexts ≤ length texts → maxRows ≤ length bind → Holds [] texts bind 0
 unfolding textsOf rowsOf valuesIn
 held-none texts bind t b =
     record {
-      counted = refl;
-      few = omega arith;
-      names = tt;
-      values = omega arith;
-      texts-long = t;
-      bind-long = b;
-      texts-held = refl;
-      bind-held = refl;
+      rows =
+          record {
+            counted = refl;
+            few = omega arith;
+            names = tt;
+            values = omega arith;
+            texts-long = t;
+            bind-long = b;
+            texts-held = refl;
+            bind-held = refl;
+          };
       index = nothing-indexed;
     }
 
@@ -180,8 +155,8 @@ older (e ∷ l) k {texts} {bind} {count} h b = elim (decLe k (length l)) [
 
 pub row-at : (log : List Logged) (k : ℕ) {texts bind : List ℕ} {count : ℕ} → Holds log texts bind count → k < count → Row (entryAt k log) texts bind k
 row-at log k {texts} {bind} {count} h b =
-    let c : k < length log = omega (arith, h .counted) in
-    let o : Rows (entryAt k log ∷ asOf k log) texts bind (suc k) = rw (asOf-suc log k c) at (older log (suc k) (rows-of h) c) in
+    let c : k < length log = omega (arith, h .rows .counted) in
+    let o : Rows (entryAt k log ∷ asOf k log) texts bind (suc k) = rw (asOf-suc log k c) at (older log (suc k) (h .rows) c) in
     rw (length-asOf log k (omega arith)) at (row-top (entryAt k log) (asOf k log) o)
 
 pub row-of : {texts bind : List ℕ} {k : ℕ} (h : HasEntry texts bind k) → Row (entryAt k (h .log)) texts bind k
@@ -222,12 +197,12 @@ length-copied l a b i m q h =
 
 module _ {log : List Logged} {texts bind : List ℕ} {count : ℕ} (e : Logged) (r : Room log texts bind count e) where
   room-start : startIn bind count ≡ length (textsOf log)
-  room-start = rw (r .held .counted) (start-held log (rows-of (r .held)))
+  room-start = rw (r .held .rows .counted) (start-held log (r .held .rows))
 
   -- The entry's name ends at m and its value at t.
   module _ (m t : ℕ) (hm : m ≡ startIn bind count + length (e .name)) (ht : t ≡ m + length (e .value)) where
     pub room-fits : t ≤ maxTexts
-    room-fits = omega (arith, room-start, length-texts log (r .held .names), r .held .counted, r .few, r .name, r .value)
+    room-fits = omega (arith, room-start, length-texts log (r .held .rows .names), r .held .rows .counted, r .few, r .name, r .value)
 
     rows-pushed : Rows (e ∷ log)
         (paste (paste texts (startIn bind count) (e .name) (length (e .name))) m (e .value) (length (e .value)))
@@ -238,22 +213,22 @@ module _ {log : List Logged} {texts bind : List ℕ} {count : ℕ} (e : Logged) 
         let f = room-fits in
         let s = room-start in
         let n : length (textsOf (e ∷ log)) ≡ m + length (e .value) = simp length-append (omega arith) in
-        let w : m + length (e .value) ≤ length texts = omega (arith, r .held .texts-long) in
+        let w : m + length (e .value) ≤ length texts = omega (arith, r .held .rows .texts-long) in
         let x : length (textsOf log) + length (e .name) ≡ m = omega arith in
         let y : m + length (e .value) ≡ t = omega arith in
-        let j : length (rowsOf log) ≡ 3 * count = omega (arith, length-rows log, r .held .counted) in
-        let k : length (rowsOf (e ∷ log)) ≡ 3 * count + 3 = simp length-append (omega (arith, length-rows log, r .held .counted)) in
+        let j : length (rowsOf log) ≡ 3 * count = omega (arith, length-rows log, r .held .rows .counted) in
+        let k : length (rowsOf (e ∷ log)) ≡ 3 * count + 3 = simp length-append (omega (arith, length-rows log, r .held .rows .counted)) in
         record {
-          counted = omega (arith, r .held .counted);
+          counted = omega (arith, r .held .rows .counted);
           few = omega (arith, r .few);
-          names = (r .name, r .held .names);
+          names = (r .name, r .held .rows .names);
           values = r .value;
-          texts-long = rw (length-copied texts (e .name) (e .value) (startIn bind count) m hm w) (r .held .texts-long);
-          bind-long = simp length-set (r .held .bind-long);
-          texts-held = rw n (copied texts (textsOf log) (e .name) (e .value) (startIn bind count) m hm w (rw s (r .held .texts-held)));
+          texts-long = rw (length-copied texts (e .name) (e .value) (startIn bind count) m hm w) (r .held .rows .texts-long);
+          bind-long = simp length-set (r .held .rows .bind-long);
+          texts-held = rw n (copied texts (textsOf log) (e .name) (e .value) (startIn bind count) m hm w (rw s (r .held .rows .texts-held)));
           bind-held =
               rw (k, x, y)
-              (stored bind (rowsOf log) (3 * count) m t (e .owner) (omega (arith, r .few, r .held .bind-long)) (rw (← j) (r .held .bind-held)));
+              (stored bind (rowsOf log) (3 * count) m t (e .owner) (omega (arith, r .few, r .held .rows .bind-long)) (rw (← j) (r .held .rows .bind-held)));
         }
 
 -- Behind the rows nothing changes.
@@ -297,7 +272,7 @@ module _ {log : List Logged} {texts bind : List ℕ} {count : ℕ} {e : Logged} 
   back = take rowsEnd bind′ ++ (m ++ drop (length bind′ - rowsEnd) (drop rowsEnd bind′))
 
   roomy : maxRows ≤ length bind′
-  roomy = rw (w .long) (r .held .bind-long)
+  roomy = rw (w .long) (r .held .rows .bind-long)
 
   long-back : length m ≡ length bind′ - rowsEnd
   long-back = x .long ∙ simp (length-take, length-drop) (omega (arith, roomy))
@@ -314,9 +289,11 @@ module _ {log : List Logged} {texts bind : List ℕ} {count : ℕ} {e : Logged} 
       ∙ take-append-le (count + 1) m (drop (length bind′ - rowsEnd) (drop rowsEnd bind′)) (omega (arith, roomy, long-back, r .few))
       ∙ x .entries
       ∙ ap (λ (l : List ℕ). inserted (take count l) p count) (part-to-end bind′ rowsEnd ∙ w .behind)
-      ∙ ap (inserted (indexIn bind count) p) (r .held .counted)
+      ∙ ap (inserted (indexIn bind count) p) (r .held .rows .counted)
 
   pub entry-held : Holds (e ∷ log) texts′ back (count + 1)
   entry-held =
-      with-index (rows-kept (w .rows log r) length-back front-back)
-      (rw index-back (indexed-more e log (r .held .index) (place .between log (r .held))))
+      record {
+        rows = rows-kept (w .rows log r) length-back front-back;
+        index = rw index-back (indexed-more e log (r .held .index) (place .between log (r .held)));
+      }

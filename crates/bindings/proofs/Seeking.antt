@@ -37,13 +37,13 @@ module _ {e : Logged} {texts bind : List ℕ} {k : ℕ} (w : Row e texts bind k)
 
 module _ {log : List Logged} {texts bind : List ℕ} {count : ℕ} (h : Holds log texts bind count) where
   length-index : length (indexIn bind count) ≡ count
-  length-index = h .index .long ∙ sym (h .counted)
+  length-index = h .index .long ∙ sym (h .rows .counted)
 
   index-at : (i : ℕ) → i < count → getD (indexIn bind count) i 0 ≡ getD bind (rowsEnd + i) 0
   index-at i a = getD-take count (drop rowsEnd bind) i 0 a ∙ getD-drop rowsEnd bind i 0
 
   pub index-below : {i k : ℕ} → i < count → k ≡ getD bind (rowsEnd + i) 0 → k < count
-  index-below {i} a e = omega (arith, e, index-at i a, h .index .below i (omega (arith, length-index)), h .counted)
+  index-below {i} a e = omega (arith, e, index-at i a, h .index .below i (omega (arith, length-index)), h .rows .counted)
 
 -- ---- halving
 

@@ -68,14 +68,7 @@ pub record Rows (log : List Logged) (texts bind : List ℕ) (count : ℕ) : Type
 
 -- The log is held, with its index.
 pub record Holds (log : List Logged) (texts bind : List ℕ) (count : ℕ) : Type 0 where
-  pub counted : count ≡ length log
-  pub few : count ≤ maxEntries
-  pub names : ShortNames log
-  pub values : valuesIn log ≤ maxWritten
-  pub texts-long : maxTexts ≤ length texts
-  pub bind-long : maxRows ≤ length bind
-  pub texts-held : take (length (textsOf log)) texts ≡ textsOf log
-  pub bind-held : take (length (rowsOf log)) bind ≡ rowsOf log
+  pub rows : Rows log texts bind count
   pub index : Indexed log (indexIn bind count)
 
 -- Some log is held; it has an entry k; and it has room for one more.

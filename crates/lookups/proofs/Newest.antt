@@ -25,7 +25,7 @@ module _ (o : ℕ) (n : List ℕ) (a : Asked) {texts bind : List ℕ} {f : Found
   pub entry-there : {k : ℕ} → InScope texts bind a → f ≡ At k → There texts bind a k
   entry-there {k} w e =
       let b : k < length (w .log) = newest-below o n (w .log) k (sym (q (w .log) (w .scope .bound)) ∙ e) in
-      let m : k < a .entries = omega (arith, w .scope .bound .counted) in
+      let m : k < a .entries = omega (arith, w .scope .bound .rows .counted) in
       record { entry = record { log = w .log; count = a .entries; held = w .scope .bound; below = m }; low = m }
 
   entry-found : {k : ℕ} (log : List Logged) → Holds log texts bind (a .entries) → f ≡ At k → find n (boundBy o log) ≡ some (entryAt k log .value)

@@ -21,10 +21,13 @@ unfoldable pub endsFrom : ℕ → List (List ℕ) → List ℕ
 endsFrom at [] = []
 endsFrom at (f ∷ l) = (at + length f) ∷ endsFrom (at + length f) l
 
--- the bucket of a name, of 1,024, by its bytes
+abbrev pub buckets : ℕ
+buckets = 1024
+
+-- the bucket of a name, by its bytes
 unfoldable pub bucketFrom : ℕ → List ℕ → ℕ
 bucketFrom h [] = h
-bucketFrom h (b ∷ s) = bucketFrom ((h * 403 + b) % 1024) s
+bucketFrom h (b ∷ s) = bucketFrom ((h * 403 + b) % buckets) s
 
 unfoldable pub bucketOf : List ℕ → ℕ
 unfolding bucketFrom
@@ -36,9 +39,15 @@ unfolding bucketOf
 lastIn b files zero = 0
 lastIn b files (suc n) = ifB (eqb (bucketOf (getD files n [])) b) (λ _. suc n) (λ _. lastIn b files n)
 
--- how many numbers a table has beside its bytes: ends, a link for each name, and the head of each bucket
+-- the numbers of a table beside its bytes: an end for each name, then a link for each, then the head of each bucket
+abbrev pub linksFrom : ℕ
+linksFrom = maxFiles
+
+abbrev pub headsFrom : ℕ
+headsFrom = linksFrom + maxFiles
+
 abbrev pub maxNumbers : ℕ
-maxNumbers = 3 * maxFiles
+maxNumbers = headsFrom + buckets
 
 pub record Holds (names ends : List ℕ) (count : ℕ) (files : List (List ℕ)) : Type 0 where
   pub counted : count ≡ length files
@@ -51,8 +60,8 @@ pub record Holds (names ends : List ℕ) (count : ℕ) (files : List (List ℕ))
   -- no name is there twice
   pub once : (i j : ℕ) → i < j → j < count → getD files i [] ≡ getD files j [] → ⊥
   -- each name's link is the one before it in its bucket
-  pub links : (k : ℕ) → k < count → getD ends (1024 + k) 0 ≡ lastIn (bucketOf (getD files k [])) files k
-  pub heads : (b : ℕ) → b < 1024 → getD ends (2048 + b) 0 ≡ lastIn b files count
+  pub links : (k : ℕ) → k < count → getD ends (linksFrom + k) 0 ≡ lastIn (bucketOf (getD files k [])) files k
+  pub heads : (b : ℕ) → b < buckets → getD ends (headsFrom + b) 0 ≡ lastIn b files count
 
 -- the buffers hold some table
 pub record Sound (names ends : List ℕ) (count : ℕ) : Type 0 where
@@ -101,4 +110,4 @@ startIn ends (suc k) = getD ends k 0
 
 -- the three numbers of a name more: its end, its link, and the head of its bucket
 unfoldable pub linked : List ℕ → ℕ → ℕ → ℕ → List ℕ
-linked ends count b to = set (set (set ends count to) (1024 + count) (getD ends (2048 + b) 0)) (2048 + b) (count + 1)
+linked ends count b to = set (set (set ends count to) (linksFrom + count) (getD ends (headsFrom + b) 0)) (headsFrom + b) (count + 1)

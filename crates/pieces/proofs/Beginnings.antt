@@ -2,23 +2,22 @@
 use Prim.Native.Nat.{ℕ, suc, _+_, _-_, _≤_, _<_}
 use mathlib.Core.Bool.{true, false}
 use mathlib.Core.List.{List, [], _∷_, _++_}
-use mathlib.Core.Option.{none, some}
+use mathlib.Core.Option.{none}
 use mathlib.Core.Path.{_≡_, refl, sym, _∙_, ap}
 use native.Mathlib.Nat.{le-refl}
 use native.Mathlib.Omega.{arith}
-use borrow.Author.Tests.{ne-eqb, eqb-false}
+use borrow.Author.Tests.{eqb-false}
 use lib.Dec.{eqb}
 use lib.ListN.{length, drop, getD, length-drop}
 use Rattle.lists.specs.Tests.{split}
-use Rattle.lists.specs.Parts.{part, length-part, part-none}
+use Rattle.lists.specs.Parts.{part, part-none}
 use Rattle.lists.specs.Runs.{isNot, run, afterRun, Reads, part-run}
 use Rattle.rules.specs.Bytes.{dollar}
 use Rattle.rules.specs.Dollars.{badDollar, pieces, byte}
 use Rattle.rules.specs.Dollars as rules
-use Rattle.dollars.specs.Element.{Element, literal, joins, wrong, element, restOf, Found, FoundName}
-use Rattle.tokens.proofs.Places.{at-cons}
-use Rattle.scan.proofs.Pieces.{pieces-byte, pieces-literal, pieces-join, pieces-name, sound-rest, sound-not-bad}
-use Rattle.runs.proofs.Pieces.{sound-run, literal-here}
+use Rattle.dollars.specs.Element.{literal, joins, wrong, element, restOf, Found, FoundName}
+use Rattle.scan.proofs.Pieces.{pieces-byte, pieces-literal, pieces-join, pieces-name, sound-not-bad}
+use Rattle.runs.proofs.Raw.{sound-run, literal-here, plain-forward, dollar-here, sound-here, sound-next}
 use Rattle.pieces.specs.declared.Piece.{Piece}
 use Rattle.pieces.specs.declared.Piece.the-variants.{Bytes, Name}
 use Rattle.pieces.specs.Begins.{plainly, Begins}
@@ -33,19 +32,10 @@ pieces-run (b ∷ s) =
     (λ (e : eqb b dollar ≡ false). rw e (pieces-byte b s (eqb-false b dollar e) ∙ ap (λ (l : List rules.Piece). byte b ∷ l) (pieces-run s)))
 
 module _ (raw : List ℕ) (i : ℕ) (h : i < length raw) (s : badDollar (drop i raw) ≡ none) where
-  plain-forward : (e : ℕ) → (getD raw i 0 ≡ dollar → ⊥) → Reads (afterRun (isNot dollar)) raw i e → i < e
-  unfolding run
-  plain-forward e d r =
-      let p : part raw i e ≡ run (isNot dollar) (drop i raw) = part-run (isNot dollar) r in
-      let q : run (isNot dollar) (drop i raw) ≡ getD raw i 0 ∷ run (isNot dollar) (drop (i + 1) raw) =
-      rw (at-cons raw i h, ne-eqb (getD raw i 0) dollar d) in
-      let n : e - i ≡ suc (length (run (isNot dollar) (drop (i + 1) raw))) = sym (length-part raw i e (r .within)) ∙ ap length (p ∙ q) in
-      omega arith
-
   pub plain-begins : {e : ℕ} → (getD raw i 0 ≡ dollar → ⊥) → Reads (afterRun (isNot dollar)) raw i e → Begins raw i (Bytes i e e)
   unfolding Begins
   plain-begins {e} d r =
-      let f = plain-forward e d r in
+      let f = plain-forward raw i h s e d r in
       record {
         ordered = r .forward;
         inside = r .within;
@@ -58,15 +48,6 @@ module _ (raw : List ℕ) (i : ℕ) (h : i < length raw) (s : badDollar (drop i 
   -- ---- what a `$` begins
 
   module _ (d : getD raw i 0 ≡ dollar) where
-    here : drop i raw ≡ dollar ∷ drop (i + 1) raw
-    here = at-cons raw i h ∙ rw d
-
-    sound-here : badDollar (dollar ∷ drop (i + 1) raw) ≡ none
-    sound-here = rw here at s
-
-    sound-next : (n : ℕ) {x : Element} → element (drop (i + 1) raw) ≡ x → restOf x ≡ some (drop n raw) → badDollar (drop n raw) ≡ none
-    sound-next n e p = sound-rest (drop (i + 1) raw) sound-here (drop n raw) (ap restOf e ∙ p)
-
     pub literal-begins : {b n : ℕ} → Found raw (i + 1) n (element (drop (i + 1) raw)) (literal b (drop n raw)) → Begins raw i (Bytes (i + 1) (i + 2) n)
     unfolding Begins plainly restOf
     literal-begins {b} {n} f =
@@ -80,8 +61,8 @@ module _ (raw : List ℕ) (i : ℕ) (h : i < length raw) (s : badDollar (drop i 
           inside = k;
           forward = omega (arith, f .forward);
           within = f .within;
-          sound = sound-next n (f .is) refl;
-          gives = ap pieces here ∙ pieces-literal (drop (i + 1) raw) (f .is) ∙ sym (rw p);
+          sound = sound-next raw i h s d n (f .is) refl;
+          gives = ap pieces (dollar-here raw i h s d) ∙ pieces-literal (drop (i + 1) raw) (f .is) ∙ sym (rw p);
         }
 
     pub join-begins : {n : ℕ} → Found raw (i + 1) n (element (drop (i + 1) raw)) (joins (drop n raw)) → Begins raw i (Bytes n n n)
@@ -92,8 +73,8 @@ module _ (raw : List ℕ) (i : ℕ) (h : i < length raw) (s : badDollar (drop i 
           inside = f .within;
           forward = omega (arith, f .forward);
           within = f .within;
-          sound = sound-next n (f .is) refl;
-          gives = ap pieces here ∙ pieces-join (drop (i + 1) raw) (f .is) ∙ sym (rw (part-none raw n n (le-refl n)));
+          sound = sound-next raw i h s d n (f .is) refl;
+          gives = ap pieces (dollar-here raw i h s d) ∙ pieces-join (drop (i + 1) raw) (f .is) ∙ sym (rw (part-none raw n n (le-refl n)));
         }
 
     pub name-begins : {a e n : ℕ} → FoundName raw (i + 1) a e n (element (drop (i + 1) raw)) → Begins raw i (Name a e n)
@@ -104,10 +85,10 @@ module _ (raw : List ℕ) (i : ℕ) (h : i < length raw) (s : badDollar (drop i 
           inside = omega (arith, f .before, f .found .within);
           forward = omega (arith, f .found .forward);
           within = f .found .within;
-          sound = sound-next n (f .found .is) refl;
-          gives = ap pieces here ∙ pieces-name (drop (i + 1) raw) (f .found .is);
+          sound = sound-next raw i h s d n (f .found .is) refl;
+          gives = ap pieces (dollar-here raw i h s d) ∙ pieces-name (drop (i + 1) raw) (f .found .is);
         }
 
     pub none-begins : (p : Piece) → element (drop (i + 1) raw) ≡ wrong → Begins raw i p
     unfolding restOf
-    none-begins p e = absurd (sound-not-bad (drop (i + 1) raw) sound-here (ap restOf e))
+    none-begins p e = absurd (sound-not-bad (drop (i + 1) raw) (sound-here raw i h s d) (ap restOf e))

@@ -5,6 +5,7 @@ use mathlib.Core.Path.{_≡_}
 use lib.Dec.{eqb}
 use lib.ListN.{length, take}
 use Rattle.lists.specs.Tests.{ifB}
+use Rattle.rules.specs.Limits.{leastList}
 use Rattle.rules.specs.Answers.{Said}
 use Rattle.rules.specs.PlanAsk.{planAsk}
 use Rattle.rules.specs.Promises.{filled, PlanMeets}
@@ -64,7 +65,7 @@ Within (Whole n) list line = n ≤ length line
 Within (Steps n) list line = n ≤ length list
 
 pub record Rooms (list line : List ℕ) : Type 0 where
-  pub list-room : length list ≡ 512
+  pub list-room : length list ≡ leastList
   pub line-room : lineRoom ≤ length line
 
 -- a list and a circle lie within the list

@@ -73,7 +73,7 @@ module _ (start : ℕ) (n : List ℕ) {texts bind : List ℕ} {c : Counts} {t : 
                 rw (joined-none rd (w .opens), sym (e log rd d) ∙ h, le-ltb maxName (length n) s, lt-leb maxRules (length (rd .rules)) (omega (arith, d .rules-counted)))
                 (goes (x ∷ [])
                 (bound-rule d n (p log (rule-room d n s l)) l)
-                (aRule (rule-begun x log refl ∙ ap At (sym (d .held .counted))))
+                (aRule (rule-begun x log refl ∙ ap At (sym (d .held .rows .counted))))
                 (beside-rule (record { name = n; keys = [] })));
           }
 
@@ -108,7 +108,7 @@ module _ (start head k : ℕ) (n raw : List ℕ) {log : List Logged} {texts bind
   unfolding joined withRule blockLine addKey
   key-goes (aRule {r = r} o) d f m h q p =
       let e = logged (ofKeys k) n raw in
-      let w = within n raw (ofKeys k) q (omega (arith, newest-rule-below log k o, d .held .counted, d .held .few)) in
+      let w = within n raw (ofKeys k) q (omega (arith, newest-rule-below log k o, d .held .rows .counted, d .held .rows .few)) in
       rw (bad-test r o d ∙ h, over-test r d f m h ∙ q, p .counted)
       (goes (e ∷ [])
       (bound-key rd r k d o n raw (p .held log (withRule r rd) d) (w .few) (w .low))
@@ -185,7 +185,7 @@ pub of-rule : {texts bind : List ℕ} {c : Counts} {head k : ℕ} → Sound text
 of-rule s =
     record {
       table = record { log = s .log; held = s .known .bound .held };
-      below = omega (arith, open-below (s .known .opens), s .known .bound .held .counted);
+      below = omega (arith, open-below (s .known .opens), s .known .bound .held .rows .counted);
     }
 
 pub key-ready : {texts bind : List ℕ} {c : Counts} {head k : ℕ} → Sound texts bind c (OpenRule head k) → (n raw : List ℕ) → overCounted (length n) (length raw) c ≡ false
@@ -196,5 +196,5 @@ key-ready {k = k} s n raw q =
       log = s .log;
       reading = joined (s .reading) (s .block);
       bound = s .known .bound;
-      fits = within n raw (ofKeys k) q (omega (arith, p .below, p .table .held .few));
+      fits = within n raw (ofKeys k) q (omega (arith, p .below, p .table .held .rows .few));
     }

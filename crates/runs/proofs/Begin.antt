@@ -2,23 +2,22 @@
 use Prim.Native.Nat.{ℕ, suc, _+_, _-_, _≤_, _<_}
 use mathlib.Core.Bool.{false}
 use mathlib.Core.List.{List, [], _∷_}
-use mathlib.Core.Option.{none, some}
+use mathlib.Core.Option.{none}
 use mathlib.Core.Path.{_≡_, refl, sym, _∙_, ap}
 use native.Mathlib.Nat.{le-refl}
 use native.Mathlib.Omega.{arith}
-use borrow.Author.Tests.{ne-eqb}
 use lib.ListN.{length, drop, getD, length-drop}
 use Rattle.lists.specs.Tests.{differ}
-use Rattle.lists.specs.Parts.{part, length-part, part-none}
-use Rattle.lists.specs.Runs.{isNot, run, afterRun, Reads, part-run}
+use Rattle.lists.specs.Parts.{part, part-none}
+use Rattle.lists.specs.Runs.{isNot, afterRun, Reads, part-run}
 use Rattle.rules.specs.Bytes.{dollar}
 use Rattle.rules.specs.Dollars.{badDollar}
-use Rattle.dollars.specs.Element.{Element, literal, joins, wrong, element, restOf, Found, FoundName}
-use Rattle.tokens.proofs.Places.{at-cons}
-use Rattle.scan.proofs.Pieces.{sound-rest, sound-not-bad}
+use Rattle.dollars.specs.Element.{literal, joins, wrong, element, restOf, Found, FoundName}
+use Rattle.scan.proofs.Pieces.{sound-not-bad}
 use Rattle.runs.specs.declared.Run.{Run}
 use Rattle.runs.specs.Runs.{expanded, bytesOf, Placed, leftOf, Begins, Variable, Ready}
-use Rattle.runs.proofs.Pieces.{expand-run, expand-literal, expand-join, expand-name, sound-run, literal-here}
+use Rattle.runs.proofs.Pieces.{expand-run, expand-literal, expand-join, expand-name}
+use Rattle.runs.proofs.Raw.{sound-run, literal-here, plain-forward, dollar-here, sound-here, sound-next}
 
 -- a run of the raw text itself
 abbrev pub own : ℕ → ℕ → ℕ → Run
@@ -29,21 +28,10 @@ own-placed raw texts f e n h k l s =
     record { ordered = h; in-raw = λ b. k; in-texts = λ b. differ b refl; within = l; sound = s }
 
 module _ (raw texts bind : List ℕ) (count i : ℕ) (h : i < length raw) (s : badDollar (drop i raw) ≡ none) where
-  -- ---- bytes up to the next `$`
-
-  plain-forward : (e : ℕ) → (getD raw i 0 ≡ dollar → ⊥) → Reads (afterRun (isNot dollar)) raw i e → i < e
-  unfolding run
-  plain-forward e d r =
-      let p : part raw i e ≡ run (isNot dollar) (drop i raw) = part-run (isNot dollar) r in
-      let q : run (isNot dollar) (drop i raw) ≡ getD raw i 0 ∷ run (isNot dollar) (drop (i + 1) raw) =
-      rw (at-cons raw i h, ne-eqb (getD raw i 0) dollar d) in
-      let n : e - i ≡ suc (length (run (isNot dollar) (drop (i + 1) raw))) = sym (length-part raw i e (r .within)) ∙ ap length (p ∙ q) in
-      omega arith
-
   pub plain-begins : {e : ℕ} → (getD raw i 0 ≡ dollar → ⊥) → Reads (afterRun (isNot dollar)) raw i e → Begins raw texts bind count i (own i e e)
   unfolding leftOf bytesOf expanded
   plain-begins {e} d r =
-      let f = plain-forward e d r in
+      let f = plain-forward raw i h s e d r in
       record {
         placed = own-placed raw texts i e e (r .forward) (r .within) (r .within) (rw (r .rest) (sound-run (drop i raw) s));
         forward = f;
@@ -54,15 +42,6 @@ module _ (raw texts bind : List ℕ) (count i : ℕ) (h : i < length raw) (s : b
   -- ---- what a `$` begins
 
   module _ (d : getD raw i 0 ≡ dollar) where
-    here : drop i raw ≡ dollar ∷ drop (i + 1) raw
-    here = at-cons raw i h ∙ rw d
-
-    sound-here : badDollar (dollar ∷ drop (i + 1) raw) ≡ none
-    sound-here = rw here at s
-
-    sound-next : (n : ℕ) {x : Element} → element (drop (i + 1) raw) ≡ x → restOf x ≡ some (drop n raw) → badDollar (drop n raw) ≡ none
-    sound-next n e p = sound-rest (drop (i + 1) raw) sound-here (drop n raw) (ap restOf e ∙ p)
-
     pub literal-begins : {b n : ℕ} → Found raw (i + 1) n (element (drop (i + 1) raw)) (literal b (drop n raw)) → Begins raw texts bind count i (own (i + 1) (i + 2) n)
     unfolding leftOf bytesOf expanded restOf
     literal-begins {b} {n} f =
@@ -72,20 +51,20 @@ module _ (raw texts bind : List ℕ) (count i : ℕ) (h : i < length raw) (s : b
         let z : i + 2 - (i + 1) ≡ 1 = omega arith in
         let p : part raw (i + 1) (i + 2) ≡ b ∷ [] = rw (z, l) in
         record {
-          placed = own-placed raw texts (i + 1) (i + 2) n (omega arith) k (f .within) (sound-next n (f .is) refl);
+          placed = own-placed raw texts (i + 1) (i + 2) n (omega arith) k (f .within) (sound-next raw i h s d n (f .is) refl);
           forward = omega (arith, f .forward);
           bounded = omega (arith, f .forward);
-          gives = λ log q. ap (expanded log) here ∙ expand-literal _ (drop (i + 1) raw) (f .is) ∙ sym (rw p);
+          gives = λ log q. ap (expanded log) (dollar-here raw i h s d) ∙ expand-literal _ (drop (i + 1) raw) (f .is) ∙ sym (rw p);
         }
 
     pub join-begins : {n : ℕ} → Found raw (i + 1) n (element (drop (i + 1) raw)) (joins (drop n raw)) → Begins raw texts bind count i (own n n n)
     unfolding leftOf bytesOf expanded restOf
     join-begins {n} f =
         record {
-          placed = own-placed raw texts n n n (le-refl n) (f .within) (f .within) (sound-next n (f .is) refl);
+          placed = own-placed raw texts n n n (le-refl n) (f .within) (f .within) (sound-next raw i h s d n (f .is) refl);
           forward = omega (arith, f .forward);
           bounded = omega arith;
-          gives = λ log q. ap (expanded log) here ∙ expand-join _ (drop (i + 1) raw) (f .is) ∙ sym (rw (part-none raw n n (le-refl n)));
+          gives = λ log q. ap (expanded log) (dollar-here raw i h s d) ∙ expand-join _ (drop (i + 1) raw) (f .is) ∙ sym (rw (part-none raw n n (le-refl n)));
         }
 
     pub name-begins : {a e n : ℕ} {r : Run} → FoundName raw (i + 1) a e n (element (drop (i + 1) raw)) → Variable (part raw a e) raw texts bind count n r → Begins raw texts bind count i r
@@ -98,16 +77,16 @@ module _ (raw texts bind : List ℕ) (count i : ℕ) (h : i < length raw) (s : b
                 in-raw = λ b. let m = v .in-raw b in omega (arith, f .found .within);
                 in-texts = v .in-texts;
                 within = rw (v .next) (f .found .within);
-                sound = rw (v .next) (sound-next n (f .found .is) refl);
+                sound = rw (v .next) (sound-next raw i h s d n (f .found .is) refl);
               };
           forward = omega (arith, f .found .forward, v .next);
           bounded = omega (arith, f .found .forward, v .next, v .bounded);
-          gives = λ log q. ap (expanded log) here ∙ expand-name _ (drop (i + 1) raw) (f .found .is) ∙ rw (v .next, v .value log q);
+          gives = λ log q. ap (expanded log) (dollar-here raw i h s d) ∙ expand-name _ (drop (i + 1) raw) (f .found .is) ∙ rw (v .next, v .value log q);
         }
 
     pub none-begins : {r : Run} → element (drop (i + 1) raw) ≡ wrong → Begins raw texts bind count i r
     unfolding restOf
-    none-begins e = absurd (sound-not-bad (drop (i + 1) raw) sound-here (ap restOf e))
+    none-begins e = absurd (sound-not-bad (drop (i + 1) raw) (sound-here raw i h s d) (ap restOf e))
 
 -- After the run an expansion can go on.
 pub ready-on : {t raw texts bind : List ℕ} {count i : ℕ} {r : Run} → Ready t raw texts bind count i → Begins raw texts bind count i r → Ready t raw texts bind count (r .next)

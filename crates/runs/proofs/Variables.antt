@@ -21,7 +21,7 @@ module _ (name : List ℕ) {texts bind : List ℕ} {count : ℕ} {f : Found} (q 
   pub found-entry : {k : ℕ} → Sound texts bind count → f ≡ At k → HasEntry texts bind k
   found-entry {k} s e =
       let b : k < length (s .log) = newest-below ofFile name (s .log) k (sym (q (s .log) (s .held)) ∙ e) in
-      record { log = s .log; count = count; held = s .held; below = omega (arith, s .held .counted) }
+      record { log = s .log; count = count; held = s .held; below = omega (arith, s .held .rows .counted) }
 
   pub found-value : {k : ℕ} {p : Place} (raw : List ℕ) (next : ℕ) → f ≡ At k → ValueAt texts bind k p
       → Variable name raw texts bind count next (record { bound = true; from = p .from; to = p .to; next = next })
@@ -35,7 +35,7 @@ module _ (name : List ℕ) {texts bind : List ℕ} {count : ℕ} {f : Found} (q 
         bounded = omega (arith, v .ends);
         value = λ log h.
             let n : newest ofFile name log ≡ At k = sym (q log h) ∙ e in
-            let b : k < count = omega (arith, h .counted, newest-below ofFile name log k n) in
+            let b : k < count = omega (arith, h .rows .counted, newest-below ofFile name log k n) in
             v .value log count h b ∙ sym (var-newest name log ∙ rw n);
       }
 

@@ -26,10 +26,10 @@ module _ {texts bind : List ℕ} {count : ℕ} {l m : List Logged} (a : Holds l 
   one-log : l ≡ m
   unfolding entryAt
   one-log =
-      let n : length l ≡ length m = sym (a .counted) ∙ b .counted in
+      let n : length l ≡ length m = sym (a .rows .counted) ∙ b .rows .counted in
       ext-getD noEntry l m n
       (λ i h.
-      let e : entryAt (length l - suc i) l ≡ entryAt (length l - suc i) m = same-entry (length l - suc i) (omega (arith, a .counted)) in
+      let e : entryAt (length l - suc i) l ≡ entryAt (length l - suc i) m = same-entry (length l - suc i) (omega (arith, a .rows .counted)) in
       let p : length l - suc (length l - suc i) ≡ i = omega arith in
       let q : length m - suc (length l - suc i) ≡ i = omega arith in
       ap (λ (j : ℕ). getD l j noEntry) (sym p) ∙ e ∙ ap (λ (j : ℕ). getD m j noEntry) q)

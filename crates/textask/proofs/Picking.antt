@@ -73,7 +73,7 @@ module _ {texts bind : List ℕ} {count k : ℕ} where
     declares-missing e =
         record {
           newest = λ log h o.
-              absurd (newest-some ofRules (entryAt k log .name) log k (omega (arith, w .below, h .counted)) o refl (found log h ∙ e));
+              absurd (newest-some ofRules (entryAt k log .name) log k (omega (arith, w .below, h .rows .counted)) o refl (found log h ∙ e));
         }
 
 -- the rule of a step that is not phony
@@ -184,7 +184,7 @@ module _ {texts bind graph : List ℕ} {c : Counts} {step k : ℕ} (w : PickAsk 
   pub pick-rule : HasRule texts bind (c .entries) k
   pick-rule =
       let r = rules-of (w .bound) (w .graphed) in
-      record { log = w .log; held = w .bound .held; below = omega (arith, r .below, w .bound .held .counted); owner = r .owner }
+      record { log = w .log; held = w .bound .held; below = omega (arith, r .below, w .bound .held .rows .counted); owner = r .owner }
 
   pub pick-graph : InGraph graph step
   pick-graph = in-graph (w .bound) (w .graphed) (w .there)
@@ -214,7 +214,7 @@ module _ {texts bind graph : List ℕ} {c : Counts} {step k : ℕ} (w : PickAsk 
             number = refl;
             entries = refl;
             files = refl;
-            rule-low = omega (arith, newest-below ofRules (stepAt (rd .steps) step .rule) log rule rule-found, b .held .counted, b .held .few);
+            rule-low = omega (arith, newest-below ofRules (stepAt (rd .steps) step .rule) log rule rule-found, b .held .rows .counted, b .held .rows .few);
             keys = keys-found;
             outs-ordered = omega (arith, p .outs);
             ins-ordered = omega (arith, q .0);

@@ -14,7 +14,8 @@ use Rattle.bindings.specs.declared.Found.the-variants.{At}
 use Rattle.bindings.specs.Log.{Logged, ofRules, ofKeys, entryAt, newest, boundBy}
 use Rattle.bindings.specs.Held.{maxEntries, Holds}
 use Rattle.held.specs.declared.Counts.{Counts}
-use Rattle.held.specs.Held.{Bound, Graphed}
+use Rattle.arena.specs.Columns.{startOf}
+use Rattle.held.specs.Held.{Bound, capacities, Graphed}
 use Rattle.lookups.specs.declared.Asked.{Asked}
 use Rattle.textask.specs.declared.StepAsked.{StepAsked}
 use Rattle.textask.specs.declared.StepAsked.the-variants.{NoCommand, Step}
@@ -36,10 +37,11 @@ pub record Declares (texts bind : List ℕ) (count k r : ℕ) : Type 0 where
 -- the places of the ends and of the rule of a step are there
 pub record InGraph (graph : List ℕ) (step : ℕ) : Type 0 where
   pub low : step < maxSteps
-  pub long : 8192 ≤ length graph
+  pub long : startOf capacities 5 ≤ length graph
 
+-- where the outputs of step s start: where the mentions of the step before it end
 unfoldable pub outputsFrom : List ℕ → ℕ → ℕ
-outputsFrom graph s = ifB (eqb s 0) (λ _. 0) (λ _. getD graph (4095 + 4 * s) 0)
+outputsFrom graph s = ifB (eqb s 0) (λ _. 0) (λ _. getD graph (startOf capacities 1 - 1 + 4 * s) 0)
 
 -- ------------------------------------------------------------------ the step
 
@@ -69,8 +71,8 @@ pub record PickAsk (texts bind graph : List ℕ) (c : Counts) (step k : ℕ) : T
   pub bound : Bound log texts bind c reading
   pub graphed : Graphed log graph c reading
   pub there : step < c .steps
-  pub ruled : (getD graph (7680 + step) 0 ≡ 0) → ⊥
-  pub entry : k ≡ getD graph (7680 + step) 0 - 1
+  pub ruled : (getD graph (startOf capacities 4 + step) 0 ≡ 0) → ⊥
+  pub entry : k ≡ getD graph (startOf capacities 4 + step) 0 - 1
 
 -- some reading is held
 pub record Reads (texts bind graph : List ℕ) (c : Counts) : Type 0 where

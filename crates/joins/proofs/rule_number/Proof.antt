@@ -28,7 +28,7 @@ enum-known-k c = search needs
 add-result : tie.Need-add-result
 add-result c =
     let s = c .before .before .before .before .before .before .before .before .before .before .pre in
-    omega (arith, newest-below 1 (now (c .before .before .before .before .before .before .before .before .before .before .args .name)) (s .log) _ (sym (c .before .before .before .newest .ensures (s .log) (s .held)) ∙ c .before .k .given .1), s .held .counted, s .held .few)
+    omega (arith, newest-below 1 (now (c .before .before .before .before .before .before .before .before .before .before .args .name)) (s .log) _ (sym (c .before .before .before .newest .ensures (s .log) (s .held)) ∙ c .before .k .given .1), s .held .rows .counted, s .held .rows .few)
 
 enum-told : tie.Need-enum-told
 enum-told c = search needs

@@ -34,10 +34,10 @@ returns-2 c =
     keys-over (a .start) (a .head) (a .entry) (now (a .name)) (now (a .raw)) (c .before .before .before .is-bad-key .ensures) (c .before .before .if1 .left) (sym (c .before .over .ensures) ∙ c .if2 .taken)
 
 mul-put : tie.Need-mul-put
-mul-put c = let p = of-rule (c .before .before .before .before .before .before .before .before .before .before .before .before .pre) in omega (arith, p .below, p .table .held .few)
+mul-put c = let p = of-rule (c .before .before .before .before .before .before .before .before .before .before .before .before .pre) in omega (arith, p .below, p .table .held .rows .few)
 
 add-put : tie.Need-add-put
-add-put c = let p = of-rule (c .before .before .before .before .before .before .before .before .before .before .before .before .pre) in omega (arith, p .below, p .table .held .few)
+add-put c = let p = of-rule (c .before .before .before .before .before .before .before .before .before .before .before .before .pre) in omega (arith, p .below, p .table .held .rows .few)
 
 put-requires : tie.Need-put-requires
 put-requires c κs =
