@@ -1,4 +1,4 @@
--- What a `$` begins, read whole. The laws in proofs/Look.antt tie it to the reading byte by byte of the rules.
+-- What a `$` begins, read whole. The laws of the crate `scan` (Look) tie it to the reading byte by byte of the rules.
 use Prim.Native.Nat.{ℕ, _≤_}
 use mathlib.Core.Bool.{not, _&&_}
 use mathlib.Core.List.{List, [], _∷_}

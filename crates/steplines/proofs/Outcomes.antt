@@ -160,5 +160,5 @@ module _ {t l names fileEnds texts bind graph word : List ℕ} {c : Counts} {p :
           line = lineAfter (expandedLine (a .whole .reading) (a .line)) (lineOf w) _;
           laid = x .columns;
           ready = step-ready w (expandedLine (a .whole .reading) (a .line)) few x;
-          small = omega (arith, r (a .whole .log) h, number-low name (a .whole .log), h .counted, h .few);
+          small = omega (arith, r (a .whole .log) h, number-low name (a .whole .log), h .rows .counted, h .rows .few);
         }

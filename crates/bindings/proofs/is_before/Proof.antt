@@ -1,3 +1,4 @@
+-- `bindings::is_before` meets its contract.
 use mathlib.Core.Path.{_∙_}
 use denote.Ref.{now}
 use Rattle.bindings.proofs.Entries.{row-at}

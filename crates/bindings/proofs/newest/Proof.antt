@@ -1,3 +1,4 @@
+-- `bindings::newest` meets its contract.
 use native.Mathlib.Omega.{arith}
 use Rattle.bindings.proofs.Seeking.{index-below, seek-none, seek-found, seek-other}
 -- `bindings::newest` meets its contract.

@@ -1,3 +1,4 @@
+-- `bindings::place_of` meets its contract.
 use Prim.Native.Nat.{_-_}
 use native.Mathlib.Omega.{arith}
 use Rattle.bindings.proofs.Seeking.{Halving, index-below, half-begin, half-lower, half-higher, half-end}

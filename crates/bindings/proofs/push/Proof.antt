@@ -1,3 +1,4 @@
+-- `bindings::push` meets its contract.
 use Rattle.bindings.proofs.Entries.{entry-held}
 -- `bindings::push` meets its contract.
 use borrow.Author.Needs.{needs}
