@@ -1,16 +1,11 @@
 -- What the functions on a card's bytes promise.
-use Prim.Native.Nat.{ℕ, _+_, _*_, _^_, _≤_, _<_}
+use Prim.Native.Nat.{ℕ, _+_, _*_, _≤_, _<_}
 use mathlib.Core.List.{List, []}
 use mathlib.Core.Path.{_≡_}
 use lib.ListN.{length, getD}
 use Rattle.lists.specs.Parts.{part}
 use Rattle.rules.specs.Limits.{maxCard, maxRecords}
 use Rattle.rules.specs.Card.{numberAt, Entry, cardEntries}
-
--- r is the number in the `size` bytes at `at`
-pub record Number (s : List ℕ) (at size r : ℕ) : Type 0 where
-  pub is : r ≡ numberAt at size s
-  pub small : r < 256 ^ size
 
 -- what a sound header says: there are n records, and the names start after them, within the card
 pub record Headed (s : List ℕ) (n : ℕ) : Type 0 where

@@ -2,13 +2,14 @@
 // the whole of each lent buffer with what is expected.
 ghost use mathlib.Core.Path.{_≡_};
 ghost use mathlib.Core.Bool.{true};
-ghost use Prim.Native.Nat.{_+_, _≤_};
+ghost use Prim.Native.Nat.{_≤_};
 ghost use lib.ListN.{length};
 ghost use Rattle.cases.specs.Parts.{Behind};
 use answers::Numbers;
 use answers::of_plan;
 use answers::of_text;
 use byteorder::equal;
+use fields::word;
 use libc::STDOUT_FILENO;
 use planner::plan;
 use planner::text;
@@ -59,23 +60,6 @@ struct Tally {
     wrong: u64,
     more: bool,
     whole: bool,
-}
-
-fn wide(b: u8) -> usize
-    ensures { λ r. ⌜ r ≤ 255 ⌝ }
-{
-    b as usize
-}
-
-// The number in the four bytes at `from`, the lowest first.
-fn word(s: &[u8], from: usize) -> usize
-    requires { ⌜ from + 4 ≤ length (now s) ⌝ }
-    ensures { λ r. ⌜ r ≤ 4294967295 ⌝ }
-{
-    wide(s[from])
-        + wide(s[from + 1]) * 256
-        + wide(s[from + 2]) * 65536
-        + wide(s[from + 3]) * 16777216
 }
 
 // Reads n bytes, and tells whether they came.

@@ -19,7 +19,7 @@ pub extern "C" fn kestrenyo_card_time(card: &[u8], name: &[u8]) -> u64
     if !card::sound(card) {
         return 0;
     }
-    card::time_of(card, name)
+    cardtimes::time_of(card, name)
 }
 
 // The time of a file on a card that is known to be sound: for benchmarks, whose callers test that first.
@@ -28,5 +28,5 @@ pub extern "C" fn kestrenyo_card_lookup(card: &[u8], name: &[u8]) -> u64
     requires { ⌜ soundCard (now card) ≡ true ⌝ }
     ensures { λ r. ⌜ r ≡ timeIn (cardEntries (now (card .entry))) (now (name .entry)) ⌝ }
 {
-    card::time_of(card, name)
+    cardtimes::time_of(card, name)
 }

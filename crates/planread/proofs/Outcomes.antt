@@ -30,7 +30,8 @@ use Rattle.held.specs.declared.Counts.{Counts}
 use Rattle.held.specs.Held.{Holds}
 use Rattle.planning.proofs.Outcomes.{cleared}
 use Rattle.planread.proofs.Laws.{CardTimes, plan-of-read}
-use Rattle.planread.specs.Asked.{Tabled, ColumnsAsked, PlansColumns, ReadAsked, PlansRead}
+use Rattle.plancolumns.specs.Columns.{Tabled, ColumnsAsked, PlansColumns}
+use Rattle.planread.specs.Asked.{ReadAsked, PlansRead}
 
 pub tabled : {log : List Logged} {names ends texts bind graph : List ℕ} {c : Counts} {rd : Reading} → Holds log names ends texts bind graph c rd → Tabled graph c rd
 tabled {log = log} h =

@@ -1,8 +1,7 @@
 -- What the plan from a reading asks and promises.
-use Prim.Native.Nat.{ℕ, _≤_, _<_}
+use Prim.Native.Nat.{ℕ, _≤_}
 use mathlib.Core.List.{List}
-use mathlib.Core.Path.{_≡_}
-use lib.ListN.{length, getD}
+use lib.ListN.{length}
 use Rattle.rules.specs.declared.PlanAnswer.{PlanAnswer}
 use Rattle.rules.specs.Limits.{maxFiles, maxTargets, leastList}
 use Rattle.rules.specs.Reading.{Reading}
@@ -11,28 +10,9 @@ use Rattle.rules.specs.Answers.{planSays}
 use Rattle.rules.specs.PlanAsk.{planRead}
 use Rattle.rules.specs.Promises.{PlanMeets}
 use Rattle.bindings.specs.Log.{Logged}
-use Rattle.stale.specs.Judge.{timeAt}
 use Rattle.held.specs.declared.Counts.{Counts}
-use Rattle.held.specs.Held.{Graphed, Holds}
+use Rattle.held.specs.Held.{Holds}
 use Rattle.held.specs.Adds.{Whole}
-use Rattle.planning.specs.Plan.{planGraph}
-
--- the columns of the graph hold this reading's steps, files and defaults
-pub record Tabled (graph : List ℕ) (c : Counts) (rd : Reading) : Type 0 where
-  pub log : List Logged
-  pub graphed : Graphed log graph c rd
-  pub files-counted : c .files ≡ length (rd .files)
-  pub steps-counted : c .steps ≡ length (rd .steps)
-
-pub record ColumnsAsked (graph : List ℕ) (c : Counts) (times targets list : List ℕ) : Type 0 where
-  pub reading : Reading
-  pub tabled : Tabled graph c reading
-  pub timed : length times ≡ c .files
-  pub low : (i : ℕ) → i < length targets → getD targets i 0 < c .files
-  pub room : leastList ≤ length list
-
-pub record PlansColumns (graph : List ℕ) (c : Counts) (times targets list : List ℕ) (r : PlanAnswer) (exit : List ℕ) : Type 0 where
-  pub plans : (rd : Reading) → Tabled graph c rd → PlanMeets (planGraph (rd .steps) (length (rd .files)) (timeAt times) (rd .defaults) targets) list (planSays r) exit
 
 -- the buffers hold some reading, and the list has the room that 1 asks for
 pub record ReadAsked (names fileEnds graph : List ℕ) (c : Counts) (list : List ℕ) : Type 0 where

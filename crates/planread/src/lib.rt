@@ -1,12 +1,8 @@
 // The plan ask from what has been read of the manifest on: 11, 12, then the plan of the graph.
-ghost use Rattle.planread.specs.Asked.{ColumnsAsked, PlansColumns, TablesAsked, ReadAsked, PlansRead};
+ghost use Rattle.planread.specs.Asked.{TablesAsked, ReadAsked, PlansRead};
 use card::sound;
 use held::Counts;
-use held::columns::DEFAULTS;
-use held::columns::ENDS;
-use held::columns::MADE;
-use held::columns::PHONY;
-use planning::plan_graph;
+use plancolumns::plan_columns;
 use rules::PlanAnswer;
 use rules::Refusal;
 use rules::limits::FILES;
@@ -15,26 +11,6 @@ use slices::words::zero_from;
 use targetfiles::Numbered;
 use targetfiles::number_targets;
 use times::fill_times;
-
-// The plan of the columns, where the times of the files and the targets' numbers are known.
-fn plan_columns(
-    graph: &[u32],
-    c: Counts,
-    times: &[u64],
-    targets: &[u32],
-    list: &mut [u32],
-) -> PlanAnswer
-    requires { ⌜ ColumnsAsked (now graph) c (now times) (now targets) (now list) ⌝ }
-    ensures { λ r. ⌜ PlansColumns (now (graph .entry)) c (now (times .entry)) (now (targets .entry)) (now (list .entry)) r (now (list .exit)) ⌝ }
-{
-    let steps = c.steps;
-    let mentions = &graph[..c.paths];
-    let ends = &graph[ENDS..ENDS + 4 * steps];
-    let phony = &graph[PHONY..PHONY + steps];
-    let made = &graph[MADE..MADE + c.files];
-    let defaults = &graph[DEFAULTS..DEFAULTS + c.defaults];
-    plan_graph(mentions, ends, phony, made, times, defaults, targets, list)
-}
 
 // "then 11 to 15 for a plan"; `times` and `numbers` are working space.
 fn plan_tables(

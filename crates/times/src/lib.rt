@@ -1,6 +1,6 @@
 // The card's time of each file that a manifest mentions.
 ghost use Rattle.times.specs.Times.{TimesAsked, Timed};
-use card::time_of;
+use cardtimes::time_of;
 use names::name;
 
 // Puts the time of each file at its number; 0 where the card does not list it.

@@ -1,5 +1,6 @@
 -- `textbuffers::text_buffered` meets its contract.
 use Prim.Native.Nat.{ℕ}
+use mathlib.Core.Path.{sym}
 use lib.ListN.{length-replicate}
 use Rattle.reader.proofs.Buffers.{roomy}
 use borrow.Author.Needs.{needs}
@@ -10,22 +11,22 @@ table-requires : tie.Need-table-requires
 table-requires c κs = search needs
 
 slice-aggregate-text-in : tie.Need-slice-aggregate-text-in
-slice-aggregate-text-in c = search needs
+slice-aggregate-text-in c = sym (length-replicate {A = ℕ} 60000 0)
 
 slice-aggregate-text-in-2 : tie.Need-slice-aggregate-text-in-2
-slice-aggregate-text-in-2 c = search needs
+slice-aggregate-text-in-2 c = sym (length-replicate {A = ℕ} 3072 0)
 
 slice-aggregate-text-in-3 : tie.Need-slice-aggregate-text-in-3
-slice-aggregate-text-in-3 c = search needs
+slice-aggregate-text-in-3 c = sym (length-replicate {A = ℕ} 133728 0)
 
 slice-aggregate-text-in-4 : tie.Need-slice-aggregate-text-in-4
-slice-aggregate-text-in-4 c = search needs
+slice-aggregate-text-in-4 c = sym (length-replicate {A = ℕ} 4608 0)
 
 slice-aggregate-text-in-5 : tie.Need-slice-aggregate-text-in-5
-slice-aggregate-text-in-5 c = search needs
+slice-aggregate-text-in-5 c = sym (length-replicate {A = ℕ} 61440 0)
 
 slice-aggregate-text-in-6 : tie.Need-slice-aggregate-text-in-6
-slice-aggregate-text-in-6 c = search needs
+slice-aggregate-text-in-6 c = sym (length-replicate {A = ℕ} 60000 0)
 
 text-in-requires : tie.Need-text-in-requires
 text-in-requires c κs = record { roomy = roomy (c .before .before .before .before .before .before .before .before .table .ensures) (length-replicate {A = ℕ} 60000 0) (length-replicate {A = ℕ} 3072 0) (length-replicate {A = ℕ} 133728 0) (length-replicate {A = ℕ} 4608 0) (length-replicate {A = ℕ} 61440 0) (length-replicate {A = ℕ} 60000 0); room = c .before .before .before .before .before .before .before .before .before .before .before .pre }

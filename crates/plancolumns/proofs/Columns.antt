@@ -15,7 +15,7 @@ use Rattle.tables.proofs.Held.{held-steps, held-sound}
 use Rattle.held.specs.declared.Counts.{Counts}
 use Rattle.held.specs.Held.{capacities}
 use Rattle.planning.specs.Plan.{PlanAsked, PlansGraph}
-use Rattle.planread.specs.Asked.{Tabled, ColumnsAsked, PlansColumns}
+use Rattle.plancolumns.specs.Columns.{Tabled, ColumnsAsked, PlansColumns}
 
 module _ (graph : List ℕ) (c : Counts) where
   abbrev pub mentionsIn : List ℕ

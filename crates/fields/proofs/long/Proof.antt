@@ -1,8 +1,8 @@
--- `card::long` meets its contract.
+-- `fields::long` meets its contract.
 use borrow.Author.Needs.{needs}
-use Rattle.card.proofs.Numbers.{long-is}
-use Rattle.card.proofs.long.Statement.{statement}
-use Rattle.card.proofs.long.Tie as tie
+use Rattle.fields.proofs.Endian.{long-is}
+use Rattle.fields.proofs.long.Statement.{statement}
+use Rattle.fields.proofs.long.Tie as tie
 
 word-requires : tie.Need-word-requires
 word-requires c κs = search needs

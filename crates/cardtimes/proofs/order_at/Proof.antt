@@ -1,7 +1,7 @@
--- `card::order_at` meets its contract.
+-- `cardtimes::order_at` meets its contract.
 use borrow.Author.Needs.{needs}
-use Rattle.card.proofs.order_at.Statement.{statement}
-use Rattle.card.proofs.order_at.Tie as tie
+use Rattle.cardtimes.proofs.order_at.Statement.{statement}
+use Rattle.cardtimes.proofs.order_at.Tie as tie
 
 word-requires : tie.Need-word-requires
 word-requires c κs = search needs

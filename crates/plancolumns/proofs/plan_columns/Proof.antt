@@ -1,11 +1,11 @@
--- `planread::plan_columns` meets its contract.
+-- `plancolumns::plan_columns` meets its contract.
 use mathlib.Core.Path.{sym}
 use lib.Seq.{length-take-le}
 use native.Mathlib.Omega.{arith}
-use Rattle.planread.proofs.Columns.{spread, askable, planned}
+use Rattle.plancolumns.proofs.Columns.{spread, askable, planned}
 use borrow.Author.Needs.{needs}
-use Rattle.planread.proofs.plan_columns.Statement.{statement}
-use Rattle.planread.proofs.plan_columns.Tie as tie
+use Rattle.plancolumns.proofs.plan_columns.Statement.{statement}
+use Rattle.plancolumns.proofs.plan_columns.Tie as tie
 
 slice-aggregate-mentions : tie.Need-slice-aggregate-mentions
 slice-aggregate-mentions c = let s = spread (c .before .before .before .before .before .pre .tabled) in sym (length-take-le _ _ (omega (arith, s .few-paths, s .long)))

@@ -1,7 +1,7 @@
--- `card::time_at` meets its contract.
+-- `cardtimes::time_at` meets its contract.
 use borrow.Author.Needs.{needs}
-use Rattle.card.proofs.time_at.Statement.{statement}
-use Rattle.card.proofs.time_at.Tie as tie
+use Rattle.cardtimes.proofs.time_at.Statement.{statement}
+use Rattle.cardtimes.proofs.time_at.Tie as tie
 
 mul-long : tie.Need-mul-long
 mul-long c = search needs

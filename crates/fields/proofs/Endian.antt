@@ -8,7 +8,7 @@ use lib.ListN.{length, drop, getD}
 use lib.Seq.{drop-cons, drop-drop}
 use Rattle.rules.specs.Card.{littleEndian, numberAt}
 use Rattle.windows.specs.Windows.{Byte}
-use Rattle.card.specs.Fields.{Number}
+use Rattle.fields.specs.Numbers.{Number}
 
 pub number-cons : (s : List ℕ) (at size : ℕ) → at < length s → numberAt at (suc size) s ≡ getD s at 0 + 256 * numberAt (at + 1) size s
 unfolding numberAt littleEndian

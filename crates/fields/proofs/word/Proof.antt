@@ -1,8 +1,8 @@
--- `card::word` meets its contract.
+-- `fields::word` meets its contract.
 use borrow.Author.Needs.{needs}
-use Rattle.card.proofs.Numbers.{word-is}
-use Rattle.card.proofs.word.Statement.{statement}
-use Rattle.card.proofs.word.Tie as tie
+use Rattle.fields.proofs.Endian.{word-is}
+use Rattle.fields.proofs.word.Statement.{statement}
+use Rattle.fields.proofs.word.Tie as tie
 
 shared-slice-read-wide : tie.Need-shared-slice-read-wide
 shared-slice-read-wide c = search needs

@@ -1,4 +1,4 @@
--- `card::time_of` meets its contract: the entries before `low` come before the name, those from `high` on after it.
+-- `cardtimes::time_of` meets its contract: the entries before `low` come before the name, those from `high` on after it.
 use Prim.Native.Nat.{_-_}
 use mathlib.Core.Path.{sym, _∙_}
 use native.Mathlib.Omega.{arith}
@@ -6,12 +6,12 @@ use denote.Ref.{now}
 use borrow.Author.Needs.{needs}
 use Rattle.lists.specs.Order.{order-less, order-greater, order-equal}
 use Rattle.rules.specs.Card.{cardEntries}
 use Rattle.card.proofs.Places.{card-header, card-rising, length-card, listed}
 use Rattle.card.proofs.Rules.{header}
-use Rattle.card.proofs.Search.{Searching, search-begin, search-end, search-found, search-lower, search-higher}
+use Rattle.cardtimes.proofs.Search.{Searching, search-begin, search-end, search-found, search-lower, search-higher}
 use Rattle.card.specs.Fields.{entryAt}
-use Rattle.card.proofs.time_of.Statement.{statement}
-use Rattle.card.proofs.time_of.Tie as tie
+use Rattle.cardtimes.proofs.time_of.Statement.{statement}
+use Rattle.cardtimes.proofs.time_of.Tie as tie
 
 abbrev Inv-loop : tie.InvT-loop
 Inv-loop card name low₀ high₀ low high = Searching (cardEntries card) name low high
