@@ -1,5 +1,5 @@
 //! The asks on buffers that the caller lends: nothing is allocated. Nothing checks these
-//! declarations against the library's sources (`crates/boundary`), so they are two; a slice passes
+//! declarations against the library's sources (`crates/kestrenyo`), so they are two; a slice passes
 //! as a pointer and a length.
 
 /// What an ask says: 0 and the count of what was written, or a refusal's number and its place.

@@ -1,6 +1,6 @@
 -- Two numbers as what an answer says.
 use Prim.Native.Nat.{ℕ}
-use Rattle.rules.specs.Answers.{Said}
+use Rattle.spec.specs.Answers.{Said}
 use Rattle.answers.specs.declared.Numbers.{Numbers as Two}
 
 abbrev pub saying : ℕ → ℕ → Said

@@ -1,10 +1,10 @@
 // The answers of the two asks as document 01's numbers, for whoever prints or compares them.
 ghost use mathlib.Core.Path.{_≡_};
-ghost use Rattle.rules.specs.Answers.{refusalSays, planSays, textSays};
+ghost use Rattle.spec.specs.Answers.{refusalSays, planSays, textSays};
 ghost use Rattle.answers.specs.Numbers.{saying, said};
-use rules::PlanAnswer;
-use rules::Refusal;
-use rules::TextAnswer;
+use spec::PlanAnswer;
+use spec::Refusal;
+use spec::TextAnswer;
 
 // A refusal's number and its place; or 0 and the count that a plan or a text gives.
 #[repr(C)]

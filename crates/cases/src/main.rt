@@ -8,13 +8,13 @@ ghost use Rattle.cases.specs.Parts.{Behind};
 use answers::Numbers;
 use answers::of_plan;
 use answers::of_text;
+use asks::plan;
+use asks::text;
 use byteorder::equal;
-use fields::word;
 use libc::STDOUT_FILENO;
-use planner::plan;
-use planner::text;
-use rules::Wanted;
+use scan_numbers::word;
 use slices::words::at;
+use spec::Wanted;
 
 // What the lent buffers hold before an ask: nothing that an ask would write there.
 const BEFORE: u8 = 7;

@@ -9,11 +9,11 @@ use libc::STDOUT_FILENO;
 use report::Begun;
 use report::begin;
 use report::step_line;
-use rules::limits::CARD;
-use rules::limits::LIST;
-use rules::limits::MANIFEST;
-use rules::limits::TARGETS;
 use slices::words::at;
+use spec::limits::CARD;
+use spec::limits::LIST;
+use spec::limits::MANIFEST;
+use spec::limits::TARGETS;
 
 // Reads until the buffer is full or the input ends. Where a read fails, nothing counts as read.
 fn read_all(fd: i32, buf: &mut [u8]) -> usize

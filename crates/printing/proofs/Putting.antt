@@ -9,8 +9,8 @@ use lib.Seq.{paste, take-paste, take-length, take-suc-set, take-suc, drop-length
 use Rattle.io.specs.Digits.{digits, Fewest}
 use Rattle.lists.specs.Fill.{zeroed}
 use Rattle.lists.specs.Text.{bytes}
-use Rattle.rules.specs.Answers.{Said}
-use Rattle.rules.specs.Promises.{filled, refused14}
+use Rattle.spec.specs.Answers.{Said}
+use Rattle.spec.specs.Promises.{filled, refused14}
 use Rattle.printing.specs.Lines.{decimal, worded, refusedText, refusedLine, spaced, circleLine, circleOutput, headOf}
 use Rattle.printing.specs.Writes.{Puts, PutsUpTo, Leaves}
 use Rattle.printing.proofs.Digits.{decimal-of}

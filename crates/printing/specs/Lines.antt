@@ -5,8 +5,8 @@ use lib.Dec.{ltb}
 use lib.ListN.{length}
 use Rattle.lists.specs.Tests.{ifB}
 use Rattle.lists.specs.Text.{bytes}
-use Rattle.rules.specs.Answers.{Said}
-use Rattle.rules.specs.Promises.{refused14}
+use Rattle.spec.specs.Answers.{Said}
+use Rattle.spec.specs.Promises.{refused14}
 
 -- A number in decimal digits, the highest first and with no leading zero. The first argument bounds the digits: n itself is more than n has.
 unfoldable pub decimalUp : ℕ → ℕ → List ℕ

@@ -3,7 +3,7 @@ use Prim.Native.Nat.{ℕ, _+_, _≤_}
 use mathlib.Core.List.{List, _++_}
 use mathlib.Core.Path.{_≡_}
 use lib.ListN.{length, take}
-use Rattle.rules.specs.Promises.{filled}
+use Rattle.spec.specs.Promises.{filled}
 
 -- room for a line of any kind: a step's line, or a refusal with a circle of 512 steps
 abbrev pub lineRoom : ℕ

@@ -7,9 +7,9 @@ use borrow.Author.Tests.{eq-eqb, ne-eqb, eqb-false}
 use lib.ListN.{length, take, replicate}
 use lib.Seq.{drop-length}
 use Rattle.lists.specs.Fill.{zeroed}
-use Rattle.rules.specs.Answers.{Said, numberOfRefusal, refusalSays}
-use Rattle.rules.specs.PlanAsk.{PlanOutcome, listed, circular, noPlan, planAsk}
-use Rattle.rules.specs.Promises.{filled, PlanMeets}
+use Rattle.spec.specs.Answers.{Said, numberOfRefusal, refusalSays}
+use Rattle.spec.specs.PlanAsk.{PlanOutcome, listed, circular, noPlan, planAsk}
+use Rattle.spec.specs.Promises.{filled, PlanMeets}
 use Rattle.answers.specs.declared.Numbers.{Numbers as Two}
 use Rattle.answers.specs.Numbers.{said}
 use Rattle.printing.specs.Lines.{noWork, refusedLine, circleOutput}

@@ -9,24 +9,24 @@ use lib.Dec.{leb, ltb, eqb}
 use lib.ListN.{length}
 use borrow.Author.Tests.{leb-true, ne-eqb, not-true}
 use Rattle.lists.specs.Tests.{ifB, split}
-use Rattle.rules.specs.declared.Refusal.{Refusal}
-use Rattle.rules.specs.declared.Refusal.the-variants.{ShortBuffer, LongManifest, BadByte, BadLine, BadDollar, NotYet, BadRule, BadPath, OverLimit, BadVersion, BadCard, BadTarget, NoRoot, Circle, MissingSource, EndlessText, LongText, NoCommand}
+use Rattle.spec.specs.declared.Refusal.{Refusal}
+use Rattle.spec.specs.declared.Refusal.the-variants.{ShortBuffer, LongManifest, BadByte, BadLine, BadDollar, NotYet, BadRule, BadPath, OverLimit, BadVersion, BadCard, BadTarget, NoRoot, Circle, MissingSource, EndlessText, LongText, NoCommand}
 use Rattle.lists.specs.Text.{bytes}
 use Rattle.lists.specs.Members.{any}
-use Rattle.rules.specs.Basics.{isEmpty}
-use Rattle.rules.specs.Bytes.{newline}
-use Rattle.rules.specs.Dollars.{expand}
-use Rattle.rules.specs.Limits.{leastList, maxName, maxRules, maxSteps, maxValue, maxManifest}
-use Rattle.rules.specs.Answers.{numberOfRefusal}
-use Rattle.rules.specs.Lines.{Line, linesOf, isComment, isBlank, isIndented}
-use Rattle.rules.specs.Forms.{Fault, noForm, wrongDollar, notYet, Cut, fits, fails, Form, ruleForm, buildForm, defaultForm, bindingForm, cutStatement, cutIndented}
-use Rattle.rules.specs.Reading.{Reading, nothingRead, hasKey, declared, fileVar, isMade}
-use Rattle.rules.specs.Statements.{Block, noBlock, ruleBlock, buildBlock, Outcome, goesOn, refused, startRule, longerThan, overCounts, ruleKey, countBinding, expandedLine, expanded, mentioned, inputsOfLine, badPaths, overPaths, overBinding, wrongVersion, addKey, addStep, stepOf, addToBlock, addVar, addDefaults, statement, blockLine}
-use Rattle.rules.specs.Manifest.{withRule, close, andThen, faultOf, ifCut, indented, readIndented, readStatement, readLine, readLines, Read, accepted, refusedWith, readOf, ifSound, badByte, readManifest}
-use Rattle.rules.specs.Card.{soundCard}
-use Rattle.rules.specs.Targets.{badTarget}
-use Rattle.rules.specs.Graph.{hasOrder, noRoot, roots}
-use Rattle.rules.specs.PlanAsk.{PlanOutcome, listed, circular, noPlan, targetFiles, missingSource, listedOr15, planFrom, planRoots, planRead, planAsk}
+use Rattle.spec.specs.Basics.{isEmpty}
+use Rattle.spec.specs.Bytes.{newline}
+use Rattle.spec.specs.Dollars.{expand}
+use Rattle.spec.specs.Limits.{leastList, maxName, maxRules, maxSteps, maxValue, maxManifest}
+use Rattle.spec.specs.Answers.{numberOfRefusal}
+use Rattle.spec.specs.Lines.{Line, linesOf, isComment, isBlank, isIndented}
+use Rattle.spec.specs.Forms.{Fault, noForm, wrongDollar, notYet, Cut, fits, fails, Form, ruleForm, buildForm, defaultForm, bindingForm, cutStatement, cutIndented}
+use Rattle.spec.specs.Reading.{Reading, nothingRead, hasKey, declared, fileVar, isMade}
+use Rattle.spec.specs.Statements.{Block, noBlock, ruleBlock, buildBlock, Outcome, goesOn, refused, startRule, longerThan, overCounts, ruleKey, countBinding, expandedLine, expanded, mentioned, inputsOfLine, badPaths, overPaths, overBinding, wrongVersion, addKey, addStep, stepOf, addToBlock, addVar, addDefaults, statement, blockLine}
+use Rattle.spec.specs.Manifest.{withRule, close, andThen, faultOf, ifCut, indented, readIndented, readStatement, readLine, readLines, Read, accepted, refusedWith, readOf, ifSound, badByte, readManifest}
+use Rattle.spec.specs.Card.{soundCard}
+use Rattle.spec.specs.Targets.{badTarget}
+use Rattle.spec.specs.Graph.{hasOrder, noRoot, roots}
+use Rattle.spec.specs.PlanAsk.{PlanOutcome, listed, circular, noPlan, targetFiles, missingSource, listedOr15, planFrom, planRoots, planRead, planAsk}
 
 abbrev early : Outcome → Bool
 early (goesOn rd b) = true

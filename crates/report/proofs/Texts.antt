@@ -9,10 +9,10 @@ use lib.Seq.{drop-cons, take-append-seam, drop-length, take-append-add}
 use Rattle.lists.specs.Parts.{part, length-part}
 use Rattle.answers.specs.declared.Numbers.{Numbers as Two}
 use Rattle.answers.specs.Numbers.{said}
-use Rattle.rules.specs.declared.Wanted.the-variants.{Command}
-use Rattle.rules.specs.Answers.{Said, refusalSays}
-use Rattle.rules.specs.TextAsk.{TextOutcome, text, noText, textAsk}
-use Rattle.rules.specs.Promises.{filled, TextMeets}
+use Rattle.spec.specs.declared.Wanted.the-variants.{Command}
+use Rattle.spec.specs.Answers.{Said, refusalSays}
+use Rattle.spec.specs.TextAsk.{TextOutcome, text, noText, textAsk}
+use Rattle.spec.specs.Promises.{filled, TextMeets}
 use Rattle.printing.specs.Lines.{refusedLine, headOf, lineOf}
 use Rattle.printing.specs.Writes.{PutsUpTo, Leaves}
 use Rattle.report.specs.Output.{command, outcomeSays, Checks, fine, stopped, afterText, checkTexts, stepLine}

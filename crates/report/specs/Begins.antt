@@ -5,10 +5,10 @@ use mathlib.Core.Path.{_≡_}
 use lib.Dec.{eqb}
 use lib.ListN.{length, take}
 use Rattle.lists.specs.Tests.{ifB}
-use Rattle.rules.specs.Limits.{leastList}
-use Rattle.rules.specs.Answers.{Said}
-use Rattle.rules.specs.PlanAsk.{planAsk}
-use Rattle.rules.specs.Promises.{filled, PlanMeets}
+use Rattle.spec.specs.Limits.{leastList}
+use Rattle.spec.specs.Answers.{Said}
+use Rattle.spec.specs.PlanAsk.{planAsk}
+use Rattle.spec.specs.Promises.{filled, PlanMeets}
 use Rattle.answers.specs.declared.Numbers.{Numbers as Two}
 use Rattle.answers.specs.Numbers.{said}
 use Rattle.printing.specs.Lines.{noWork, refusedLine, circleOutput}

@@ -3,14 +3,14 @@ use Prim.Native.Nat.{ℕ, suc}
 use mathlib.Core.List.{List, [], _∷_, _++_}
 use mathlib.Core.Path.{_≡_}
 use lib.ListN.{length}
-use Rattle.rules.specs.declared.Wanted.the-variants.{Command}
-use Rattle.rules.specs.Limits.{maxText}
-use Rattle.rules.specs.Answers.{Said, refusalSays}
-use Rattle.rules.specs.Reading.{Step}
-use Rattle.rules.specs.Words.{NeededCircle}
-use Rattle.rules.specs.PlanAsk.{PlanOutcome, listed, circular, noPlan}
-use Rattle.rules.specs.TextAsk.{TextOutcome, text, noText, textAsk}
-use Rattle.rules.specs.Promises.{counts}
+use Rattle.spec.specs.declared.Wanted.the-variants.{Command}
+use Rattle.spec.specs.Limits.{maxText}
+use Rattle.spec.specs.Answers.{Said, refusalSays}
+use Rattle.spec.specs.Reading.{Step}
+use Rattle.spec.specs.Words.{NeededCircle}
+use Rattle.spec.specs.PlanAsk.{PlanOutcome, listed, circular, noPlan}
+use Rattle.spec.specs.TextAsk.{TextOutcome, text, noText, textAsk}
+use Rattle.spec.specs.Promises.{counts}
 use Rattle.printing.specs.Lines.{noWork, refusedLine, circleOutput, lineOf}
 
 -- the `command` text of a step

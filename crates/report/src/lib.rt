@@ -9,17 +9,17 @@ ghost use Rattle.report.specs.Begins.{checkedSays, listOpening, planOpen
 use answers::Numbers;
 use answers::of_plan;
 use answers::of_text;
-use planner::plan;
-use planner::text;
+use asks::plan;
+use asks::text;
 use printing::end_line;
 use printing::put_head;
 use printing::say_circle;
 use printing::say_no_work;
 use printing::say_refused;
-use rules::Wanted;
-use rules::limits::TEXT;
 use slices::bytes::zero_from;
 use slices::words::at;
+use spec::Wanted;
+use spec::limits::TEXT;
 
 // What the check of all texts finds: that each listed step has one, or the first refusal.
 pub enum Checked {

@@ -1,5 +1,5 @@
 -- `answers::of_plan` meets its contract.
-use Rattle.rules.specs.Answers.{planSays}
+use Rattle.spec.specs.Answers.{planSays}
 use mathlib.Core.Path.{sym, ap, _∙_}
 use borrow.Author.Needs.{needs}
 use Rattle.answers.proofs.of_plan.Statement.{statement}

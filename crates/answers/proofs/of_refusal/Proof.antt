@@ -1,5 +1,5 @@
 -- `answers::of_refusal` meets its contract.
-use Rattle.rules.specs.Answers.{refusalSays, numberOfRefusal, placeOfRefusal}
+use Rattle.spec.specs.Answers.{refusalSays, numberOfRefusal, placeOfRefusal}
 use mathlib.Core.Path.{sym, ap, _∙_}
 use borrow.Author.Needs.{needs}
 use Rattle.answers.proofs.of_refusal.Statement.{statement}

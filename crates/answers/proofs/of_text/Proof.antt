@@ -1,5 +1,5 @@
 -- `answers::of_text` meets its contract.
-use Rattle.rules.specs.Answers.{textSays}
+use Rattle.spec.specs.Answers.{textSays}
 use mathlib.Core.Path.{sym, ap, _∙_}
 use borrow.Author.Needs.{needs}
 use Rattle.answers.proofs.of_text.Statement.{statement}

@@ -1,0 +1,34 @@
+-- `apply_bindings::over` meets its contract.
+use Prim.Native.Nat.{_+_}
+use native.Mathlib.Omega.{arith}
+use borrow.Author.Needs.{needs}
+use borrow.Author.Tests.{lt-ltb, le-ltb}
+use Rattle.apply_bindings.specs.Limits.{overCounted}
+use Rattle.apply_bindings.proofs.over.Statement.{statement}
+use Rattle.apply_bindings.proofs.over.Tie as tie
+
+returns : tie.Need-returns
+unfolding overCounted
+returns c = rw (lt-ltb _ _ (c .if1 .taken))
+
+returns-2 : tie.Need-returns-2
+unfolding overCounted
+returns-2 c = rw (le-ltb _ _ (c .before .if1 .left), lt-ltb _ _ (c .if2 .taken))
+
+returns-3 : tie.Need-returns-3
+unfolding overCounted
+returns-3 c =
+    let a = c .before .before .before .before .args in
+    rw (le-ltb _ _ (c .before .before .before .if1 .left), le-ltb _ _ (c .before .before .if2 .left), lt-ltb 1024 (a .c .bindings + 1) (omega arith))
+
+add-result : tie.Need-add-result
+add-result c = search needs
+
+returns-4 : tie.Need-returns-4
+unfolding overCounted
+returns-4 c =
+    let a = c .before .before .before .before .before .args in
+    rw (le-ltb _ _ (c .before .before .before .before .if1 .left), le-ltb _ _ (c .before .before .before .if2 .left), le-ltb 1024 (a .c .bindings + 1) (omega arith))
+
+pub over-spec : {M : Type 1} → statement M
+over-spec = tie.close (tie.spec returns returns-2 returns-3 add-result returns-4)

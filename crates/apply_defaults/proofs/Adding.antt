@@ -1,0 +1,147 @@
+-- A walk over the paths of a default line without an 8: what is held now, and what is left of the line.
+use Prim.Native.Nat.{ℕ, _≤_}
+use mathlib.Core.Bool.{true, false, not, _||_}
+use mathlib.Core.List.{List, [], _∷_}
+use mathlib.Core.Path.{_≡_, refl, sym, _∙_, ap}
+use borrow.Author.Tests.{not-false}
+use lib.ListN.{length}
+use Rattle.lists.specs.Tests.{or-left, or-right}
+use Rattle.lists.specs.Members.{any, any-cons}
+use Rattle.lists.specs.Parts.{part}
+use Rattle.spec.specs.declared.Refusal.the-variants.{OverLimit}
+use Rattle.spec.specs.Reading.{Reading, numberOf, isMade}
+use Rattle.spec.specs.Statements.{expanded, refused}
+use Rattle.scan_raw.specs.Texts.{PathNext}
+use Rattle.cut_forms.specs.Paths.{PathsAt}
+use Rattle.cut_forms.proofs.Walks.{walk-on}
+use Rattle.hold_bindings.specs.Log.{Logged}
+use Rattle.hold_reading.specs.declared.Counts.{Counts}
+use Rattle.hold_reading.specs.declared.Open.the-variants.{Nothing}
+use Rattle.hold_reading.specs.declared.LineAnswer.the-variants.{Goes, Refused}
+use Rattle.hold_reading.specs.Held.{joined, nothing, Holds, goes, refuses}
+use Rattle.hold_reading.specs.Adds.{Whole, Adds}
+use Rattle.apply_empty_paths.specs.Walk.{pathOf, AnyPath}
+use Rattle.apply_default_path.specs.declared.Named.{Named}
+use Rattle.apply_default_path.specs.declared.Named.the-variants.{Added, Over}
+use Rattle.apply_default_path.specs.Defaults.{defaulted, Named·is, Names}
+use Rattle.apply_defaults.specs.Sound.{soundDefaults}
+use Rattle.apply_defaults.proofs.Outcomes.{sound-over, sound-on, sound-end}
+
+-- The reading so far, and what is left of the line.
+pub record Reached (log : List Logged) (names ends texts bind graph : List ℕ) (d : Counts) (start : ℕ) (rd : Reading) (ps qs : List (List ℕ)) : Type 0 where
+  pub reading : Reading
+  pub holds : Holds log names ends texts bind graph d reading
+  pub made : any (λ raw. not (isMade (pathOf reading raw) reading)) qs ≡ false
+  pub left : soundDefaults start (expanded rd ps) rd ≡ soundDefaults start (expanded reading qs) reading
+
+pub record Adding (l names ends texts bind graph₀ : List ℕ) (c : Counts) (start at : ℕ) (graph : List ℕ) (d : Counts) (i : ℕ) : Type 0 where
+  pub within : i ≤ length l
+  pub rest : (ps : List (List ℕ)) → PathsAt l at ps
+      → (qs : List (List ℕ)) × PathsAt l i qs × ((log : List Logged) (rd : Reading) → Holds log names ends texts bind graph₀ c rd → Reached log names ends texts bind graph d start rd ps qs)
+
+pub add-begin : {l names ends texts bind graph : List ℕ} {c : Counts} (start : ℕ) {at : ℕ}
+    → AnyPath (λ log rd. Holds log names ends texts bind graph c rd) (λ rd raw. not (isMade (pathOf rd raw) rd)) l at false → at ≤ length l
+    → Adding l names ends texts bind graph c start at graph c at
+add-begin start a b =
+    record {
+      within = b;
+      rest = λ ps w. (ps, w, λ log rd h. record { reading = rd; holds = h; made = sym (a .answer ps w log rd h); left = refl });
+    }
+
+-- ---- what does not look at defaults
+
+made-same : (k n : ℕ) (rd : Reading) (qs : List (List ℕ))
+    → any (λ raw. not (isMade (pathOf (defaulted k n rd) raw) (defaulted k n rd))) qs ≡ any (λ raw. not (isMade (pathOf rd raw) rd)) qs
+unfolding isMade pathOf defaulted
+made-same k n rd qs = refl
+
+expanded-same : (k n : ℕ) (rd : Reading) (qs : List (List ℕ)) → expanded (defaulted k n rd) qs ≡ expanded rd qs
+unfolding expanded defaulted
+expanded-same k n rd qs = refl
+
+expanded-cons : (rd : Reading) (q : List ℕ) (qs : List (List ℕ)) → expanded rd (q ∷ qs) ≡ pathOf rd q ∷ expanded rd qs
+unfolding expanded pathOf
+expanded-cons rd q qs = refl
+
+-- ---- a turn
+
+module _ {l names ends texts bind graph₀ : List ℕ} {c : Counts} {start at : ℕ} {graph : List ℕ} {d : Counts} {i : ℕ}
+    (x : Adding l names ends texts bind graph₀ c start at graph d i) where
+  pub add-whole : {ps : List (List ℕ)} → PathsAt l at ps → Whole names ends texts bind graph₀ c → Whole names ends texts bind graph d
+  add-whole {ps} w h =
+      let (qs, v, s) = x .rest ps w in
+      let r = s (h .log) (h .reading) (h .holds) in
+      record { log = h .log; reading = r .reading; holds = r .holds }
+
+  module _ {from to : ℕ} (n : PathNext l i from to) {graph′ : List ℕ} {r : Named} (m : Names names ends texts bind graph d (part l from to) graph′ r) where
+    -- the path of this turn, and those behind it
+    turn : (ps : List (List ℕ)) → PathsAt l at ps
+        → (us : List (List ℕ)) × PathsAt l to us × ((log : List Logged) (rd : Reading) → Holds log names ends texts bind graph₀ c rd → Reached log names ends texts bind graph d start rd ps (part l from to ∷ us))
+    turn ps w =
+        let (qs, v, s) = x .rest ps w in
+        let (us, q, u) = walk-on n v in
+        (us, u, λ log rd h. rw q at (s log rd h))
+
+    module _ {log : List Logged} {rd : Reading} {ps us : List (List ℕ)} (z : Reached log names ends texts bind graph d start rd ps (part l from to ∷ us)) where
+      split-made : not (isMade (pathOf (z .reading) (part l from to)) (z .reading)) || any (λ raw. not (isMade (pathOf (z .reading) raw) (z .reading))) us ≡ false
+      split-made = sym (any-cons (λ raw. not (isMade (pathOf (z .reading) raw) (z .reading))) (part l from to) us) ∙ z .made
+
+      here-made : isMade (pathOf (z .reading) (part l from to)) (z .reading) ≡ true
+      here-made =
+          not-false _
+          (or-left (not (isMade (pathOf (z .reading) (part l from to)) (z .reading))) (any (λ raw. not (isMade (pathOf (z .reading) raw) (z .reading))) us) split-made)
+
+      rest-made : any (λ raw. not (isMade (pathOf (z .reading) raw) (z .reading))) us ≡ false
+      rest-made =
+          or-right (not (isMade (pathOf (z .reading) (part l from to)) (z .reading))) (any (λ raw. not (isMade (pathOf (z .reading) raw) (z .reading))) us) split-made
+
+      left-cons : soundDefaults start (expanded rd ps) rd ≡ soundDefaults start (pathOf (z .reading) (part l from to) ∷ expanded (z .reading) us) (z .reading)
+      left-cons = z .left ∙ ap (λ (y : List (List ℕ)). soundDefaults start y (z .reading)) (expanded-cons (z .reading) (part l from to) us)
+
+      reach-on : {e : Counts} → r ≡ Added e → Reached log names ends texts bind graph′ e start rd ps us
+      unfolding Named·is
+      reach-on e =
+          let p = pathOf (z .reading) (part l from to) in
+          let k = numberOf p (z .reading .files) in
+          let (o, g) = rw e at (m .answer log (z .reading) (z .holds) here-made) in
+          record {
+            reading = defaulted k (length p) (z .reading);
+            holds = g;
+            made = made-same k (length p) (z .reading) us ∙ rest-made;
+            left =
+                left-cons
+                ∙ sound-on (z .holds) start p (expanded (z .reading) us) here-made o
+                ∙ sym (ap (λ (y : List (List ℕ)). soundDefaults start y (defaulted k (length p) (z .reading))) (expanded-same k (length p) (z .reading) us));
+          }
+
+      reach-over : r ≡ Over → soundDefaults start (expanded rd ps) rd ≡ refused (OverLimit start)
+      unfolding Named·is
+      reach-over e =
+          let p = pathOf (z .reading) (part l from to) in
+          left-cons ∙ sound-over (z .holds) start p (expanded (z .reading) us) (rw e at (m .answer log (z .reading) (z .holds) here-made))
+
+    pub add-on : {e : Counts} → r ≡ Added e → Adding l names ends texts bind graph₀ c start at graph′ e to
+    add-on e =
+        record {
+          within = n .within;
+          rest = λ ps w.
+              let (us, u, s) = turn ps w in
+              (us, u, λ log rd h. reach-on (s log rd h) e);
+        }
+
+    pub add-over : r ≡ Over → {ps : List (List ℕ)} → PathsAt l at ps → {graph″ : List ℕ}
+        → Adds names ends texts bind graph₀ c (λ rd. soundDefaults start (expanded rd ps) rd) names ends graph″ (Refused (OverLimit start))
+    add-over e {ps} w =
+        let (us, u, s) = turn ps w in
+        record { agrees = λ log rd h. rw (reach-over (s log rd h) e) refuses }
+
+  pub add-end : ((ps : List (List ℕ)) → PathsAt l i ps → ps ≡ []) → {ps : List (List ℕ)} → PathsAt l at ps
+      → Adds names ends texts bind graph₀ c (λ rd. soundDefaults start (expanded rd ps) rd) names ends graph (Goes d Nothing)
+  unfolding joined expanded
+  add-end f {ps} w =
+      let (qs, v, s) = x .rest ps w in
+      record {
+        agrees = λ log rd h.
+            let z = s log rd h in
+            rw (z .left ∙ ap (λ (y : List (List ℕ)). soundDefaults start (expanded (z .reading) y) (z .reading)) (f qs v) ∙ sound-end (z .holds) start) (goes (z .holds) nothing);
+      }

@@ -1,0 +1,83 @@
+// Whether a line's paths are outputs of earlier steps.
+ghost use mathlib.Core.Path.{_≡_};
+ghost use mathlib.Core.List.{List};
+ghost use Rattle.spec.specs.Reading.{Reading, isMade};
+ghost use Rattle.hold_bindings.specs.Log.{Logged};
+ghost use Rattle.hold_reading.specs.Held.{Holds};
+ghost use Rattle.apply_empty_paths.specs.Walk.{pathOf, AnyPath};
+ghost use Rattle.apply_earlier_outputs.specs.Asks.{sameBool, Filed, Files, MadeAsks, PathAsks};
+use cut_forms::Next;
+use cut_forms::paths::next_path;
+use expand_dollars::expand;
+use hold_names::Found;
+use hold_names::find;
+use hold_reading::Counts;
+use hold_reading::columns::MADE;
+use slices::words::at;
+
+// Whether a path is the output of an earlier step: its entry among the makers is not 0.
+fn is_output(names: &[u8], ends: &[u32], graph: &[u32], c: Counts, path: &[u8]) -> bool
+    requires { ⌜ Files (now names) (now ends) (now graph) c ⌝ }
+    ensures { λ r. ⌜ ((log : List Logged) (rd : Reading) → Filed log (now (names .entry)) (now (ends .entry)) (now (graph .entry)) c rd → r ≡ isMade (now (path .entry)) rd) ⌝ }
+{
+    match find(names, ends, c.files, path) {
+        Found::At(k) => at(graph, MADE + k) != 0,
+        Found::Missing => false,
+    }
+}
+
+// Whether a raw path expands to the output of an earlier step. The word buffer is left with the path as far as it fits.
+pub fn is_made(
+    t: &[u8; 256],
+    raw: &[u8],
+    names: &[u8],
+    ends: &[u32],
+    texts: &[u8],
+    bind: &[u32],
+    graph: &[u32],
+    word: &mut [u8],
+    c: Counts,
+) -> bool
+    requires { ⌜ MadeAsks (now t) (now raw) (now names) (now ends) (now texts) (now bind) (now graph) (now word) c ⌝ }
+    ensures { λ r. ⌜ ((log : List Logged) (rd : Reading) → Holds log (now (names .entry)) (now (ends .entry)) (now (texts .entry)) (now (bind .entry)) (now (graph .entry)) c rd → r ≡ isMade (pathOf rd (now (raw .entry))) rd) ⌝ }
+{
+    let n = expand(t, raw, texts, bind, c.entries, word);
+    if word.len() < n {
+        return false;
+    }
+    is_output(names, ends, graph, c, &word[..n])
+}
+
+// Whether a path is the output of an earlier step ("output made twice"), or, with `wanted` false, whether one is not ("default that is no
+// earlier output"): both are 8s.
+pub fn has_made(
+    t: &[u8; 256],
+    l: &[u8],
+    start: usize,
+    names: &[u8],
+    ends: &[u32],
+    texts: &[u8],
+    bind: &[u32],
+    graph: &[u32],
+    word: &mut [u8],
+    c: Counts,
+    wanted: bool,
+) -> bool
+    requires { ⌜ PathAsks (now t) (now l) (now names) (now ends) (now texts) (now bind) (now graph) (now word) c start ⌝ }
+    ensures { λ r. ⌜ AnyPath (λ log rd. Holds log (now (names .entry)) (now (ends .entry)) (now (texts .entry)) (now (bind .entry)) (now (graph .entry)) c rd) (λ rd raw. sameBool wanted (isMade (pathOf rd raw) rd)) (now (l .entry)) start r ⌝ }
+{
+    let mut i = start;
+    loop {
+        match next_path(t, l, i) {
+            Next::Path(from, to) => {
+                if is_made(t, &l[from..to], names, ends, texts, bind, graph, word, c) == wanted {
+                    return true;
+                }
+                i = to;
+            }
+            Next::Stop => {
+                return false;
+            }
+        }
+    }
+}

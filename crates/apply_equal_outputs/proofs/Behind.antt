@@ -1,0 +1,37 @@
+-- What lies behind the columns changes nothing that is held.
+use mathlib.Core.List.{List, [], _∷_}
+use Prim.Native.Nat.{ℕ}
+use Rattle.spec.specs.Reading.{Reading}
+use Rattle.arena.proofs.Laws.{lies-kept}
+use Rattle.hold_bindings.specs.Log.{Logged}
+use Rattle.hold_reading.specs.declared.Counts.{Counts}
+use Rattle.hold_reading.specs.Held.{capacities, Graphed, Holds}
+use Rattle.hold_reading.specs.Adds.{Whole}
+use Rattle.apply_equal_outputs.specs.Kept.{Kept}
+
+graphed-kept : {log : List Logged} {graph graph′ : List ℕ} {c : Counts} {rd : Reading} → Kept graph graph′ → Graphed log graph c rd → Graphed log graph′ c rd
+graphed-kept {graph = graph} {graph′ = graph′} {rd = rd} k g =
+    record {
+      mentions = g .mentions;
+      ends = g .ends;
+      phony = g .phony;
+      made = g .made;
+      ruleOf = g .ruleOf;
+      lies = lies-kept capacities graph graph′ (g .mentions ∷ g .ends ∷ g .phony ∷ g .made ∷ g .ruleOf ∷ rd .defaults ∷ []) (g .lies) (k .long) (k .columns);
+      tables = g .tables;
+      ruled-all = g .ruled-all;
+      ruled = g .ruled;
+      paths-counted = g .paths-counted;
+      defaults-counted = g .defaults-counted;
+      mentions-counted = g .mentions-counted;
+      few-mentions = g .few-mentions;
+      mentions-low = g .mentions-low;
+      defaults-low = g .defaults-low;
+    }
+
+pub held-kept : {log : List Logged} {names ends texts bind graph graph′ : List ℕ} {c : Counts} {rd : Reading} → Kept graph graph′ → Holds log names ends texts bind graph c rd
+    → Holds log names ends texts bind graph′ c rd
+held-kept k h = record { named = h .named; bound = h .bound; graphed = graphed-kept k (h .graphed) }
+
+pub whole-kept : {names ends texts bind graph graph′ : List ℕ} {c : Counts} → Kept graph graph′ → Whole names ends texts bind graph c → Whole names ends texts bind graph′ c
+whole-kept k w = record { log = w .log; reading = w .reading; holds = held-kept k (w .holds) }

@@ -1,0 +1,75 @@
+-- What the buffers hold within a line that mentions files: the reading with the mentions so far, and the columns of the graph as they are then.
+use Prim.Native.Nat.{ℕ, _+_, _≤_}
+use mathlib.Core.Bool.{Bool, true, false, _||_}
+use mathlib.Core.List.{List, [], _∷_, _++_}
+use mathlib.Core.Path.{_≡_}
+use lib.ListN.{length}
+use Rattle.lists.specs.Tests.{ifB}
+use Rattle.spec.specs.Basics.{among}
+use Rattle.spec.specs.Limits.{maxMentions}
+use Rattle.spec.specs.Reading.{Reading, numberOf, mention}
+use Rattle.spec.specs.Statements.{mentioned, overPaths, overCounts}
+use Rattle.arena.specs.Columns.{Lies}
+use Rattle.hold_names.specs.Table.{Holds as NamesHold}
+use Rattle.hold_bindings.specs.Log.{Logged}
+use Rattle.hold_reading.specs.declared.Counts.{Counts}
+use Rattle.hold_reading.specs.Held.{Bound, capacities}
+use Rattle.apply_files.specs.declared.Mentioned.{Mentioned}
+use Rattle.apply_files.specs.declared.Mentioned.the-variants.{On, Over}
+
+-- what is held: the log, the reading, and the columns of the graph but the defaults
+pub record Line : Type 0 where
+  pub log : List Logged
+  pub reading : Reading
+  pub mentions : List ℕ
+  pub ends : List ℕ
+  pub phony : List ℕ
+  pub made : List ℕ
+  pub ruleOf : List ℕ
+
+-- the columns of the graph lie in it
+pub record Columns (graph mentions ends phony made ruleOf defaults : List ℕ) : Type 0 where
+  pub lies : Lies capacities graph (mentions ∷ ends ∷ phony ∷ made ∷ ruleOf ∷ defaults ∷ [])
+
+pub record Writing (names fileEnds texts bind graph : List ℕ) (c : Counts) (h : Line) : Type 0 where
+  pub named : NamesHold names fileEnds (c .files) (h .reading .files)
+  pub bound : Bound (h .log) texts bind c (h .reading)
+  pub columns : Columns graph (h .mentions) (h .ends) (h .phony) (h .made) (h .ruleOf) (h .reading .defaults)
+  pub filed : length (h .made) ≡ length (h .reading .files)
+  pub paths-counted : c .paths ≡ length (h .mentions)
+  pub defaults-counted : c .defaults ≡ length (h .reading .defaults)
+  pub mentions-counted : c .mentions ≡ h .reading .mentions
+  pub few-mentions : c .paths + c .defaults ≤ c .mentions
+  pub mentions-low : c .mentions ≤ maxMentions
+
+-- ------------------------------------------------------------------ mentions
+
+-- a file that is new has no maker
+unfoldable pub madeWith : List ℕ → List (List ℕ) → List ℕ → List ℕ
+madeWith p files made = ifB (among p files) (λ _. made) (λ _. made ++ (0 ∷ []))
+
+-- one path more
+unfoldable pub withPath : List ℕ → Line → Line
+withPath p h =
+    record {
+      log = h .log;
+      reading = mentioned (p ∷ []) (h .reading);
+      mentions = h .mentions ++ (numberOf p (mention (h .reading .files) (p ∷ [])) ∷ []);
+      ends = h .ends;
+      phony = h .phony;
+      made = madeWith p (h .reading .files) (h .made);
+      ruleOf = h .ruleOf;
+    }
+
+unfoldable pub withPaths : List (List ℕ) → Line → Line
+withPaths [] h = h
+withPaths (p ∷ ps) h = withPaths ps (withPath p h)
+
+-- are these mentions over a limit: paths over 255 bytes, or files, mentions and bytes in all
+unfoldable pub overLine : List (List ℕ) → Reading → Bool
+overLine ps rd = overPaths ps || overCounts (mentioned ps rd)
+
+-- The paths are mentioned, or the line is over a limit, whatever it mentions after them.
+pub data Marks (names fileEnds texts bind graph : List ℕ) (h : Line) (ps : List (List ℕ)) : Mentioned → Type 0 where
+  on : {c : Counts} → Writing names fileEnds texts bind graph c (withPaths ps h) → overPaths ps ≡ false → Marks names fileEnds texts bind graph h ps (On c)
+  over : ((more : List (List ℕ)) → overLine (ps ++ more) (h .reading) ≡ true) → Marks names fileEnds texts bind graph h ps Over

@@ -1,0 +1,58 @@
+-- One path: is it over a limit, what its mention stores and counts, and what the buffers hold then.
+use Prim.Native.Nat.{ℕ, _+_, _≤_}
+use mathlib.Core.Bool.{Bool, false, _||_}
+use mathlib.Core.List.{List, [], _∷_}
+use mathlib.Core.Path.{_≡_}
+use lib.Dec.{ltb}
+use lib.ListN.{length, set}
+use Rattle.spec.specs.Limits.{maxMentions, maxPath, maxWritten}
+use Rattle.arena.specs.Columns.{startOf}
+use Rattle.hold_reading.specs.declared.Counts.{Counts}
+use Rattle.hold_reading.specs.Held.{capacities}
+use Rattle.apply_files.specs.declared.Mentioned.{Mentioned}
+use Rattle.apply_files.specs.Lines.{Line, Writing, Marks}
+
+-- is a path of n bytes over a limit by the counts; files are not counted here
+unfoldable pub overCounted : ℕ → Counts → Bool
+overCounted n c = ltb maxPath n || (ltb maxMentions (c .mentions + 1) || ltb maxWritten (c .written + n))
+
+-- the counts with a mention more of n bytes, and so many files
+abbrev pub countedPath : ℕ → ℕ → Counts → Counts
+countedPath files n c =
+    record {
+      files = files;
+      steps = c .steps;
+      paths = c .paths + 1;
+      defaults = c .defaults;
+      entries = c .entries;
+      rules = c .rules;
+      bindings = c .bindings;
+      mentions = c .mentions + 1;
+      written = c .written + n;
+    }
+
+-- where the makers' column starts
+abbrev pub madeStart : ℕ
+madeStart = startOf capacities 3
+
+-- the number of a file at the end of the mentions
+pub record Again (graph : List ℕ) (c : Counts) (k n : ℕ) (graph′ : List ℕ) (r : Counts) : Type 0 where
+  pub stored : graph′ ≡ set graph (c .paths) k
+  pub counted : r ≡ countedPath (c .files) n c
+
+-- the number of a new file there, and no maker for it
+pub record First (graph : List ℕ) (c : Counts) (k n : ℕ) (graph′ : List ℕ) (r : Counts) : Type 0 where
+  pub stored : graph′ ≡ set (set graph (c .paths) k) (madeStart + c .files) 0
+  pub counted : r ≡ countedPath (c .files + 1) n c
+
+-- a path that is within the limits but for the count of files
+pub record Fits (path names fileEnds graph : List ℕ) (c : Counts) : Type 0 where
+  pub texts : List ℕ
+  pub bind : List ℕ
+  pub names-long : maxWritten ≤ length names
+  pub within : overCounted (length path) c ≡ false
+  pub line : Line
+  pub writing : Writing names fileEnds texts bind graph c line
+
+pub record Marked (path names fileEnds graph : List ℕ) (c : Counts) (names′ fileEnds′ graph′ : List ℕ) (r : Mentioned) : Type 0 where
+  pub marks : (texts bind : List ℕ) (h : Line) → Writing names fileEnds texts bind graph c h → Marks names′ fileEnds′ texts bind graph′ h (path ∷ []) r

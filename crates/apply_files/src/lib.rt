@@ -1,0 +1,96 @@
+// One path of a line joins the graph's columns: its limits, its number by first mention, and no maker where it is new.
+ghost use mathlib.Core.Path.{_≡_};
+ghost use Prim.Native.Nat.{_+_, _≤_, _<_};
+ghost use lib.ListN.{length};
+ghost use Rattle.spec.specs.Limits.{maxMentions, maxWritten, maxFiles};
+ghost use Rattle.apply_files.specs.Path.{overCounted, Again, First, Fits, Marked};
+use arena::put;
+use hold_names::Added;
+use hold_names::add;
+use hold_reading::Counts;
+use hold_reading::columns::MADE;
+use spec::limits::MENTIONS;
+use spec::limits::PATH;
+use spec::limits::WRITTEN;
+
+pub enum Mentioned {
+    // The reading goes on with these counts.
+    On(Counts),
+    // The line is over a limit.
+    Over,
+}
+
+// Whether a path of n bytes is over a limit.
+pub fn over(n: usize, c: Counts) -> bool
+    requires { ⌜ (c .mentions ≤ maxMentions) × (c .written ≤ maxWritten) ⌝ }
+    ensures { λ r. ⌜ r ≡ overCounted n c ⌝ }
+{
+    if PATH < n {
+        return true;
+    }
+    if MENTIONS <= c.mentions {
+        return true;
+    }
+    WRITTEN < c.written + n
+}
+
+// File k once more, whose path has n bytes.
+fn note_again(graph: &mut [u32], c: Counts, k: usize, n: usize) -> Counts
+    requires { ⌜ (k < maxFiles) × (c .paths < maxMentions) × (c .mentions < maxMentions) × (c .written + n ≤ maxWritten) × (12288 ≤ length (now graph)) ⌝ }
+    ensures { λ r. ⌜ Again (now (graph .entry)) c k n (now (graph .exit)) r ⌝ }
+{
+    let paths = c.paths;
+    put(graph, paths, k);
+    Counts {
+        files: c.files,
+        steps: c.steps,
+        paths: paths + 1,
+        defaults: c.defaults,
+        entries: c.entries,
+        rules: c.rules,
+        bindings: c.bindings,
+        mentions: c.mentions + 1,
+        written: c.written + n,
+    }
+}
+
+// File k for the first time.
+fn note_first(graph: &mut [u32], c: Counts, k: usize, n: usize) -> Counts
+    requires { ⌜ (k < maxFiles) × (c .files < maxFiles) × (c .paths < maxMentions) × (c .mentions < maxMentions) × (c .written + n ≤ maxWritten) × (12288 ≤ length (now graph)) ⌝ }
+    ensures { λ r. ⌜ First (now (graph .entry)) c k n (now (graph .exit)) r ⌝ }
+{
+    let files = c.files;
+    let paths = c.paths;
+    put(graph, paths, k);
+    put(graph, MADE + files, 0);
+    Counts {
+        files: files + 1,
+        steps: c.steps,
+        paths: paths + 1,
+        defaults: c.defaults,
+        entries: c.entries,
+        rules: c.rules,
+        bindings: c.bindings,
+        mentions: c.mentions + 1,
+        written: c.written + n,
+    }
+}
+
+// A path that is within the limits, but for the count of files.
+pub fn mark(
+    path: &[u8],
+    names: &mut [u8],
+    ends: &mut [u32],
+    graph: &mut [u32],
+    c: Counts,
+) -> Mentioned
+    requires { ⌜ Fits (now path) (now names) (now ends) (now graph) c ⌝ }
+    ensures { λ r. ⌜ Marked (now (path .entry)) (now (names .entry)) (now (ends .entry)) (now (graph .entry)) c (now (names .exit)) (now (ends .exit)) (now (graph .exit)) r ⌝ }
+{
+    let files = c.files;
+    match add(names, ends, files, path) {
+        Added::Old(k) => Mentioned::On(note_again(graph, c, k, path.len())),
+        Added::New(k) => Mentioned::On(note_first(graph, c, k, path.len())),
+        Added::Full => Mentioned::Over,
+    }
+}

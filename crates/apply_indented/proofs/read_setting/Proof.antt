@@ -1,0 +1,73 @@
+-- `apply_indented::read_setting` meets its contract.
+use native.Mathlib.Omega.{arith}
+use Rattle.scan_cursor.specs.Spans.{lineOf}
+use Rattle.cut_refusals.proofs.Cut.{setting-told, wrong-told}
+use Rattle.apply_indented.proofs.Outcomes.{line-applied, value-asks, wrong-setting}
+use borrow.Author.Needs.{needs}
+use Rattle.apply_indented.proofs.read_setting.Statement.{statement}
+use Rattle.apply_indented.proofs.read_setting.Tie as tie
+
+cut-block-line-requires : tie.Need-cut-block-line-requires
+cut-block-line-requires c κs = search needs
+
+enum-known-from : tie.Need-enum-known-from
+enum-known-from c = search needs
+
+sub-add-to-block : tie.Need-sub-add-to-block
+sub-add-to-block c = let s = setting-told (lineOf _ _ _) (c .before .before .before .cut-block-line .ensures) (c .before .from .given .1) in omega (arith, s .places .ordered)
+
+part-add-to-block-start : tie.Need-part-add-to-block-start
+part-add-to-block-start c = let s = setting-told (lineOf _ _ _) (c .before .before .before .cut-block-line .ensures) (c .before .from .given .1) in omega (arith, s .places .ordered)
+
+part-add-to-block-end : tie.Need-part-add-to-block-end
+part-add-to-block-end c = let s = setting-told (lineOf _ _ _) (c .before .before .before .cut-block-line .ensures) (c .before .from .given .1) in omega (arith, s .places .within)
+
+sub-add-to-block-2 : tie.Need-sub-add-to-block-2
+sub-add-to-block-2 c = let s = setting-told (lineOf _ _ _) (c .before .before .before .before .cut-block-line .ensures) (c .before .before .from .given .1) in omega (arith, s .places .starts)
+
+part-add-to-block-start-2 : tie.Need-part-add-to-block-start-2
+part-add-to-block-start-2 c = let s = setting-told (lineOf _ _ _) (c .before .before .before .before .cut-block-line .ensures) (c .before .before .from .given .1) in omega (arith, s .places .starts)
+
+part-add-to-block-end-2 : tie.Need-part-add-to-block-end-2
+part-add-to-block-end-2 c = search needs
+
+add-to-block-requires : tie.Need-add-to-block-requires
+add-to-block-requires c κs = value-asks (lineOf _ _ _) (setting-told (lineOf _ _ _) (c .before .before .before .before .before .before .before .before .cut-block-line .ensures) (c .before .before .before .before .before .before .from .given .1)) (c .before .before .before .before .before .before .before .before .before .before .before .before .before .pre)
+
+enum-known-r : tie.Need-enum-known-r
+enum-known-r c = search needs
+
+same-length : tie.Need-same-length
+same-length c = search needs
+
+same-length-2 : tie.Need-same-length-2
+same-length-2 c = search needs
+
+same-length-3 : tie.Need-same-length-3
+same-length-3 c = search needs
+
+returns : tie.Need-returns
+returns c = line-applied (lineOf _ _ _) (setting-told (lineOf _ _ _) (c .before .before .before .before .before .before .before .before .before .before .before .before .before .before .before .cut-block-line .ensures) (c .before .before .before .before .before .before .before .before .before .before .before .before .before .from .given .1)) (c .before .before .before .before .before .before .add-to-block .ensures)
+
+returns-2 : tie.Need-returns-2
+returns-2 c = wrong-setting (lineOf _ _ _) (wrong-told (lineOf _ _ _) (c .before .before .before .cut-block-line .ensures) (c .before .r .given .1))
+
+pub read-setting-spec : {M : Type 1} → statement M
+read-setting-spec =
+    tie.close
+    (tie.spec
+    cut-block-line-requires
+    enum-known-from
+    sub-add-to-block
+    part-add-to-block-start
+    part-add-to-block-end
+    sub-add-to-block-2
+    part-add-to-block-start-2
+    part-add-to-block-end-2
+    add-to-block-requires
+    enum-known-r
+    same-length
+    same-length-2
+    same-length-3
+    returns
+    returns-2)

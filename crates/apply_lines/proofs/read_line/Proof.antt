@@ -1,0 +1,104 @@
+-- `apply_lines::read_line` meets its contract.
+use Rattle.scan_cursor.specs.Spans.{lineOf}
+use Rattle.apply_statements.proofs.Outcomes.{between-sound}
+use Rattle.apply_lines.proofs.ByKind.{comment-read, blank-read, indented-read, statement-read, indented-asks}
+use borrow.Author.Needs.{needs}
+use Rattle.apply_lines.proofs.read_line.Statement.{statement}
+use Rattle.apply_lines.proofs.read_line.Tie as tie
+
+line-kind-requires : tie.Need-line-kind-requires
+line-kind-requires c κs = search needs
+
+enum-told : tie.Need-enum-told
+enum-told c = search needs
+
+enum-told-2 : tie.Need-enum-told-2
+enum-told-2 c = search needs
+
+close-requires : tie.Need-close-requires
+close-requires c κs = between-sound (c .before .before .before .before .before .before .before .before .before .before .before .before .pre .between)
+
+enum-told-3 : tie.Need-enum-told-3
+enum-told-3 c = search needs
+
+read-indented-requires : tie.Need-read-indented-requires
+read-indented-requires c κs = indented-asks (c .before .before .before .before .before .before .before .before .before .before .before .before .before .pre)
+
+enum-told-4 : tie.Need-enum-told-4
+enum-told-4 c = search needs
+
+read-file-line-requires : tie.Need-read-file-line-requires
+read-file-line-requires c κs = search needs
+
+returns : tie.Need-returns
+returns c = comment-read (lineOf _ _ _) (c .before .before .line-kind .ensures) (c .enum-told .given .1)
+
+same-length : tie.Need-same-length
+same-length c = search needs
+
+same-length-2 : tie.Need-same-length-2
+same-length-2 c = search needs
+
+returns-2 : tie.Need-returns-2
+returns-2 c = blank-read (lineOf _ _ _) (c .before .before .before .before .before .line-kind .ensures) (c .before .before .before .enum-told2 .given .1) (c .close .ensures)
+
+same-length-3 : tie.Need-same-length-3
+same-length-3 c = search needs
+
+same-length-4 : tie.Need-same-length-4
+same-length-4 c = search needs
+
+same-length-5 : tie.Need-same-length-5
+same-length-5 c = search needs
+
+returns-3 : tie.Need-returns-3
+returns-3 c = indented-read (lineOf _ _ _) (c .before .before .before .before .before .before .before .before .before .before .before .before .line-kind .ensures) (c .before .before .before .before .before .before .before .before .before .before .enum-told3 .given .1) (c .before .before .before .before .before .before .read-indented .ensures)
+
+same-length-6 : tie.Need-same-length-6
+same-length-6 c = search needs
+
+same-length-7 : tie.Need-same-length-7
+same-length-7 c = search needs
+
+same-length-8 : tie.Need-same-length-8
+same-length-8 c = search needs
+
+same-length-9 : tie.Need-same-length-9
+same-length-9 c = search needs
+
+same-length-10 : tie.Need-same-length-10
+same-length-10 c = search needs
+
+same-length-11 : tie.Need-same-length-11
+same-length-11 c = search needs
+
+returns-4 : tie.Need-returns-4
+returns-4 c = statement-read (lineOf _ _ _) (c .before .before .before .before .before .before .before .before .before .before .before .before .before .before .before .before .before .before .before .before .before .line-kind .ensures) (c .before .before .before .before .before .before .before .before .before .before .before .before .before .before .before .before .before .before .before .enum-told4 .given .1) (c .before .before .before .before .before .before .before .before .before .before .before .before .read-file-line .ensures)
+
+pub read-line-spec : {M : Type 1} → statement M
+read-line-spec =
+    tie.close
+    (tie.spec
+    line-kind-requires
+    enum-told
+    enum-told-2
+    close-requires
+    enum-told-3
+    read-indented-requires
+    enum-told-4
+    read-file-line-requires
+    returns
+    same-length
+    same-length-2
+    returns-2
+    same-length-3
+    same-length-4
+    same-length-5
+    returns-3
+    same-length-6
+    same-length-7
+    same-length-8
+    same-length-9
+    same-length-10
+    same-length-11
+    returns-4)

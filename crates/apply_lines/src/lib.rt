@@ -1,0 +1,51 @@
+// A line by its kind: a comment, a blank line, an indented line or a statement.
+ghost use Rattle.spec.specs.Manifest.{readLine};
+ghost use Rattle.scan_cursor.specs.Spans.{lineOf};
+ghost use Rattle.apply_statements.specs.Asks.{LineAsks, LineMeets};
+use apply_indented::read_indented;
+use apply_rules::close;
+use apply_statements::read_file_line;
+use hold_reading::Counts;
+use hold_reading::LineAnswer;
+use hold_reading::Open;
+use scan_lines::LineKind;
+use scan_lines::line_kind;
+
+// A line. A comment closes no block; "An empty line or one of spaces only closes a block."
+pub fn read_line(
+    t: &[u8; 256],
+    start: usize,
+    l: &[u8],
+    ended: bool,
+    names: &mut [u8],
+    ends: &mut [u32],
+    texts: &mut [u8],
+    bind: &mut [u32],
+    graph: &mut [u32],
+    word: &mut [u8],
+    c: Counts,
+    block: Open,
+) -> LineAnswer
+    requires { ⌜ LineAsks (now t) start (now l) (now names) (now ends) (now texts) (now bind) (now graph) (now word) c block ⌝ }
+    ensures { λ r. ⌜ LineMeets (now (names .entry)) (now (ends .entry)) (now (texts .entry)) (now (bind .entry)) (now (graph .entry)) c block (readLine (lineOf start (now (l .entry)) ended)) (now (names .exit)) (now (ends .exit)) (now (texts .exit)) (now (bind .exit)) (now (graph .exit)) r ⌝ }
+{
+    match line_kind(l) {
+        LineKind::Comment => LineAnswer::Goes(c, block),
+        LineKind::Blank => close(texts, bind, c, block),
+        LineKind::Indented => read_indented(t, start, l, ended, texts, bind, word, c, block),
+        LineKind::Statement => read_file_line(
+            t,
+            start,
+            l,
+            ended,
+            names,
+            ends,
+            texts,
+            bind,
+            graph,
+            word,
+            c,
+            block,
+        ),
+    }
+}

@@ -1,0 +1,135 @@
+-- `apply_manifest::read_from_top` meets its contract.
+use Rattle.apply_manifest.proofs.Turns.{same-begin, Same, Turning, turn-begin, turn-asks, turn-on, turn-refused, turn-sound, turn-end}
+use Prim.Native.Nat.{_-_}
+use native.Mathlib.Omega.{arith}
+use lib.ListN.{length}
+use borrow.Author.Needs.{needs}
+use Rattle.apply_manifest.proofs.read_from_top.Statement.{statement}
+use Rattle.apply_manifest.proofs.read_from_top.Tie as tie
+
+abbrev Inv-loop : tie.InvT-loop
+Inv-loop t m names₀ ends₀ texts₀ bind₀ graph₀ word₀ c₀ block₀ i₀ names ends texts bind graph word c block i =
+    Same names₀ ends₀ texts₀ bind₀ graph₀ word₀ names ends texts bind graph word × Turning m names ends texts bind graph c block i
+
+abbrev μ-loop : tie.MeasureT-loop
+μ-loop t m names₀ ends₀ texts₀ bind₀ graph₀ word₀ c₀ block₀ i₀ names ends texts bind graph word c block i = length m - i
+
+top-requires : tie.Need-top-requires Inv-loop μ-loop
+top-requires c κs = search needs
+
+loop-holds : tie.Need-loop-holds Inv-loop μ-loop
+loop-holds c = (same-begin, rw (c .top .ensures) (turn-begin (c .before .before .before .before .before .before .before .before .pre)))
+
+left-from-requires : tie.Need-left-from-requires Inv-loop μ-loop
+left-from-requires c κs = search needs
+
+line-from-requires : tie.Need-line-from-requires Inv-loop μ-loop
+line-from-requires c κs = search needs
+
+sub-read-line : tie.Need-sub-read-line Inv-loop μ-loop
+sub-read-line c = search needs
+
+part-read-line-start : tie.Need-part-read-line-start Inv-loop μ-loop
+part-read-line-start c = search needs
+
+part-read-line-end : tie.Need-part-read-line-end Inv-loop μ-loop
+part-read-line-end c = search needs
+
+read-line-requires : tie.Need-read-line-requires Inv-loop μ-loop
+read-line-requires c κs = turn-asks (c .before .before .before .before .before .before .before .before .before .before .loop .inv .1) (c .before .before .before .before .before .before .before .before .before .before .before .before .before .before .before .before .before .before .before .pre) (c .before .before .before .before .before .before .before .before .before .before .loop .inv .0) (c .before .before .before .before .before .before .before .line-from .ensures)
+
+enum-known-d : tie.Need-enum-known-d Inv-loop μ-loop
+enum-known-d c = search needs
+
+loop-less : tie.Need-loop-less Inv-loop μ-loop
+loop-less c = search needs
+
+loop-again : tie.Need-loop-again Inv-loop μ-loop
+loop-again c =
+    let k = c .before .before .before .before .before .before .before .before .before .before .before .before .before .before .before .read-line .kept in
+    let e = c .before .before .before .before .before .before .before .before .before .before .before .before .before .before .before .before .before .before .before .before .before .before .before .before .before .before .loop .inv .0 in (
+      record { names-same = omega (arith, k, e .names-same); ends-same = omega (arith, k, e .ends-same); texts-same = omega (arith, k, e .texts-same); bind-same = omega (arith, k, e .bind-same); graph-same = omega (arith, k, e .graph-same); word-same = omega (arith, k, e .word-same) },
+      turn-on (c .before .before .before .before .before .before .before .before .before .before .before .before .before .before .before .before .before .before .before .before .before .before .before .before .before .before .loop .inv .1) (c .before .before .before .before .before .before .before .before .before .before .before .before .before .before .before .before .before .before .before .before .before .before .before .line-from .ensures) (rw (c .before .d .given .1) at (c .before .before .before .before .before .before .before .before .before .before .before .before .before .before .before .read-line .ensures)),
+    )
+
+enum-known-r : tie.Need-enum-known-r Inv-loop μ-loop
+enum-known-r c = search needs
+
+same-length : tie.Need-same-length Inv-loop μ-loop
+same-length c = search needs
+
+same-length-2 : tie.Need-same-length-2 Inv-loop μ-loop
+same-length-2 c = search needs
+
+same-length-3 : tie.Need-same-length-3 Inv-loop μ-loop
+same-length-3 c = search needs
+
+same-length-4 : tie.Need-same-length-4 Inv-loop μ-loop
+same-length-4 c = search needs
+
+same-length-5 : tie.Need-same-length-5 Inv-loop μ-loop
+same-length-5 c = search needs
+
+same-length-6 : tie.Need-same-length-6 Inv-loop μ-loop
+same-length-6 c = search needs
+
+returns : tie.Need-returns Inv-loop μ-loop
+returns c = turn-refused (c .before .before .before .before .before .before .before .before .before .before .before .before .before .before .before .before .before .before .before .before .before .before .before .before .before .before .loop .inv .1) (c .before .before .before .before .before .before .before .before .before .before .before .before .before .before .before .before .before .before .before .before .before .before .before .line-from .ensures) (rw (c .before .r .given .1) at (c .before .before .before .before .before .before .before .before .before .before .before .before .before .before .before .read-line .ensures))
+
+close-requires : tie.Need-close-requires Inv-loop μ-loop
+close-requires c κs = turn-sound (c .before .before .before .before .loop .inv .1)
+
+same-length-7 : tie.Need-same-length-7 Inv-loop μ-loop
+same-length-7 c = search needs
+
+same-length-8 : tie.Need-same-length-8 Inv-loop μ-loop
+same-length-8 c = search needs
+
+same-length-9 : tie.Need-same-length-9 Inv-loop μ-loop
+same-length-9 c = search needs
+
+same-length-10 : tie.Need-same-length-10 Inv-loop μ-loop
+same-length-10 c = search needs
+
+same-length-11 : tie.Need-same-length-11 Inv-loop μ-loop
+same-length-11 c = search needs
+
+same-length-12 : tie.Need-same-length-12 Inv-loop μ-loop
+same-length-12 c = search needs
+
+returns-2 : tie.Need-returns-2 Inv-loop μ-loop
+returns-2 c = turn-end (c .before .before .before .before .before .loop .inv .1) (omega (arith, c .before .before .before .if1 .left, c .before .before .before .before .left-from .ensures)) (c .close .ensures)
+
+pub read-from-top-spec : {M : Type 1} → statement M
+read-from-top-spec =
+    tie.close
+    (tie.spec
+    Inv-loop
+    μ-loop
+    top-requires
+    loop-holds
+    left-from-requires
+    line-from-requires
+    sub-read-line
+    part-read-line-start
+    part-read-line-end
+    read-line-requires
+    enum-known-d
+    loop-less
+    loop-again
+    enum-known-r
+    same-length
+    same-length-2
+    same-length-3
+    same-length-4
+    same-length-5
+    same-length-6
+    returns
+    close-requires
+    same-length-7
+    same-length-8
+    same-length-9
+    same-length-10
+    same-length-11
+    same-length-12
+    returns-2)

@@ -1,0 +1,122 @@
+// The manifest reader: 2 and 3 for the whole manifest, then its lines from the top.
+ghost use Rattle.apply_manifest.specs.Manifests.{Roomy, LinesAsk, TopAsk, LinesRead, IsRead};
+use apply_lines::read_line;
+use apply_rules::close;
+use hold_names::clear;
+use hold_reading::Counts;
+use hold_reading::LineAnswer;
+use hold_reading::Open;
+use scan_cursor::left_from;
+use scan_cursor::line_from;
+use scan_cursor::top;
+use scan_raw::FirstBad;
+use scan_raw::manifest::bad_byte;
+use spec::Refusal;
+use spec::limits::MANIFEST;
+
+// What the reader answers: how much it holds, or the first refusal.
+pub enum ReadAnswer {
+    Accepted(Counts),
+    Refused(Refusal),
+}
+
+// All lines, from the top. The end of the manifest closes a block.
+fn read_from_top(
+    t: &[u8; 256],
+    m: &[u8],
+    names: &mut [u8],
+    ends: &mut [u32],
+    texts: &mut [u8],
+    bind: &mut [u32],
+    graph: &mut [u32],
+    word: &mut [u8],
+) -> LineAnswer
+    requires { ⌜ TopAsk (now t) (now m) (now names) (now ends) (now texts) (now bind) (now graph) (now word) ⌝ }
+    ensures { λ r. ⌜ LinesRead (now (m .entry)) (now (names .exit)) (now (ends .exit)) (now (texts .exit)) (now (bind .exit)) (now (graph .exit)) r ⌝ }
+{
+    let mut c = Counts {
+        files: 0,
+        steps: 0,
+        paths: 0,
+        defaults: 0,
+        entries: 0,
+        rules: 0,
+        bindings: 0,
+        mentions: 0,
+        written: 0,
+    };
+    let mut block = Open::Nothing;
+    let mut i = top(m);
+    while 0 < left_from(m, i) {
+        let s = line_from(m, i);
+        let end = s.end;
+        match read_line(
+            t,
+            i,
+            &m[i..end],
+            s.ended,
+            names,
+            ends,
+            texts,
+            bind,
+            graph,
+            word,
+            c,
+            block,
+        ) {
+            LineAnswer::Goes(d, o) => {
+                c = d;
+                block = o;
+                i = s.next;
+            }
+            LineAnswer::Refused(r) => {
+                return LineAnswer::Refused(r);
+            }
+        }
+    }
+    close(texts, bind, c, block)
+}
+
+// Lines from the top, whatever the buffers held before.
+fn read_lines(
+    t: &[u8; 256],
+    m: &[u8],
+    names: &mut [u8],
+    ends: &mut [u32],
+    texts: &mut [u8],
+    bind: &mut [u32],
+    graph: &mut [u32],
+    word: &mut [u8],
+) -> LineAnswer
+    requires { ⌜ LinesAsk (now t) (now m) (now names) (now ends) (now texts) (now bind) (now graph) (now word) ⌝ }
+    ensures { λ r. ⌜ LinesRead (now (m .entry)) (now (names .exit)) (now (ends .exit)) (now (texts .exit)) (now (bind .exit)) (now (graph .exit)) r ⌝ }
+{
+    clear(ends);
+    read_from_top(t, m, names, ends, texts, bind, graph, word)
+}
+
+// Reads a manifest into the buffers. "Order: 1, 2, 3; lines from the top."
+pub fn read(
+    t: &[u8; 256],
+    m: &[u8],
+    names: &mut [u8],
+    ends: &mut [u32],
+    texts: &mut [u8],
+    bind: &mut [u32],
+    graph: &mut [u32],
+    word: &mut [u8],
+) -> ReadAnswer
+    requires { ⌜ Roomy (now t) (now names) (now ends) (now texts) (now bind) (now graph) (now word) ⌝ }
+    ensures { λ r. ⌜ IsRead (now (m .entry)) (now (names .exit)) (now (ends .exit)) (now (texts .exit)) (now (bind .exit)) (now (graph .exit)) r ⌝ }
+{
+    if MANIFEST < m.len() {
+        return ReadAnswer::Refused(Refusal::LongManifest);
+    }
+    match bad_byte(m) {
+        FirstBad::At(p) => ReadAnswer::Refused(Refusal::BadByte(p)),
+        FirstBad::Nowhere => match read_lines(t, m, names, ends, texts, bind, graph, word) {
+            LineAnswer::Goes(c, _) => ReadAnswer::Accepted(c),
+            LineAnswer::Refused(r) => ReadAnswer::Refused(r),
+        },
+    }
+}

@@ -1,0 +1,66 @@
+-- `apply_mentions::mention` meets its contract.
+use mathlib.Core.Bool.{false}
+use mathlib.Core.Path.{_≡_, sym, _∙_}
+use native.Mathlib.Omega.{arith}
+use borrow.Author.Needs.{needs}
+use Rattle.apply_files.specs.Path.{overCounted}
+use Rattle.apply_mentions.proofs.Mentioning.{mention-over, path-fits, path-counted, mention-fits, mention-marked}
+use Rattle.apply_mentions.proofs.mention.Statement.{statement}
+use Rattle.apply_mentions.proofs.mention.Tie as tie
+
+-- past the limits
+inside : (s : tie.Else1) → overCounted (s .before .before .before .before .expand .result) (s .before .before .before .before .before .before .before .before .before .before .before .before .before .args .c) ≡ false
+inside s = sym (s .before .over .ensures) ∙ s .if1 .left
+
+expand-requires : tie.Need-expand-requires
+expand-requires c κs = search needs
+
+over-requires : tie.Need-over-requires
+over-requires c κs = search needs
+
+same-length : tie.Need-same-length
+same-length c = search needs
+
+returns : tie.Need-returns
+returns c = mention-over (c .before .before .before .before .before .before .before .before .before .before .before .before .before .pre) (c .before .before .before .before .expand .ensures) (sym (c .before .over .ensures) ∙ c .if1 .taken)
+
+slice-reshare-prefix-mark : tie.Need-slice-reshare-prefix-mark
+slice-reshare-prefix-mark c = omega (arith, path-fits (c .before .before .before .before .before .before .before .before .before .before .before .before .before .pre) (c .before .before .before .before .expand .ensures) (inside c))
+
+slice-aggregate-mark : tie.Need-slice-aggregate-mark
+slice-aggregate-mark c = sym (path-counted (c .before .before .before .before .before .before .before .before .before .before .before .before .before .before .pre) (c .before .before .before .before .before .expand .ensures) (inside (c .before)))
+
+mark-requires : tie.Need-mark-requires
+mark-requires c κs = mention-fits (c .before .before .before .before .before .before .before .before .before .before .before .before .before .before .before .before .before .pre) (c .before .before .before .before .before .before .before .before .expand .ensures) (inside (c .before .before .before .before))
+
+same-length-2 : tie.Need-same-length-2
+same-length-2 c = search needs
+
+same-length-3 : tie.Need-same-length-3
+same-length-3 c = search needs
+
+same-length-4 : tie.Need-same-length-4
+same-length-4 c = search needs
+
+same-length-5 : tie.Need-same-length-5
+same-length-5 c = search needs
+
+returns-2 : tie.Need-returns-2
+returns-2 c = mention-marked (c .before .before .before .before .before .before .before .before .before .before .before .before .before .before .before .before .before .before .before .before .before .before .before .before .pre) (c .before .before .before .before .before .before .before .before .before .before .before .before .before .before .before .expand .ensures) (inside (c .before .before .before .before .before .before .before .before .before .before .before)) (c .before .before .before .before .before .before .mark .ensures)
+
+pub mention-spec : {M : Type 1} → statement M
+mention-spec =
+    tie.close
+    (tie.spec
+    expand-requires
+    over-requires
+    same-length
+    returns
+    slice-reshare-prefix-mark
+    slice-aggregate-mark
+    mark-requires
+    same-length-2
+    same-length-3
+    same-length-4
+    same-length-5
+    returns-2)

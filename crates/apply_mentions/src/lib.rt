@@ -1,0 +1,77 @@
+// Files mentioned by a line: each path is expanded and marked in the graph's columns.
+ghost use Rattle.apply_mentions.specs.Asks.{Asks, Mentions, ListAsks, MentionsAll};
+use apply_files::Mentioned;
+use apply_files::mark;
+use apply_files::over;
+use cut_forms::Next;
+use cut_forms::paths::next_path;
+use expand_dollars::expand;
+use hold_reading::Counts;
+
+// A raw path. The word buffer is left with the path as far as it fits.
+pub fn mention(
+    t: &[u8; 256],
+    raw: &[u8],
+    names: &mut [u8],
+    ends: &mut [u32],
+    texts: &[u8],
+    bind: &[u32],
+    graph: &mut [u32],
+    word: &mut [u8],
+    c: Counts,
+) -> Mentioned
+    requires { ⌜ Asks (now t) (now raw) (now names) (now ends) (now texts) (now bind) (now graph) (now word) c ⌝ }
+    ensures { λ r. ⌜ Mentions (now (raw .entry)) (now (names .entry)) (now (ends .entry)) (now (texts .entry)) (now (bind .entry)) (now (graph .entry)) c (now (names .exit)) (now (ends .exit)) (now (graph .exit)) r ⌝ }
+{
+    let n = expand(t, raw, texts, bind, c.entries, word);
+    if over(n, c) {
+        return Mentioned::Over;
+    }
+    mark(&word[..n], names, ends, graph, c)
+}
+
+// All paths of the list that starts at a place.
+pub fn mention_all(
+    t: &[u8; 256],
+    l: &[u8],
+    at: usize,
+    names: &mut [u8],
+    ends: &mut [u32],
+    texts: &[u8],
+    bind: &[u32],
+    graph: &mut [u32],
+    word: &mut [u8],
+    c: Counts,
+) -> Mentioned
+    requires { ⌜ ListAsks (now t) (now l) (now names) (now ends) (now texts) (now bind) (now graph) (now word) c at ⌝ }
+    ensures { λ r. ⌜ MentionsAll (now (l .entry)) at (now (names .entry)) (now (ends .entry)) (now (texts .entry)) (now (bind .entry)) (now (graph .entry)) c (now (names .exit)) (now (ends .exit)) (now (graph .exit)) r ⌝ }
+{
+    let mut i = at;
+    let mut d = c;
+    loop {
+        match next_path(t, l, i) {
+            Next::Path(from, to) => match mention(
+                t,
+                &l[from..to],
+                names,
+                ends,
+                texts,
+                bind,
+                graph,
+                word,
+                d,
+            ) {
+                Mentioned::On(e) => {
+                    d = e;
+                    i = to;
+                }
+                Mentioned::Over => {
+                    return Mentioned::Over;
+                }
+            },
+            Next::Stop => {
+                return Mentioned::On(d);
+            }
+        }
+    }
+}

@@ -1,0 +1,75 @@
+-- `apply_rules::add_key` meets its contract.
+use mathlib.Core.Path.{sym, _∙_}
+use borrow.Author.Needs.{needs}
+use denote.Ref.{now}
+use native.Mathlib.Omega.{arith}
+use Rattle.apply_rules.proofs.Outcomes.{of-rule, key-ready, keys-bad, keys-over, keys-go}
+use Rattle.apply_rules.proofs.add_key.Statement.{statement}
+use Rattle.apply_rules.proofs.add_key.Tie as tie
+
+is-bad-key-requires : tie.Need-is-bad-key-requires
+is-bad-key-requires c κs = of-rule (c .before .before .before .before .before .before .pre)
+
+same-length : tie.Need-same-length
+same-length c = search needs
+
+same-length-2 : tie.Need-same-length-2
+same-length-2 c = search needs
+
+returns : tie.Need-returns
+returns c = let a = c .before .before .before .before .before .before .before .before .args in keys-bad (a .start) (a .head) (a .entry) (now (a .name)) (now (a .raw)) (c .before .is-bad-key .ensures) (c .if1 .taken)
+
+over-requires : tie.Need-over-requires
+over-requires c κs = search needs
+
+same-length-3 : tie.Need-same-length-3
+same-length-3 c = search needs
+
+same-length-4 : tie.Need-same-length-4
+same-length-4 c = search needs
+
+returns-2 : tie.Need-returns-2
+returns-2 c =
+    let a = c .before .before .before .before .before .before .before .before .before .before .args in
+    keys-over (a .start) (a .head) (a .entry) (now (a .name)) (now (a .raw)) (c .before .before .before .is-bad-key .ensures) (c .before .before .if1 .left) (sym (c .before .over .ensures) ∙ c .if2 .taken)
+
+mul-put : tie.Need-mul-put
+mul-put c = let p = of-rule (c .before .before .before .before .before .before .before .before .before .before .before .before .pre) in omega (arith, p .below, p .table .held .rows .few)
+
+add-put : tie.Need-add-put
+add-put c = let p = of-rule (c .before .before .before .before .before .before .before .before .before .before .before .before .pre) in omega (arith, p .below, p .table .held .rows .few)
+
+put-requires : tie.Need-put-requires
+put-requires c κs =
+    let a = c .before .before .before .before .before .before .before .before .before .before .before .before .args in
+    key-ready (c .before .before .before .before .before .before .before .before .before .before .before .before .pre) (now (a .name)) (now (a .raw)) (sym (c .before .before .before .over .ensures) ∙ c .before .before .if2 .left)
+
+same-length-5 : tie.Need-same-length-5
+same-length-5 c = search needs
+
+same-length-6 : tie.Need-same-length-6
+same-length-6 c = search needs
+
+returns-3 : tie.Need-returns-3
+returns-3 c =
+    let a = c .before .before .before .before .before .before .before .before .before .before .before .before .before .before .before .before .before .args in
+    keys-go (a .start) (a .head) (a .entry) (now (a .name)) (now (a .raw)) (c .before .before .before .before .before .before .before .before .before .before .is-bad-key .ensures) (c .before .before .before .before .before .before .before .before .before .if1 .left) (sym (c .before .before .before .before .before .before .before .before .over .ensures) ∙ c .before .before .before .before .before .before .before .if2 .left) (c .before .before .before .before .put .ensures)
+
+pub add-key-spec : {M : Type 1} → statement M
+add-key-spec =
+    tie.close
+    (tie.spec
+    is-bad-key-requires
+    same-length
+    same-length-2
+    returns
+    over-requires
+    same-length-3
+    same-length-4
+    returns-2
+    mul-put
+    add-put
+    put-requires
+    same-length-5
+    same-length-6
+    returns-3)

@@ -1,0 +1,177 @@
+-- `apply_statements::read_statement` meets its contract.
+use native.Mathlib.Omega.{arith}
+use Rattle.scan_cursor.specs.Spans.{lineOf}
+use Rattle.cut_refusals.proofs.Cut.{rule-told, build-told, default-told, binding-told, refused-told}
+use Rattle.apply_statements.proofs.Outcomes.{between-sound, rule-read, build-read, default-read, var-read, wrong-read, build-asks, default-asks, value-asks}
+use borrow.Author.Needs.{needs}
+use Rattle.apply_statements.proofs.read_statement.Statement.{statement}
+use Rattle.apply_statements.proofs.read_statement.Tie as tie
+
+cut-file-line-requires : tie.Need-cut-file-line-requires
+cut-file-line-requires c κs = search needs
+
+enum-known-from : tie.Need-enum-known-from
+enum-known-from c = search needs
+
+sub-start-rule : tie.Need-sub-start-rule
+sub-start-rule c = let s = rule-told (lineOf _ _ _) (c .before .before .before .cut-file-line .ensures) (c .before .from .given .1) in omega (arith, s .1 .ordered)
+
+part-start-rule-start : tie.Need-part-start-rule-start
+part-start-rule-start c = let s = rule-told (lineOf _ _ _) (c .before .before .before .cut-file-line .ensures) (c .before .from .given .1) in omega (arith, s .1 .ordered)
+
+part-start-rule-end : tie.Need-part-start-rule-end
+part-start-rule-end c = let s = rule-told (lineOf _ _ _) (c .before .before .before .cut-file-line .ensures) (c .before .from .given .1) in omega (arith, s .1 .within)
+
+start-rule-requires : tie.Need-start-rule-requires
+start-rule-requires c κs = between-sound (c .before .before .before .before .before .before .before .before .before .before .before .before .before .before .pre .between)
+
+enum-known-p : tie.Need-enum-known-p
+enum-known-p c = search needs
+
+add-step-requires : tie.Need-add-step-requires
+add-step-requires c κs = build-asks (lineOf _ _ _) (c .before .before .before .before .before .before .before .before .before .before .before .before .before .before .before .before .before .pre) (build-told (lineOf _ _ _) (c .before .before .before .before .before .before .before .before .before .cut-file-line .ensures) (c .before .before .before .before .before .before .before .p .given .1))
+
+enum-known-at : tie.Need-enum-known-at
+enum-known-at c = search needs
+
+add-defaults-requires : tie.Need-add-defaults-requires
+add-defaults-requires c κs = default-asks (lineOf _ _ _) (c .before .before .before .before .before .before .before .before .before .before .before .before .before .before .before .before .before .pre) (default-told (lineOf _ _ _) (c .before .before .before .before .before .before .before .before .before .cut-file-line .ensures) (c .before .before .before .before .before .before .before .at .given .1))
+
+enum-known-from-2 : tie.Need-enum-known-from-2
+enum-known-from-2 c = search needs
+
+sub-add-var : tie.Need-sub-add-var
+sub-add-var c = let s = binding-told (lineOf _ _ _) (c .before .before .before .cut-file-line .ensures) (c .before .from2 .given .1) in omega (arith, s .places .ordered)
+
+part-add-var-start : tie.Need-part-add-var-start
+part-add-var-start c = let s = binding-told (lineOf _ _ _) (c .before .before .before .cut-file-line .ensures) (c .before .from2 .given .1) in omega (arith, s .places .ordered)
+
+part-add-var-end : tie.Need-part-add-var-end
+part-add-var-end c = let s = binding-told (lineOf _ _ _) (c .before .before .before .cut-file-line .ensures) (c .before .from2 .given .1) in omega (arith, s .places .within)
+
+sub-add-var-2 : tie.Need-sub-add-var-2
+sub-add-var-2 c = let s = binding-told (lineOf _ _ _) (c .before .before .before .before .cut-file-line .ensures) (c .before .before .from2 .given .1) in omega (arith, s .places .starts)
+
+part-add-var-start-2 : tie.Need-part-add-var-start-2
+part-add-var-start-2 c = let s = binding-told (lineOf _ _ _) (c .before .before .before .before .cut-file-line .ensures) (c .before .before .from2 .given .1) in omega (arith, s .places .starts)
+
+part-add-var-end-2 : tie.Need-part-add-var-end-2
+part-add-var-end-2 c = search needs
+
+add-var-requires : tie.Need-add-var-requires
+add-var-requires c κs = value-asks (lineOf _ _ _) (c .before .before .before .before .before .before .before .before .before .before .before .before .before .before .before .before .pre) (binding-told (lineOf _ _ _) (c .before .before .before .before .before .before .before .before .cut-file-line .ensures) (c .before .before .before .before .before .before .from2 .given .1))
+
+enum-known-r : tie.Need-enum-known-r
+enum-known-r c = search needs
+
+same-length : tie.Need-same-length
+same-length c = search needs
+
+same-length-2 : tie.Need-same-length-2
+same-length-2 c = search needs
+
+returns : tie.Need-returns
+returns c = rule-read (lineOf _ _ _) (rule-told (lineOf _ _ _) (c .before .before .before .before .before .before .before .before .before .before .before .cut-file-line .ensures) (c .before .before .before .before .before .before .before .before .before .from .given .1)) (c .before .before .before .before .start-rule .ensures)
+
+same-length-3 : tie.Need-same-length-3
+same-length-3 c = search needs
+
+same-length-4 : tie.Need-same-length-4
+same-length-4 c = search needs
+
+same-length-5 : tie.Need-same-length-5
+same-length-5 c = search needs
+
+same-length-6 : tie.Need-same-length-6
+same-length-6 c = search needs
+
+same-length-7 : tie.Need-same-length-7
+same-length-7 c = search needs
+
+same-length-8 : tie.Need-same-length-8
+same-length-8 c = search needs
+
+returns-2 : tie.Need-returns-2
+returns-2 c = build-read (lineOf _ _ _) (build-told (lineOf _ _ _) (c .before .before .before .before .before .before .before .before .before .before .before .before .before .before .before .before .before .before .cut-file-line .ensures) (c .before .before .before .before .before .before .before .before .before .before .before .before .before .before .before .before .p .given .1)) (c .before .before .before .before .before .before .before .before .add-step .ensures)
+
+same-length-9 : tie.Need-same-length-9
+same-length-9 c = search needs
+
+same-length-10 : tie.Need-same-length-10
+same-length-10 c = search needs
+
+same-length-11 : tie.Need-same-length-11
+same-length-11 c = search needs
+
+same-length-12 : tie.Need-same-length-12
+same-length-12 c = search needs
+
+same-length-13 : tie.Need-same-length-13
+same-length-13 c = search needs
+
+same-length-14 : tie.Need-same-length-14
+same-length-14 c = search needs
+
+returns-3 : tie.Need-returns-3
+returns-3 c = default-read (lineOf _ _ _) (default-told (lineOf _ _ _) (c .before .before .before .before .before .before .before .before .before .before .before .before .before .before .cut-file-line .ensures) (c .before .before .before .before .before .before .before .before .before .before .before .before .at .given .1)) (c .before .before .before .before .add-defaults .ensures)
+
+same-length-15 : tie.Need-same-length-15
+same-length-15 c = search needs
+
+same-length-16 : tie.Need-same-length-16
+same-length-16 c = search needs
+
+same-length-17 : tie.Need-same-length-17
+same-length-17 c = search needs
+
+returns-4 : tie.Need-returns-4
+returns-4 c = var-read (lineOf _ _ _) (binding-told (lineOf _ _ _) (c .before .before .before .before .before .before .before .before .before .before .before .before .before .before .before .cut-file-line .ensures) (c .before .before .before .before .before .before .before .before .before .before .before .before .before .from2 .given .1)) (c .before .before .before .before .before .before .add-var .ensures)
+
+returns-5 : tie.Need-returns-5
+returns-5 c = wrong-read (lineOf _ _ _) (refused-told (lineOf _ _ _) (c .before .before .before .cut-file-line .ensures) (c .before .r .given .1))
+
+pub read-statement-spec : {M : Type 1} → statement M
+read-statement-spec =
+    tie.close
+    (tie.spec
+    cut-file-line-requires
+    enum-known-from
+    sub-start-rule
+    part-start-rule-start
+    part-start-rule-end
+    start-rule-requires
+    enum-known-p
+    add-step-requires
+    enum-known-at
+    add-defaults-requires
+    enum-known-from-2
+    sub-add-var
+    part-add-var-start
+    part-add-var-end
+    sub-add-var-2
+    part-add-var-start-2
+    part-add-var-end-2
+    add-var-requires
+    enum-known-r
+    same-length
+    same-length-2
+    returns
+    same-length-3
+    same-length-4
+    same-length-5
+    same-length-6
+    same-length-7
+    same-length-8
+    returns-2
+    same-length-9
+    same-length-10
+    same-length-11
+    same-length-12
+    same-length-13
+    same-length-14
+    returns-3
+    same-length-15
+    same-length-16
+    same-length-17
+    returns-4
+    returns-5)

@@ -1,0 +1,97 @@
+// Lines without indent: they close the open block before their own fault, and then are cut and applied.
+ghost use Rattle.spec.specs.Manifest.{close, andThen, readStatement};
+ghost use Rattle.scan_cursor.specs.Spans.{lineOf};
+ghost use Rattle.apply_statements.specs.Asks.{LineAsks, LineMeets};
+use apply_builds::add_step;
+use apply_defaults::add_defaults;
+use apply_rules::close;
+use apply_rules::start_rule;
+use apply_variables::add_var;
+use cut_refusals::FileLine;
+use cut_refusals::cut_file_line;
+use hold_reading::Counts;
+use hold_reading::LineAnswer;
+use hold_reading::Open;
+
+// A line where no block is open.
+pub fn read_statement(
+    t: &[u8; 256],
+    start: usize,
+    l: &[u8],
+    ended: bool,
+    names: &mut [u8],
+    ends: &mut [u32],
+    texts: &mut [u8],
+    bind: &mut [u32],
+    graph: &mut [u32],
+    word: &mut [u8],
+    c: Counts,
+) -> LineAnswer
+    requires { ⌜ LineAsks (now t) start (now l) (now names) (now ends) (now texts) (now bind) (now graph) (now word) c Open.Nothing ⌝ }
+    ensures { λ r. ⌜ LineMeets (now (names .entry)) (now (ends .entry)) (now (texts .entry)) (now (bind .entry)) (now (graph .entry)) c Open.Nothing (readStatement (lineOf start (now (l .entry)) ended)) (now (names .exit)) (now (ends .exit)) (now (texts .exit)) (now (bind .exit)) (now (graph .exit)) r ⌝ }
+{
+    match cut_file_line(t, start, l, ended) {
+        FileLine::Rule(from, to) => start_rule(start, &l[from..to], texts, bind, c),
+        FileLine::Build(p) => add_step(t, start, l, p, names, ends, texts, bind, graph, word, c),
+        FileLine::Default(at) => add_defaults(
+            t,
+            start,
+            l,
+            at,
+            names,
+            ends,
+            texts,
+            bind,
+            graph,
+            word,
+            c,
+        ),
+        FileLine::Binding(from, to, at) => add_var(
+            t,
+            start,
+            &l[from..to],
+            &l[at..],
+            texts,
+            bind,
+            word,
+            c,
+        ),
+        FileLine::Refused(r) => LineAnswer::Refused(r),
+    }
+}
+
+// A line without indent that is no comment.
+pub fn read_file_line(
+    t: &[u8; 256],
+    start: usize,
+    l: &[u8],
+    ended: bool,
+    names: &mut [u8],
+    ends: &mut [u32],
+    texts: &mut [u8],
+    bind: &mut [u32],
+    graph: &mut [u32],
+    word: &mut [u8],
+    c: Counts,
+    block: Open,
+) -> LineAnswer
+    requires { ⌜ LineAsks (now t) start (now l) (now names) (now ends) (now texts) (now bind) (now graph) (now word) c block ⌝ }
+    ensures { λ r. ⌜ LineMeets (now (names .entry)) (now (ends .entry)) (now (texts .entry)) (now (bind .entry)) (now (graph .entry)) c block (λ rd b. andThen (close rd b) (readStatement (lineOf start (now (l .entry)) ended))) (now (names .exit)) (now (ends .exit)) (now (texts .exit)) (now (bind .exit)) (now (graph .exit)) r ⌝ }
+{
+    match close(texts, bind, c, block) {
+        LineAnswer::Goes(d, _) => read_statement(
+            t,
+            start,
+            l,
+            ended,
+            names,
+            ends,
+            texts,
+            bind,
+            graph,
+            word,
+            d,
+        ),
+        LineAnswer::Refused(r) => LineAnswer::Refused(r),
+    }
+}

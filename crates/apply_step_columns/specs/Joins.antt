@@ -1,0 +1,119 @@
+-- The step joins the columns: the makers of its outputs, phony or not, and its rule.
+use Prim.Native.Nat.{ℕ, zero, suc, _+_, _*_, _^_, _≤_, _<_}
+use mathlib.Core.List.{List, [], _∷_, _++_}
+use mathlib.Core.Path.{_≡_}
+use lib.ListN.{length, getD, set}
+use Rattle.lists.specs.Tests.{ifB}
+use Rattle.lists.specs.Parts.{part}
+use Rattle.spec.specs.Limits.{maxSteps}
+use Rattle.spec.specs.Reading.{isPhony}
+use Rattle.hold_bindings.specs.declared.Found.{Found}
+use Rattle.hold_bindings.specs.declared.Found.the-variants.{At, Missing}
+use Rattle.hold_bindings.specs.Log.{Logged, ofRules, newest}
+use Rattle.hold_bindings.specs.Held.{maxEntries}
+use Rattle.hold_reading.specs.declared.Counts.{Counts}
+use Rattle.apply_files.specs.Lines.{Line, Columns}
+
+-- ------------------------------------------------------------------ the rule's number
+
+unfoldable pub entryNumber : Found → ℕ
+entryNumber (At k) = suc k
+entryNumber Missing = 0
+
+-- 0 for phony, else the newest declaration's entry and one more
+unfoldable pub ruleNumber : List ℕ → List Logged → ℕ
+ruleNumber name log = ifB (isPhony name) (λ _. 0) (λ _. entryNumber (newest ofRules name log))
+
+-- ------------------------------------------------------------------ makers
+
+-- all these files are made by v
+unfoldable pub setAll : ℕ → List ℕ → List ℕ → List ℕ
+setAll v [] made = made
+setAll v (f ∷ fs) made = setAll v fs (set made f v)
+
+-- the columns of a line lie in the graph
+abbrev pub Laid : List ℕ → Line → Type 0
+Laid graph h = Columns graph (h .mentions) (h .ends) (h .phony) (h .made) (h .ruleOf) (h .reading .defaults)
+
+abbrev pub withMade : ℕ → List ℕ → Line → Line
+withMade v fs h =
+    record {
+      log = h .log;
+      reading = h .reading;
+      mentions = h .mentions;
+      ends = h .ends;
+      phony = h .phony;
+      made = setAll v fs (h .made);
+      ruleOf = h .ruleOf;
+    }
+
+-- a part of the mentions is of files that are there
+pub record Part (from to : ℕ) (h : Line) : Type 0 where
+  pub ordered : from ≤ to
+  pub within : to ≤ length (h .mentions)
+  pub low : (i : ℕ) → i < length (h .mentions) → getD (h .mentions) i 0 < length (h .made)
+
+pub record MakeAsks (graph : List ℕ) (from to v : ℕ) : Type 0 where
+  pub line : Line
+  pub laid : Laid graph line
+  pub some : Part from to line
+  pub small : v < 2 ^ 32
+
+pub record Makes (graph : List ℕ) (from to v : ℕ) (graph′ : List ℕ) : Type 0 where
+  pub laid : (h : Line) → Laid graph h → Part from to h → Laid graph′ (withMade v (part (h .mentions) from to) h)
+
+-- ------------------------------------------------------------------ the step
+
+-- where the outputs of the newest step end
+abbrev pub outsEnd : Counts → Line → ℕ
+outsEnd c h = getD (h .ends) (4 * c .steps) 0
+
+-- the line has its ends, its outputs start at `from`, and there is room for its step
+pub record Ready (from : ℕ) (c : Counts) (h : Line) : Type 0 where
+  pub ended : 4 * c .steps < length (h .ends)
+  pub outs : Part from (outsEnd c h) h
+  pub phony : length (h .phony) ≡ c .steps
+  pub ruled : length (h .ruleOf) ≡ c .steps
+  pub few : c .steps < maxSteps
+
+pub record JoinAsks (graph : List ℕ) (from n : ℕ) (c : Counts) : Type 0 where
+  pub line : Line
+  pub laid : Laid graph line
+  pub ready : Ready from c line
+  pub small : n ≤ maxEntries
+
+-- phony or not, as a number, by the rule's number
+abbrev pub phonyBit : ℕ → ℕ
+phonyBit zero = 1
+phonyBit (suc n) = 0
+
+unfoldable pub withRule : ℕ → ℕ → Counts → Line → Line
+unfolding setAll
+withRule from n c h =
+    record {
+      log = h .log;
+      reading = h .reading;
+      mentions = h .mentions;
+      ends = h .ends;
+      phony = h .phony ++ (phonyBit n ∷ []);
+      made = setAll (c .steps + 1) (part (h .mentions) from (outsEnd c h)) (h .made);
+      ruleOf = h .ruleOf ++ (n ∷ []);
+    }
+
+abbrev pub countedStep : Counts → Counts
+countedStep c =
+    record {
+      files = c .files;
+      steps = c .steps + 1;
+      paths = c .paths;
+      defaults = c .defaults;
+      entries = c .entries;
+      rules = c .rules;
+      bindings = c .bindings;
+      mentions = c .mentions;
+      written = c .written;
+    }
+
+pub record Joins (graph : List ℕ) (from n : ℕ) (c : Counts) (graph′ : List ℕ) (r : Counts) : Type 0 where
+  pub laid : (h : Line) → Laid graph h → Ready from c h → Laid graph′ (withRule from n c h)
+  pub counted : r ≡ countedStep c

@@ -1,0 +1,72 @@
+// A step joins the graph's columns: the makers of its outputs, phony or not, and its rule's number.
+ghost use mathlib.Core.Path.{_≡_};
+ghost use mathlib.Core.List.{List};
+ghost use Rattle.hold_bindings.specs.Log.{Logged};
+ghost use Rattle.hold_bindings.specs.Held.{Holds, Sound};
+ghost use Rattle.apply_step_columns.specs.Joins.{ruleNumber, phonyBit, MakeAsks, Makes, JoinAsks, Joins};
+use arena::put;
+use byteorder::equal;
+use hold_bindings::Found;
+use hold_bindings::newest;
+use hold_reading::Counts;
+use hold_reading::columns::ENDS;
+use hold_reading::columns::MADE;
+use hold_reading::columns::PHONY;
+use hold_reading::columns::RULES;
+use slices::words::at;
+
+// 0 for phony, else the number of the rule's declaration and one more.
+pub fn rule_number(name: &[u8], texts: &[u8], bind: &[u32], count: usize) -> usize
+    requires { ⌜ Sound (now texts) (now bind) count ⌝ }
+    ensures { λ r. ⌜ ((log : List Logged) → Holds log (now (texts .entry)) (now (bind .entry)) count → r ≡ ruleNumber (now (name .entry)) log) ⌝ }
+{
+    if equal(name, b"phony") {
+        return 0;
+    }
+    match newest(texts, bind, count, 1, name) {
+        Found::At(k) => k + 1,
+        Found::Missing => 0,
+    }
+}
+
+// The files from one place of the mentions to another are made by v.
+fn make(graph: &mut [u32], from: usize, to: usize, v: usize)
+    requires { ⌜ MakeAsks (now graph) from to v ⌝ }
+    ensures { λ _. ⌜ Makes (now (graph .entry)) from to v (now (graph .exit)) ⌝ }
+{
+    let mut i = from;
+    while i < to {
+        let f = at(graph, i);
+        put(graph, MADE + f, v);
+        i += 1;
+    }
+}
+
+fn phony_bit(n: usize) -> usize
+    ensures { λ r. ⌜ r ≡ phonyBit n ⌝ }
+{
+    if n == 0 { 1 } else { 0 }
+}
+
+// The step whose outputs start at `from`, with its rule's number.
+pub fn join(graph: &mut [u32], from: usize, n: usize, c: Counts) -> Counts
+    requires { ⌜ JoinAsks (now graph) from n c ⌝ }
+    ensures { λ r. ⌜ Joins (now (graph .entry)) from n c (now (graph .exit)) r ⌝ }
+{
+    let steps = c.steps;
+    let to = at(graph, ENDS + 4 * steps);
+    make(graph, from, to, steps + 1);
+    put(graph, PHONY + steps, phony_bit(n));
+    put(graph, RULES + steps, n);
+    Counts {
+        files: c.files,
+        steps: steps + 1,
+        paths: c.paths,
+        defaults: c.defaults,
+        entries: c.entries,
+        rules: c.rules,
+        bindings: c.bindings,
+        mentions: c.mentions,
+        written: c.written,
+    }
+}

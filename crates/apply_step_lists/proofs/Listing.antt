@@ -1,0 +1,243 @@
+-- Lists of a line, one after another: what they come to, and one law for each answer.
+use Prim.Native.Nat.{ℕ, _+_, _*_, _<_}
+use mathlib.Core.Bool.{true, false}
+use mathlib.Core.List.{List, [], _∷_, _++_, append-assoc, append-nil}
+use mathlib.Core.Path.{_≡_, refl, sym, _∙_, ap}
+use native.Mathlib.Omega.{arith}
+use lib.ListN.{length, set, length-append}
+use Rattle.spec.specs.Basics.{concat}
+use Rattle.spec.specs.Limits.{maxSteps}
+use Rattle.spec.specs.Reading.{Reading}
+use Rattle.spec.specs.Statements.{expanded, mentioned, overPaths}
+use Rattle.cut_forms.specs.declared.BuildPlaces.{BuildPlaces}
+use Rattle.hold_reading.specs.declared.Counts.{Counts}
+use Rattle.apply_files.specs.declared.Mentioned.{Mentioned}
+use Rattle.apply_files.specs.declared.Mentioned.the-variants.{On, Over}
+use Rattle.arena.specs.Columns.{startOf}
+use Rattle.hold_reading.specs.Held.{capacities}
+use Rattle.apply_files.specs.Lines.{Line, Writing, withPaths, overLine}
+use Rattle.apply_mentions.specs.Asks as mentions
+use Rattle.apply_mentions.specs.Asks.{Room, MentionsAll}
+use Rattle.apply_files.proofs.Columns.{push-end}
+use Rattle.apply_files.proofs.Limits.{line-later, short-append, mentioned-append, mentioned-none}
+use Rattle.apply_mentions.proofs.Passing.{marks-on, marks-short, marks-over, expanded-same}
+use Rattle.apply_mentions.proofs.Closed.{paths-reading, paths-ends}
+use Rattle.apply_step_lists.specs.Lists.{withEnd, withLists, Listed, on, over, ListAsks, Lists, TwoAsks, Two, FourAsks, Four}
+
+-- ---- what lists come to
+
+pub concat-append : (a b : List (List (List ℕ))) → concat (a ++ b) ≡ concat a ++ concat b
+unfolding concat
+concat-append [] b = refl
+concat-append (x ∷ a) b = ap (λ (r : List (List ℕ)). x ++ r) (concat-append a b) ∙ sym (append-assoc x (concat a) (concat b))
+
+lists-append : (a b : List (List (List ℕ))) (h : Line) → withLists (a ++ b) h ≡ withLists b (withLists a h)
+unfolding withLists
+lists-append [] b h = refl
+lists-append (x ∷ a) b h = lists-append a b (withEnd (withPaths x h))
+
+pub lists-reading : (pss : List (List (List ℕ))) (h : Line) → withLists pss h .reading ≡ mentioned (concat pss) (h .reading)
+unfolding withLists withEnd concat
+lists-reading [] h = sym (mentioned-none (h .reading))
+lists-reading (ps ∷ pss) h =
+    lists-reading pss (withEnd (withPaths ps h))
+    ∙ ap (mentioned (concat pss)) (paths-reading ps h)
+    ∙ sym (mentioned-append ps (concat pss) (h .reading))
+
+pub lists-ended : (pss : List (List (List ℕ))) (h : Line) → length (withLists pss h .ends) ≡ length (h .ends) + length pss
+unfolding withLists withEnd
+lists-ended [] h = omega arith
+lists-ended (ps ∷ pss) h =
+    let k = lists-ended pss (withEnd (withPaths ps h)) in
+    omega (arith, k, length-append (withPaths ps h .ends) (length (withPaths ps h .mentions) ∷ []), ap length (paths-ends ps h))
+
+-- the file's variables stay
+pub lists-vars : (pss : List (List (List ℕ))) (h : Line) → withLists pss h .reading .vars ≡ h .reading .vars
+unfolding mentioned
+lists-vars pss h = ap (λ (rd : Reading). rd .vars) (lists-reading pss h)
+
+-- ---- answers
+
+module _ {names fileEnds texts bind graph : List ℕ} {h : Line} {pss : List (List (List ℕ))} where
+  pub listed-on : {c : Counts} → Listed names fileEnds texts bind graph h pss (On c) → Writing names fileEnds texts bind graph c (withLists pss h)
+  listed-on (on w s) = w
+
+  pub listed-short : {c : Counts} → Listed names fileEnds texts bind graph h pss (On c) → overPaths (concat pss) ≡ false
+  listed-short (on w s) = s
+
+  pub listed-over : Listed names fileEnds texts bind graph h pss Over → (more : List (List ℕ)) → overLine (concat pss ++ more) (h .reading) ≡ true
+  listed-over (over f) = f
+
+module _ {names fileEnds texts bind graph : List ℕ} (h : Line) (a b : List (List (List ℕ))) where
+  -- some lists, then others
+  listed-then : {r : Mentioned} → overPaths (concat a) ≡ false → Listed names fileEnds texts bind graph (withLists a h) b r → Listed names fileEnds texts bind graph h (a ++ b) r
+  listed-then q (on {c = c} w s) = on {c = c} (rw (lists-append a b h) w) (rw (concat-append a b) (short-append (concat a) (concat b) q s))
+  listed-then q (over f) =
+      over
+      (λ more.
+      rw (concat-append a b, append-assoc (concat a) (concat b) more)
+      (line-later (concat a) (concat b ++ more) (h .reading) (rw (← (lists-reading a h)) (f more))))
+
+  listed-stop : Listed names fileEnds texts bind graph h a Over → Listed names fileEnds texts bind graph h (a ++ b) Over
+  listed-stop x =
+      over (λ more. rw (concat-append a b, append-assoc (concat a) (concat b) more) (listed-over x (concat b ++ more)))
+
+-- ---- one list
+
+module _ {names fileEnds texts bind graph graph′ : List ℕ} {c : Counts} {h : Line} (w : Writing names fileEnds texts bind graph c h) where
+  ended-on : {e : ℕ} → length (h .ends) ≡ e → e < 4 * maxSteps → graph′ ≡ set graph (startOf capacities 1 + e) (c .paths) → Writing names fileEnds texts bind graph′ c (withEnd h)
+  unfolding withEnd
+  ended-on q b g =
+      record {
+        named = w .named;
+        bound = w .bound;
+        columns = rw (g, ← (w .paths-counted)) (push-end (w .columns) (c .paths) _ (omega (arith, q)) (omega (arith, q)));
+        filed = w .filed;
+        paths-counted = w .paths-counted;
+        defaults-counted = w .defaults-counted;
+        mentions-counted = w .mentions-counted;
+        few-mentions = w .few-mentions;
+        mentions-low = w .mentions-low;
+      }
+
+concat-one : (ps : List (List ℕ)) → concat (ps ∷ []) ≡ ps
+unfolding concat
+concat-one ps = append-nil ps
+
+module _ {l : List ℕ} {at : ℕ} {names fileEnds texts bind graph : List ℕ} {c : Counts} {names′ fileEnds′ graph₁ : List ℕ} where
+  pub one-on : {d : Counts} → MentionsAll l at names fileEnds texts bind graph c names′ fileEnds′ graph₁ (On d) → {e : ℕ} {graph′ : List ℕ} → e < 4 * maxSteps
+      → graph′ ≡ set graph₁ (startOf capacities 1 + e) (d .paths) → Lists l at e names fileEnds texts bind graph c names′ fileEnds′ graph′ (On d)
+  unfolding withLists
+  one-on m b g =
+      record {
+        listed = λ raw s h w q.
+            let ps = expanded (h .reading) raw in
+            let k = m .marks raw s h w in
+            on (ended-on (marks-on k) (ap length (paths-ends ps h) ∙ q) b g) (rw (concat-one ps) (marks-short k));
+      }
+
+  pub one-over : MentionsAll l at names fileEnds texts bind graph c names′ fileEnds′ graph₁ Over → {e : ℕ} → Lists l at e names fileEnds texts bind graph c names′ fileEnds′ graph₁ Over
+  one-over m =
+      record { listed = λ raw s h w q. over (λ more. rw (concat-one (expanded (h .reading) raw)) (marks-over (m .marks raw s h w) more)) }
+
+-- what is held of the line then, for the store
+pub one-held : {t l names fileEnds texts bind graph word : List ℕ} {c : Counts} {at : ℕ} (a : mentions.ListAsks t l names fileEnds texts bind graph word c at)
+    → {names′ fileEnds′ graph′ : List ℕ} {d : Counts} → MentionsAll l at names fileEnds texts bind graph c names′ fileEnds′ graph′ (On d)
+    → Writing names′ fileEnds′ texts bind graph′ d (withPaths (expanded (a .line .reading) (a .raw)) (a .line))
+one-held a m = marks-on (m .marks (a .raw) (a .stands) (a .line) (a .writing))
+
+-- ---- room is kept
+
+pub room-kept : {names word names′ word′ : List ℕ} → Room names word → length names′ ≡ length names → length word′ ≡ length word → Room names′ word′
+room-kept r a b = record { names-long = omega (arith, r .names-long, a); word-long = omega (arith, r .word-long, b) }
+
+-- ---- two lists
+
+module _ {l : List ℕ} {at next e : ℕ} {names fileEnds texts bind graph : List ℕ} {c : Counts} {names₁ fileEnds₁ graph₁ : List ℕ} where
+  pub two-on : {d : Counts} {names′ fileEnds′ graph′ : List ℕ} {r : Mentioned} → Lists l at e names fileEnds texts bind graph c names₁ fileEnds₁ graph₁ (On d)
+      → Lists l next (e + 1) names₁ fileEnds₁ texts bind graph₁ d names′ fileEnds′ graph′ r → Two l at next e names fileEnds texts bind graph c names′ fileEnds′ graph′ r
+  two-on x y =
+      record {
+        listed = λ first second s₁ s₂ h w q.
+            let a = expanded (h .reading) first ∷ [] in
+            let k = x .listed first s₁ h w q in
+            let m = y .listed second s₂ (withLists a h) (listed-on k) (omega (arith, lists-ended a h, q)) in
+            let z = expanded-same (withLists a h .reading) (h .reading) (lists-vars a h) second in
+            listed-then h a (expanded (h .reading) second ∷ []) (listed-short k) (rw z at m);
+      }
+
+  pub two-over : Lists l at e names fileEnds texts bind graph c names₁ fileEnds₁ graph₁ Over → Two l at next e names fileEnds texts bind graph c names₁ fileEnds₁ graph₁ Over
+  two-over x =
+      record {
+        listed = λ first second s₁ s₂ h w q.
+            listed-stop h (expanded (h .reading) first ∷ []) (expanded (h .reading) second ∷ []) (x .listed first s₁ h w q);
+      }
+
+module _ {t l names fileEnds texts bind graph word : List ℕ} {c : Counts} {at next e : ℕ} (a : TwoAsks t l names fileEnds texts bind graph word c at next e) where
+  pub two-first : ListAsks t l names fileEnds texts bind graph word c at e
+  two-first =
+      record {
+        asks = record { table = a .table; short = a .short; raw = a .first; stands = a .first-stands; room = a .room; line = a .line; writing = a .writing };
+        ended = a .ended;
+        low = omega (arith, a .low);
+      }
+
+  pub two-second : {names′ fileEnds′ graph′ word′ : List ℕ} {d : Counts} → length names′ ≡ length names → length word′ ≡ length word
+      → Lists l at e names fileEnds texts bind graph c names′ fileEnds′ graph′ (On d) → ListAsks t l names′ fileEnds′ texts bind graph′ word′ d next (e + 1)
+  two-second p q x =
+      let pss = expanded (a .line .reading) (a .first) ∷ [] in
+      record {
+        asks =
+            record {
+              table = a .table;
+              short = a .short;
+              raw = a .second;
+              stands = a .second-stands;
+              room = room-kept (a .room) p q;
+              line = withLists pss (a .line);
+              writing = listed-on (x .listed (a .first) (a .first-stands) (a .line) (a .writing) (a .ended));
+            };
+        ended = omega (arith, lists-ended pss (a .line), a .ended);
+        low = a .low;
+      }
+
+-- ---- the four
+
+module _ {l : List ℕ} {p : BuildPlaces} {names fileEnds texts bind graph : List ℕ} {c : Counts} {names₁ fileEnds₁ graph₁ : List ℕ} where
+  pub four-on : {d : Counts} {names′ fileEnds′ graph′ : List ℕ} {r : Mentioned} → Two l (p .outs) (p .ins) (4 * c .steps) names fileEnds texts bind graph c names₁ fileEnds₁ graph₁ (On d)
+      → Two l (p .implicit) (p .order) (4 * c .steps + 2) names₁ fileEnds₁ texts bind graph₁ d names′ fileEnds′ graph′ r
+      → Four l names fileEnds texts bind graph c p names′ fileEnds′ graph′ r
+  four-on x y =
+      record {
+        listed = λ b s h w q.
+            let a = expanded (h .reading) (b .outs) ∷ expanded (h .reading) (b .ins) ∷ [] in
+            let k = x .listed (b .outs) (b .ins) (s .outs) (s .ins) h w q in
+            let m = y .listed (b .implicit) (b .orderOnly) (s .implicit) (s .orderOnly) (withLists a h) (listed-on k) (omega (arith, lists-ended a h, q)) in
+            let z = expanded-same (withLists a h .reading) (h .reading) (lists-vars a h) in
+            listed-then h a (expanded (h .reading) (b .implicit) ∷ expanded (h .reading) (b .orderOnly) ∷ []) (listed-short k) (rw (z (b .implicit), z (b .orderOnly)) at m);
+      }
+
+  pub four-over : Two l (p .outs) (p .ins) (4 * c .steps) names fileEnds texts bind graph c names₁ fileEnds₁ graph₁ Over
+      → Four l names fileEnds texts bind graph c p names₁ fileEnds₁ graph₁ Over
+  four-over x =
+      record {
+        listed = λ b s h w q.
+            listed-stop h (expanded (h .reading) (b .outs) ∷ expanded (h .reading) (b .ins) ∷ []) (expanded (h .reading) (b .implicit) ∷ expanded (h .reading) (b .orderOnly) ∷ [])
+            (x .listed (b .outs) (b .ins) (s .outs) (s .ins) h w q);
+      }
+
+module _ {t l names fileEnds texts bind graph word : List ℕ} {c : Counts} {p : BuildPlaces} (a : FourAsks t l names fileEnds texts bind graph word c p) where
+  pub four-first : TwoAsks t l names fileEnds texts bind graph word c (p .outs) (p .ins) (4 * c .steps)
+  four-first =
+      record {
+        table = a .table;
+        short = a .short;
+        first = a .raw .outs;
+        second = a .raw .ins;
+        first-stands = a .stands .outs;
+        second-stands = a .stands .ins;
+        room = a .room;
+        line = a .line;
+        writing = a .writing;
+        ended = a .ended;
+        low = omega (arith, a .few);
+      }
+
+  pub four-second : {names′ fileEnds′ graph′ word′ : List ℕ} {d : Counts} → length names′ ≡ length names → length word′ ≡ length word
+      → Two l (p .outs) (p .ins) (4 * c .steps) names fileEnds texts bind graph c names′ fileEnds′ graph′ (On d)
+      → TwoAsks t l names′ fileEnds′ texts bind graph′ word′ d (p .implicit) (p .order) (4 * c .steps + 2)
+  four-second x y m =
+      let pss = expanded (a .line .reading) (a .raw .outs) ∷ expanded (a .line .reading) (a .raw .ins) ∷ [] in
+      record {
+        table = a .table;
+        short = a .short;
+        first = a .raw .implicit;
+        second = a .raw .orderOnly;
+        first-stands = a .stands .implicit;
+        second-stands = a .stands .orderOnly;
+        room = room-kept (a .room) x y;
+        line = withLists pss (a .line);
+        writing = listed-on (m .listed (a .raw .outs) (a .raw .ins) (a .stands .outs) (a .stands .ins) (a .line) (a .writing) (a .ended));
+        ended = omega (arith, lists-ended pss (a .line), a .ended);
+        low = omega (arith, a .few);
+      }

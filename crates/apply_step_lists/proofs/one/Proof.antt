@@ -1,0 +1,75 @@
+-- `apply_step_lists::one` meets its contract.
+use native.Mathlib.Omega.{arith}
+use borrow.Author.Needs.{needs}
+use Rattle.apply_files.proofs.Columns.{graph-long}
+use Rattle.apply_step_lists.proofs.Listing.{one-held, one-on, one-over}
+use Rattle.apply_step_lists.proofs.one.Statement.{statement}
+use Rattle.apply_step_lists.proofs.one.Tie as tie
+
+mention-all-requires : tie.Need-mention-all-requires
+mention-all-requires c κs = c .before .before .before .before .before .before .before .before .before .before .before .pre .asks
+
+enum-known-d : tie.Need-enum-known-d
+enum-known-d c = search needs
+
+add-put : tie.Need-add-put
+add-put c = omega (arith, c .before .before .before .before .before .before .before .before .before .before .before .before .before .before .before .before .before .before .before .before .before .before .before .before .pre .low)
+
+put-requires : tie.Need-put-requires
+put-requires c κs =
+    let a = c .before .before .before .before .before .before .before .before .before .before .before .before .before .before .before .before .before .before .before .before .before .before .before .before .pre in
+    let w = one-held (a .asks) (rw (c .before .before .d .given .1) at (c .before .before .before .before .before .before .before .before .before .before .before .before .mention-all .ensures)) in
+    (omega (arith, a .low, graph-long (w .columns)), omega (arith, w .few-mentions, w .mentions-low))
+
+enum-told : tie.Need-enum-told
+enum-told c = search needs
+
+same-length : tie.Need-same-length
+same-length c = search needs
+
+same-length-2 : tie.Need-same-length-2
+same-length-2 c = search needs
+
+same-length-3 : tie.Need-same-length-3
+same-length-3 c = search needs
+
+same-length-4 : tie.Need-same-length-4
+same-length-4 c = search needs
+
+returns : tie.Need-returns
+returns c = one-on (rw (c .before .before .before .before .before .d .given .1) at (c .before .before .before .before .before .before .before .before .before .before .before .before .before .before .before .mention-all .ensures)) (c .before .before .before .before .before .before .before .before .before .before .before .before .before .before .before .before .before .before .before .before .before .before .before .before .before .before .before .pre .low) (c .before .before .put .ensures)
+
+same-length-5 : tie.Need-same-length-5
+same-length-5 c = search needs
+
+same-length-6 : tie.Need-same-length-6
+same-length-6 c = search needs
+
+same-length-7 : tie.Need-same-length-7
+same-length-7 c = search needs
+
+same-length-8 : tie.Need-same-length-8
+same-length-8 c = search needs
+
+returns-2 : tie.Need-returns-2
+returns-2 c = one-over (rw (c .enum-told .given .1) at (c .before .before .before .before .before .before .before .before .before .before .mention-all .ensures))
+
+pub one-spec : {M : Type 1} → statement M
+one-spec =
+    tie.close
+    (tie.spec
+    mention-all-requires
+    enum-known-d
+    add-put
+    put-requires
+    enum-told
+    same-length
+    same-length-2
+    same-length-3
+    same-length-4
+    returns
+    same-length-5
+    same-length-6
+    same-length-7
+    same-length-8
+    returns-2)

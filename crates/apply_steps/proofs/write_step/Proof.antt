@@ -1,0 +1,87 @@
+-- `apply_steps::write_step` meets its contract.
+use native.Mathlib.Omega.{arith}
+use borrow.Author.Needs.{needs}
+use Rattle.apply_steps.proofs.Outcomes.{write-many, write-over, write-goes, write-four, write-rule, write-join}
+use Rattle.apply_steps.proofs.write_step.Statement.{statement}
+use Rattle.apply_steps.proofs.write_step.Tie as tie
+
+returns : tie.Need-returns
+returns c = write-many (c .before .before .before .before .before .before .before .before .before .args .start) (omega (arith, c .if1 .taken))
+
+four-requires : tie.Need-four-requires
+four-requires c κs = write-four (c .before .before .before .before .before .before .before .before .before .before .before .before .before .pre) (omega (arith, c .before .before .before .before .if1 .left))
+
+enum-known-d : tie.Need-enum-known-d
+enum-known-d c = search needs
+
+sub-rule-number : tie.Need-sub-rule-number
+sub-rule-number c = omega (arith, c .before .before .before .before .before .before .before .before .before .before .before .before .before .before .before .before .before .before .before .before .before .before .before .before .before .pre .stands .ordered)
+
+part-rule-number-start : tie.Need-part-rule-number-start
+part-rule-number-start c = omega (arith, c .before .before .before .before .before .before .before .before .before .before .before .before .before .before .before .before .before .before .before .before .before .before .before .before .before .pre .stands .ordered, c .before .before .before .before .before .before .before .before .before .before .before .before .before .before .before .before .before .before .before .before .before .before .before .before .before .pre .stands .ins .within)
+
+part-rule-number-end : tie.Need-part-rule-number-end
+part-rule-number-end c = omega (arith, c .before .before .before .before .before .before .before .before .before .before .before .before .before .before .before .before .before .before .before .before .before .before .before .before .before .pre .stands .ordered, c .before .before .before .before .before .before .before .before .before .before .before .before .before .before .before .before .before .before .before .before .before .before .before .before .before .pre .stands .ins .within)
+
+rule-number-requires : tie.Need-rule-number-requires
+rule-number-requires c κs = write-rule (c .before .before .before .before .before .before .before .before .before .before .before .before .before .before .before .before .before .before .before .before .before .before .before .before .before .before .pre) (rw (c .before .before .d .given .1) at (c .before .before .before .before .before .before .before .before .before .before .before .before .four .ensures))
+
+join-requires : tie.Need-join-requires
+join-requires c κs = write-join (c .before .before .before .before .before .before .before .before .before .before .before .before .before .before .before .before .before .before .before .before .before .before .before .before .before .before .before .before .pre) (rw (c .before .before .before .before .d .given .1) at (c .before .before .before .before .before .before .before .before .before .before .before .before .before .before .four .ensures)) (c .before .before .before .before .before .before .before .before .before .before .before .before .before .before .before .before .before .before .before .if1 .left) _ (c .before .rule-number .ensures)
+
+enum-told : tie.Need-enum-told
+enum-told c = search needs
+
+same-length : tie.Need-same-length
+same-length c = search needs
+
+same-length-2 : tie.Need-same-length-2
+same-length-2 c = search needs
+
+same-length-3 : tie.Need-same-length-3
+same-length-3 c = search needs
+
+same-length-4 : tie.Need-same-length-4
+same-length-4 c = search needs
+
+returns-2 : tie.Need-returns-2
+returns-2 c = write-goes (c .before .before .before .before .before .before .before .before .before .before .before .before .before .before .before .before .before .before .before .before .before .before .before .before .before .before .before .before .before .before .before .args .start) (c .before .before .before .before .before .before .before .before .before .before .before .before .before .before .before .before .before .before .before .before .before .before .if1 .left) (rw (c .before .before .before .before .before .before .before .d .given .1) at (c .before .before .before .before .before .before .before .before .before .before .before .before .before .before .before .before .before .four .ensures)) (c .before .before .before .before .rule-number .ensures) (c .before .before .join .ensures)
+
+same-length-5 : tie.Need-same-length-5
+same-length-5 c = search needs
+
+same-length-6 : tie.Need-same-length-6
+same-length-6 c = search needs
+
+same-length-7 : tie.Need-same-length-7
+same-length-7 c = search needs
+
+same-length-8 : tie.Need-same-length-8
+same-length-8 c = search needs
+
+returns-3 : tie.Need-returns-3
+returns-3 c = write-over (c .before .before .before .before .before .before .before .before .before .before .before .before .before .before .before .before .before .before .before .before .before .before .before .before .args .start) (rw (c .enum-told .given .1) at (c .before .before .before .before .before .before .before .before .before .before .four .ensures))
+
+pub write-step-spec : {M : Type 1} → statement M
+write-step-spec =
+    tie.close
+    (tie.spec
+    returns
+    four-requires
+    enum-known-d
+    sub-rule-number
+    part-rule-number-start
+    part-rule-number-end
+    rule-number-requires
+    join-requires
+    enum-told
+    same-length
+    same-length-2
+    same-length-3
+    same-length-4
+    returns-2
+    same-length-5
+    same-length-6
+    same-length-7
+    same-length-8
+    returns-3)

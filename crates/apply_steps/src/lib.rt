@@ -1,0 +1,45 @@
+// A build line is written: its files are mentioned, and its step joins the graph's columns.
+ghost use Prim.Native.Nat.{_<_};
+ghost use Rattle.apply_steps.specs.Asks.{StepAsks, Writes};
+use apply_files::Mentioned;
+use apply_step_columns::join;
+use apply_step_columns::rule_number;
+use apply_step_lists::four;
+use cut_forms::BuildPlaces;
+use hold_reading::Counts;
+use hold_reading::LineAnswer;
+use hold_reading::Open;
+use spec::Refusal;
+use spec::limits::STEPS;
+
+// The step of a line whose 7s and 8s were looked for before: only a limit can be met.
+pub fn write_step(
+    t: &[u8; 256],
+    start: usize,
+    l: &[u8],
+    p: BuildPlaces,
+    names: &mut [u8],
+    ends: &mut [u32],
+    texts: &[u8],
+    bind: &[u32],
+    graph: &mut [u32],
+    word: &mut [u8],
+    c: Counts,
+) -> LineAnswer
+    requires { ⌜ StepAsks (now t) (now l) (now names) (now ends) (now texts) (now bind) (now graph) (now word) c p ⌝ }
+    ensures { λ r. ⌜ Writes (now (l .entry)) (now (names .entry)) (now (ends .entry)) (now (texts .entry)) (now (bind .entry)) (now (graph .entry)) c start p (now (names .exit)) (now (ends .exit)) (now (graph .exit)) r ⌝ }
+{
+    if STEPS <= c.steps {
+        return LineAnswer::Refused(Refusal::OverLimit(start));
+    }
+    match four(t, l, p, names, ends, texts, bind, graph, word, c) {
+        Mentioned::On(d) => {
+            let from = p.rule;
+            let to = p.ins;
+            let n = rule_number(&l[from..to], texts, bind, d.entries);
+            let e = join(graph, c.paths, n, d);
+            LineAnswer::Goes(e, Open::Step)
+        }
+        Mentioned::Over => LineAnswer::Refused(Refusal::OverLimit(start)),
+    }
+}

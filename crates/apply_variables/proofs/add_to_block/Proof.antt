@@ -1,0 +1,95 @@
+-- `apply_variables::add_to_block` meets its contract.
+use mathlib.Core.Bool.{false}
+use mathlib.Core.Path.{_≡_, sym, _∙_}
+use borrow.Author.Needs.{needs}
+use denote.Ref.{now}
+use lib.ListN.{length}
+use native.Mathlib.Omega.{arith}
+use Rattle.apply_bindings.specs.Limits.{overCounted}
+use Rattle.apply_variables.proofs.Outcomes.{line-over, line-goes, step-begun, line-ready}
+use Rattle.apply_variables.proofs.Values.{value-fits, value-counted}
+use Rattle.apply_variables.proofs.add_to_block.Statement.{statement}
+use Rattle.apply_variables.proofs.add_to_block.Tie as tie
+
+-- past the limits
+abbrev begin : tie.After-struct-known → tie.Start
+begin s = s .before .before .before .before .before .before .before .before .before .before .before .before .before .before .before .before
+
+inside : (s : tie.After-struct-known) → overCounted (length (now (begin s .args .name))) (s .before .before .before .before .before .before .before .expand .result) (begin s .args .c) ≡ false
+inside s = sym (s .before .before .before .before .over .ensures) ∙ s .before .before .before .if1 .left
+
+expand-requires : tie.Need-expand-requires
+expand-requires c κs = search needs
+
+over-requires : tie.Need-over-requires
+over-requires c κs = search needs
+
+same-length : tie.Need-same-length
+same-length c = search needs
+
+same-length-2 : tie.Need-same-length-2
+same-length-2 c = search needs
+
+same-length-3 : tie.Need-same-length-3
+same-length-3 c = search needs
+
+returns : tie.Need-returns
+returns c =
+    let a = c .before .before .before .before .before .before .before .before .before .before .before .before .before .args in
+    line-over (a .start) (now (a .name)) (now (a .raw)) (c .before .before .before .before .expand .ensures) (sym (c .before .over .ensures) ∙ c .if1 .taken)
+
+sub-put : tie.Need-sub-put
+sub-put c = omega (arith, step-begun (begin c .pre .sound))
+
+mul-put : tie.Need-mul-put
+mul-put c = search needs
+
+add-put : tie.Need-add-put
+add-put c = search needs
+
+slice-reshare-prefix-put : tie.Need-slice-reshare-prefix-put
+slice-reshare-prefix-put c = omega (arith, value-fits (begin c .pre) _ _ (inside c))
+
+slice-aggregate-put : tie.Need-slice-aggregate-put
+slice-aggregate-put c = let s = c .before in sym (value-counted (begin s .pre) _ _ (inside s) (s .before .before .before .before .before .before .before .expand .ensures))
+
+put-requires : tie.Need-put-requires
+put-requires c κs =
+    let s = c .before in
+    line-ready (begin s .pre .sound) (now (begin s .args .name)) _ (rw (value-counted (begin s .pre) _ _ (inside s) (s .before .before .before .before .before .before .before .expand .ensures)) (inside s))
+
+same-length-4 : tie.Need-same-length-4
+same-length-4 c = search needs
+
+same-length-5 : tie.Need-same-length-5
+same-length-5 c = search needs
+
+same-length-6 : tie.Need-same-length-6
+same-length-6 c = search needs
+
+returns-2 : tie.Need-returns-2
+returns-2 c =
+    let s = c .before .before .before .before .before .before in
+    let a = begin s .args in
+    line-goes (a .start) (now (a .name)) (now (a .raw)) (s .before .before .before .before .before .before .before .expand .ensures) (value-fits (begin s .pre) _ _ (inside s)) (rw (value-counted (begin s .pre) _ _ (inside s) (s .before .before .before .before .before .before .before .expand .ensures)) (inside s)) (c .before .before .before .before .put .ensures)
+
+pub add-to-block-spec : {M : Type 1} → statement M
+add-to-block-spec =
+    tie.close
+    (tie.spec
+    expand-requires
+    over-requires
+    same-length
+    same-length-2
+    same-length-3
+    returns
+    sub-put
+    mul-put
+    add-put
+    slice-reshare-prefix-put
+    slice-aggregate-put
+    put-requires
+    same-length-4
+    same-length-5
+    same-length-6
+    returns-2)

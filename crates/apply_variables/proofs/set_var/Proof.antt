@@ -1,0 +1,36 @@
+-- `apply_variables::set_var` meets its contract.
+use mathlib.Core.Path.{sym, _∙_}
+use borrow.Author.Needs.{needs}
+use denote.Ref.{now}
+use Rattle.apply_variables.proofs.Outcomes.{var-wrong, var-goes, var-ready}
+use Rattle.apply_variables.proofs.set_var.Statement.{statement}
+use Rattle.apply_variables.proofs.set_var.Tie as tie
+
+is-wrong-version-requires : tie.Need-is-wrong-version-requires
+is-wrong-version-requires c κs = search needs
+
+returns : tie.Need-returns
+returns c =
+    let a = c .before .before .before .before .before .before .args in
+    var-wrong (a .start) (now (a .name)) (now (a .value)) (c .before .before .before .before .before .before .pre .within) (sym (c .before .is-wrong-version .ensures) ∙ c .if1 .taken)
+
+put-requires : tie.Need-put-requires
+put-requires c κs =
+    let a = c .before .before .before .before .before .before .before .before .args in
+    var-ready (a .start) (now (a .name)) (now (a .value)) (c .before .before .before .before .before .before .before .before .pre .within) (c .before .before .before .before .before .before .before .before .pre .sound)
+
+same-length : tie.Need-same-length
+same-length c = search needs
+
+same-length-2 : tie.Need-same-length-2
+same-length-2 c = search needs
+
+returns-2 : tie.Need-returns-2
+returns-2 c =
+    let a = c .before .before .before .before .before .before .before .before .before .before .before .before .before .args in
+    var-goes (a .start) (now (a .name)) (now (a .value)) (c .before .before .before .before .before .before .before .before .before .before .before .before .before .pre .within) (sym (c .before .before .before .before .before .before .before .before .is-wrong-version .ensures) ∙ c .before .before .before .before .before .before .before .if1 .left) (c .before .before .before .before .put .ensures)
+
+pub set-var-spec : {M : Type 1} → statement M
+set-var-spec =
+    tie.close
+    (tie.spec is-wrong-version-requires returns put-requires same-length same-length-2 returns-2)

@@ -1,0 +1,70 @@
+// The plan ask: the manifest is read into buffers of the ask's own, and the list is planned from them.
+ghost use Prim.Native.Nat.{_≤_};
+ghost use lib.ListN.{length};
+ghost use Rattle.spec.specs.Limits.{leastList};
+ghost use Rattle.spec.specs.Promises.{PlanPromise};
+ghost use Rattle.ask_plan.specs.Asked.{PlanAsked};
+use apply_manifest::ReadAnswer;
+use apply_manifest::read;
+use ask_plan_reading::plan_read;
+use hold_bindings::ROWS;
+use hold_bindings::TEXTS;
+use hold_names::NUMBERS;
+use hold_reading::columns::ROOM;
+use scan_classes::table;
+use slices::words::zero_from;
+use spec::PlanAnswer;
+use spec::limits::WRITTEN;
+
+// With the reader's buffers lent.
+fn plan_in(
+    t: &[u8; 256],
+    manifest: &[u8],
+    card: &[u8],
+    targets: &[u8],
+    names: &mut [u8],
+    ends: &mut [u32],
+    texts: &mut [u8],
+    bind: &mut [u32],
+    graph: &mut [u32],
+    word: &mut [u8],
+    list: &mut [u32],
+) -> PlanAnswer
+    requires { ⌜ PlanAsked (now t) (now names) (now ends) (now texts) (now bind) (now graph) (now word) (now list) ⌝ }
+    ensures { λ r. ⌜ PlanPromise (now (manifest .entry)) (now (card .entry)) (now (targets .entry)) (now (list .entry)) r (now (list .exit)) ⌝ }
+{
+    match read(t, manifest, names, ends, texts, bind, graph, word) {
+        ReadAnswer::Accepted(c) => plan_read(card, targets, names, ends, graph, c, list),
+        ReadAnswer::Refused(r) => {
+            zero_from(list, 0);
+            PlanAnswer::Refused(r)
+        }
+    }
+}
+
+// With a list buffer of 512 numbers at least.
+pub fn plan_buffered(manifest: &[u8], card: &[u8], targets: &[u8], list: &mut [u32]) -> PlanAnswer
+    requires { ⌜ leastList ≤ length (now list) ⌝ }
+    ensures { λ r. ⌜ PlanPromise (now (manifest .entry)) (now (card .entry)) (now (targets .entry)) (now (list .entry)) r (now (list .exit)) ⌝ }
+{
+    let t = table();
+    let mut names = [0u8; WRITTEN];
+    let mut ends = [0u32; NUMBERS];
+    let mut texts = [0u8; TEXTS];
+    let mut bind = [0u32; ROWS];
+    let mut graph = [0u32; ROOM];
+    let mut word = [0u8; WRITTEN];
+    plan_in(
+        &t,
+        manifest,
+        card,
+        targets,
+        &mut names,
+        &mut ends,
+        &mut texts,
+        &mut bind,
+        &mut graph,
+        &mut word,
+        list,
+    )
+}

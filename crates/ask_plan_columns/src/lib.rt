@@ -1,0 +1,29 @@
+// The plan from the graph's columns as the reader leaves them.
+ghost use Rattle.ask_plan_columns.specs.Columns.{ColumnsAsked, PlansColumns};
+use graph_plan::plan_graph;
+use hold_reading::Counts;
+use hold_reading::columns::DEFAULTS;
+use hold_reading::columns::ENDS;
+use hold_reading::columns::MADE;
+use hold_reading::columns::PHONY;
+use spec::PlanAnswer;
+
+// The plan of the columns, where the times of the files and the targets' numbers are known.
+pub fn plan_columns(
+    graph: &[u32],
+    c: Counts,
+    times: &[u64],
+    targets: &[u32],
+    list: &mut [u32],
+) -> PlanAnswer
+    requires { ⌜ ColumnsAsked (now graph) c (now times) (now targets) (now list) ⌝ }
+    ensures { λ r. ⌜ PlansColumns (now (graph .entry)) c (now (times .entry)) (now (targets .entry)) (now (list .entry)) r (now (list .exit)) ⌝ }
+{
+    let steps = c.steps;
+    let mentions = &graph[..c.paths];
+    let ends = &graph[ENDS..ENDS + 4 * steps];
+    let phony = &graph[PHONY..PHONY + steps];
+    let made = &graph[MADE..MADE + c.files];
+    let defaults = &graph[DEFAULTS..DEFAULTS + c.defaults];
+    plan_graph(mentions, ends, phony, made, times, defaults, targets, list)
+}

@@ -1,0 +1,37 @@
+-- What the numbers of a target list are held to.
+use Prim.Native.Nat.{ℕ, _≤_, _<_}
+use mathlib.Core.List.{List, map}
+use mathlib.Core.Option.{none, some}
+use mathlib.Core.Path.{_≡_}
+use lib.ListN.{length, take, getD}
+use Rattle.spec.specs.Limits.{maxTargets}
+use Rattle.spec.specs.Reading.{numberOf}
+use Rattle.spec.specs.Targets.{Target, targetsOf, badTarget}
+use Rattle.hold_names.specs.Table.{Holds, Sound}
+use Rattle.ask_target_files.specs.declared.Numbered.{Numbered}
+use Rattle.ask_target_files.specs.declared.Numbered.the-variants.{All, Bad}
+
+pub record Asked (names ends : List ℕ) (count : ℕ) (out : List ℕ) : Type 0 where
+  pub named : Sound names ends count
+  -- each name takes two bytes at least
+  pub room : maxTargets ≤ length out
+
+-- the files of a target list by number
+unfoldable pub numbersOf : List (List ℕ) → List ℕ → List ℕ
+unfolding targetsOf numberOf
+numbersOf files targets = map (λ (t : Target). numberOf (t .name) files) (targetsOf targets)
+
+-- the list is good, and the buffer begins with its numbers
+pub record Numbers (targets out : List ℕ) (files : List (List ℕ)) (n : ℕ) : Type 0 where
+  pub good : badTarget files targets ≡ none
+  pub within : n ≤ length out
+  pub counted : n ≡ length (numbersOf files targets)
+  pub numbers : take n out ≡ numbersOf files targets
+  pub low : (i : ℕ) → i < n → getD out i 0 < length files
+
+abbrev pub Says : List ℕ → List ℕ → List (List ℕ) → Numbered → Type 0
+Says targets out files (All n) = Numbers targets out files n
+Says targets out files (Bad place) = badTarget files targets ≡ some place
+
+pub record NumbersTargets (targets names ends : List ℕ) (count : ℕ) (out : List ℕ) (r : Numbered) : Type 0 where
+  pub says : (files : List (List ℕ)) → Holds names ends count files → Says targets out files r

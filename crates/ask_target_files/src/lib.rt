@@ -1,0 +1,54 @@
+// The names of a target list as numbers of files, or 12.
+ghost use Rattle.ask_target_files.specs.Numbered.{Asked, NumbersTargets};
+use hold_names::Found;
+use hold_names::find;
+use scan_targets::Next;
+use scan_targets::bad_form;
+use scan_targets::name_at;
+
+pub enum Numbered {
+    // So many numbers stand at the front of the buffer.
+    All(usize),
+    // The list is bad at this place.
+    Bad(usize),
+}
+
+// Puts the number of each target at the front of `out`, in the list's order.
+pub fn number_targets(
+    targets: &[u8],
+    names: &[u8],
+    ends: &[u32],
+    count: usize,
+    out: &mut [u32],
+) -> Numbered
+    requires { ⌜ Asked (now names) (now ends) count (now out) ⌝ }
+    ensures { λ r. ⌜ NumbersTargets (now (targets .entry)) (now (names .entry)) (now (ends .entry)) count (now (out .exit)) r ⌝ }
+{
+    if bad_form(targets) {
+        return Numbered::Bad(0);
+    }
+    let mut from = 0;
+    let mut n = 0;
+    loop {
+        match name_at(targets, from) {
+            Next::End => {
+                return Numbered::All(n);
+            }
+            Next::Bad => {
+                return Numbered::Bad(from);
+            }
+            Next::Name(end) => {
+                match find(names, ends, count, &targets[from..end]) {
+                    Found::Missing => {
+                        return Numbered::Bad(from);
+                    }
+                    Found::At(k) => {
+                        out[n] = k as u32;
+                        n += 1;
+                        from = end + 1;
+                    }
+                }
+            }
+        }
+    }
+}

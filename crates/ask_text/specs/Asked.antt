@@ -1,0 +1,10 @@
+-- What the text ask's inner function is lent: the reader's buffers with room for any manifest, and a buffer that 1 does not refuse.
+use Prim.Native.Nat.{ℕ, _≤_}
+use mathlib.Core.List.{List}
+use lib.ListN.{length}
+use Rattle.spec.specs.Limits.{maxText}
+use Rattle.apply_manifest.specs.Manifests.{Roomy}
+
+pub record TextAsked (t names ends texts bind graph word buffer : List ℕ) : Type 0 where
+  pub roomy : Roomy t names ends texts bind graph word
+  pub room : maxText ≤ length buffer

@@ -1,0 +1,82 @@
+// The text ask: the manifest is read into buffers of the ask's own, and the step's text is written from them.
+ghost use Prim.Native.Nat.{_≤_};
+ghost use lib.ListN.{length};
+ghost use Rattle.spec.specs.Limits.{maxText};
+ghost use Rattle.spec.specs.Promises.{TextPromise};
+ghost use Rattle.ask_text.specs.Asked.{TextAsked};
+use apply_manifest::ReadAnswer;
+use apply_manifest::read;
+use hold_bindings::ROWS;
+use hold_bindings::TEXTS;
+use hold_names::NUMBERS;
+use hold_reading::columns::ROOM;
+use scan_classes::table;
+use slices::bytes::zero_from;
+use spec::TextAnswer;
+use spec::Wanted;
+use spec::limits::WRITTEN;
+use text_step::text_of;
+
+// With the reader's buffers lent.
+fn text_in(
+    t: &[u8; 256],
+    manifest: &[u8],
+    step: usize,
+    wanted: Wanted,
+    names: &mut [u8],
+    ends: &mut [u32],
+    texts: &mut [u8],
+    bind: &mut [u32],
+    graph: &mut [u32],
+    word: &mut [u8],
+    buffer: &mut [u8],
+) -> TextAnswer
+    requires { ⌜ TextAsked (now t) (now names) (now ends) (now texts) (now bind) (now graph) (now word) (now buffer) ⌝ }
+    ensures { λ r. ⌜ TextPromise (now (manifest .entry)) step wanted (now (buffer .entry)) r (now (buffer .exit)) ⌝ }
+{
+    match read(t, manifest, names, ends, texts, bind, graph, word) {
+        ReadAnswer::Accepted(c) => text_of(
+            t,
+            names,
+            ends,
+            texts,
+            bind,
+            graph,
+            c,
+            step,
+            wanted,
+            buffer,
+        ),
+        ReadAnswer::Refused(r) => {
+            zero_from(buffer, 0);
+            TextAnswer::Refused(r)
+        }
+    }
+}
+
+// With a text buffer of 8,192 bytes at least.
+pub fn text_buffered(manifest: &[u8], step: usize, wanted: Wanted, buffer: &mut [u8]) -> TextAnswer
+    requires { ⌜ maxText ≤ length (now buffer) ⌝ }
+    ensures { λ r. ⌜ TextPromise (now (manifest .entry)) step wanted (now (buffer .entry)) r (now (buffer .exit)) ⌝ }
+{
+    let t = table();
+    let mut names = [0u8; WRITTEN];
+    let mut ends = [0u32; NUMBERS];
+    let mut texts = [0u8; TEXTS];
+    let mut bind = [0u32; ROWS];
+    let mut graph = [0u32; ROOM];
+    let mut word = [0u8; WRITTEN];
+    text_in(
+        &t,
+        manifest,
+        step,
+        wanted,
+        &mut names,
+        &mut ends,
+        &mut texts,
+        &mut bind,
+        &mut graph,
+        &mut word,
+        buffer,
+    )
+}

@@ -1,0 +1,152 @@
+-- The three demands of document 01 as theorems about the asks themselves, from the lent bytes to the filled buffer. What `plan` and `text` ensure at
+-- every call, with nothing required, is `PlanPromise` and `TextPromise` (src/lib.rt); that a call always ends, with an answer, is part of what the checker
+-- proves of a function.
+use Prim.Native.Nat.{ℕ}
+use mathlib.Core.Logic.{_↔_}
+use mathlib.Core.Bool.{true, false}
+use mathlib.Core.List.{List, []}
+use mathlib.Core.Option.{Option, none, some}
+use mathlib.Core.Path.{_≡_, sym, _∙_, ap, subst}
+use native.Mathlib.Omega.{arith}
+use borrow.Author.Tests.{eqb-true, eqb-false}
+use lib.Dec.{eqb}
+use lib.ListN.{length}
+use Rattle.lists.specs.Tests.{split}
+use Rattle.spec.specs.declared.Refusal.{Refusal}
+use Rattle.spec.specs.declared.PlanAnswer.{PlanAnswer}
+use Rattle.spec.specs.declared.TextAnswer.{TextAnswer}
+use Rattle.spec.specs.declared.Wanted.{Wanted}
+use Rattle.spec.specs.Reading.{Reading}
+use Rattle.spec.specs.Answers.{Said, numberOfRefusal, refusalSays, planSays, textSays}
+use Rattle.spec.specs.Words.{NeededOrder, NeededCircle}
+use Rattle.spec.specs.Graph.{hasOrder}
+use Rattle.spec.specs.PlanAsk.{PlanOutcome, listed, circular, noPlan, missingSource, listedOr15, planFrom, planAsk}
+use Rattle.spec.specs.TextAsk.{TextOutcome, text, noText, textAsk}
+use Rattle.spec.specs.Promises.{filled, leftBy, counts, refused14, Is, Shows, PlanMeets, PlanPromise, TextMeets, TextPromise}
+use Rattle.spec.proofs.Checks.{PastChecks, rootsOf, past-checks}
+use Rattle.spec.proofs.Sources.{MissingIn}
+use Rattle.spec.proofs.Demand3.{Listing, demand3}
+
+-- ------------------------------------------------------------------ demand 1
+
+-- "Any manifest, card of file times and target list gets an answer, always. A refusal gives its number and place and leaves the buffers zero (a short
+-- buffer: untouched; a circle: written out)."
+pub data Demand1 (lent : List ℕ) (said : Said) (exit : List ℕ) : Type 0 where
+  -- the count, the list or the text, and zeros beyond
+  answers : (l : List ℕ) → said ≡ counts (length l) → exit ≡ filled l lent → Demand1 lent said exit
+  -- 14, the circle's length, the circle, and zeros beyond
+  shows : (c : List ℕ) → said ≡ refused14 (length c) → exit ≡ filled c lent → Demand1 lent said exit
+  -- 1, and the buffer untouched
+  short : (r : Refusal) → numberOfRefusal r ≡ 1 → said ≡ refusalSays r → exit ≡ lent → Demand1 lent said exit
+  -- any other number and place, and zeros
+  refuses : (r : Refusal) → (numberOfRefusal r ≡ 1 → ⊥) → said ≡ refusalSays r → exit ≡ filled [] lent → Demand1 lent said exit
+
+refusal-left : (r : Refusal) {lent exit : List ℕ} {said : Said} → Is said exit (refusalSays r) (leftBy r lent) → Demand1 lent said exit
+unfolding leftBy
+refusal-left r {lent} i =
+    split (eqb (numberOfRefusal r) 1)
+    (λ (e : eqb (numberOfRefusal r) 1 ≡ true). short r (eqb-true (numberOfRefusal r) 1 e) (i .says) (i .leaves ∙ rw e))
+    (λ (e : eqb (numberOfRefusal r) 1 ≡ false). refuses r (eqb-false (numberOfRefusal r) 1 e) (i .says) (i .leaves ∙ rw e))
+
+plan-left : (o : PlanOutcome) {lent exit : List ℕ} {said : Said} → PlanMeets o lent said exit → Demand1 lent said exit
+unfolding PlanMeets
+plan-left (listed l) i = answers l (i .says) (i .leaves)
+plan-left (circular steps targets) i = shows (i .circle) (i .shown .says) (i .shown .leaves)
+plan-left (noPlan r) i = refusal-left r i
+
+text-left : (o : TextOutcome) {lent exit : List ℕ} {said : Said} → TextMeets o lent said exit → Demand1 lent said exit
+unfolding TextMeets
+text-left (text t) i = answers t (i .says) (i .leaves)
+text-left (noText r) i = refusal-left r i
+
+pub plan-answers : (manifest card targets lent : List ℕ) (answer : PlanAnswer) (exit : List ℕ) → PlanPromise manifest card targets lent answer exit
+    → Demand1 lent (planSays answer) exit
+plan-answers manifest card targets lent answer exit p = plan-left (planAsk manifest card targets (length lent)) p
+
+pub text-answers : (manifest : List ℕ) (step : ℕ) (wanted : Wanted) (lent : List ℕ) (answer : TextAnswer) (exit : List ℕ)
+    → TextPromise manifest step wanted lent answer exit → Demand1 lent (textSays answer) exit
+text-answers manifest step wanted lent answer exit p = text-left (textAsk manifest step wanted (length lent)) p
+
+-- ------------------------------------------------------------------ demand 2
+
+-- "Steps, files, texts, stale or fresh, and each refusal are exactly what document 01 says": the outcome that the definitions compute, whatever it is, is
+-- what the answer says and the buffer holds. A circle is the one outcome of which the definitions leave a choice.
+module _ (manifest card targets lent : List ℕ) (answer : PlanAnswer) (exit : List ℕ) (p : PlanPromise manifest card targets lent answer exit) where
+  pub plan-listed : {l : List ℕ} → planAsk manifest card targets (length lent) ≡ listed l → Is (planSays answer) exit (counts (length l)) (filled l lent)
+  unfolding PlanMeets
+  plan-listed e = subst (λ (o : PlanOutcome). PlanMeets o lent (planSays answer) exit) e p
+
+  pub plan-refused : {r : Refusal} → planAsk manifest card targets (length lent) ≡ noPlan r → Is (planSays answer) exit (refusalSays r) (leftBy r lent)
+  unfolding PlanMeets
+  plan-refused e = subst (λ (o : PlanOutcome). PlanMeets o lent (planSays answer) exit) e p
+
+module _ (manifest : List ℕ) (step : ℕ) (wanted : Wanted) (lent : List ℕ) (answer : TextAnswer) (exit : List ℕ) (p : TextPromise manifest step wanted lent answer exit) where
+  pub text-written : {t : List ℕ} → textAsk manifest step wanted (length lent) ≡ text t → Is (textSays answer) exit (counts (length t)) (filled t lent)
+  unfolding TextMeets
+  text-written e = subst (λ (o : TextOutcome). TextMeets o lent (textSays answer) exit) e p
+
+  pub text-refused : {r : Refusal} → textAsk manifest step wanted (length lent) ≡ noText r → Is (textSays answer) exit (refusalSays r) (leftBy r lent)
+  unfolding TextMeets
+  text-refused e = subst (λ (o : TextOutcome). TextMeets o lent (textSays answer) exit) e p
+
+-- ------------------------------------------------------------------ demand 3
+
+-- a real circle of needed steps stands in the buffer, zeros beyond, and the answer is 14 with its length
+pub record CircleShown (rd : Reading) (roots lent : List ℕ) (said : Said) (exit : List ℕ) : Type 0 where
+  pub circle : List ℕ
+  pub real : NeededCircle (rd .steps) roots circle
+  pub shown : Is said exit (refused14 (length circle)) (filled circle lent)
+
+-- the list stands in the buffer, zeros beyond, and the answer is its length: every stale needed command step once, each after all stale ones upstream, and the
+-- least such list by step number (`Listing`)
+pub record ListShown (card : List ℕ) (rd : Reading) (roots lent : List ℕ) (said : Said) (exit : List ℕ) : Type 0 where
+  pub listing : Listing card rd roots
+  pub shown : Is said exit (counts (length (listing .list))) (filled (listing .list) lent)
+
+-- "Past the checks ahead of circles: a circle is refused exactly when no order of the needed steps exists, and a real one is shown; otherwise the list holds every
+-- stale needed command step once, each after all stale ones upstream, and it is the least such list by step number."
+pub record Demand3 (card : List ℕ) (rd : Reading) (roots lent : List ℕ) (said : Said) (exit : List ℕ) : Type 0 where
+  pub exactly : (said .number ≡ 14) ↔ (¬ ((l : List ℕ) × NeededOrder (rd .steps) roots l))
+  pub circle : (¬ ((l : List ℕ) × NeededOrder (rd .steps) roots l)) → CircleShown rd roots lent said exit
+  pub list : (l : List ℕ) → NeededOrder (rd .steps) roots l → ((f : ℕ) → ¬ MissingIn card rd roots f) → ListShown card rd roots lent said exit
+
+module _ (card : List ℕ) (rd : Reading) (roots lent : List ℕ) (said : Said) (exit : List ℕ) (m : PlanMeets (planFrom card rd roots) lent said exit) where
+  shown : planFrom card rd roots ≡ circular (rd .steps) roots → CircleShown rd roots lent said exit
+  unfolding PlanMeets
+  shown e =
+      let s : Shows (rd .steps) roots lent said exit = subst (λ (o : PlanOutcome). PlanMeets o lent said exit) e m in
+      record { circle = s .circle; real = s .real; shown = s .shown }
+
+  -- the outcome past 14 has another number
+  other : (o : Option ℕ) → PlanMeets (listedOr15 card rd roots o) lent said exit → said .number ≡ 14 → ⊥
+  unfolding PlanMeets listedOr15 refusalSays numberOfRefusal
+  other none i e = omega (arith, sym e ∙ ap (λ (s : Said). s .number) (i .says))
+  other (some f) i e = omega (arith, sym e ∙ ap (λ (s : Said). s .number) (i .says))
+
+  numbered : said .number ≡ 14 → planFrom card rd roots ≡ circular (rd .steps) roots
+  unfolding planFrom
+  numbered e =
+      split (hasOrder (rd .steps) roots)
+      (λ (h : hasOrder (rd .steps) roots ≡ true). absurd (other (missingSource card rd roots) (rw h at m) e))
+      (λ (h : hasOrder (rd .steps) roots ≡ false). rw h)
+
+  on-list : {l : List ℕ} → planFrom card rd roots ≡ listed l → Is said exit (counts (length l)) (filled l lent)
+  unfolding PlanMeets
+  on-list e = subst (λ (o : PlanOutcome). PlanMeets o lent said exit) e m
+
+  met : Demand3 card rd roots lent said exit
+  met =
+      let d = demand3 card rd roots in
+      record {
+        exactly = (λ e. d .circle .0 (numbered e), λ n. let c = shown (d .circle .1 n) in ap (λ (s : Said). s .number) (c .shown .says));
+        circle = λ n. shown (d .circle .1 n);
+        list = λ l o f.
+            let g = d .listing l o f in
+            record { listing = g; shown = on-list (g .outcome) };
+      }
+
+-- The theorem: the plan ask keeps demand 3, from the lent bytes to the filled buffer.
+pub plan-demand3 : (manifest card targets lent : List ℕ) (answer : PlanAnswer) (exit : List ℕ) → PlanPromise manifest card targets lent answer exit
+    → (rd : Reading) → PastChecks manifest card targets (length lent) rd → Demand3 card rd (rootsOf targets rd) lent (planSays answer) exit
+plan-demand3 manifest card targets lent answer exit p rd c =
+    met card rd (rootsOf targets rd) lent (planSays answer) exit (subst (λ (o : PlanOutcome). PlanMeets o lent (planSays answer) exit) (past-checks manifest card targets (length lent) rd c) p)

@@ -1,0 +1,20 @@
+-- `asks::plan` meets its contract.
+use Rattle.asks.proofs.Short.{short-list}
+use borrow.Author.Needs.{needs}
+use Rattle.asks.proofs.plan.Statement.{statement}
+use Rattle.asks.proofs.plan.Tie as tie
+
+returns : tie.Need-returns
+returns c = short-list (c .before .before .before .before .before .args .manifest .now) (c .before .before .before .before .before .args .card .now) (c .before .before .before .before .before .args .targets .now) (c .before .before .before .before .before .args .list .now) (c .if1 .taken)
+
+plan-buffered-requires : tie.Need-plan-buffered-requires
+plan-buffered-requires c κs = search needs
+
+same-length : tie.Need-same-length
+same-length c = search needs
+
+returns-2 : tie.Need-returns-2
+returns-2 c = search needs
+
+pub plan-spec : {M : Type 1} → statement M
+plan-spec = tie.close (tie.spec returns plan-buffered-requires same-length returns-2)

@@ -1,0 +1,30 @@
+// The two asks on lent bytes. Neither asks anything of what it is given: it refuses.
+ghost use Rattle.spec.specs.Promises.{PlanPromise, TextPromise};
+use ask_plan::plan_buffered;
+use ask_text::text_buffered;
+use spec::PlanAnswer;
+use spec::Refusal;
+use spec::TextAnswer;
+use spec::Wanted;
+use spec::limits::LIST;
+use spec::limits::TEXT;
+
+// The list of the stale needed command steps for a manifest, a card of file times and a list of targets.
+pub fn plan(manifest: &[u8], card: &[u8], targets: &[u8], list: &mut [u32]) -> PlanAnswer
+    ensures { λ r. ⌜ PlanPromise (now (manifest .entry)) (now (card .entry)) (now (targets .entry)) (now (list .entry)) r (now (list .exit)) ⌝ }
+{
+    if list.len() < LIST {
+        return PlanAnswer::Refused(Refusal::ShortBuffer);
+    }
+    plan_buffered(manifest, card, targets, list)
+}
+
+// The text of a step's command or description.
+pub fn text(manifest: &[u8], step: usize, wanted: Wanted, buffer: &mut [u8]) -> TextAnswer
+    ensures { λ r. ⌜ TextPromise (now (manifest .entry)) step wanted (now (buffer .entry)) r (now (buffer .exit)) ⌝ }
+{
+    if buffer.len() < TEXT {
+        return TextAnswer::Refused(Refusal::ShortBuffer);
+    }
+    text_buffered(manifest, step, wanted, buffer)
+}

@@ -1,0 +1,131 @@
+-- `rule NAME`, `default PATHS` and `NAME = value` at places of a line.
+use Prim.Native.Nat.{ℕ, _+_, _-_, _≤_, _<_}
+use mathlib.Core.Bool.{Bool, true, false}
+use mathlib.Core.List.{List}
+use mathlib.Core.Option.{none}
+use mathlib.Core.Path.{_≡_, sym, _∙_, ap}
+use native.Mathlib.Nat.{le-trans}
+use native.Mathlib.Omega.{arith}
+use borrow.Author.Tests.{ne-eqb, not-true, not-false}
+use lib.ListN.{length, drop, getD, length-append, length-drop}
+use lib.Seq.{drop-drop, drop-append-seam}
+use Rattle.lists.specs.Parts.{part}
+use Rattle.lists.specs.Runs.{Reads, run, run-append}
+use Rattle.spec.specs.Basics.{isEmpty}
+use Rattle.spec.specs.Bytes.{equals}
+use Rattle.spec.specs.Dollars.{badDollar}
+use Rattle.spec.specs.Lines.{isSpace}
+use Rattle.spec.specs.Forms.{Fault as Rules·Fault, noForm, fits, fails, gap, nameOf, afterName, ruleWord, keyWord, paths, checked, bindingForm, cutRule, cutDefault, rawValue, cutValue, cutBinding}
+use Rattle.scan_raw.specs.Texts.{ValueBad}
+use Rattle.scan_tokens.proofs.Places.{at-cons, at-end}
+use Rattle.scan_raw.proofs.Faults.{raw-length}
+use Rattle.cut_forms.specs.declared.Fault.{Fault}
+use Rattle.cut_forms.specs.declared.Fault.the-variants.{BadDollar}
+use Rattle.cut_forms.specs.Faults.{Fails}
+use Rattle.cut_forms.specs.Paths.{ListEnds}
+use Rattle.cut_forms.specs.Statements.{NameEnds, RuleAt, DefaultAt, BindingAt}
+use Rattle.cut_forms.proofs.Faults.{bad-dollar, fails-then}
+use Rattle.cut_forms.proofs.Walks.{paths-of}
+
+-- ---- `rule NAME`
+
+module _ {l : List ℕ} {at from : ℕ} (g : Reads gap l at from) where
+  pub rule-wrong : {f : Fault} → Fails l (ruleWord (nameOf (drop from l))) f → Fails l (cutRule (drop at l)) f
+  unfolding cutRule
+  rule-wrong e = fails-then _ (rw (g .rest) at e)
+
+  module _ {to end : ℕ} (n : NameEnds l from to (ruleWord (nameOf (drop from l)))) (h : Reads gap l to end) where
+    pub rule-more : end < length l → cutRule (drop at l) ≡ fails noForm
+    unfolding cutRule
+    rule-more k = rw (← (g .rest), n .cut, ← (n .reads .rest), ← (h .rest), at-cons l end k)
+
+    pub rule-ends : length l ≤ end → RuleAt l (cutRule (drop at l)) from to
+    unfolding cutRule
+    rule-ends k =
+        record {
+          ordered = n .reads .forward;
+          within = n .reads .within;
+          cut = rw (← (g .rest), n .cut, ← (n .reads .rest), ← (h .rest), at-end l end k);
+        }
+
+-- ---- `default PATHS`
+
+pub default-wrong : (s : List ℕ) {l : List ℕ} {f : Fault} → Fails l (paths s) f → Fails l (cutDefault s) f
+unfolding cutDefault
+default-wrong s e = fails-then _ e
+
+module _ {l : List ℕ} {at end : ℕ} {any : Bool} (w : ListEnds l at end any) where
+  pub default-none : any ≡ false → cutDefault (drop at l) ≡ fails noForm
+  unfolding cutDefault
+  default-none e = rw (w .cut, not-false (isEmpty (w .raw)) (sym (w .some) ∙ e))
+
+  module _ (e : any ≡ true) where
+    pub default-more : end < length l → cutDefault (drop at l) ≡ fails noForm
+    unfolding cutDefault
+    default-more h = rw (w .cut, not-true (isEmpty (w .raw)) (sym (w .some) ∙ e), at-cons l end h)
+
+    pub default-ends : length l ≤ end → DefaultAt l (cutDefault (drop at l)) at
+    unfolding cutDefault
+    default-ends h =
+        record {
+          raw = w .raw;
+          stands = paths-of w;
+          cut = rw (w .cut, not-true (isEmpty (w .raw)) (sym (w .some) ∙ e), at-end l end h);
+        }
+
+-- ---- `NAME = value`
+
+-- The raw value lies at the end of the line.
+raw-last : (s : List ℕ) → drop (length s - length (rawValue s)) s ≡ rawValue s
+unfolding rawValue
+raw-last s =
+    let n : length s - length (rawValue s) ≡ length (run isSpace s) = omega (arith, simp length-append at (ap length (run-append isSpace s))) in
+    rw n (ap (drop (length (run isSpace s))) (sym (run-append isSpace s)) ∙ drop-append-seam (run isSpace s) (rawValue s))
+
+pub raw-at : (l : List ℕ) (k : ℕ) → k ≤ length l → drop (length l - length (rawValue (drop k l))) l ≡ rawValue (drop k l)
+raw-at l k h =
+    let n : length l - length (rawValue (drop k l)) ≡ k + (length (drop k l) - length (rawValue (drop k l))) = omega (arith, length-drop k l, raw-length (drop k l) 0) in
+    rw n (sym (drop-drop _ k l) ∙ raw-last (drop k l))
+
+module _ {l : List ℕ} {to at : ℕ} (g : Reads gap l to at) where
+  pub value-none : (w : List ℕ) → length l ≤ at → cutValue w (gap (drop to l)) ≡ fails noForm
+  unfolding cutValue
+  value-none w h = rw (← (g .rest), at-end l at h)
+
+  pub value-short : {raw : List ℕ} → raw ≡ rawValue (drop (at + 1) l) → length raw ≤ length l
+  value-short v = rw v (raw-length l (at + 1))
+
+  module _ (h : at < length l) where
+    pub value-other : (w : List ℕ) → (getD l at 0 ≡ equals → ⊥) → cutValue w (gap (drop to l)) ≡ fails noForm
+    unfolding cutValue
+    value-other w e = rw (← (g .rest), at-cons l at h, ne-eqb (getD l at 0) equals e)
+
+    module _ (e : getD l at 0 ≡ equals) {raw : List ℕ} (v : raw ≡ rawValue (drop (at + 1) l)) where
+      value-is : (w : List ℕ) → cutValue w (gap (drop to l)) ≡ checked (badDollar raw) raw (λ _. fits (bindingForm w raw))
+      unfolding cutValue
+      value-is w = rw (← (g .rest), at-cons l at h, e, v)
+
+      pub value-sound : {from : ℕ} → from ≤ to → badDollar raw ≡ none → BindingAt l (cutValue (part l from to) (gap (drop to l))) from to (length l - length raw)
+      unfolding checked
+      value-sound {from} o d =
+          record {
+            ordered = o;
+            within = le-trans (g .forward) (g .within);
+            starts = omega arith;
+            cut = value-is (part l from to) ∙ rw (d, v, raw-at l (at + 1) (omega arith));
+          }
+
+      pub value-bad : (w : List ℕ) {p : ℕ} → ValueBad raw p → Fails l (cutValue w (gap (drop to l))) (BadDollar (length l - length raw + p))
+      unfolding checked
+      value-bad w {p} b =
+          let n : length raw - p ≡ length l - (length l - length raw + p) = omega (arith, value-short v, b .within) in
+          bad-dollar (omega (arith, value-short v, b .within)) (value-is w ∙ rw (b .bad, n))
+
+module _ {l : List ℕ} {from to : ℕ} (a : Reads afterName l from to) where
+  pub binding-key : keyWord (nameOf (drop from l)) ≡ fits (part l from to) → cutBinding (drop from l) ≡ cutValue (part l from to) (gap (drop to l))
+  unfolding cutBinding
+  binding-key e = rw (e, ← (a .rest))
+
+pub binding-wrong : (s : List ℕ) {f : Rules·Fault} → keyWord (nameOf s) ≡ fails f → cutBinding s ≡ fails f
+unfolding cutBinding
+binding-wrong s e = rw e

@@ -1,0 +1,52 @@
+-- The value of a variable, as a run of the bound texts or an empty one.
+use Prim.Native.Nat.{ℕ, _<_}
+use mathlib.Core.Bool.{true, false}
+use mathlib.Core.List.{List}
+use mathlib.Core.Path.{_≡_, refl, sym, _∙_}
+use native.Mathlib.Omega.{arith}
+use native.Mathlib.Nat.{le-refl}
+use lib.ListN.{length}
+use Rattle.lists.specs.Tests.{differ}
+use Rattle.lists.specs.Parts.{part-none}
+use Rattle.hold_bindings.specs.declared.Found.{Found}
+use Rattle.hold_bindings.specs.declared.Found.the-variants.{At, Missing}
+use Rattle.hold_bindings.specs.declared.Place.{Place}
+use Rattle.hold_bindings.specs.Log.{Logged, ofFile, newest, valueOf}
+use Rattle.hold_bindings.specs.Held.{Holds, Sound, HasEntry, ValueAt}
+use Rattle.hold_bindings.proofs.Lookups.{newest-below, var-newest}
+use Rattle.expand_parts.specs.Runs.{bytesOf, Variable}
+
+-- f is the newest entry of the name.
+module _ (name : List ℕ) {texts bind : List ℕ} {count : ℕ} {f : Found} (q : (log : List Logged) → Holds log texts bind count → f ≡ newest ofFile name log) where
+  pub found-entry : {k : ℕ} → Sound texts bind count → f ≡ At k → HasEntry texts bind k
+  found-entry {k} s e =
+      let b : k < length (s .log) = newest-below ofFile name (s .log) k (sym (q (s .log) (s .held)) ∙ e) in
+      record { log = s .log; count = count; held = s .held; below = omega (arith, s .held .rows .counted) }
+
+  pub found-value : {k : ℕ} {p : Place} (raw : List ℕ) (next : ℕ) → f ≡ At k → ValueAt texts bind k p
+      → Variable name raw texts bind count next (record { bound = true; from = p .from; to = p .to; next = next })
+  unfolding bytesOf valueOf
+  found-value {k} raw next e v =
+      record {
+        next = refl;
+        ordered = v .ordered;
+        in-raw = λ b. differ refl b;
+        in-texts = λ b. omega (arith, v .ends, v .texts-long);
+        bounded = omega (arith, v .ends);
+        value = λ log h.
+            let n : newest ofFile name log ≡ At k = sym (q log h) ∙ e in
+            let b : k < count = omega (arith, h .rows .counted, newest-below ofFile name log k n) in
+            v .value log count h b ∙ sym (var-newest name log ∙ rw n);
+      }
+
+  pub unset-value : (raw : List ℕ) (next : ℕ) → f ≡ Missing → Variable name raw texts bind count next (record { bound = false; from = next; to = next; next = next })
+  unfolding bytesOf valueOf
+  unset-value raw next e =
+      record {
+        next = refl;
+        ordered = le-refl next;
+        in-raw = λ b. le-refl next;
+        in-texts = λ b. differ b refl;
+        bounded = omega arith;
+        value = λ log h. part-none raw next next (le-refl next) ∙ sym (var-newest name log ∙ rw (sym (q log h) ∙ e));
+      }

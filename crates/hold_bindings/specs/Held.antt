@@ -1,0 +1,132 @@
+-- What the lent buffers hold of a log: names and values end to end in `texts`; in `bind` a row of three numbers for each entry, and behind the room for
+-- all rows the log's index.
+use Prim.Native.Nat.{ℕ, zero, suc, _+_, _*_, _≤_, _<_}
+use mathlib.Core.List.{List, [], _∷_, _++_}
+use mathlib.Core.Path.{_≡_}
+use lib.ListN.{length, take, drop, getD}
+use Rattle.lists.specs.Parts.{part}
+use Rattle.spec.specs.Limits.{maxRules, maxBindings, maxName, maxWritten}
+use Rattle.hold_bindings.specs.declared.Place.{Place}
+use Rattle.hold_bindings.specs.Log.{Logged, entryAt}
+use Rattle.hold_bindings.specs.Index.{Indexed, Between}
+
+-- "128 rules, 1,024 bindings .. declared names 64 bytes .. all paths and values read so far .. 60,000 bytes together"
+abbrev pub maxEntries : ℕ
+maxEntries = maxBindings + maxRules
+
+abbrev pub maxTexts : ℕ
+maxTexts = maxWritten + maxEntries * maxName
+
+-- where the index begins, and the room for all rows and the index
+abbrev pub rowsEnd : ℕ
+rowsEnd = 3 * maxEntries
+
+abbrev pub maxRows : ℕ
+maxRows = 4 * maxEntries
+
+abbrev pub maxOwner : ℕ
+maxOwner = 2 + 2 * maxEntries
+
+unfoldable pub textsOf : List Logged → List ℕ
+textsOf [] = []
+textsOf (e ∷ l) = textsOf l ++ (e .name ++ e .value)
+
+-- an entry whose name starts at k: the end of its name, the end of its value, its owner
+unfoldable pub rowOf : ℕ → Logged → List ℕ
+rowOf k e =
+    let a = k + length (e .name) in
+    a ∷ (a + length (e .value)) ∷ e .owner ∷ []
+
+unfoldable pub rowsOf : List Logged → List ℕ
+unfolding rowOf textsOf
+rowsOf [] = []
+rowsOf (e ∷ l) = rowsOf l ++ rowOf (length (textsOf l)) e
+
+-- the bytes of all values
+unfoldable pub valuesIn : List Logged → ℕ
+valuesIn [] = 0
+valuesIn (e ∷ l) = valuesIn l + length (e .value)
+
+abbrev pub ShortNames : List Logged → Type 0
+ShortNames [] = Unit {0}
+ShortNames (e ∷ l) = (length (e .name) ≤ maxName) × ShortNames l
+
+-- the first `count` numbers of the index
+abbrev pub indexIn : List ℕ → ℕ → List ℕ
+indexIn bind count = take count (drop rowsEnd bind)
+
+-- The texts and the rows begin with those of the log, which has `count` entries.
+pub record Rows (log : List Logged) (texts bind : List ℕ) (count : ℕ) : Type 0 where
+  pub counted : count ≡ length log
+  pub few : count ≤ maxEntries
+  pub names : ShortNames log
+  pub values : valuesIn log ≤ maxWritten
+  pub texts-long : maxTexts ≤ length texts
+  pub bind-long : maxRows ≤ length bind
+  pub texts-held : take (length (textsOf log)) texts ≡ textsOf log
+  pub bind-held : take (length (rowsOf log)) bind ≡ rowsOf log
+
+-- The log is held, with its index.
+pub record Holds (log : List Logged) (texts bind : List ℕ) (count : ℕ) : Type 0 where
+  pub rows : Rows log texts bind count
+  pub index : Indexed log (indexIn bind count)
+
+-- Some log is held; it has an entry k; and it has room for one more.
+pub record Sound (texts bind : List ℕ) (count : ℕ) : Type 0 where
+  pub log : List Logged
+  pub held : Holds log texts bind count
+
+pub record HasEntry (texts bind : List ℕ) (k : ℕ) : Type 0 where
+  pub log : List Logged
+  pub count : ℕ
+  pub held : Holds log texts bind count
+  pub below : k < count
+
+pub record Room (log : List Logged) (texts bind : List ℕ) (count : ℕ) (e : Logged) : Type 0 where
+  pub held : Holds log texts bind count
+  pub few : count < maxEntries
+  pub owner : e .owner ≤ maxOwner
+  pub name : length (e .name) ≤ maxName
+  pub value : valuesIn log + length (e .value) ≤ maxWritten
+
+pub record HasRoom (texts bind : List ℕ) (count : ℕ) (e : Logged) : Type 0 where
+  pub log : List Logged
+  pub room : Room log texts bind count e
+
+-- ------------------------------------------------------------------ one entry in the buffers
+
+-- where the name of entry k starts
+unfoldable pub startIn : List ℕ → ℕ → ℕ
+startIn bind zero = 0
+startIn bind (suc k) = getD bind (3 * k + 1) 0
+
+-- Entry k is e.
+pub record Row (e : Logged) (texts bind : List ℕ) (k : ℕ) : Type 0 where
+  pub within : 3 * k + 2 < length bind
+  pub named : startIn bind k ≤ getD bind (3 * k) 0
+  pub valued : getD bind (3 * k) 0 ≤ getD bind (3 * k + 1) 0
+  pub ends : getD bind (3 * k + 1) 0 ≤ maxTexts
+  pub texts-long : maxTexts ≤ length texts
+  pub owner : getD bind (3 * k + 2) 0 ≡ e .owner
+  pub name : part texts (startIn bind k) (getD bind (3 * k) 0) ≡ e .name
+  pub value : part texts (getD bind (3 * k) 0) (getD bind (3 * k + 1) 0) ≡ e .value
+
+-- The value of entry k lies there.
+pub record ValueAt (texts bind : List ℕ) (k : ℕ) (p : Place) : Type 0 where
+  pub ordered : p .from ≤ p .to
+  pub ends : p .to ≤ maxTexts
+  pub texts-long : maxTexts ≤ length texts
+  pub value : (log : List Logged) (count : ℕ) → Holds log texts bind count → k < count → part texts (p .from) (p .to) ≡ entryAt k log .value
+
+-- ------------------------------------------------------------------ the index and an entry more
+
+-- No entry in front of place p of the index comes after this owner and this name, and every one from there on does.
+pub record PlaceOf (texts bind : List ℕ) (count owner : ℕ) (wanted : List ℕ) (p : ℕ) : Type 0 where
+  pub within : p ≤ count
+  pub between : (log : List Logged) → Holds log texts bind count → Between log (indexIn bind count) (owner ∷ wanted) p p
+
+-- An entry more in the texts and the rows.
+pub record Pushed (texts bind : List ℕ) (count : ℕ) (e : Logged) (texts′ bind′ : List ℕ) : Type 0 where
+  pub long : length bind′ ≡ length bind
+  pub rows : (log : List Logged) → Room log texts bind count e → Rows (e ∷ log) texts′ bind′ (count + 1)
+  pub behind : drop rowsEnd bind′ ≡ drop rowsEnd bind

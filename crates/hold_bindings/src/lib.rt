@@ -1,0 +1,182 @@
+// The table of everything that a manifest binds: file variables, rules with their keys, and the lines of steps' blocks.
+ghost use mathlib.Core.Path.{_≡_};
+ghost use mathlib.Core.List.{List, _∷_};
+ghost use Prim.Native.Nat.{ℕ, _+_, _*_, _^_, _≤_, _<_};
+ghost use lib.ListN.{length, set};
+ghost use Rattle.lists.specs.Bytes.{lessBytes};
+ghost use Rattle.hold_bindings.specs.Log.{Logged, logged, entryAt, isNamed, newest};
+ghost use Rattle.hold_bindings.specs.Index.{keyAt};
+ghost use Rattle.hold_bindings.specs.Held.{Holds, Sound, HasEntry, HasRoom, Room, startIn, ValueAt, PlaceOf, Pushed};
+use arena::insert;
+use byteorder::equal;
+use byteorder::less;
+use slices::bytes::copy_at;
+use slices::words::at;
+
+// Room for the texts of every binding that a manifest may have, and for the rows and the index.
+pub const TEXTS: usize = 133728;
+
+pub const ROWS: usize = 4608;
+
+// Where the index begins.
+const INDEX: usize = 3456;
+
+// The number of an entry, if there is one.
+pub enum Found {
+    At(usize),
+    Missing,
+}
+
+// A part of the texts.
+pub struct Place {
+    pub from: usize,
+    pub to: usize,
+}
+
+// Where the name of entry k starts.
+fn start(bind: &[u32], k: usize) -> usize
+    requires { ⌜ (3 * k ≤ length (now bind)) × (k < 2 ^ 32) ⌝ }
+    ensures { λ r. ⌜ r ≡ startIn (now (bind .entry)) k ⌝ }
+{
+    if k == 0 {
+        return 0;
+    }
+    at(bind, 3 * k - 2)
+}
+
+pub fn name<'a, 'b>(texts: &'a [u8], bind: &'b [u32], k: usize) -> &'a [u8]
+    requires { ⌜ HasEntry (now texts) (now bind) k ⌝ }
+    ensures { λ r. ⌜ ((log : List Logged) (count : ℕ) → Holds log (now (texts .entry)) (now (bind .entry)) count → k < count → now r ≡ entryAt k log .name) ⌝ }
+{
+    let from = start(bind, k);
+    let to = at(bind, 3 * k);
+    &texts[from..to]
+}
+
+// Where the value of entry k lies in the texts.
+pub fn value_place(texts: &[u8], bind: &[u32], k: usize) -> Place
+    requires { ⌜ HasEntry (now texts) (now bind) k ⌝ }
+    ensures { λ r. ⌜ ValueAt (now (texts .entry)) (now (bind .entry)) k r ⌝ }
+{
+    let from = at(bind, 3 * k);
+    let to = at(bind, 3 * k + 1);
+    Place { from, to }
+}
+
+pub fn value<'a, 'b>(texts: &'a [u8], bind: &'b [u32], k: usize) -> &'a [u8]
+    requires { ⌜ HasEntry (now texts) (now bind) k ⌝ }
+    ensures { λ r. ⌜ ((log : List Logged) (count : ℕ) → Holds log (now (texts .entry)) (now (bind .entry)) count → k < count → now r ≡ entryAt k log .value) ⌝ }
+{
+    let p = value_place(texts, bind, k);
+    let from = p.from;
+    let to = p.to;
+    &texts[from..to]
+}
+
+// Whether entry k has this owner and this name.
+fn is_named(texts: &[u8], bind: &[u32], k: usize, owner: usize, wanted: &[u8]) -> bool
+    requires { ⌜ HasEntry (now texts) (now bind) k ⌝ }
+    ensures { λ r. ⌜ ((log : List Logged) (count : ℕ) → Holds log (now (texts .entry)) (now (bind .entry)) count → k < count → r ≡ isNamed owner (now (wanted .entry)) (entryAt k log)) ⌝ }
+{
+    if at(bind, 3 * k + 2) != owner {
+        return false;
+    }
+    equal(wanted, name(texts, bind, k))
+}
+
+// Whether this owner and this name come before those of entry k.
+fn is_before(texts: &[u8], bind: &[u32], k: usize, owner: usize, wanted: &[u8]) -> bool
+    requires { ⌜ HasEntry (now texts) (now bind) k ⌝ }
+    ensures { λ r. ⌜ ((log : List Logged) (count : ℕ) → Holds log (now (texts .entry)) (now (bind .entry)) count → k < count → r ≡ lessBytes (owner ∷ now (wanted .entry)) (keyAt log k)) ⌝ }
+{
+    let o = at(bind, 3 * k + 2);
+    if owner < o {
+        return true;
+    }
+    if o < owner {
+        return false;
+    }
+    less(wanted, name(texts, bind, k))
+}
+
+// Where the index has the first entry that comes after this owner and this name, by halving.
+fn place_of(texts: &[u8], bind: &[u32], count: usize, owner: usize, wanted: &[u8]) -> usize
+    requires { ⌜ Sound (now texts) (now bind) count ⌝ }
+    ensures { λ r. ⌜ PlaceOf (now (texts .entry)) (now (bind .entry)) count owner (now (wanted .entry)) r ⌝ }
+{
+    let mut low = 0;
+    let mut high = count;
+    while low < high {
+        let mid = low + (high - low) / 2;
+        if is_before(texts, bind, at(bind, INDEX + mid), owner, wanted) {
+            high = mid;
+        } else {
+            low = mid + 1;
+        }
+    }
+    low
+}
+
+// The newest entry of this owner and this name.
+pub fn newest(texts: &[u8], bind: &[u32], count: usize, owner: usize, wanted: &[u8]) -> Found
+    requires { ⌜ Sound (now texts) (now bind) count ⌝ }
+    ensures { λ r. ⌜ ((log : List Logged) → Holds log (now (texts .entry)) (now (bind .entry)) count → r ≡ newest owner (now (wanted .entry)) log) ⌝ }
+{
+    let p = place_of(texts, bind, count, owner, wanted);
+    if p == 0 {
+        return Found::Missing;
+    }
+    let k = at(bind, INDEX + (p - 1));
+    if is_named(texts, bind, k, owner, wanted) {
+        return Found::At(k);
+    }
+    Found::Missing
+}
+
+// The three numbers of entry k.
+fn put_row(bind: &mut [u32], k: usize, mid: usize, to: usize, owner: usize)
+    requires { ⌜ (3 * k + 2 < length (now bind)) × (k < 2 ^ 32) × (mid < 2 ^ 32) × (to < 2 ^ 32) × (owner < 2 ^ 32) ⌝ }
+    ensures { λ _. ⌜ now (bind .exit) ≡ set (set (set (now (bind .entry)) (3 * k) mid) (3 * k + 1) to) (3 * k + 2) owner ⌝ }
+{
+    let i = 3 * k;
+    bind[i] = mid as u32;
+    bind[i + 1] = to as u32;
+    bind[i + 2] = owner as u32;
+}
+
+// One entry more in the texts and the rows.
+fn push_row(
+    texts: &mut [u8],
+    bind: &mut [u32],
+    count: usize,
+    owner: usize,
+    name: &[u8],
+    value: &[u8],
+)
+    requires { ⌜ HasRoom (now texts) (now bind) count (logged owner (now name) (now value)) ⌝ }
+    ensures { λ _. ⌜ Pushed (now (texts .entry)) (now (bind .entry)) count (logged owner (now (name .entry)) (now (value .entry))) (now (texts .exit)) (now (bind .exit)) ⌝ }
+{
+    let from = start(bind, count);
+    let mid = from + name.len();
+    let to = mid + value.len();
+    copy_at(texts, from, name);
+    copy_at(texts, mid, value);
+    put_row(bind, count, mid, to, owner);
+}
+
+// One entry more.
+pub fn push(
+    texts: &mut [u8],
+    bind: &mut [u32],
+    count: usize,
+    owner: usize,
+    name: &[u8],
+    value: &[u8],
+)
+    requires { ⌜ HasRoom (now texts) (now bind) count (logged owner (now name) (now value)) ⌝ }
+    ensures { λ _. ⌜ ((log : List Logged) → Room log (now (texts .entry)) (now (bind .entry)) count (logged owner (now (name .entry)) (now (value .entry))) → Holds (logged owner (now (name .entry)) (now (value .entry)) ∷ log) (now (texts .exit)) (now (bind .exit)) (count + 1)) ⌝ }
+{
+    let p = place_of(texts, bind, count, owner, name);
+    push_row(texts, bind, count, owner, name, value);
+    insert(&mut bind[INDEX..], count, p, count);
+}

@@ -1,0 +1,133 @@
+-- The tables of a read graph: every mention of a file in one column, where each step's parts of it end, which steps are phony, each file's maker.
+use Prim.Native.Nat.{ℕ, zero, suc, _+_, _*_, _≤_, _<_}
+use mathlib.Core.Path.{_≡_}
+use mathlib.Core.Bool.{Bool, true, false}
+use mathlib.Core.List.{List, [], _∷_, _++_, map}
+use lib.ListN.{length, getD}
+use Rattle.lists.specs.Members.{_∈_, Each, Once, has}
+use Rattle.lists.specs.Parts.{part}
+use Rattle.orders.specs.Reach.{reach}
+use Rattle.spec.specs.Basics.{concat}
+use Rattle.spec.specs.Limits.{maxSteps, maxFiles, maxMentions}
+use Rattle.spec.specs.Promises.{filled}
+use Rattle.spec.specs.Reading.{Step, isPhony}
+use Rattle.spec.specs.Graph.{inputs, makers}
+
+-- ------------------------------------------------------------------ what the tables hold
+
+-- a test as the number 1 or 0
+abbrev pub bit : Bool → ℕ
+bit true = 1
+bit false = 0
+
+-- a step's files as its line has them: outputs, then inputs, implicit and order-only ones
+unfoldable pub mentionsOf : Step → List ℕ
+unfolding inputs
+mentionsOf s = s .outs ++ inputs s
+
+-- four numbers for each step: where its outputs, its inputs, its implicit and its order-only inputs end, counted from k
+unfoldable pub endsFrom : ℕ → List Step → List ℕ
+endsFrom k [] = []
+endsFrom k (s ∷ l) =
+    let a = k + length (s .outs) in
+    let b = a + length (s .ins) in
+    let c = b + length (s .implicit) in
+    let d = c + length (s .orderOnly) in
+    a ∷ b ∷ c ∷ d ∷ endsFrom d l
+
+-- what an entry of the makers' table says: 0 no maker, else the step after
+unfoldable pub madeBy : ℕ → List ℕ
+madeBy zero = []
+madeBy (suc m) = m ∷ []
+
+-- the tables hold these steps, over so many files
+pub record Holds (steps : List Step) (files : ℕ) (mentions ends phony made : List ℕ) : Type 0 where
+  pub mentioned : mentions ≡ concat (map mentionsOf steps)
+  pub ended : ends ≡ endsFrom 0 steps
+  pub phonies : phony ≡ map (λ (s : Step). bit (isPhony (s .rule))) steps
+  pub counted : length made ≡ files
+  pub makes : (f : ℕ) → f < files → makers steps f ≡ madeBy (getD made f 0)
+  pub low : (f : ℕ) → f ∈ mentions → f < files
+  pub few-steps : length steps ≤ maxSteps
+  pub few-files : files ≤ maxFiles
+  pub few-mentions : length mentions ≤ maxMentions
+
+-- ------------------------------------------------------------------ what is read from them
+
+-- where a step's outputs start
+unfoldable pub startIn : List ℕ → ℕ → ℕ
+startIn ends zero = 0
+startIn ends (suc s) = getD ends (4 * s + 3) 0
+
+unfoldable pub outsIn : List ℕ → List ℕ → ℕ → List ℕ
+unfolding startIn
+outsIn mentions ends s = part mentions (startIn ends s) (getD ends (4 * s) 0)
+
+-- the inputs that are not order-only
+unfoldable pub countedIn : List ℕ → List ℕ → ℕ → List ℕ
+countedIn mentions ends s = part mentions (getD ends (4 * s) 0) (getD ends (4 * s + 2) 0)
+
+-- the inputs of any kind
+unfoldable pub inputsIn : List ℕ → List ℕ → ℕ → List ℕ
+inputsIn mentions ends s = part mentions (getD ends (4 * s) 0) (getD ends (4 * s + 3) 0)
+
+unfoldable pub makerIn : List ℕ → ℕ → List ℕ
+unfolding madeBy
+makerIn made f = madeBy (getD made f 0)
+
+unfoldable pub makersIn : List ℕ → List ℕ → List ℕ
+unfolding makerIn concat
+makersIn made fs = concat (map (makerIn made) fs)
+
+-- the entry for the file at place i
+abbrev pub makerAt : List ℕ → List ℕ → ℕ → ℕ
+makerAt made fs i = getD made (getD fs i 0) 0
+
+-- the makers of a step's inputs
+unfoldable pub beforeIn : List ℕ → List ℕ → List ℕ → ℕ → List ℕ
+unfolding makersIn inputsIn
+beforeIn mentions ends made s = makersIn made (inputsIn mentions ends s)
+
+-- the needed steps of n
+unfoldable pub neededIn : List ℕ → List ℕ → List ℕ → ℕ → List ℕ → List ℕ
+unfolding reach beforeIn makersIn
+neededIn mentions ends made n roots = reach (beforeIn mentions ends made) n (makersIn made roots)
+
+-- ------------------------------------------------------------------ what reading them asks
+
+-- a step's parts lie in the mentions, one after another
+pub record Placed (mentions ends : List ℕ) (s : ℕ) : Type 0 where
+  pub within : 4 * s + 3 < length ends
+  pub outs : startIn ends s ≤ getD ends (4 * s) 0
+  pub counted : getD ends (4 * s) 0 ≤ getD ends (4 * s + 2) 0
+  pub inputs : getD ends (4 * s + 2) 0 ≤ getD ends (4 * s + 3) 0
+  pub mentioned : getD ends (4 * s + 3) 0 ≤ length mentions
+
+-- all numbers of n steps' tables are in range
+pub record Sound (n : ℕ) (mentions ends made : List ℕ) : Type 0 where
+  pub placed : (s : ℕ) → s < n → Placed mentions ends s
+  pub low : (f : ℕ) → f ∈ mentions → f < length made
+  pub makers : (f : ℕ) → f < length made → getD made f 0 ≤ n
+  pub few-steps : n ≤ maxSteps
+  pub few-files : length made ≤ maxFiles
+  pub few-mentions : length mentions ≤ maxMentions
+
+-- files that the makers' table has, and entries of it for n steps
+pub record Files (n : ℕ) (fs made : List ℕ) : Type 0 where
+  pub low : (i : ℕ) → i < length fs → getD fs i 0 < length made
+  pub makers : (f : ℕ) → f < length made → getD made f 0 ≤ n
+
+-- of n steps, those in a list are marked with 1 and the others with 0
+pub record Marks (n : ℕ) (l marks : List ℕ) : Type 0 where
+  pub long : length marks ≡ n
+  pub marked : (s : ℕ) → s < n → getD marks s 0 ≡ bit (has s l)
+
+-- a list of steps, none twice, in which each comes after those before it
+pub record Sorted (before : ℕ → List ℕ) (l : List ℕ) : Type 0 where
+  pub once : Once l
+  pub after : Each (λ earlier s. (m : ℕ) → m ∈ before s → m ∈ earlier) l
+
+-- the list begins with l, whose length is k, and is zero after it
+pub record Shown (l list : List ℕ) (k : ℕ) (exit : List ℕ) : Type 0 where
+  pub counted : k ≡ length l
+  pub shown : exit ≡ filled l list

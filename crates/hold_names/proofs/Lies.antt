@@ -1,0 +1,233 @@
+-- Where name k lies in the buffers, and that they hold one list of names only.
+use Prim.Native.Nat.{ℕ, zero, suc, _+_, _-_, _^_, _≤_, _<_}
+use mathlib.Core.Bool.{false}
+use mathlib.Core.List.{List, [], _∷_, _++_, append-nil, append-assoc}
+use mathlib.Core.Path.{_≡_, refl, sym, _∙_, ap}
+use native.Mathlib.Nat.{not-suc-le-zero, le-of-suc-le-suc}
+use native.Mathlib.Decide.{decLt}
+use native.Mathlib.Omega.{arith}
+use lib.ListN.{length, take, drop, getD, set, length-append, length-set}
+use native.Mathlib.Numerals.{add-one}
+use lib.Seq.{take-append-seam, drop-append-add, take-take, take-all, getD-take, ext-getD, paste, take-suc-set, take-set-le, getD-set-same, getD-set-other, length-paste, take-paste, take-length}
+use Rattle.lists.specs.Fill.{zeroed, length-zeroed, getD-zeroed-in}
+use Rattle.lists.specs.Parts.{part, drop-take}
+use Rattle.spec.specs.Limits.{maxFiles}
+use Rattle.spec.specs.Basics.{among, concat}
+use Rattle.hold_names.specs.Table.{endsFrom, bucketOf, lastIn, maxNumbers, Holds, Names, startIn, linked}
+use Rattle.hold_names.proofs.Buckets.{bucket-small, name-old, name-new, last-none, last-old, last-new, last-other, nowhere}
+
+-- ---- names end to end
+
+pub concat-none : concat {A = ℕ} [] ≡ []
+unfolding concat
+concat-none = refl
+
+pub concat-cons : (f : List ℕ) (l : List (List ℕ)) → concat (f ∷ l) ≡ f ++ concat l
+unfolding concat
+concat-cons f l = refl
+
+pub concat-snoc : (l : List (List ℕ)) (p : List ℕ) → concat (l ++ (p ∷ [])) ≡ concat l ++ p
+unfolding concat
+concat-snoc [] p = append-nil p
+concat-snoc (f ∷ l) p = ap (λ (x : List ℕ). f ++ x) (concat-snoc l p) ∙ sym (append-assoc f (concat l) p)
+
+-- where name k starts
+abbrev pub startOf : List (List ℕ) → ℕ → ℕ
+startOf files k = length (concat (take k files))
+
+pub start-zero : (files : List (List ℕ)) → startOf files 0 ≡ 0
+unfolding concat
+start-zero files = refl
+
+start-cons : (f : List ℕ) (l : List (List ℕ)) (k : ℕ) → startOf (f ∷ l) (suc k) ≡ length f + startOf l k
+start-cons f l k = rw (concat-cons f (take k l)) (length-append f (concat (take k l)))
+
+pub start-suc : (files : List (List ℕ)) (k : ℕ) → k < length files → startOf files (suc k) ≡ startOf files k + length (getD files k [])
+start-suc [] k h = absurd (not-suc-le-zero h)
+start-suc (f ∷ l) zero h = omega (arith, start-cons f l 0, start-zero l, start-zero (f ∷ l))
+start-suc (f ∷ l) (suc k) h = omega (arith, start-cons f l (suc k), start-cons f l k, start-suc l k (le-of-suc-le-suc h))
+
+pub start-within : (files : List (List ℕ)) (k : ℕ) → startOf files k ≤ length (concat files)
+start-within files zero = omega (arith, start-zero files)
+start-within [] (suc k) = omega arith
+start-within (f ∷ l) (suc k) = rw (concat-cons f l, length-append f (concat l)) (omega (arith, start-cons f l k, start-within l k))
+
+part-after : (f r : List ℕ) (a b : ℕ) → part (f ++ r) (length f + a) (length f + b) ≡ part r a b
+part-after f r a b = let z : length f + b - (length f + a) ≡ b - a = omega arith in rw (z, drop-append-add f r a)
+
+pub part-concat : (files : List (List ℕ)) (k : ℕ) → k < length files → part (concat files) (startOf files k) (startOf files (suc k)) ≡ getD files k []
+part-concat [] k h = absurd (not-suc-le-zero h)
+part-concat (f ∷ l) zero h =
+    let z : startOf (f ∷ l) 1 - startOf (f ∷ l) 0 ≡ length f = omega (arith, start-cons f l 0, start-zero l, start-zero (f ∷ l)) in
+    rw (z, start-zero (f ∷ l), concat-cons f l) (take-append-seam f (concat l))
+part-concat (f ∷ l) (suc k) h =
+    rw (start-cons f l (suc k), start-cons f l k, concat-cons f l)
+    (part-after f (concat l) (startOf l k) (startOf l (suc k)) ∙ part-concat l k (le-of-suc-le-suc h))
+
+-- ---- the column of ends
+
+ends-at : (at : ℕ) (files : List (List ℕ)) (k : ℕ) → k < length files → getD (endsFrom at files) k 0 ≡ at + startOf files (suc k)
+unfolding endsFrom
+ends-at at [] k h = absurd (not-suc-le-zero h)
+ends-at at (f ∷ l) zero h = omega (arith, start-cons f l 0, start-zero l)
+ends-at at (f ∷ l) (suc k) h = omega (arith, start-cons f l (suc k), ends-at (at + length f) l k (le-of-suc-le-suc h))
+
+ends-snoc : (at : ℕ) (l : List (List ℕ)) (p : List ℕ) → endsFrom at (l ++ (p ∷ [])) ≡ endsFrom at l ++ ((at + (length (concat l) + length p)) ∷ [])
+unfolding endsFrom
+ends-snoc at [] p = let z : at + (length (concat {A = ℕ} []) + length p) ≡ at + length p = omega (arith, ap length concat-none) in rw z
+ends-snoc at (f ∷ l) p =
+    let z : at + (length (concat (f ∷ l)) + length p) ≡ at + length f + (length (concat l) + length p) =
+    omega (arith, ap length (concat-cons f l), length-append f (concat l)) in
+    rw z (ap (λ (x : List ℕ). (at + length f) ∷ x) (ends-snoc (at + length f) l p))
+
+-- ---- what is held
+
+part-take : (l : List ℕ) (n a b : ℕ) → b ≤ n → part (take n l) a b ≡ part l a b
+part-take l n a b h = rw (drop-take a n l) (take-take (b - a) (n - a) (drop a l) (omega arith))
+
+module _ {names ends : List ℕ} {count : ℕ} {files : List (List ℕ)} (h : Holds names ends count files) where
+  pub end-held : (k : ℕ) → k < count → getD ends k 0 ≡ startOf files (suc k)
+  end-held k l =
+      sym (getD-take count ends k 0 l) ∙ ap (λ (x : List ℕ). getD x k 0) (h .column)
+      ∙ ends-at 0 files k (omega (arith, h .counted)) ∙ omega arith
+
+  pub start-held : (k : ℕ) → k ≤ count → startIn ends k ≡ startOf files k
+  unfolding startIn
+  start-held zero l = sym (start-zero files)
+  start-held (suc k) l = end-held k l
+
+  -- in order, and within the bytes
+  pub name-within : (k : ℕ) → k < count → (startIn ends k ≤ getD ends k 0) × (getD ends k 0 ≤ length names)
+  name-within k l =
+      omega
+      (arith, start-held k (omega arith), end-held k l, start-suc files k (omega (arith, h .counted)), start-within files (suc k), h .within)
+
+  pub name-held : (k : ℕ) → k < count → part names (startIn ends k) (getD ends k 0) ≡ getD files k []
+  name-held k l =
+      rw (start-held k (omega arith), end-held k l)
+      (sym (part-take names (length (concat files)) (startOf files k) (startOf files (suc k)) (start-within files (suc k)))
+      ∙ ap (λ (x : List ℕ). part x (startOf files k) (startOf files (suc k))) (h .bytes)
+      ∙ part-concat files k (omega (arith, h .counted)))
+
+  pub used-held : startIn ends count ≡ length (concat files)
+  used-held =
+      start-held count (omega arith)
+      ∙ ap (λ (x : List (List ℕ)). length (concat x)) (take-all count files (omega (arith, h .counted)))
+
+-- ---- they hold one list only
+
+pub holds-one : {names ends : List ℕ} {count : ℕ} {f g : List (List ℕ)} → Holds names ends count f → Holds names ends count g → f ≡ g
+holds-one {f = f} {g = g} a b =
+    ext-getD [] f g (sym (a .counted) ∙ b .counted)
+    (λ k l. sym (name-held a k (omega (arith, a .counted))) ∙ name-held b k (omega (arith, a .counted)))
+
+pub names-answer : {names ends : List ℕ} {count k : ℕ} → k < count → Names names ends count k (part names (startIn ends k) (getD ends k 0))
+names-answer {k = k} l = record { answer = λ files h. name-held h k l }
+
+-- ---- where a name begins
+
+pub start-none : (ends : List ℕ) {k : ℕ} → k ≡ 0 → 0 ≡ startIn ends k
+unfolding startIn
+start-none ends e = rw e
+
+pub start-one : (ends : List ℕ) (k : ℕ) → (k ≡ 0 → ⊥) → getD ends (k - 1) 0 ≡ startIn ends k
+unfolding startIn
+start-one ends zero h = absurd (h refl)
+start-one ends (suc k) h = let z : suc k - 1 ≡ k = omega arith in rw z
+
+-- ---- no name, and one name more
+
+pub holds-none : (names ends : List ℕ) → length names < 2 ^ 32 → maxNumbers ≤ length ends → Holds names (zeroed ends 2048 3072) 0 []
+unfolding endsFrom concat
+holds-none names ends h r =
+    record {
+      counted = refl;
+      few = omega arith;
+      room = rw (length-zeroed ends 2048 3072 (omega arith) (omega (arith, r))) r;
+      small = h;
+      within = omega arith;
+      bytes = refl;
+      column = refl;
+      once = λ i j l k. absurd (not-suc-le-zero k);
+      links = λ k l. absurd (not-suc-le-zero l);
+      heads = λ b l.
+          getD-zeroed-in ends 2048 3072 (omega arith) (omega (arith, r)) (2048 + b) (omega arith) (omega (arith, l)) ∙ sym (last-none b []);
+    }
+
+module _ {names ends : List ℕ} {count : ℕ} {files : List (List ℕ)} (p : List ℕ) (h : Holds names ends count files) (a : count < maxFiles) (b : ℕ) (to : ℕ) where
+  -- the numbers that are as they were
+  kept : (i : ℕ) → (i ≡ count → ⊥) → (i ≡ 1024 + count → ⊥) → (i ≡ 2048 + b → ⊥) → getD (linked ends count b to) i 0 ≡ getD ends i 0
+  unfolding linked
+  kept i x y z =
+      getD-set-other (set (set ends count to) (1024 + count) (getD ends (2048 + b) 0)) (2048 + b) i (count + 1) 0 z
+      ∙ getD-set-other (set ends count to) (1024 + count) i (getD ends (2048 + b) 0) 0 y ∙ getD-set-other ends count i to 0 x
+
+  length-linked : length (linked ends count b to) ≡ length ends
+  unfolding linked
+  length-linked = simp length-set refl
+
+  head-now : b < 1024 → getD (linked ends count b to) (2048 + b) 0 ≡ count + 1
+  unfolding linked
+  head-now l = getD-set-same (set (set ends count to) (1024 + count) (getD ends (2048 + b) 0)) (2048 + b) (count + 1) 0 (simp length-set (omega (arith, h .room)))
+
+  link-now : b < 1024 → getD (linked ends count b to) (1024 + count) 0 ≡ getD ends (2048 + b) 0
+  unfolding linked
+  link-now l =
+      getD-set-other (set (set ends count to) (1024 + count) (getD ends (2048 + b) 0)) (2048 + b) (1024 + count) (count + 1) 0 (λ (q : 1024 + count ≡ 2048 + b). omega (arith, q))
+      ∙ getD-set-same (set ends count to) (1024 + count) (getD ends (2048 + b) 0) 0 (simp length-set (omega (arith, h .room)))
+
+  column-now : take (suc count) (linked ends count b to) ≡ take count ends ++ (to ∷ [])
+  unfolding linked
+  column-now =
+      take-set-le (suc count) (set (set ends count to) (1024 + count) (getD ends (2048 + b) 0)) (2048 + b) (count + 1) (omega arith)
+      ∙ take-set-le (suc count) (set ends count to) (1024 + count) (getD ends (2048 + b) 0) (omega arith) ∙ take-suc-set ends count to (omega (arith, h .room))
+
+-- the head of another bucket
+other : {names ends : List ℕ} {count : ℕ} {files : List (List ℕ)} (p : List ℕ) (h : Holds names ends count files) (a : count < maxFiles) (to b : ℕ) → b < 1024
+    → (bucketOf p ≡ b → ⊥) → getD (linked ends count (bucketOf p) to) (2048 + b) 0 ≡ lastIn b (files ++ (p ∷ [])) (count + 1)
+other {count = count} {files = files} p h a to b l d =
+    let f : count ≡ length files = h .counted in
+    let s = bucket-small p in
+    kept p h a (bucketOf p) to (2048 + b) (λ (q : 2048 + b ≡ count). omega (arith, q)) (λ (q : 2048 + b ≡ 1024 + count). omega (arith, q)) (λ (q : 2048 + b ≡ 2048 + bucketOf p). d (omega arith))
+    ∙ h .heads b l ∙ rw f (sym (last-other files p b d))
+
+pub holds-more : {names ends : List ℕ} {count : ℕ} {files : List (List ℕ)} (p : List ℕ) → Holds names ends count files → count < maxFiles → among p files ≡ false
+    → length (concat files) + length p ≤ length names
+    → Holds (paste names (length (concat files)) p (length p)) (linked ends count (bucketOf p) (length (concat files) + length p)) (count + 1) (files ++ (p ∷ []))
+holds-more {names} {ends} {count} {files} p h a m c =
+    let n = length (concat files) in
+    let e : length (concat (files ++ (p ∷ []))) ≡ n + length p = ap length (concat-snoc files p) ∙ length-append (concat files) p in
+    let z : 0 + (n + length p) ≡ n + length p = omega arith in
+    let w : length (paste names n p (length p)) ≡ length names = length-paste names n p (length p) c (omega arith) in
+    let s = bucket-small p in
+    let f : count ≡ length files = h .counted in
+    record {
+      counted = omega (arith, length-append files (p ∷ []), h .counted);
+      few = omega arith;
+      room = rw (length-linked p h a (bucketOf p) (n + length p)) (h .room);
+      small = omega (arith, h .small);
+      within = omega arith;
+      bytes = rw (e, take-paste names n p (length p) (h .within) (omega arith), h .bytes, take-length p) (sym (concat-snoc files p));
+      column = rw (add-one count, column-now p h a (bucketOf p) (n + length p), h .column) (sym (rw z at (ends-snoc 0 files p)));
+      once = λ i j l k q. elim (decLt j count) [
+        | yes d ↦ h .once i j l d (sym (name-old files p i (omega (arith, f))) ∙ q ∙ name-old files p j (omega (arith, f)))
+        | no d ↦ (let v : j ≡ length files = omega (arith, f) in
+            nowhere p files m i (omega (arith, f)) (sym (name-old files p i (omega (arith, f))) ∙ q ∙ rw v (name-new files p)))
+      ];
+      links = λ k l. elim (decLt k count) [
+        | yes d ↦
+            rw (name-old files p k (omega (arith, f)), last-old files p (bucketOf (getD files k [])) k (omega (arith, f)))
+            (kept p h a (bucketOf p) (n + length p) (1024 + k) (λ (q : 1024 + k ≡ count). omega (arith, q)) (λ (q : 1024 + k ≡ 1024 + count). omega (arith, q)) (λ (q : 1024 + k ≡ 2048 + bucketOf p). omega (arith, q)) ∙ h .links k d)
+        | no d ↦ (let v : k ≡ count = omega arith in
+            rw (v, f, name-new files p, last-old files p (bucketOf p) (length files) (omega arith), ← f)
+            (link-now p h a (bucketOf p) (n + length p) s ∙ h .heads (bucketOf p) s))
+      ];
+      heads = λ b l. elim (decLt b (bucketOf p)) [
+        | yes d ↦ other p h a (n + length p) b l (λ (q : bucketOf p ≡ b). omega (arith, q))
+        | no d ↦ elim (decLt (bucketOf p) b) [
+          | yes g ↦ other p h a (n + length p) b l (λ (q : bucketOf p ≡ b). omega (arith, q))
+          | no g ↦ (let v : b ≡ bucketOf p = omega arith in
+              rw (v, f, last-new files p (bucketOf p) refl, ← f) (head-now p h a (bucketOf p) (n + length p) s))
+        ]
+      ];
+    }

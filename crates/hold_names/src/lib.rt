@@ -1,0 +1,131 @@
+// The table of file names: a number for each path, by first mention. The bytes of the names lie end to end in `names`; `ends` has where each
+// ends, then a link for each to the one before it in its bucket, then the last name of each bucket.
+ghost use mathlib.Core.Path.{_≡_};
+ghost use Prim.Native.Nat.{_^_, _≤_, _<_};
+ghost use lib.ListN.{length};
+ghost use Rattle.lists.specs.Fill.{zeroed};
+ghost use Rattle.spec.specs.Limits.{maxFiles};
+ghost use Rattle.hold_names.specs.Table.{bucketOf, maxNumbers, Sound, Finds, Adds, Names, startIn, linked};
+use byteorder::equal;
+use slices::bytes::copy_at;
+use slices::words::at;
+use slices::words::zero_part;
+use spec::limits::FILES;
+
+// The numbers lie in three parts: where each name ends, the next name of its bucket, the first name of each bucket.
+const LINKS: usize = 1024;
+
+const HEADS: usize = 2048;
+
+pub const NUMBERS: usize = 3072;
+
+pub enum Found {
+    At(usize),
+    Missing,
+}
+
+pub enum Added {
+    // It was there, with this number.
+    Old(usize),
+    // It is there now, with this number.
+    New(usize),
+    // There is no room for it.
+    Full,
+}
+
+fn wide(b: u8) -> usize
+    ensures { λ r. ⌜ r ≡ b ⌝ }
+{
+    b as usize
+}
+
+// The bucket of a path.
+fn bucket(path: &[u8]) -> usize
+    ensures { λ r. ⌜ r ≡ bucketOf (now (path .entry)) ⌝ }
+{
+    let mut h = 0;
+    let mut i = 0;
+    while i < path.len() {
+        h = (h * 403 + wide(path[i])) % 1024;
+        i += 1;
+    }
+    h
+}
+
+// Makes the table one of no names.
+pub fn clear(ends: &mut [u32])
+    requires { ⌜ maxNumbers ≤ length (now ends) ⌝ }
+    ensures { λ _. ⌜ now (ends .exit) ≡ zeroed (now (ends .entry)) 2048 3072 ⌝ }
+{
+    zero_part(ends, HEADS, NUMBERS);
+}
+
+// The number of a path, by the names of its bucket from the last to the first.
+pub fn find(names: &[u8], ends: &[u32], count: usize, path: &[u8]) -> Found
+    requires { ⌜ Sound (now names) (now ends) count ⌝ }
+    ensures { λ r. ⌜ Finds (now (names .entry)) (now (ends .entry)) count (now (path .entry)) r ⌝ }
+{
+    let mut j = at(ends, HEADS + bucket(path));
+    while 0 < j {
+        let k = j - 1;
+        if equal(path, name(names, ends, count, k)) {
+            return Found::At(k);
+        }
+        j = at(ends, LINKS + k);
+    }
+    Found::Missing
+}
+
+// Puts down the numbers of a name more.
+fn link(ends: &mut [u32], count: usize, b: usize, to: usize)
+    requires { ⌜ (maxNumbers ≤ length (now ends)) × (count < maxFiles) × (b < 1024) × (to < 2 ^ 32) ⌝ }
+    ensures { λ _. ⌜ now (ends .exit) ≡ linked (now (ends .entry)) count b to ⌝ }
+{
+    let head = ends[HEADS + b];
+    ends[count] = to as u32;
+    ends[LINKS + count] = head;
+    ends[HEADS + b] = (count + 1) as u32;
+}
+
+// The number of a path, which is added where it is not there yet.
+pub fn add(names: &mut [u8], ends: &mut [u32], count: usize, path: &[u8]) -> Added
+    requires { ⌜ Sound (now names) (now ends) count ⌝ }
+    ensures { λ r. ⌜ Adds (now (names .entry)) (now (ends .entry)) count (now (path .entry)) (now (names .exit)) (now (ends .exit)) r ⌝ }
+{
+    let found = find(names, ends, count, path);
+    if let Found::At(k) = found {
+        return Added::Old(k);
+    }
+    if FILES <= count {
+        return Added::Full;
+    }
+    let from = start(ends, count);
+    if names.len() - from < path.len() {
+        return Added::Full;
+    }
+    copy_at(names, from, path);
+    link(ends, count, bucket(path), from + path.len());
+    Added::New(count)
+}
+
+// The path of a number, as a part of the names.
+pub fn name<'a>(names: &'a [u8], ends: &[u32], count: usize, k: usize) -> &'a [u8]
+    requires { ⌜ Sound (now names) (now ends) count ⌝ }
+    requires { ⌜ k < count ⌝ }
+    ensures { λ r. ⌜ Names (now (names .entry)) (now (ends .entry)) count k (now r) ⌝ }
+{
+    let from = start(ends, k);
+    let to = at(ends, k);
+    &names[from..to]
+}
+
+// Where name k begins: where the one before it ends.
+fn start(ends: &[u32], k: usize) -> usize
+    requires { ⌜ k ≤ length (now ends) ⌝ }
+    ensures { λ r. ⌜ r ≡ startIn (now (ends .entry)) k ⌝ }
+{
+    if k == 0 {
+        return 0;
+    }
+    at(ends, k - 1)
+}

@@ -1,0 +1,107 @@
+-- What an agreement says of the outcome, by the answer; and what is held before the first line.
+use Prim.Native.Nat.{ℕ, _≤_}
+use mathlib.Core.List.{List, [], _∷_, map}
+use mathlib.Core.Path.{_≡_, refl}
+use native.Mathlib.Nat.{not-suc-le-zero}
+use native.Mathlib.Omega.{arith}
+use lib.ListN.{length, drop, length-drop}
+use Rattle.lists.specs.Members.{not-in-nil}
+use Rattle.spec.specs.declared.Refusal.{Refusal}
+use Rattle.spec.specs.Basics.{concat, sum}
+use Rattle.spec.specs.Reading.{Reading, nothingRead}
+use Rattle.spec.specs.Graph.{makers, makersFrom}
+use Rattle.spec.specs.Statements.{Block, noBlock, Outcome, goesOn, refused}
+use Rattle.arena.specs.Columns.{Lies}
+use Rattle.hold_names.specs.Table.{Holds as NamesHold}
+use Rattle.hold_bindings.specs.Log.{Logged, boundBy, rulesIn, rulesOf}
+use Rattle.hold_bindings.specs.Held.{maxTexts, maxRows, valuesIn}
+use Rattle.hold_bindings.proofs.Entries.{held-none}
+use Rattle.hold_columns.specs.Tables.{madeBy}
+use Rattle.hold_reading.specs.declared.Counts.{Counts}
+use Rattle.hold_reading.specs.declared.Open.{Open}
+use Rattle.hold_reading.specs.declared.LineAnswer.the-variants.{Goes, Refused}
+use Rattle.hold_reading.specs.Held.{joined, Opens, capacities, Holds, Agrees, goes, refuses}
+
+-- ---- by the answer
+
+-- The reading goes on, and is held.
+pub record GoesOn (names fileEnds texts bind graph : List ℕ) (c : Counts) (o : Open) (out : Outcome) : Type 0 where
+  pub log : List Logged
+  pub reading : Reading
+  pub block : Block
+  pub outcome : out ≡ goesOn reading block
+  pub holds : Holds log names fileEnds texts bind graph c (joined reading block)
+  pub opens : Opens log block o
+
+module _ {names fileEnds texts bind graph : List ℕ} where
+  pub agreed-on : {out : Outcome} {c : Counts} {o : Open} → Agrees names fileEnds texts bind graph out (Goes c o) → GoesOn names fileEnds texts bind graph c o out
+  agreed-on (goes {log = l} {rd = rd} {b = b} h p) = record { log = l; reading = rd; block = b; outcome = refl; holds = h; opens = p }
+
+  pub agreed-refused : {out : Outcome} {r : Refusal} → Agrees names fileEnds texts bind graph out (Refused r) → out ≡ refused r
+  agreed-refused refuses = refl
+
+-- ---- before the first line
+
+abbrev pub noCounts : Counts
+noCounts = record { files = 0; steps = 0; paths = 0; defaults = 0; entries = 0; rules = 0; bindings = 0; mentions = 0; written = 0 }
+
+none-lies : (ns a : List ℕ) → sum ns ≤ length a → Lies ns a (map (λ (n : ℕ). []) ns)
+unfolding Lies sum
+none-lies [] a h = tt
+none-lies (n ∷ ns) a h = (omega arith, omega arith, refl, none-lies ns (drop n a) (omega (arith, length-drop n a)))
+
+module _ (names fileEnds texts bind graph : List ℕ) where
+  pub start-held : NamesHold names fileEnds 0 [] → maxTexts ≤ length texts → maxRows ≤ length bind → sum capacities ≤ length graph
+      → Holds [] names fileEnds texts bind graph noCounts (joined nothingRead noBlock)
+  unfolding joined boundBy rulesOf rulesIn valuesIn concat makers makersFrom madeBy Rattle.hold_columns.specs.Tables.endsFrom
+  start-held n t b g =
+      record {
+        named = n;
+        bound =
+            record {
+              held = held-none texts bind t b;
+              vars = refl;
+              rules = refl;
+              blocks = λ s d. absurd (not-suc-le-zero d);
+              owned = tt;
+              steps-counted = refl;
+              rules-counted = refl;
+              bindings-counted = refl;
+              written-counted = refl;
+              entries-counted = refl;
+              few-rules = omega arith;
+              few-bindings = omega arith;
+              few-steps = omega arith;
+              few-written = omega arith;
+              shared = omega arith;
+            };
+        graphed =
+            record {
+              mentions = [];
+              ends = [];
+              phony = [];
+              made = [];
+              ruleOf = [];
+              lies = none-lies capacities graph g;
+              tables =
+                  record {
+                    mentioned = refl;
+                    ended = refl;
+                    phonies = refl;
+                    counted = refl;
+                    makes = λ f d. absurd (not-suc-le-zero d);
+                    low = λ f d. absurd (not-in-nil d);
+                    few-steps = omega arith;
+                    few-files = omega arith;
+                    few-mentions = omega arith;
+                  };
+              ruled-all = refl;
+              ruled = λ s d. absurd (not-suc-le-zero d);
+              paths-counted = refl;
+              defaults-counted = refl;
+              mentions-counted = refl;
+              few-mentions = omega arith;
+              mentions-low = omega arith;
+              defaults-low = λ i d. absurd (not-suc-le-zero d);
+            };
+      }

@@ -1,0 +1,97 @@
+-- What the reader's lent buffers hold between lines: the files' names, the table of bindings, and the columns of the graph. It is the reading
+-- with the open block already joined to it, so that closing a block changes no buffer.
+use Prim.Native.Nat.{ℕ, suc, _+_, _*_, _≤_, _<_}
+use mathlib.Core.Path.{_≡_}
+use mathlib.Core.Bool.{true, false}
+use mathlib.Core.List.{List, [], _∷_}
+use lib.ListN.{length, getD}
+use Rattle.spec.specs.declared.Refusal.{Refusal}
+use Rattle.spec.specs.Basics.{concat}
+use Rattle.spec.specs.Limits.{maxSteps, maxFiles, maxRules, maxBindings, maxMentions, maxWritten}
+use Rattle.spec.specs.Reading.{Step, Rule, Reading, isPhony}
+use Rattle.spec.specs.Statements.{Block, noBlock, ruleBlock, buildBlock, Outcome, goesOn, refused}
+use Rattle.spec.specs.Manifest.{withRule, withStep}
+use Rattle.spec.specs.Graph.{stepAt}
+use Rattle.arena.specs.Columns.{Lies}
+use Rattle.hold_names.specs.Table.{Holds as NamesHold}
+use Rattle.hold_bindings.specs.declared.Found.the-variants.{At}
+use Rattle.hold_bindings.specs.Log.{Logged, ofFile, ofRules, ofStep, entryAt, boundBy, rulesOf, newestRule, Owned}
+use Rattle.hold_bindings.specs.Held.{Holds as BindingsHold, valuesIn}
+use Rattle.hold_columns.specs.Tables.{Holds as TablesHold}
+use Rattle.hold_reading.specs.declared.Counts.{Counts}
+use Rattle.hold_reading.specs.declared.Open.{Open}
+use Rattle.hold_reading.specs.declared.Open.the-variants.{Nothing, Rule as OpenRule, Step as OpenStep}
+use Rattle.hold_reading.specs.declared.LineAnswer.{LineAnswer}
+use Rattle.hold_reading.specs.declared.LineAnswer.the-variants.{Goes, Refused}
+
+-- the reading with its open block closed
+unfoldable pub joined : Reading → Block → Reading
+unfolding withRule withStep
+joined rd noBlock = rd
+joined rd (ruleBlock start r) = withRule r rd
+joined rd (buildBlock s) = withStep s rd
+
+-- the open block as the code has it
+pub data Opens (log : List Logged) : Block → Open → Type 0 where
+  nothing : Opens log noBlock Nothing
+  aRule : {start k : ℕ} {r : Rule} → newestRule log ≡ At k → Opens log (ruleBlock start r) (OpenRule start k)
+  aStep : {s : Step} → Opens log (buildBlock s) OpenStep
+
+-- the table of bindings holds the reading's variables, rules and blocks
+pub record Bound (log : List Logged) (texts bind : List ℕ) (c : Counts) (rd : Reading) : Type 0 where
+  pub held : BindingsHold log texts bind (c .entries)
+  pub vars : rd .vars ≡ boundBy ofFile log
+  pub rules : rd .rules ≡ rulesOf log
+  pub blocks : (s : ℕ) → s < length (rd .steps) → stepAt (rd .steps) s .block ≡ boundBy (ofStep s) log
+  pub owned : Owned (length (rd .steps)) log
+  pub steps-counted : c .steps ≡ length (rd .steps)
+  pub rules-counted : c .rules ≡ length (rd .rules)
+  pub bindings-counted : c .bindings ≡ rd .bindings
+  pub written-counted : c .written ≡ rd .written
+  pub entries-counted : c .entries ≡ c .rules + c .bindings
+  pub few-rules : c .rules ≤ maxRules
+  pub few-bindings : c .bindings ≤ maxBindings
+  pub few-steps : c .steps ≤ maxSteps
+  pub few-written : c .written ≤ maxWritten
+  -- values and the bytes of names share what has been written
+  pub shared : valuesIn log + length (concat (rd .files)) ≤ c .written
+
+-- the number for a step's rule: 0 for phony, else the declaration's entry and one more
+pub data Ruled (log : List Logged) (rule : List ℕ) : ℕ → Type 0 where
+  phony : isPhony rule ≡ true → Ruled log rule 0
+  declared : {k : ℕ} → k < length log → entryAt k log .owner ≡ ofRules → entryAt k log .name ≡ rule → isPhony rule ≡ false → Ruled log rule (suc k)
+
+-- capacities of the columns of the graph: mentions, four ends for each step, phony or not, each file's maker, each step's rule, defaults
+abbrev pub capacities : List ℕ
+capacities = maxMentions ∷ (4 * maxSteps) ∷ maxSteps ∷ maxFiles ∷ maxSteps ∷ maxMentions ∷ []
+
+-- the columns hold the reading's steps, makers and defaults
+pub record Graphed (log : List Logged) (graph : List ℕ) (c : Counts) (rd : Reading) : Type 0 where
+  pub mentions : List ℕ
+  pub ends : List ℕ
+  pub phony : List ℕ
+  pub made : List ℕ
+  pub ruleOf : List ℕ
+  pub lies : Lies capacities graph (mentions ∷ ends ∷ phony ∷ made ∷ ruleOf ∷ rd .defaults ∷ [])
+  pub tables : TablesHold (rd .steps) (length (rd .files)) mentions ends phony made
+  pub ruled-all : length ruleOf ≡ length (rd .steps)
+  pub ruled : (s : ℕ) → s < length (rd .steps) → Ruled log (stepAt (rd .steps) s .rule) (getD ruleOf s 0)
+  pub paths-counted : c .paths ≡ length mentions
+  pub defaults-counted : c .defaults ≡ length (rd .defaults)
+  pub mentions-counted : c .mentions ≡ rd .mentions
+  pub few-mentions : c .paths + c .defaults ≤ c .mentions
+  pub mentions-low : c .mentions ≤ maxMentions
+  -- every default is an output, so a file that is there
+  pub defaults-low : (i : ℕ) → i < length (rd .defaults) → getD (rd .defaults) i 0 < length (rd .files)
+
+-- all that is held of a reading
+pub record Holds (log : List Logged) (names fileEnds texts bind graph : List ℕ) (c : Counts) (rd : Reading) : Type 0 where
+  pub named : NamesHold names fileEnds (c .files) (rd .files)
+  pub bound : Bound log texts bind c rd
+  pub graphed : Graphed log graph c rd
+
+-- an outcome and an answer agree: what goes on is held, a refusal is the same and says nothing of the buffers
+pub data Agrees (names fileEnds texts bind graph : List ℕ) : Outcome → LineAnswer → Type 0 where
+  goes : {log : List Logged} {rd : Reading} {b : Block} {c : Counts} {o : Open} → Holds log names fileEnds texts bind graph c (joined rd b) → Opens log b o
+      → Agrees names fileEnds texts bind graph (goesOn rd b) (Goes c o)
+  refuses : {r : Refusal} → Agrees names fileEnds texts bind graph (refused r) (Refused r)

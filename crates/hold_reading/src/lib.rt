@@ -1,0 +1,31 @@
+// What the reader keeps beside its lent buffers: counts and the open block. `specs/Held.antt` says what the buffers hold.
+pub mod columns;
+
+use spec::Refusal;
+
+// What has been counted so far. `paths` are the mentions of build lines alone, `entries` the rows of the binding table.
+pub struct Counts {
+    pub files: usize,
+    pub steps: usize,
+    pub paths: usize,
+    pub defaults: usize,
+    pub entries: usize,
+    pub rules: usize,
+    pub bindings: usize,
+    pub mentions: usize,
+    pub written: usize,
+}
+
+pub enum Open {
+    Nothing,
+    // a rule's block: the start of its line, and its entry in the binding table
+    Rule(usize, usize),
+    // the newest step's block
+    Step,
+}
+
+// What a line does: the reading goes on, or it is refused.
+pub enum LineAnswer {
+    Goes(Counts, Open),
+    Refused(Refusal),
+}

@@ -1,0 +1,23 @@
+-- `kestrenyo_text` meets its contract: the planner's promise, with two numbers for the answer and one for what is wanted.
+use borrow.Author.Needs.{needs}
+use Rattle.kestrenyo.proofs.kestrenyo_text.Statement.{statement}
+use Rattle.kestrenyo.proofs.kestrenyo_text.Tie as tie
+
+wanted-of-requires : tie.Need-wanted-of-requires
+wanted-of-requires c κs = search needs
+
+text-requires : tie.Need-text-requires
+text-requires c κs = search needs
+
+of-text-requires : tie.Need-of-text-requires
+of-text-requires c κs = search needs
+
+same-length : tie.Need-same-length
+same-length c = search needs
+
+returns : tie.Need-returns
+returns c = rw (c .of-text .ensures) (rw (c .before .before .before .before .before .wanted-of .ensures) at (c .before .before .before .text .ensures))
+
+pub kestrenyo-text-spec : {M : Type 1} → statement M
+kestrenyo-text-spec =
+    tie.close (tie.spec wanted-of-requires text-requires of-text-requires same-length returns)

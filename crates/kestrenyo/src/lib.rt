@@ -1,0 +1,50 @@
+// The two asks for C and Rust: numbers and slices alone. Neither asks anything of its caller, and each says what document 01 says in two numbers.
+ghost use mathlib.Core.Path.{_≡_};
+ghost use lib.ListN.{length};
+ghost use Rattle.spec.specs.PlanAsk.{planAsk};
+ghost use Rattle.spec.specs.TextAsk.{textAsk};
+ghost use Rattle.spec.specs.Promises.{PlanMeets, TextMeets};
+ghost use Rattle.answers.specs.Numbers.{said};
+ghost use Rattle.kestrenyo.specs.Wants.{wantedOf};
+use answers::Numbers;
+use answers::of_plan;
+use answers::of_text;
+use asks::plan;
+use asks::text;
+use spec::Wanted;
+
+// The plan ask: 0 and the number of steps listed, or a refusal's number and place.
+#[no_mangle]
+pub extern "C" fn kestrenyo_plan(
+    manifest: &[u8],
+    card: &[u8],
+    targets: &[u8],
+    list: &mut [u32],
+) -> Numbers
+    ensures { λ r. ⌜ PlanMeets (planAsk (now (manifest .entry)) (now (card .entry)) (now (targets .entry)) (length (now (list .entry)))) (now (list .entry)) (said r) (now (list .exit)) ⌝ }
+{
+    of_plan(plan(manifest, card, targets, list))
+}
+
+// What a number asks for.
+fn wanted_of(n: usize) -> Wanted
+    ensures { λ r. ⌜ r ≡ wantedOf n ⌝ }
+{
+    if n == 0 {
+        return Wanted::Command;
+    }
+    Wanted::Description
+}
+
+// The text ask, of a command where `wanted` is 0 and else of a description: 0 and the number of bytes written, or a refusal's number and place.
+#[no_mangle]
+pub extern "C" fn kestrenyo_text(
+    manifest: &[u8],
+    step: usize,
+    wanted: usize,
+    buffer: &mut [u8],
+) -> Numbers
+    ensures { λ r. ⌜ TextMeets (textAsk (now (manifest .entry)) step (wantedOf wanted) (length (now (buffer .entry)))) (now (buffer .entry)) (said r) (now (buffer .exit)) ⌝ }
+{
+    of_text(text(manifest, step, wanted_of(wanted), buffer))
+}

@@ -1,6 +1,0 @@
-// The leaves for Rust: what tests and benchmarks outside call, on numbers and slices alone. Each is total and answers a number that specs/ defines for every
-// input, but for the few that say in a `requires` what a benchmark's caller has tested before.
-pub mod cards;
-pub mod name_tables;
-pub mod scanners;
-pub mod target_lists;

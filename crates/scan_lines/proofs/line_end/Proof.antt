@@ -1,0 +1,40 @@
+-- `scan_lines::line_end` meets its contract.
+use borrow.Author.Needs.{needs}
+use Rattle.scan_lines.specs.Endings.{LineAt}
+use Rattle.scan_lines.proofs.Ends.{line-of-spaces, line-of-comment, line-of-body}
+use Rattle.scan_lines.proofs.line_end.Statement.{statement}
+use Rattle.scan_lines.proofs.line_end.Tie as tie
+
+spaces-requires : tie.Need-spaces-requires
+spaces-requires c κs = search needs
+
+returns : tie.Need-returns
+unfolding LineAt
+returns c = line-of-spaces (c .before .spaces .ensures) (c .if1 .taken)
+
+shared-slice-read-if2 : tie.Need-shared-slice-read-if2
+shared-slice-read-if2 c = search needs
+
+comment-end-requires : tie.Need-comment-end-requires
+comment-end-requires c κs = search needs
+
+returns-2 : tie.Need-returns-2
+returns-2 c = line-of-comment (c .before .before .before .before .spaces .ensures) (c .before .before .before .if1 .left) _ (c .before .if2 .taken) (c .comment-end .ensures)
+
+body-end-requires : tie.Need-body-end-requires
+body-end-requires c κs = search needs
+
+returns-3 : tie.Need-returns-3
+returns-3 c = line-of-body (c .before .before .before .before .spaces .ensures) (c .before .before .before .if1 .left) _ (c .before .if2 .left) (c .body-end .ensures)
+
+pub line-end-spec : {M : Type 1} → statement M
+line-end-spec =
+    tie.close
+    (tie.spec
+    spaces-requires
+    returns
+    shared-slice-read-if2
+    comment-end-requires
+    returns-2
+    body-end-requires
+    returns-3)

@@ -1,0 +1,62 @@
+-- Where a line ends, and what kind of line it is.
+use Prim.Native.Nat.{ℕ, _+_, _≤_, _<_}
+use mathlib.Core.Bool.{true, false}
+use mathlib.Core.List.{List, [], _∷_, _++_}
+use mathlib.Core.Option.{Option, none, some}
+use mathlib.Core.Path.{_≡_}
+use lib.ListN.{length, drop}
+use Rattle.lists.specs.Tests.{ifB}
+use Rattle.lists.specs.Parts.{part}
+use Rattle.spec.specs.Lines.{At, indent, lineTurn, endsLine, lineFrom, endedFrom, Line, lineAt, linesAfter, isComment, isBlank, isIndented}
+use Rattle.scan_lines.specs.declared.LineEnd.{LineEnd}
+use Rattle.scan_lines.specs.declared.LineEnd.the-variants.{Ended, Open}
+use Rattle.scan_lines.specs.declared.LineKind.{LineKind}
+use Rattle.scan_lines.specs.declared.LineKind.the-variants.{Comment, Blank, Indented, Statement}
+
+-- ---- lines
+
+-- the lines from this offset on, with these bytes
+unfoldable pub linesFrom : ℕ → List ℕ → List Line
+linesFrom at s = lineAt at s ++ linesAfter indent at s
+
+-- what follows the newline that ends the present line, if it is ended
+unfoldable pub endFrom : At → List ℕ → Option (List ℕ)
+endFrom q [] = none
+endFrom q (b ∷ s) = ifB (endsLine q b) (λ _. some s) (λ _. endFrom (lineTurn q b) s)
+
+-- The line that is read as far as q at place i ends with the newline at place e.
+pub record EndsAt (q : At) (m : List ℕ) (i e : ℕ) : Type 0 where
+  pub forward : i ≤ e
+  pub within : e < length m
+  pub rest : endFrom q (drop i m) ≡ some (drop (e + 1) m)
+
+unfoldable pub EndAt : At → List ℕ → ℕ → LineEnd → Type 0
+EndAt q m i (Ended e) = EndsAt q m i e
+EndAt q m i Open = endFrom q (drop i m) ≡ none
+
+-- The line that starts at place i ends with the newline at place e, and the next one starts behind it.
+pub record LineEnded (m : List ℕ) (i e : ℕ) : Type 0 where
+  pub forward : i ≤ e
+  pub within : e < length m
+  pub text : lineFrom indent (drop i m) ≡ part m i e
+  pub ended : endedFrom indent (drop i m) ≡ true
+  pub after : linesAfter indent i (drop i m) ≡ linesFrom (e + 1) (drop (e + 1) m)
+
+-- The manifest ends inside the line that starts at place i.
+pub record LineOpen (m : List ℕ) (i : ℕ) : Type 0 where
+  pub text : lineFrom indent (drop i m) ≡ drop i m
+  pub ended : endedFrom indent (drop i m) ≡ false
+  pub after : linesAfter indent i (drop i m) ≡ []
+
+unfoldable pub LineAt : List ℕ → ℕ → LineEnd → Type 0
+LineAt m i (Ended e) = LineEnded m i e
+LineAt m i Open = LineOpen m i
+
+-- ---- kinds
+
+-- in the order in which the rules ask
+unfoldable pub kindOf : List ℕ → LineKind
+kindOf s =
+    ifB (isComment s) (λ _. Comment) λ _.
+    ifB (isBlank s) (λ _. Blank) λ _.
+    ifB (isIndented s) (λ _. Indented) λ _. Statement

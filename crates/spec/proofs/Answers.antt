@@ -1,0 +1,19 @@
+-- The table of section "When the planner says no": each row's number, in its order, and its place.
+use Prim.Native.Nat.{ℕ}
+use mathlib.Core.Path.{_≡_, refl}
+use mathlib.Core.List.{List, [], _∷_, map}
+use Rattle.spec.specs.declared.Refusal.{Refusal}
+use Rattle.spec.specs.declared.Refusal.the-variants.{ShortBuffer, LongManifest, BadByte, BadLine, BadDollar, NotYet, BadRule, BadPath, OverLimit, BadVersion, BadCard, BadTarget, NoRoot, Circle, MissingSource, EndlessText, LongText, NoCommand}
+use Rattle.spec.specs.Answers.{numberOfRefusal, placeOfRefusal}
+
+abbrev rows : ℕ → List Refusal
+rows p =
+    ShortBuffer ∷ LongManifest ∷ BadByte p ∷ BadLine p ∷ BadDollar p ∷ NotYet p ∷ BadRule p ∷ BadPath p ∷ OverLimit p ∷ BadVersion p ∷ BadCard ∷ BadTarget p ∷ NoRoot ∷ Circle p ∷ MissingSource p ∷ EndlessText p ∷ LongText p ∷ NoCommand p ∷ []
+
+pub numbers : (p : ℕ) → map numberOfRefusal (rows p) ≡ 1 ∷ 2 ∷ 3 ∷ 4 ∷ 5 ∷ 6 ∷ 7 ∷ 8 ∷ 9 ∷ 10 ∷ 11 ∷ 12 ∷ 13 ∷ 14 ∷ 15 ∷ 16 ∷ 17 ∷ 18 ∷ []
+unfolding numberOfRefusal
+numbers p = refl
+
+pub places : (p : ℕ) → map placeOfRefusal (rows p) ≡ 0 ∷ 0 ∷ p ∷ p ∷ p ∷ p ∷ p ∷ p ∷ p ∷ p ∷ 0 ∷ p ∷ 0 ∷ p ∷ p ∷ p ∷ p ∷ p ∷ []
+unfolding placeOfRefusal
+places p = refl

@@ -1,0 +1,291 @@
+-- What any manifest is read into has sound rules, and a manifest is refused with 2 to 10 and nothing else: one walk over the reading's definitions.
+use Prim.Native.Nat.{ℕ, _≤_}
+use mathlib.Core.List.{List, [], _∷_, _++_}
+use mathlib.Core.Option.{Option, none, some}
+use mathlib.Core.Bool.{Bool, true, false, not, _||_}
+use mathlib.Core.Path.{_≡_, refl, sym, subst}
+use native.Mathlib.Omega.{arith}
+use lib.Dec.{eqb, leb, ltb}
+use lib.ListN.{length}
+use borrow.Author.Tests.{not-false}
+use Rattle.lists.specs.Tests.{ifB, split, or-left}
+use Rattle.lists.specs.Text.{bytes}
+use Rattle.lists.specs.Bytes.{eqBytes, eqBytes-true}
+use Rattle.lists.specs.Members.{any}
+use Rattle.lists.specs.Runs.{afterRun}
+use Rattle.spec.specs.declared.Refusal.{Refusal}
+use Rattle.spec.specs.declared.Refusal.the-variants.{LongManifest, BadByte, BadLine, BadRule, BadPath, OverLimit, BadVersion}
+use Rattle.spec.specs.Basics.{isEmpty}
+use Rattle.spec.specs.Answers.{numberOfRefusal}
+use Rattle.spec.specs.Limits.{maxManifest, maxSteps, maxRules, maxName, maxValue}
+use Rattle.spec.specs.Bytes.{newline, equals}
+use Rattle.spec.specs.Lines.{Line, linesOf, isComment, isBlank, isIndented, isSpace}
+use Rattle.spec.specs.Dollars.{badDollar, expand}
+use Rattle.spec.specs.Forms.{BuildLine, Fault, noForm, wrongDollar, notYet, Cut, fits, fails, then, checked, Form, ruleForm, buildForm, defaultForm, bindingForm, keyWord, nameOf, afterName, gap, rawValue, cutValue, cutBinding, cutStatement, cutIndented}
+use Rattle.spec.specs.Reading.{Bound, Rule, Step, Reading, nothingRead, find, fileVar, hasKey, keysOf, declared, isMade}
+use Rattle.spec.specs.Statements.{Block, noBlock, ruleBlock, buildBlock, Outcome, goesOn, refused, overCounts, longerThan, ruleKey, countBinding, badPaths, mentioned, inputsOfLine, overPaths, overBinding, wrongVersion, setVar, withDefaults, startRule, addKey, addStep, stepOf, addVar, addToBlock, addDefaults, expanded, expandedLine, statement, blockLine}
+use Rattle.spec.specs.Manifest.{badByte, withRule, withStep, close, andThen, faultOf, ifCut, indented, readIndented, readStatement, readLine, readLines, Read, accepted, refusedWith, readOf, ifSound, readManifest}
+use Rattle.spec.specs.Sound.{SoundKey, SoundKeys, SoundRules}
+
+pub record OfReading (r : Refusal) : Type 0 where
+  pub least : 2 ≤ numberOfRefusal r
+  pub most : numberOfRefusal r ≤ 10
+
+data SoundBlock : Block → Type 0 where
+  none-open : SoundBlock noBlock
+  rule-open : {start : ℕ} {r : Rule} → SoundKeys (r .keys) → SoundBlock (ruleBlock start r)
+  step-open : {s : Step} → SoundBlock (buildBlock s)
+
+data Sound : Outcome → Type 0 where
+  on : {rd : Reading} {b : Block} → SoundRules rd → SoundBlock b → Sound (goesOn rd b)
+  off : {r : Refusal} → OfReading r → Sound (refused r)
+
+-- one or the other
+either : {x y : Outcome} (o : Bool) → Sound x → Sound y → Sound (ifB o (λ _. x) (λ _. y))
+either true a b = a
+either false a b = b
+
+-- the other where the test is false
+otherwise : {x y : Outcome} (o : Bool) → Sound x → (o ≡ false → Sound y) → Sound (ifB o (λ _. x) (λ _. y))
+otherwise true a f = a
+otherwise false a f = f refl
+
+-- ---- the refusals of a line
+
+bad-line : (p : ℕ) → OfReading (BadLine p)
+unfolding numberOfRefusal
+bad-line p = record { least = omega arith; most = omega arith }
+
+bad-rule : (p : ℕ) → OfReading (BadRule p)
+unfolding numberOfRefusal
+bad-rule p = record { least = omega arith; most = omega arith }
+
+bad-path : (p : ℕ) → OfReading (BadPath p)
+unfolding numberOfRefusal
+bad-path p = record { least = omega arith; most = omega arith }
+
+over-limit : (p : ℕ) → OfReading (OverLimit p)
+unfolding numberOfRefusal
+over-limit p = record { least = omega arith; most = omega arith }
+
+bad-version : (p : ℕ) → OfReading (BadVersion p)
+unfolding numberOfRefusal
+bad-version p = record { least = omega arith; most = omega arith }
+
+-- ---- rules and keys
+
+no-keys : SoundKeys []
+unfolding find
+no-keys n raw e = let z : _≡_ {A = ℕ} 0 1 = cc in absurd (omega arith)
+
+more-keys : (n raw : List ℕ) (keys : List Bound) → SoundKey n raw → SoundKeys keys → SoundKeys (record { name = n; value = raw } ∷ keys)
+unfolding find
+more-keys n raw keys k h m v e =
+    split (eqBytes m n)
+    (λ (t : eqBytes m n ≡ true).
+    let d : some raw ≡ some v = rw t at e in
+    let z : raw ≡ v = cc in
+    subst (λ (x : List ℕ). SoundKey x v) (sym (eqBytes-true m n t)) (subst (λ (y : List ℕ). SoundKey n y) z k))
+    (λ (t : eqBytes m n ≡ false). h m v (rw t at e))
+
+rule-joins : (r : Rule) (rd : Reading) → SoundRules rd → SoundKeys (r .keys) → SoundRules (withRule r rd)
+unfolding withRule keysOf
+rule-joins r rd h k n =
+    split (eqBytes n (r .name)) (λ (t : eqBytes n (r .name) ≡ true). rw t k) (λ (t : eqBytes n (r .name) ≡ false). rw t (h n))
+
+-- ---- the forms
+
+sound-rule : (start : ℕ) (n : List ℕ) (rd : Reading) → SoundRules rd → Sound (startRule start n rd)
+unfolding startRule
+sound-rule start n rd h =
+    either (declared n rd) (off (bad-rule start))
+    (either (longerThan maxName n || leb maxRules (length (rd .rules))) (off (over-limit start)) (on h (rule-open no-keys)))
+
+sound-key : (start k : ℕ) (r : Rule) (n raw : List ℕ) (rd : Reading) → SoundRules rd → SoundKeys (r .keys) → badDollar raw ≡ none
+    → Sound (addKey start k r n raw rd)
+unfolding addKey countBinding
+sound-key start k r n raw rd h keys d =
+    otherwise (not (ruleKey n) || hasKey n (r .keys)) (off (bad-rule start)) λ e.
+    let key : SoundKey n raw = record { key = not-false (ruleKey n) (or-left (not (ruleKey n)) (hasKey n (r .keys)) e); sound = d } in
+    either (longerThan maxValue raw || overCounts (countBinding (length raw) rd)) (off (over-limit start))
+    (on h (rule-open (more-keys n raw (r .keys) key keys)))
+
+sound-step : (start : ℕ) (b : BuildLine) (rd : Reading) → SoundRules rd → Sound (addStep start b rd)
+unfolding addStep stepOf mentioned
+sound-step start b rd h =
+    either (not (declared (b .rule) rd)) (off (bad-rule start))
+    (either (badPaths (b .outs) (inputsOfLine b) rd) (off (bad-path start))
+    (either
+    (overPaths (b .outs ++ inputsOfLine b) || overCounts (mentioned (b .outs ++ inputsOfLine b) rd) || leb maxSteps (length (rd .steps)))
+    (off (over-limit start))
+    (on h step-open)))
+
+sound-bound : (start : ℕ) (s : Step) (n v : List ℕ) (rd : Reading) → SoundRules rd → Sound (addToBlock start s n v rd)
+unfolding addToBlock countBinding
+sound-bound start s n v rd h = either (overBinding n v (countBinding (length v) rd)) (off (over-limit start)) (on h step-open)
+
+sound-var : (start : ℕ) (n v : List ℕ) (rd : Reading) → SoundRules rd → Sound (addVar start n v rd)
+unfolding addVar setVar countBinding
+sound-var start n v rd h =
+    either (overBinding n v (countBinding (length v) rd)) (off (over-limit start))
+    (either (wrongVersion n v) (off (bad-version start)) (on h none-open))
+
+sound-default : (start : ℕ) (ps : List (List ℕ)) (rd : Reading) → SoundRules rd → Sound (addDefaults start ps rd)
+unfolding addDefaults withDefaults mentioned
+sound-default start ps rd h =
+    either (any isEmpty ps || any (λ p. not (isMade p rd)) ps) (off (bad-path start))
+    (either (overPaths ps || overCounts (mentioned ps rd)) (off (over-limit start)) (on h none-open))
+
+sound-statement : (start : ℕ) (x : Form) (rd : Reading) → SoundRules rd → Sound (statement start x rd)
+unfolding statement
+sound-statement start (ruleForm n) rd h = sound-rule start n rd h
+sound-statement start (buildForm b) rd h = sound-step start (expandedLine rd b) rd h
+sound-statement start (defaultForm ps) rd h = sound-default start (expanded rd ps) rd h
+sound-statement start (bindingForm n raw) rd h = sound-var start n (expand (fileVar (rd .vars)) raw) rd h
+
+sound-line : (start : ℕ) (b : Block) (n raw : List ℕ) (rd : Reading) → SoundRules rd → SoundBlock b → badDollar raw ≡ none
+    → Sound (blockLine start b n raw rd)
+unfolding blockLine
+sound-line start noBlock n raw rd h k d = off (bad-line start)
+sound-line start (ruleBlock head r) n raw rd h (rule-open k) d = sound-key start head r n raw rd h k d
+sound-line start (buildBlock s) n raw rd h k d = sound-bound start s n (expand (fileVar (rd .vars)) raw) rd h
+
+-- ---- what an indented line is cut into: its value has no bad `$`
+
+SoundForm : Form → Type 0
+SoundForm (ruleForm n) = Unit {0}
+SoundForm (buildForm b) = Unit {0}
+SoundForm (defaultForm ps) = Unit {0}
+SoundForm (bindingForm n raw) = badDollar raw ≡ none
+
+SoundCut : Cut Form → Type 0
+SoundCut (fits x) = SoundForm x
+SoundCut (fails e) = Unit {0}
+
+sound-checked : (o : Option ℕ) (s w raw : List ℕ) → (o ≡ none → badDollar raw ≡ none) → SoundCut (checked o s (λ _. fits (bindingForm w raw)))
+unfolding checked SoundCut SoundForm
+sound-checked none s w raw f = f refl
+sound-checked (some k) s w raw f = tt
+
+sound-value : (w s : List ℕ) → SoundCut (cutValue w s)
+unfolding cutValue SoundCut
+sound-value w [] = tt
+sound-value w (b ∷ s) =
+    split (eqb b equals)
+    (λ (e : eqb b equals ≡ true). rw e (sound-checked (badDollar (rawValue s)) (rawValue s) w (rawValue s) (λ d. d)))
+    (λ (e : eqb b equals ≡ false). rw (e, SoundCut) tt)
+
+sound-after : (x : Cut (List ℕ)) (s : List ℕ) → SoundCut (then x (λ w. cutValue w s))
+unfolding then SoundCut
+sound-after (fits w) s = sound-value w s
+sound-after (fails e) s = tt
+
+sound-binding : (s : List ℕ) → SoundCut (cutIndented s)
+unfolding cutIndented cutBinding
+sound-binding s = sound-after (keyWord (nameOf (afterRun isSpace s))) (gap (afterName (afterRun isSpace s)))
+
+-- ---- lines
+
+sound-fault : (l : Line) (e : Fault) → OfReading (faultOf l e)
+unfolding faultOf numberOfRefusal
+sound-fault l noForm = record { least = omega arith; most = omega arith }
+sound-fault l (wrongDollar n) = record { least = omega arith; most = omega arith }
+sound-fault l notYet = record { least = omega arith; most = omega arith }
+
+sound-cut : (l : Line) (c : Cut Form) (f : Form → Outcome) → ((x : Form) → c ≡ fits x → Sound (f x)) → Sound (ifCut l c f)
+unfolding ifCut
+sound-cut l (fails e) f g = off (sound-fault l e)
+sound-cut l (fits x) f g = either (l .ended) (g x refl) (off (bad-line (l .start)))
+
+sound-form : (l : Line) (rd : Reading) (b : Block) (x : Form) → SoundRules rd → SoundBlock b → SoundCut (fits x) → Sound (indented l rd b x)
+unfolding indented SoundCut SoundForm
+sound-form l rd b (bindingForm n raw) h k d = sound-line (l .start) b n raw rd h k d
+sound-form l rd b (ruleForm n) h k d = off (bad-line (l .start))
+sound-form l rd b (buildForm x) h k d = off (bad-line (l .start))
+sound-form l rd b (defaultForm ps) h k d = off (bad-line (l .start))
+
+sound-indented : (l : Line) (rd : Reading) (b : Block) → SoundRules rd → SoundBlock b → Sound (readIndented l rd b)
+unfolding readIndented
+sound-indented l rd noBlock h k = off (bad-line (l .start))
+sound-indented l rd (ruleBlock start r) h k =
+    sound-cut l (cutIndented (l .text)) (indented l rd (ruleBlock start r)) λ x e.
+    sound-form l rd (ruleBlock start r) x h k (subst (λ (c : Cut Form). SoundCut c) e (sound-binding (l .text)))
+sound-indented l rd (buildBlock s) h k =
+    sound-cut l (cutIndented (l .text)) (indented l rd (buildBlock s)) λ x e.
+    sound-form l rd (buildBlock s) x h k (subst (λ (c : Cut Form). SoundCut c) e (sound-binding (l .text)))
+
+sound-close : (rd : Reading) (b : Block) → SoundRules rd → SoundBlock b → Sound (close rd b)
+unfolding close withStep
+sound-close rd noBlock h k = on h none-open
+sound-close rd (ruleBlock start r) h (rule-open k) =
+    either (hasKey (bytes "command") (r .keys)) (on (rule-joins r rd h k) none-open) (off (bad-rule start))
+sound-close rd (buildBlock s) h k = on h none-open
+
+sound-then : (o : Outcome) (f : Reading → Block → Outcome) → Sound o → ((rd : Reading) (b : Block) → SoundRules rd → SoundBlock b → Sound (f rd b))
+    → Sound (andThen o f)
+unfolding andThen
+sound-then (goesOn rd b) f (on h k) g = g rd b h k
+sound-then (refused r) f (off a) g = off a
+
+sound-read : (l : Line) (rd : Reading) (b : Block) → SoundRules rd → SoundBlock b → Sound (readLine l rd b)
+unfolding readLine readStatement
+sound-read l rd b h k =
+    either (isComment (l .text)) (on h k)
+    (either (isBlank (l .text)) (sound-close rd b h k)
+    (either (isIndented (l .text)) (sound-indented l rd b h k)
+    (sound-then (close rd b) (readStatement l) (sound-close rd b h k)
+    (λ rd′ b′ h′ k′. sound-cut l (cutStatement (l .text)) (λ x. statement (l .start) x rd′) (λ x e. sound-statement (l .start) x rd′ h′)))))
+
+sound-lines : (ls : List Line) (rd : Reading) (b : Block) → SoundRules rd → SoundBlock b → Sound (readLines ls rd b)
+unfolding readLines
+sound-lines [] rd b h k = sound-close rd b h k
+sound-lines (l ∷ ls) rd b h k = sound-then (readLine l rd b) (readLines ls) (sound-read l rd b h k) (sound-lines ls)
+
+-- ---- the manifest
+
+data SoundRead : Read → Type 0 where
+  read-on : {rd : Reading} → SoundRules rd → SoundRead (accepted rd)
+  read-off : {r : Refusal} → OfReading r → SoundRead (refusedWith r)
+
+sound-of : {o : Outcome} → Sound o → SoundRead (readOf o)
+unfolding readOf
+sound-of (on h k) = read-on h
+sound-of (off a) = read-off a
+
+sound-bytes : (o : Option ℕ) (k : Unit {0} → Read) → SoundRead (k tt) → SoundRead (ifSound o k)
+unfolding ifSound numberOfRefusal
+sound-bytes none k a = a
+sound-bytes (some at) k a = read-off {r = BadByte at} (record { least = omega arith; most = omega arith })
+
+either-read : {x y : Read} (o : Bool) → SoundRead x → SoundRead y → SoundRead (ifB o (λ _. x) (λ _. y))
+either-read true a b = a
+either-read false a b = b
+
+too-long : OfReading LongManifest
+unfolding numberOfRefusal
+too-long = record { least = omega arith; most = omega arith }
+
+nothing-sound : SoundRules nothingRead
+unfolding keysOf
+nothing-sound n = no-keys
+
+sound-manifest : (s : List ℕ) → SoundRead (readManifest s)
+unfolding readManifest
+sound-manifest s =
+    either-read (ltb maxManifest (length s)) (read-off too-long)
+    (sound-bytes (badByte newline 0 s) (λ _. readOf (readLines (linesOf s) nothingRead noBlock))
+    (sound-of (sound-lines (linesOf s) nothingRead noBlock nothing-sound none-open)))
+
+of-refused : {x : Read} {r : Refusal} → SoundRead x → x ≡ refusedWith r → OfReading r
+of-refused {r = r} (read-on h) e = absurd (let z : _≡_ {A = ℕ} 0 1 = cc in omega arith)
+of-refused {r = r} (read-off {r = q} a) e = let z : r ≡ q = cc in rw z a
+
+of-accepted : {x : Read} {rd : Reading} → SoundRead x → x ≡ accepted rd → SoundRules rd
+of-accepted {rd = rd} (read-on {rd = other} h) e = let z : other ≡ rd = cc in subst (λ (y : Reading). SoundRules y) z h
+of-accepted {rd = rd} (read-off a) e = absurd (let z : _≡_ {A = ℕ} 0 1 = cc in omega arith)
+
+pub of-reading : (s : List ℕ) {r : Refusal} → readManifest s ≡ refusedWith r → OfReading r
+of-reading s e = of-refused (sound-manifest s) e
+
+pub accepted-sound : (s : List ℕ) (rd : Reading) → readManifest s ≡ accepted rd → SoundRules rd
+accepted-sound s rd e = of-accepted (sound-manifest s) e

@@ -1,0 +1,106 @@
+-- What has been read of a manifest, and what is looked up in it.
+use Prim.Native.Nat.{ℕ, suc}
+use mathlib.Core.List.{List, [], _∷_, _++_, map}
+use mathlib.Core.Option.{Option, none, some}
+use mathlib.Core.Bool.{Bool, _||_}
+use Rattle.lists.specs.Tests.{ifB}
+use Rattle.lists.specs.Text.{bytes}
+use Rattle.lists.specs.Bytes.{eqBytes}
+use Rattle.lists.specs.Members.{has, any}
+use Rattle.spec.specs.Basics.{among}
+
+-- a name and its value
+pub record Bound : Type 0 where
+  pub name : List ℕ
+  pub value : List ℕ
+
+-- `rule NAME` with its keys, their values raw: "kept unexpanded"
+pub record Rule : Type 0 where
+  pub name : List ℕ
+  pub keys : List Bound
+
+-- a build step: its files by number, its rule's name, its block's bindings, newest first
+pub record Step : Type 0 where
+  pub outs : List ℕ
+  pub ins : List ℕ
+  pub implicit : List ℕ
+  pub orderOnly : List ℕ
+  pub rule : List ℕ
+  pub block : List Bound
+
+-- what a manifest has said so far: rules newest first, file variables newest first; "Steps are numbered from 0 as written, files from 0 by first
+-- mention"; the files named by `default`; and the counts of bindings, mentions and bytes that the limits speak of
+pub record Reading : Type 0 where
+  pub rules : List Rule
+  pub vars : List Bound
+  pub files : List (List ℕ)
+  pub steps : List Step
+  pub defaults : List ℕ
+  pub bindings : ℕ
+  pub mentions : ℕ
+  pub written : ℕ
+
+abbrev pub nothingRead : Reading
+nothingRead = record { rules = []; vars = []; files = []; steps = []; defaults = []; bindings = 0; mentions = 0; written = 0 }
+
+-- the newest binding of a name: "a later line replaces it", "last one wins"
+unfoldable pub find : List ℕ → List Bound → Option (List ℕ)
+unfolding eqBytes
+find n [] = none
+find n (b ∷ l) = ifB (eqBytes n (b .name)) (λ _. some (b .value)) (λ _. find n l)
+
+abbrev pub orEmpty : Option (List ℕ) → List ℕ
+orEmpty none = []
+orEmpty (some v) = v
+
+-- "An unset name expands to nothing."
+unfoldable pub fileVar : List Bound → List ℕ → List ℕ
+unfolding find
+fileVar vars n = orEmpty (find n vars)
+
+-- is this name bound here
+unfoldable pub hasKey : List ℕ → List Bound → Bool
+unfolding among
+hasKey n l = among n (map (λ (b : Bound). b .name) l)
+
+-- the keys of the rule of this name
+unfoldable pub keysOf : List ℕ → List Rule → List Bound
+unfolding eqBytes
+keysOf n [] = []
+keysOf n (r ∷ l) = ifB (eqBytes n (r .name)) (λ _. r .keys) (λ _. keysOf n l)
+
+-- "`phony` is declared from the start."
+unfoldable pub isPhony : List ℕ → Bool
+unfolding eqBytes
+isPhony n = eqBytes n (bytes "phony")
+
+-- is this rule declared
+unfoldable pub declared : List ℕ → Reading → Bool
+unfolding isPhony among
+declared n rd = isPhony n || among n (map (λ (r : Rule). r .name) (rd .rules))
+
+-- a file's number: where it was first mentioned, and the number of files for one that is not mentioned
+unfoldable pub numberOf : List ℕ → List (List ℕ) → ℕ
+unfolding eqBytes
+numberOf p [] = 0
+numberOf p (f ∷ l) = ifB (eqBytes p f) (λ _. 0) (λ _. suc (numberOf p l))
+
+-- the files after these mentions too: "files from 0 by first mention"
+unfoldable pub mention : List (List ℕ) → List (List ℕ) → List (List ℕ)
+unfolding among
+mention files [] = files
+mention files (p ∷ ps) = ifB (among p files) (λ _. mention files ps) (λ _. mention (files ++ (p ∷ [])) ps)
+
+unfoldable pub numbersOf : List (List ℕ) → List (List ℕ) → List ℕ
+unfolding numberOf
+numbersOf files ps = map (λ (p : List ℕ). numberOf p files) ps
+
+-- is this file the output of a step
+unfoldable pub isOutput : ℕ → List Step → Bool
+unfolding any has
+isOutput f steps = any (λ (s : Step). has f (s .outs)) steps
+
+-- is this path the output of an earlier step
+unfoldable pub isMade : List ℕ → Reading → Bool
+unfolding isOutput numberOf
+isMade p rd = isOutput (numberOf p (rd .files)) (rd .steps)

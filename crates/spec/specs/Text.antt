@@ -1,0 +1,80 @@
+-- The text of a step: the lookup of a name, 16, and what the name's text is.
+use Prim.Native.Nat.{ℕ, zero, suc}
+use mathlib.Core.List.{List, [], _∷_, _++_, map}
+use mathlib.Core.Option.{Option, none, some}
+use mathlib.Core.Bool.{Bool, true, false}
+use lib.ListN.{getD}
+use Rattle.lists.specs.Members.{any}
+use Rattle.lists.specs.Tests.{ifB}
+use Rattle.lists.specs.Text.{bytes}
+use Rattle.lists.specs.Bytes.{eqBytes}
+use Rattle.spec.specs.Basics.{among}
+use Rattle.spec.specs.Bytes.{space, newline}
+use Rattle.spec.specs.Dollars.{expand, refs}
+use Rattle.spec.specs.Reading.{Step, Reading, find, fileVar, keysOf}
+
+-- "joined by one space (`$in_newline` by a newline), names as they are"
+unfoldable pub joinedBy : ℕ → List (List ℕ) → List ℕ
+joinedBy c [] = []
+joinedBy c (n ∷ []) = n
+joinedBy c (n ∷ m ∷ l) = n ++ (c ∷ joinedBy c (m ∷ l))
+
+-- files by their names
+unfoldable pub namesOf : Reading → List ℕ → List (List ℕ)
+namesOf rd fs = map (λ (f : ℕ). getD (rd .files) f []) fs
+
+-- "`$in` is the explicit inputs, `$out` the outputs"
+unfoldable pub ofStep : Reading → Step → List ℕ → Option (List ℕ)
+unfolding eqBytes joinedBy namesOf
+ofStep rd s n =
+    ifB (eqBytes n (bytes "in")) (λ _. some (joinedBy space (namesOf rd (s .ins)))) λ _.
+    ifB (eqBytes n (bytes "in_newline")) (λ _. some (joinedBy newline (namesOf rd (s .ins)))) λ _.
+    ifB (eqBytes n (bytes "out")) (λ _. some (joinedBy space (namesOf rd (s .outs)))) λ _. none
+
+-- what a name is looked up as: a text as it is, or a rule's text, still to be expanded
+pub data Found : Type 0 where
+  asIs : List ℕ → Found
+  ofRule : List ℕ → Found
+
+-- from the rule on, from the block on, from the step's own names on: the first of them that has the name
+unfoldable pub orRule : Reading → List ℕ → Option (List ℕ) → Found
+unfolding fileVar
+orRule rd n (some raw) = ofRule raw
+orRule rd n none = asIs (fileVar (rd .vars) n)
+
+unfoldable pub orBlock : Reading → Step → List ℕ → Option (List ℕ) → Found
+unfolding orRule find keysOf
+orBlock rd s n (some v) = asIs v
+orBlock rd s n none = orRule rd n (find n (keysOf (s .rule) (rd .rules)))
+
+unfoldable pub orStep : Reading → Step → List ℕ → Option (List ℕ) → Found
+unfolding orBlock find
+orStep rd s n (some v) = asIs v
+orStep rd s n none = orBlock rd s n (find n (s .block))
+
+-- "looked up as: `in`, `in_newline`, `out`; the block; the rule ..; the file, as its variables stand at the end of the manifest"
+unfoldable pub lookup : Reading → Step → List ℕ → Found
+unfolding orStep ofStep
+lookup rd s n = orStep rd s n (ofStep rd s n)
+
+abbrev pub onFound : {A : Type 0} → Found → (List ℕ → A) → (List ℕ → A) → A
+onFound (asIs v) f g = f v
+onFound (ofRule raw) f g = g raw
+
+-- a rule has three keys, so that a text that goes four rule texts deep has come back to one
+abbrev pub deep : ℕ
+deep = 4
+
+-- "a rule's text leads back, by the lookup, to a rule key already under expansion" (16)
+unfoldable pub leadsBack : Reading → Step → ℕ → List (List ℕ) → List ℕ → Bool
+unfolding lookup among any refs
+leadsBack rd s zero under n = true
+leadsBack rd s (suc k) under n =
+    onFound (lookup rd s n) (λ v. false) λ raw.
+    ifB (among n under) (λ _. true) (λ _. any (leadsBack rd s k (n ∷ under)) (refs raw))
+
+-- "the rule, whose text is expanded by this same order"
+unfoldable pub textOf : Reading → Step → ℕ → List ℕ → List ℕ
+unfolding lookup expand
+textOf rd s zero n = []
+textOf rd s (suc k) n = onFound (lookup rd s n) (λ v. v) (λ raw. expand (textOf rd s k) raw)

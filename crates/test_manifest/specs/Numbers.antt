@@ -1,0 +1,58 @@
+-- The reader's answer in numbers, and what is answered for buffers of any length.
+use Prim.Native.Nat.{ℕ}
+use mathlib.Core.Bool.{Bool, true, false}
+use mathlib.Core.List.{List}
+use mathlib.Core.Path.{_≡_}
+use Rattle.spec.specs.Answers.{refusalSays}
+use Rattle.scan_classes.specs.Table.{classes}
+use Rattle.apply_manifest.specs.declared.ReadAnswer.{ReadAnswer}
+use Rattle.apply_manifest.specs.declared.ReadAnswer.the-variants.{Accepted, Refused}
+use Rattle.apply_manifest.specs.Manifests.{Roomy, IsRead}
+use Rattle.test_manifest.specs.declared.ReadNumbers.{ReadNumbers}
+
+-- a number and a place, and nothing counted
+abbrev pub bare : ℕ → ℕ → ReadNumbers
+bare n p =
+    record { number = n; place = p; files = 0; steps = 0; paths = 0; defaults = 0; entries = 0; rules = 0; bindings = 0; mentions = 0; written = 0 }
+
+unfoldable pub inNumbers : ReadAnswer → ReadNumbers
+inNumbers (Accepted c) =
+    record {
+      number = 0;
+      place = 0;
+      files = c .files;
+      steps = c .steps;
+      paths = c .paths;
+      defaults = c .defaults;
+      entries = c .entries;
+      rules = c .rules;
+      bindings = c .bindings;
+      mentions = c .mentions;
+      written = c .written;
+    }
+inNumbers (Refused r) = bare (refusalSays r .number) (refusalSays r .value)
+
+-- a test that is true exactly where the buffers have room for any manifest
+pub record Judges (names ends texts bind graph word : List ℕ) (r : Bool) : Type 0 where
+  pub enough : r ≡ true → Roomy classes names ends texts bind graph word
+  pub lacking : r ≡ false → Roomy classes names ends texts bind graph word → ⊥
+
+-- the manifest has been read into the buffers, or refused, and the numbers say which
+pub record ReadAs (m : List ℕ) (r : ReadNumbers) (names ends texts bind graph : List ℕ) : Type 0 where
+  pub answer : ReadAnswer
+  pub read : IsRead m names ends texts bind graph answer
+  pub says : r ≡ inNumbers answer
+
+-- buffers as they were
+pub record Untouched (names ends texts bind graph word names′ ends′ texts′ bind′ graph′ word′ : List ℕ) : Type 0 where
+  pub names-stay : names′ ≡ names
+  pub ends-stay : ends′ ≡ ends
+  pub texts-stay : texts′ ≡ texts
+  pub bind-stay : bind′ ≡ bind
+  pub graph-stay : graph′ ≡ graph
+  pub word-stay : word′ ≡ word
+
+-- What the reader answers; or, where a buffer has no room for some manifest, 255 and the buffers as they were.
+pub record Reads (m names ends texts bind graph word : List ℕ) (r : ReadNumbers) (names′ ends′ texts′ bind′ graph′ word′ : List ℕ) : Type 0 where
+  pub roomy : Roomy classes names ends texts bind graph word → ReadAs m r names′ ends′ texts′ bind′ graph′
+  pub small : (Roomy classes names ends texts bind graph word → ⊥) → (r ≡ bare 255 0) × Untouched names ends texts bind graph word names′ ends′ texts′ bind′ graph′ word′

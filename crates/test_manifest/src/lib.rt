@@ -1,0 +1,126 @@
+// The manifest reader for Rust: the buffers come from outside, so their room is checked first.
+ghost use mathlib.Core.Path.{_≡_};
+ghost use Rattle.test_manifest.specs.Numbers.{bare, inNumbers, Judges, Reads};
+use answers::of_refusal;
+use apply_manifest::ReadAnswer;
+use apply_manifest::read;
+use hold_bindings::ROWS;
+use hold_bindings::TEXTS;
+use hold_names::NUMBERS;
+use hold_reading::columns::ROOM;
+use scan_classes::table;
+use spec::limits::WRITTEN;
+
+// What is answered: 0, 0 and how much the buffers hold; or a refusal's number and place; or 255 for buffers without room.
+#[repr(C)]
+pub struct ReadNumbers {
+    pub number: usize,
+    pub place: usize,
+    pub files: usize,
+    pub steps: usize,
+    pub paths: usize,
+    pub defaults: usize,
+    pub entries: usize,
+    pub rules: usize,
+    pub bindings: usize,
+    pub mentions: usize,
+    pub written: usize,
+}
+
+// Have the buffers room for any manifest.
+fn is_roomy(
+    names: &[u8],
+    ends: &[u32],
+    texts: &[u8],
+    bind: &[u32],
+    graph: &[u32],
+    word: &[u8],
+) -> bool
+    ensures { λ r. ⌜ Judges (now (names .entry)) (now (ends .entry)) (now (texts .entry)) (now (bind .entry)) (now (graph .entry)) (now (word .entry)) r ⌝ }
+{
+    if names.len() < WRITTEN {
+        return false;
+    }
+    if 4294967295 < names.len() {
+        return false;
+    }
+    if ends.len() < NUMBERS {
+        return false;
+    }
+    if texts.len() < TEXTS {
+        return false;
+    }
+    if bind.len() < ROWS {
+        return false;
+    }
+    if graph.len() < ROOM {
+        return false;
+    }
+    if word.len() < WRITTEN {
+        return false;
+    }
+    true
+}
+
+// A number and a place, and nothing counted.
+fn uncounted(number: usize, place: usize) -> ReadNumbers
+    ensures { λ r. ⌜ r ≡ bare number place ⌝ }
+{
+    ReadNumbers {
+        number: number,
+        place: place,
+        files: 0,
+        steps: 0,
+        paths: 0,
+        defaults: 0,
+        entries: 0,
+        rules: 0,
+        bindings: 0,
+        mentions: 0,
+        written: 0,
+    }
+}
+
+fn in_numbers(a: ReadAnswer) -> ReadNumbers
+    ensures { λ r. ⌜ r ≡ inNumbers a ⌝ }
+{
+    match a {
+        ReadAnswer::Accepted(c) => ReadNumbers {
+            number: 0,
+            place: 0,
+            files: c.files,
+            steps: c.steps,
+            paths: c.paths,
+            defaults: c.defaults,
+            entries: c.entries,
+            rules: c.rules,
+            bindings: c.bindings,
+            mentions: c.mentions,
+            written: c.written,
+        },
+        ReadAnswer::Refused(r) => {
+            let n = of_refusal(r);
+            uncounted(n.number, n.value)
+        }
+    }
+}
+
+// Reads a manifest into buffers of any length. Buffers without room are answered with 255 and not touched.
+#[no_mangle]
+pub extern "C" fn kestrenyo_read(
+    manifest: &[u8],
+    names: &mut [u8],
+    ends: &mut [u32],
+    texts: &mut [u8],
+    bind: &mut [u32],
+    graph: &mut [u32],
+    word: &mut [u8],
+) -> ReadNumbers
+    ensures { λ r. ⌜ Reads (now (manifest .entry)) (now (names .entry)) (now (ends .entry)) (now (texts .entry)) (now (bind .entry)) (now (graph .entry)) (now (word .entry)) r (now (names .exit)) (now (ends .exit)) (now (texts .exit)) (now (bind .exit)) (now (graph .exit)) (now (word .exit)) ⌝ }
+{
+    if !is_roomy(names, ends, texts, bind, graph, word) {
+        return uncounted(255, 0);
+    }
+    let t = table();
+    in_numbers(read(&t, manifest, names, ends, texts, bind, graph, word))
+}

@@ -1,0 +1,115 @@
+-- The loop that writes the names of files.
+use Prim.Native.Nat.{ℕ, zero, suc, _+_, _≤_, _<_}
+use mathlib.Core.List.{List, [], _∷_, _++_, append-nil, append-assoc}
+use mathlib.Core.Path.{_≡_, refl, sym, _∙_, ap}
+use native.Mathlib.Numerals.{add-one}
+use native.Mathlib.Omega.{arith}
+use lib.ListN.{length, drop, getD, drop-of-length-le}
+use lib.Seq.{drop-cons}
+use Rattle.spec.specs.Limits.{maxText}
+use Rattle.spec.specs.Text.{joinedBy}
+use Rattle.hold_names.specs.Table.{Holds}
+use Rattle.text_buffer.specs.Puts.{Open, Puts, namesIn, headed, NameAsk, FilesAsk}
+use Rattle.text_buffer.proofs.Parts.{puts-none, puts-over, puts-then, open-on}
+
+-- ---- one name
+
+first : (c : ℕ) (m : List ℕ) (j : ℕ) → j ≡ 0 → headed c j m ≡ m
+unfolding headed
+first c m zero z = refl
+first c m (suc j) z = absurd (omega arith)
+
+module _ {names ends fs buffer : List ℕ} {count place i f : ℕ} (a : FilesAsk names ends count fs buffer place) (b : i < length fs) (e : f ≡ getD fs i 0) where
+  pub name-ask : {now : List ℕ} {n : ℕ} → Open now n → NameAsk names ends count f now n
+  name-ask o = record { named = a .named; low = rw e (a .low i b); free = o }
+
+  pub head-first : (c : ℕ) {after : List ℕ} {r : ℕ} → i ≡ 0 → ((files : List (List ℕ)) → Holds names ends count files → Puts buffer place (getD files f []) after r)
+      → (files : List (List ℕ)) → Holds names ends count files → Puts buffer place (headed c i (getD files (getD fs i 0) [])) after r
+  head-first c z p files h = rw (first c (getD files (getD fs i 0) []) i z, ← e) (p files h)
+
+  module _ (c : ℕ) (z : i ≡ 0 → ⊥) {middle : List ℕ} {n : ℕ} (p : Puts buffer place (c ∷ []) middle n) where
+    later : (m : List ℕ) (j : ℕ) → (j ≡ 0 → ⊥) → headed c j m ≡ c ∷ m
+    unfolding headed
+    later m zero w = absurd (w refl)
+    later m (suc j) w = refl
+
+    pub head-over : maxText < n → (files : List (List ℕ)) → Holds names ends count files → Puts buffer place (headed c i (getD files (getD fs i 0) [])) middle n
+    head-over h files k = rw (later (getD files (getD fs i 0) []) i z) (puts-over p h (getD files (getD fs i 0) []))
+
+    pub head-on : {after : List ℕ} {r : ℕ} → n ≤ maxText → ((files : List (List ℕ)) → Holds names ends count files → Puts middle n (getD files f []) after r)
+        → (files : List (List ℕ)) → Holds names ends count files → Puts buffer place (headed c i (getD files (getD fs i 0) [])) after r
+    head-on h q files k = rw (later (getD files (getD fs i 0) []) i z, ← e) (puts-then p h (q files k))
+
+-- ---- one name after another
+
+-- what is left to write from name i on
+unfoldable pub tailFrom : ℕ → ℕ → List (List ℕ) → List ℕ
+unfolding headed
+tailFrom c i [] = []
+tailFrom c i (n ∷ l) = headed c i n ++ tailFrom c (suc i) l
+
+tail-later : (c i : ℕ) (n : List ℕ) (l : List (List ℕ)) → tailFrom c (suc i) (n ∷ l) ≡ c ∷ joinedBy c (n ∷ l)
+unfolding tailFrom headed joinedBy
+tail-later c i n [] = ap (λ (r : List ℕ). c ∷ r) (append-nil n)
+tail-later c i n (m ∷ l) = ap (λ (r : List ℕ). c ∷ (n ++ r)) (tail-later c (suc i) m l)
+
+tail-first : (c : ℕ) (l : List (List ℕ)) → tailFrom c 0 l ≡ joinedBy c l
+unfolding tailFrom headed joinedBy
+tail-first c [] = refl
+tail-first c (n ∷ []) = append-nil n
+tail-first c (n ∷ m ∷ l) = ap (λ (r : List ℕ). n ++ r) (tail-later c 0 m l)
+
+-- A part is written, and what is left ends in the whole.
+pub record Done (whole rest before : List ℕ) (place : ℕ) (now : List ℕ) (n : ℕ) : Type 0 where
+  pub part : List ℕ
+  pub adds : part ++ rest ≡ whole
+  pub puts : Puts before place part now n
+
+pub record Joining (names ends : List ℕ) (count : ℕ) (fs : List ℕ) (c : ℕ) (before : List ℕ) (place : ℕ) (now : List ℕ) (n i : ℕ) : Type 0 where
+  pub ask : FilesAsk names ends count fs now n
+  pub long : length now ≡ length before
+  pub done : (files : List (List ℕ)) → Holds names ends count files → Done (joinedBy c (namesIn files fs)) (tailFrom c i (namesIn files (drop i fs))) before place now n
+
+pub join-begin : {names ends fs before : List ℕ} {count place : ℕ} (c : ℕ) → FilesAsk names ends count fs before place → Joining names ends count fs c before place before place 0
+join-begin {fs = fs} c a =
+    record {
+      ask = a;
+      long = refl;
+      done = λ files h. record { part = []; adds = tail-first c (namesIn files fs); puts = puts-none (a .free) };
+    }
+
+module _ {names ends fs before now : List ℕ} {count c place n i : ℕ} (x : Joining names ends count fs c before place now n i) (b : i < length fs) {next : List ℕ} {r : ℕ}
+    (p : (files : List (List ℕ)) → Holds names ends count files → Puts now n (headed c i (getD files (getD fs i 0) [])) next r) where
+  left : (files : List (List ℕ)) → tailFrom c i (namesIn files (drop i fs)) ≡ headed c i (getD files (getD fs i 0) []) ++ tailFrom c (suc i) (namesIn files (drop (suc i) fs))
+  unfolding tailFrom
+  left files = rw (drop-cons fs i 0 b)
+
+  pub join-on : r ≤ maxText → Joining names ends count fs c before place next r (i + 1)
+  join-on h =
+      let w = x .ask .named in
+      let q = p (w .files) (w .holds) in
+      record {
+        ask = record { named = w; low = x .ask .low; free = open-on q h (x .ask .free) };
+        long = q .long ∙ x .long;
+        done = λ files k.
+            let d = x .done files k in
+            record {
+              part = d .part ++ headed c i (getD files (getD fs i 0) []);
+              adds = rw (append-assoc, add-one i) (rw (← (left files)) (d .adds));
+              puts = puts-then (d .puts) (x .ask .free .low) (p files k);
+            };
+      }
+
+  pub join-over : maxText < r → (files : List (List ℕ)) → Holds names ends count files → Puts before place (joinedBy c (namesIn files fs)) next r
+  join-over h files k =
+      let d = x .done files k in
+      let u = tailFrom c (suc i) (namesIn files (drop (suc i) fs)) in
+      rw (← (d .adds), left files, ← append-assoc) (puts-over (puts-then (d .puts) (x .ask .free .low) (p files k)) h u)
+
+pub join-end : {names ends fs before now : List ℕ} {count c place n i : ℕ} → Joining names ends count fs c before place now n i → length fs ≤ i
+    → (files : List (List ℕ)) → Holds names ends count files → Puts before place (joinedBy c (namesIn files fs)) now n
+unfolding tailFrom
+join-end {fs = fs} {i = i} x h files k =
+    let d = x .done files k in
+    let e : d .part ≡ joinedBy _ (namesIn files fs) = sym (append-nil (d .part)) ∙ rw (drop-of-length-le fs {i = i} h) at (d .adds) in
+    rw (← e) (d .puts)

@@ -1,0 +1,20 @@
+-- `text_buffer::put_name` meets its contract.
+use mathlib.Core.Path.{sym}
+use borrow.Author.Needs.{needs}
+use Rattle.text_buffer.proofs.put_name.Statement.{statement}
+use Rattle.text_buffer.proofs.put_name.Tie as tie
+
+name-requires : tie.Need-name-requires
+name-requires c κs = search needs
+
+put-requires : tie.Need-put-requires
+put-requires c κs = search needs
+
+same-length : tie.Need-same-length
+same-length c = search needs
+
+returns : tie.Need-returns
+returns c = λ files h. rw (sym (c .before .before .before .name .ensures .answer files h)) (c .before .before .put .ensures)
+
+pub put-name-spec : {M : Type 1} → statement M
+put-name-spec = tie.close (tie.spec name-requires put-requires same-length returns)

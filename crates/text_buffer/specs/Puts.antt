@@ -1,0 +1,47 @@
+-- What is written of a text in the lent buffer.
+use Prim.Native.Nat.{ℕ, zero, suc, _+_, _≤_, _<_}
+use mathlib.Core.List.{List, [], _∷_, _++_, map}
+use mathlib.Core.Path.{_≡_}
+use lib.ListN.{length, take, getD}
+use Rattle.spec.specs.Limits.{maxText}
+use Rattle.hold_names.specs.Table.{Sound}
+
+-- the buffer has room for a longest text, which is written up to this place
+pub record Open (buffer : List ℕ) (place : ℕ) : Type 0 where
+  pub room : maxText ≤ length buffer
+  pub low : place ≤ maxText
+
+-- The bytes s stand behind the first `place` bytes, up to place r.
+pub record Fits (before : List ℕ) (place : ℕ) (s after : List ℕ) (r : ℕ) : Type 0 where
+  pub count : r ≡ place + length s
+  pub bytes : take r after ≡ take place before ++ s
+
+-- They are written, or r is past the limit and so are they.
+pub record Puts (before : List ℕ) (place : ℕ) (s after : List ℕ) (r : ℕ) : Type 0 where
+  pub long : length after ≡ length before
+  pub low : r ≤ maxText + 1
+  pub fits : r ≤ maxText → Fits before place s after r
+  pub over : maxText < r → maxText < place + length s
+
+-- ------------------------------------------------------------------ files
+
+-- the names of files by their numbers
+abbrev pub namesIn : List (List ℕ) → List ℕ → List (List ℕ)
+namesIn files fs = map (λ (f : ℕ). getD files f []) fs
+
+-- name i of a list with its separator before it
+unfoldable pub headed : ℕ → ℕ → List ℕ → List ℕ
+headed c zero n = n
+headed c (suc i) n = c ∷ n
+
+-- what writing a file's name asks
+pub record NameAsk (names ends : List ℕ) (count f : ℕ) (buffer : List ℕ) (place : ℕ) : Type 0 where
+  pub named : Sound names ends count
+  pub low : f < count
+  pub free : Open buffer place
+
+-- what writing the names of a list of files asks
+pub record FilesAsk (names ends : List ℕ) (count : ℕ) (fs buffer : List ℕ) (place : ℕ) : Type 0 where
+  pub named : Sound names ends count
+  pub low : (i : ℕ) → i < length fs → getD fs i 0 < count
+  pub free : Open buffer place

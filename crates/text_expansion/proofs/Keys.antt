@@ -1,0 +1,119 @@
+-- The text of a name: as it is, once more where it stands already, or a rule's text expanded.
+use Prim.Native.Nat.{ℕ, _-_, _≤_}
+use mathlib.Core.List.{List}
+use mathlib.Core.Path.{_≡_, refl, sym, _∙_, ap}
+use native.Mathlib.Omega.{arith}
+use Rattle.lists.specs.Parts.{part}
+use Rattle.spec.specs.Dollars.{expand}
+use Rattle.spec.specs.Reading.{Step, Reading}
+use Rattle.spec.specs.Text.{asIs, ofRule, lookup, textOf, deep}
+use Rattle.hold_bindings.specs.Log.{Logged}
+use Rattle.text_lookup.specs.declared.Asked.{Asked}
+use Rattle.text_lookup.specs.declared.Source.{Source}
+use Rattle.text_lookup.specs.declared.Source.the-variants.{Inputs, InputLines, Outputs, Value, Text, Unset}
+use Rattle.text_lookup.specs.Scope.{InScope, meaning, Looks}
+use Rattle.text_lookup.proofs.Standing.{found-key, ValueOf}
+use Rattle.text_recursion.proofs.Depths.{not-zero, text-shallow, text-whole, text-as-is}
+use Rattle.text_memo.specs.declared.Span.{Span}
+use Rattle.text_memo.specs.declared.Draft.{Draft}
+use Rattle.text_memo.specs.Draft.{spanFor, Remembered, Behind, Remembers, Drafted, Writes}
+use Rattle.text_memo.proofs.Spans.{drafted-name}
+use Rattle.text_expansion.specs.Here.{Here}
+use Rattle.text_expansion.specs.Asks.{PlainAsk, WritesPlain, TextAsk, WritesText, NameAsk, WritesName, KeyAsk}
+
+-- ---- a name
+
+module _ {t names ends texts bind graph name before : List ℕ} {a : Asked} {depth : ℕ} {d : Draft} (w : NameAsk t names ends texts bind graph a name depth before d) where
+  pub in-scope : InScope texts bind a
+  in-scope = let q = w .asking in record { log = q .log; reading = q .reading; step = q .step; scope = q .here .scope }
+
+  module _ {source : Source} (l : Looks texts bind a (λ rd s. lookup rd s name) source) where
+    pub key-asked : {k : ℕ} → source ≡ Text k → KeyAsk t names ends texts bind graph a name k depth before d
+    unfolding meaning
+    key-asked {k} e =
+        record {
+          ask = w;
+          there = l .text k e;
+          found = λ log rd s h. l .means log rd s (h .scope) ∙ ap (meaning rd s log) e;
+        }
+
+    pub plain-asked : PlainAsk names ends texts bind graph a source before d
+    plain-asked =
+        let q = w .asking in
+        record { reading = q .reading; step = q .step; files = q .here .files; free = q .remembers .free; value = l .value }
+
+    module _ {after : List ℕ} {r : Draft} (p : WritesPlain names ends texts bind graph a source before d after r) where
+      as-it-is : {log : List Logged} {rd : Reading} {s : Step} (v : List ℕ) → Here names ends texts bind graph a log rd s → meaning rd s log source ≡ asIs v → Remembers (textOf rd s deep) before d
+          → Drafted (textOf rd s deep) before d (textOf rd s deep name) after r
+      as-it-is {log} {rd} {s} v h e k =
+          rw (text-as-is rd s name v (l .means log rd s (h .scope) ∙ e)) (p .writes log rd s h v e (textOf rd s deep) k)
+
+      by-source : {log : List Logged} {rd : Reading} {s : Step} (y : Source) → source ≡ y → ((k : ℕ) → source ≡ Text k → ⊥) → Here names ends texts bind graph a log rd s
+          → Remembers (textOf rd s deep) before d → Drafted (textOf rd s deep) before d (textOf rd s deep name) after r
+      unfolding meaning
+      by-source {log} {rd} {s} Inputs e n h k = as-it-is _ h (ap (meaning rd s log) e) k
+      by-source {log} {rd} {s} InputLines e n h k = as-it-is _ h (ap (meaning rd s log) e) k
+      by-source {log} {rd} {s} Outputs e n h k = as-it-is _ h (ap (meaning rd s log) e) k
+      by-source {log} {rd} {s} (Value j) e n h k = as-it-is _ h (ap (meaning rd s log) e) k
+      by-source {log} {rd} {s} (Text j) e n h k = absurd (n j e)
+      by-source {log} {rd} {s} Unset e n h k = as-it-is _ h (ap (meaning rd s log) e) k
+
+      pub plain-written : ((k : ℕ) → source ≡ Text k → ⊥) → WritesName names ends texts bind graph a name depth before d after r
+      plain-written n = record { writes = λ log rd s h c k. by-source source refl n h k }
+
+-- ---- a rule's key
+
+module _ {t names ends texts bind graph name before : List ℕ} {a : Asked} {k depth : ℕ} {d : Draft} (w : KeyAsk t names ends texts bind graph a name k depth before d) where
+  -- where it stands already
+
+  module _ {span : Span} (e : span ≡ spanFor d name) (b : span .from ≤ span .to) where
+    pub again-behind : Behind before (span .from) (span .to) (d .at)
+    again-behind =
+        let q = w .ask .asking .remembers in
+        record { ordered = b; written = rw e (q .kept name (rw e at b) .written); free = q .free }
+
+    pub again-written : {after : List ℕ} {r : Draft} → Writes before d (part before (span .from) (span .to)) after r → WritesName names ends texts bind graph a name depth before d after r
+    again-written {after} {r} p =
+        record {
+          writes = λ log rd s h c q.
+              let z : part before (span .from) (span .to) ≡ textOf rd s deep name = rw e (q .kept name (rw e at b) .is) in
+              rw (← z) (p .drafts (textOf rd s deep) q);
+        }
+
+  -- its text expanded
+
+  pub depth-left : 1 ≤ depth
+  depth-left =
+      let q = w .ask .asking in
+      let n : depth ≡ 0 → ⊥ = not-zero (q .reading) (q .step) depth name (w .ask .shallow) in
+      omega arith
+
+  module _ {raw : List ℕ} (v : ValueOf texts bind k raw) where
+    raw-found : {log : List Logged} {rd : Reading} {s : Step} → Here names ends texts bind graph a log rd s → lookup rd s name ≡ ofRule raw
+    raw-found {log} {rd} {s} h = w .found log rd s h ∙ ap ofRule (sym (v log (a .entries) (h .scope .bound) (w .there .low)))
+
+    pub text-asked : TextAsk t names ends texts bind graph a raw (depth - 1) before d
+    text-asked =
+        let q = w .ask .asking in
+        record {
+          ready =
+              record {
+                table = w .ask .table;
+                within = omega arith;
+                sound = q .here .scope .sound name raw (found-key (q .reading) (q .step) name raw (raw-found (q .here))) .sound;
+              };
+          low = omega (arith, w .ask .low);
+          asking = q;
+          shallow = text-shallow (q .reading) (q .step) depth name raw (w .ask .shallow) (raw-found (q .here));
+        }
+
+    pub key-written : {after : List ℕ} {m r : Draft} → WritesText names ends texts bind graph a raw (depth - 1) before d after m → Remembered m name (d .at) r
+        → WritesName names ends texts bind graph a name depth before d after r
+    key-written {after} {m} {r} p e =
+        record {
+          writes = λ log rd s h c q.
+              let f = raw-found h in
+              let z : textOf rd s deep name ≡ expand (textOf rd s deep) raw = text-whole rd s depth name raw c (w .ask .low) f in
+              let o : Drafted (textOf rd s deep) before d (textOf rd s deep name) after m = rw z (p .writes log rd s h (text-shallow rd s depth name raw c f) q) in
+              drafted-name q name o e;
+        }

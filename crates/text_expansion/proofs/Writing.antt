@@ -1,0 +1,151 @@
+-- The loop that writes a rule's text piece by piece.
+use Prim.Native.Nat.{ℕ, _≤_, _<_}
+use mathlib.Core.List.{List, [], _∷_, _++_, append-nil, append-assoc}
+use mathlib.Core.Bool.{false}
+use mathlib.Core.Path.{_≡_, refl, sym, _∙_, ap}
+use lib.ListN.{length, drop, drop-of-length-le}
+use Rattle.lists.specs.Members.{any}
+use Rattle.lists.specs.Parts.{part}
+use Rattle.spec.specs.Limits.{maxText}
+use Rattle.spec.specs.Dollars.{ref, fill, expand, refs}
+use Rattle.spec.specs.Reading.{Step, Reading}
+use Rattle.spec.specs.Text.{textOf, deep}
+use Rattle.scan_raw.proofs.Pieces.{pieces-end}
+use Rattle.hold_bindings.specs.Log.{Logged}
+use Rattle.text_references.specs.Begins.{Ready, plainly, Stands}
+use Rattle.text_references.proofs.Turns.{expand-bytes, expand-name, refs-bytes, refs-name, ready-on}
+use Rattle.text_lookup.specs.declared.Asked.{Asked}
+use Rattle.text_recursion.specs.Depth.{goesDeep}
+use Rattle.text_recursion.proofs.Depths.{none-first, none-later}
+use Rattle.text_buffer.specs.Puts.{Open}
+use Rattle.text_buffer.proofs.Parts.{open-on}
+use Rattle.text_memo.specs.declared.Draft.{Draft}
+use Rattle.text_memo.specs.Draft.{Remembers, Drafted, Writes}
+use Rattle.text_memo.proofs.Spans.{drafted-none, drafted-then, drafted-over}
+use Rattle.text_expansion.specs.Here.{Here}
+use Rattle.text_expansion.specs.Asks.{TextAsk, WritesText, NameAsk, WritesName}
+
+expand-none : (look : List ℕ → List ℕ) → expand look [] ≡ []
+unfolding expand fill
+expand-none look = ap (fill look) pieces-end
+
+-- A part is written, and what is left ends in the whole.
+pub record Progress (rd : Reading) (s : Step) (raw : List ℕ) (depth : ℕ) (before : List ℕ) (d : Draft) (now : List ℕ) (x : Draft) (i : ℕ) : Type 0 where
+  pub part : List ℕ
+  pub adds : part ++ expand (textOf rd s deep) (drop i raw) ≡ expand (textOf rd s deep) raw
+  pub drafted : Drafted (textOf rd s deep) before d part now x
+  pub shallow : any (goesDeep rd s depth) (refs (drop i raw)) ≡ false
+
+pub record Writing (t names ends texts bind graph : List ℕ) (a : Asked) (raw : List ℕ) (depth : ℕ) (before : List ℕ) (d : Draft) (now : List ℕ) (x : Draft) (i : ℕ) : Type 0 where
+  pub ask : TextAsk t names ends texts bind graph a raw depth before d
+  pub ready : Ready t raw i
+  pub free : Open now (x .at)
+  pub long : length now ≡ length before
+  pub done : (log : List Logged) (rd : Reading) (s : Step) → Here names ends texts bind graph a log rd s → any (goesDeep rd s depth) (refs raw) ≡ false
+      → Remembers (textOf rd s deep) before d → Progress rd s raw depth before d now x i
+
+pub write-begin : {t names ends texts bind graph raw before : List ℕ} {a : Asked} {depth : ℕ} {d : Draft} → TextAsk t names ends texts bind graph a raw depth before d
+    → Writing t names ends texts bind graph a raw depth before d before d 0
+write-begin w =
+    record {
+      ask = w;
+      ready = w .ready;
+      free = w .asking .remembers .free;
+      long = refl;
+      done = λ log rd s h b k. record { part = []; adds = refl; drafted = drafted-none k; shallow = b };
+    }
+
+module _ {t names ends texts bind graph raw before now : List ℕ} {a : Asked} {depth i : ℕ} {d x : Draft} (w : Writing t names ends texts bind graph a raw depth before d now x i) where
+  -- the reading that the ask speaks of
+  asked : Progress (w .ask .asking .reading) (w .ask .asking .step) raw depth before d now x i
+  asked = let q = w .ask .asking in w .done (q .log) (q .reading) (q .step) (q .here) (w .ask .shallow) (q .remembers)
+
+  module _ {next : ℕ} {after : List ℕ} {r : Draft} (ready : Ready t raw next) (u : Reading → Step → List ℕ)
+      (e : (rd : Reading) (s : Step) → expand (textOf rd s deep) (drop i raw) ≡ u rd s ++ expand (textOf rd s deep) (drop next raw))
+      (f : (log : List Logged) (rd : Reading) (s : Step) → Here names ends texts bind graph a log rd s → any (goesDeep rd s depth) (refs (drop i raw)) ≡ false
+      → Remembers (textOf rd s deep) now x → Drafted (textOf rd s deep) now x (u rd s) after r)
+      (g : (rd : Reading) (s : Step) → any (goesDeep rd s depth) (refs (drop i raw)) ≡ false → any (goesDeep rd s depth) (refs (drop next raw)) ≡ false) where
+    turn : (log : List Logged) (rd : Reading) (s : Step) → Here names ends texts bind graph a log rd s → Progress rd s raw depth before d now x i → Remembers (textOf rd s deep) before d
+        → Drafted (textOf rd s deep) now x (u rd s) after r
+    turn log rd s h p k = f log rd s h (p .shallow) (p .drafted .remembers (w .free .low))
+
+    turn-on : r .at ≤ maxText → Writing t names ends texts bind graph a raw depth before d after r next
+    turn-on b =
+        let q = w .ask .asking in
+        let o = turn (q .log) (q .reading) (q .step) (q .here) asked (q .remembers) in
+        record {
+          ask = w .ask;
+          ready = ready;
+          free = open-on (o .puts) b (w .free);
+          long = o .puts .long ∙ w .long;
+          done = λ log rd s h c k.
+              let p = w .done log rd s h c k in
+              record {
+                part = p .part ++ u rd s;
+                adds = append-assoc (p .part) (u rd s) (expand (textOf rd s deep) (drop next raw)) ∙ rw (← (e rd s)) (p .adds);
+                drafted = drafted-then k (p .drafted) (w .free .low) (turn log rd s h p k);
+                shallow = g rd s (p .shallow);
+              };
+        }
+
+    turn-over : maxText < r .at → WritesText names ends texts bind graph a raw depth before d after r
+    turn-over b =
+        record {
+          writes = λ log rd s h c k.
+              let p = w .done log rd s h c k in
+              let z : (p .part ++ u rd s) ++ expand (textOf rd s deep) (drop next raw) ≡ expand (textOf rd s deep) raw =
+              append-assoc (p .part) (u rd s) (expand (textOf rd s deep) (drop next raw)) ∙ rw (← (e rd s)) (p .adds) in
+              rw (← z) (drafted-over k (drafted-then k (p .drafted) (w .free .low) (turn log rd s h p k)) b (expand (textOf rd s deep) (drop next raw)));
+        }
+
+  module _ {from to next : ℕ} where
+    -- ---- bytes of the text
+
+    module _ (b : Stands raw i from to next (plainly (part raw from to))) {after : List ℕ} {r : Draft} (p : Writes now x (part raw from to) after r) where
+      pub bytes-on : r .at ≤ maxText → Writing t names ends texts bind graph a raw depth before d after r next
+      bytes-on =
+          turn-on (ready-on (w .ready) b) (λ rd s. part raw from to) (λ rd s. expand-bytes b (textOf rd s deep)) (λ log rd s h c k. p .drafts (textOf rd s deep) k)
+          (λ rd s c. rw (refs-bytes b) at c)
+
+      pub bytes-over : maxText < r .at → WritesText names ends texts bind graph a raw depth before d after r
+      bytes-over =
+          turn-over (ready-on (w .ready) b) (λ rd s. part raw from to) (λ rd s. expand-bytes b (textOf rd s deep)) (λ log rd s h c k. p .drafts (textOf rd s deep) k)
+          (λ rd s c. rw (refs-bytes b) at c)
+
+    -- ---- a name
+
+    module _ (b : Stands raw i from to next (ref (part raw from to) ∷ [])) where
+      first : (rd : Reading) (s : Step) → any (goesDeep rd s depth) (refs (drop i raw)) ≡ false → goesDeep rd s depth (part raw from to) ≡ false
+      first rd s c = none-first (goesDeep rd s depth) (part raw from to) (refs (drop next raw)) (rw (refs-name b) at c)
+
+      later : (rd : Reading) (s : Step) → any (goesDeep rd s depth) (refs (drop i raw)) ≡ false → any (goesDeep rd s depth) (refs (drop next raw)) ≡ false
+      later rd s c = none-later (goesDeep rd s depth) (part raw from to) (refs (drop next raw)) (rw (refs-name b) at c)
+
+      pub name-asked : NameAsk t names ends texts bind graph a (part raw from to) depth now x
+      name-asked =
+          let q = w .ask .asking in
+          record {
+            table = w .ready .table;
+            low = w .ask .low;
+            asking = record { log = q .log; reading = q .reading; step = q .step; here = q .here; remembers = asked .drafted .remembers (w .free .low) };
+            shallow = first (q .reading) (q .step) (asked .shallow);
+          }
+
+      module _ {after : List ℕ} {r : Draft} (p : WritesName names ends texts bind graph a (part raw from to) depth now x after r) where
+        pub name-on : r .at ≤ maxText → Writing t names ends texts bind graph a raw depth before d after r next
+        name-on =
+            turn-on (ready-on (w .ready) b) (λ rd s. textOf rd s deep (part raw from to)) (λ rd s. expand-name b (textOf rd s deep)) (λ log rd s h c k. p .writes log rd s h (first rd s c) k) later
+
+        pub name-over : maxText < r .at → WritesText names ends texts bind graph a raw depth before d after r
+        name-over =
+            turn-over (ready-on (w .ready) b) (λ rd s. textOf rd s deep (part raw from to)) (λ rd s. expand-name b (textOf rd s deep)) (λ log rd s h c k. p .writes log rd s h (first rd s c) k) later
+
+  pub write-end : length raw ≤ i → WritesText names ends texts bind graph a raw depth before d now x
+  write-end b =
+      record {
+        writes = λ log rd s h c k.
+            let p = w .done log rd s h c k in
+            let z : p .part ≡ expand (textOf rd s deep) raw =
+            sym (append-nil (p .part)) ∙ rw (drop-of-length-le raw {i = i} b, expand-none (textOf rd s deep)) at (p .adds) in
+            rw (← z) (p .drafted);
+      }

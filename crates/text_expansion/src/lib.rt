@@ -1,0 +1,147 @@
+// A step's text written into the lent buffer: a name's text as it is, or a rule's text expanded by the same lookup. Each rule key is expanded once.
+ghost use Rattle.text_expansion.specs.Asks.{TextAsk, NameAsk, KeyAsk, WritesText, WritesName, WritesKey};
+use hold_bindings::value;
+use plain::write_plain;
+use spec::limits::TEXT;
+use text_lookup::Asked;
+use text_lookup::Source;
+use text_lookup::lookup;
+use text_memo::Draft;
+use text_memo::remember;
+use text_memo::span_of;
+use text_memo::write;
+use text_memo::write_again;
+use text_references::Piece;
+use text_references::piece_at;
+
+pub mod plain;
+
+// A raw text of a rule, whose names go less than `depth` rule texts deep.
+fn write_text(
+    t: &[u8; 256],
+    names: &[u8],
+    ends: &[u32],
+    texts: &[u8],
+    bind: &[u32],
+    graph: &[u32],
+    a: Asked,
+    raw: &[u8],
+    depth: usize,
+    buffer: &mut [u8],
+    d: Draft,
+) -> Draft
+    requires { ⌜ TextAsk (now t) (now names) (now ends) (now texts) (now bind) (now graph) a (now raw) depth (now buffer) d ⌝ }
+    ensures { λ r. ⌜ WritesText (now (names .entry)) (now (ends .entry)) (now (texts .entry)) (now (bind .entry)) (now (graph .entry)) a (now (raw .entry)) depth (now (buffer .entry)) d (now (buffer .exit)) r ⌝ }
+{
+    let mut x = d;
+    let mut i = 0;
+    while i < raw.len() {
+        match piece_at(t, raw, i) {
+            Piece::Bytes(from, to, next) => {
+                x = write(buffer, x, &raw[from..to]);
+                if TEXT < x.at {
+                    return x;
+                }
+                i = next;
+            }
+            Piece::Name(from, to, next) => {
+                x = write_name(
+                    t,
+                    names,
+                    ends,
+                    texts,
+                    bind,
+                    graph,
+                    a,
+                    &raw[from..to],
+                    depth,
+                    buffer,
+                    x,
+                );
+                if TEXT < x.at {
+                    return x;
+                }
+                i = next;
+            }
+        }
+    }
+    x
+}
+
+// The text of a name, which goes less than `depth` rule texts deep.
+pub fn write_name(
+    t: &[u8; 256],
+    names: &[u8],
+    ends: &[u32],
+    texts: &[u8],
+    bind: &[u32],
+    graph: &[u32],
+    a: Asked,
+    name: &[u8],
+    depth: usize,
+    buffer: &mut [u8],
+    d: Draft,
+) -> Draft
+    requires { ⌜ NameAsk (now t) (now names) (now ends) (now texts) (now bind) (now graph) a (now name) depth (now buffer) d ⌝ }
+    ensures { λ r. ⌜ WritesName (now (names .entry)) (now (ends .entry)) (now (texts .entry)) (now (bind .entry)) (now (graph .entry)) a (now (name .entry)) depth (now (buffer .entry)) d (now (buffer .exit)) r ⌝ }
+{
+    let source = lookup(texts, bind, a, name);
+    if let Source::Text(k) = source {
+        return write_key(
+            t,
+            names,
+            ends,
+            texts,
+            bind,
+            graph,
+            a,
+            name,
+            k,
+            depth,
+            buffer,
+            d,
+        );
+    }
+    write_plain(names, ends, texts, bind, graph, a, source, buffer, d)
+}
+
+// The text of a rule's key, whose raw text is entry k: where it stands already, once more, else expanded.
+fn write_key(
+    t: &[u8; 256],
+    names: &[u8],
+    ends: &[u32],
+    texts: &[u8],
+    bind: &[u32],
+    graph: &[u32],
+    a: Asked,
+    name: &[u8],
+    k: usize,
+    depth: usize,
+    buffer: &mut [u8],
+    d: Draft,
+) -> Draft
+    requires { ⌜ KeyAsk (now t) (now names) (now ends) (now texts) (now bind) (now graph) a (now name) k depth (now buffer) d ⌝ }
+    ensures { λ r. ⌜ WritesKey (now (names .entry)) (now (ends .entry)) (now (texts .entry)) (now (bind .entry)) (now (graph .entry)) a (now (name .entry)) k depth (now (buffer .entry)) d (now (buffer .exit)) r ⌝ }
+{
+    let span = span_of(d, name);
+    let from = span.from;
+    let to = span.to;
+    if from <= to {
+        return write_again(buffer, d, from, to);
+    }
+    let raw = value(texts, bind, k);
+    let x = write_text(
+        t,
+        names,
+        ends,
+        texts,
+        bind,
+        graph,
+        a,
+        raw,
+        depth - 1,
+        buffer,
+        d,
+    );
+    remember(x, name, d.at)
+}

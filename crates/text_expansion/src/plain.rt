@@ -1,0 +1,71 @@
+// Texts that are written as they are: the step's files, and values.
+ghost use mathlib.Core.List.{List};
+ghost use Prim.Native.Nat.{ℕ};
+ghost use Rattle.lists.specs.Parts.{part};
+ghost use Rattle.spec.specs.Text.{joinedBy};
+ghost use Rattle.hold_names.specs.Table.{Holds};
+ghost use Rattle.text_buffer.specs.Puts.{namesIn};
+ghost use Rattle.text_memo.specs.Draft.{Writes};
+ghost use Rattle.text_expansion.specs.Asks.{FilesAsk, PlainAsk, WritesPlain};
+use hold_bindings::value;
+use text_buffer::put_files;
+use text_lookup::Asked;
+use text_lookup::Source;
+use text_memo::Draft;
+use text_memo::moved;
+use text_memo::write;
+
+// The names of the step's files from one place of the mentions to another.
+fn write_files(
+    names: &[u8],
+    ends: &[u32],
+    graph: &[u32],
+    a: Asked,
+    from: usize,
+    to: usize,
+    separator: u8,
+    buffer: &mut [u8],
+    d: Draft,
+) -> Draft
+    requires { ⌜ FilesAsk (now names) (now ends) (now graph) a from to (now buffer) d ⌝ }
+    ensures { λ r. ⌜ ((files : List (List ℕ)) → Holds (now (names .entry)) (now (ends .entry)) (a .files) files → Writes (now (buffer .entry)) d (joinedBy separator (namesIn files (part (now (graph .entry)) from to))) (now (buffer .exit)) r) ⌝ }
+{
+    let n = put_files(
+        names,
+        ends,
+        a.files,
+        &graph[from..to],
+        separator,
+        buffer,
+        d.at,
+    );
+    moved(d, n)
+}
+
+// Whatever a name stands for, but for a rule's text: "`$in` is the explicit inputs", "`$out` the outputs".
+pub fn write_plain(
+    names: &[u8],
+    ends: &[u32],
+    texts: &[u8],
+    bind: &[u32],
+    graph: &[u32],
+    a: Asked,
+    source: Source,
+    buffer: &mut [u8],
+    d: Draft,
+) -> Draft
+    requires { ⌜ PlainAsk (now names) (now ends) (now texts) (now bind) (now graph) a source (now buffer) d ⌝ }
+    ensures { λ r. ⌜ WritesPlain (now (names .entry)) (now (ends .entry)) (now (texts .entry)) (now (bind .entry)) (now (graph .entry)) a source (now (buffer .entry)) d (now (buffer .exit)) r ⌝ }
+{
+    let outs = a.outs;
+    let ins = a.ins;
+    let rest = a.rest;
+    match source {
+        Source::Inputs => write_files(names, ends, graph, a, ins, rest, b' ', buffer, d),
+        Source::InputLines => write_files(names, ends, graph, a, ins, rest, b'\n', buffer, d),
+        Source::Outputs => write_files(names, ends, graph, a, outs, ins, b' ', buffer, d),
+        Source::Value(k) => write(buffer, d, value(texts, bind, k)),
+        Source::Text(_) => d,
+        Source::Unset => d,
+    }
+}

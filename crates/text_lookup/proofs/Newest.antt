@@ -1,0 +1,138 @@
+-- The newest entry of a name in each part of the scope is what the lookup finds there.
+use Prim.Native.Nat.{ℕ, _<_}
+use mathlib.Core.List.{List}
+use mathlib.Core.Bool.{true, false}
+use mathlib.Core.Option.{none, some}
+use mathlib.Core.Path.{_≡_, sym, _∙_, ap}
+use native.Mathlib.Omega.{arith}
+use lib.ListN.{length}
+use Rattle.lists.specs.Text.{bytes}
+use Rattle.lists.specs.Bytes.{eqBytes}
+use Rattle.spec.specs.Reading.{find, fileVar, orEmpty}
+use Rattle.spec.specs.Text.{asIs, ofStep, orRule, orBlock, orStep, lookup}
+use Rattle.hold_bindings.specs.declared.Found.{Found}
+use Rattle.hold_bindings.specs.declared.Found.the-variants.{At, Missing}
+use Rattle.hold_bindings.specs.Log.{Logged, ofFile, ofKeys, ofStep as ofBlock, entryAt, newest, valueOf, boundBy}
+use Rattle.hold_bindings.specs.Held.{Holds}
+use Rattle.hold_bindings.proofs.Lookups.{newest-below, find-newest}
+use Rattle.text_lookup.specs.declared.Asked.{Asked}
+use Rattle.text_lookup.specs.declared.Source.{Source}
+use Rattle.text_lookup.specs.declared.Source.the-variants.{Inputs, InputLines, Outputs, Value, Text, Unset}
+use Rattle.text_lookup.specs.Scope.{InScope, meaning, fromFile, fromRule, fromBlock, There, Looks}
+
+-- f is the newest entry of a name for an owner
+module _ (o : ℕ) (n : List ℕ) (a : Asked) {texts bind : List ℕ} {f : Found} (q : (log : List Logged) → Holds log texts bind (a .entries) → f ≡ newest o n log) where
+  pub entry-there : {k : ℕ} → InScope texts bind a → f ≡ At k → There texts bind a k
+  entry-there {k} w e =
+      let b : k < length (w .log) = newest-below o n (w .log) k (sym (q (w .log) (w .scope .bound)) ∙ e) in
+      let m : k < a .entries = omega (arith, w .scope .bound .rows .counted) in
+      record { entry = record { log = w .log; count = a .entries; held = w .scope .bound; below = m }; low = m }
+
+  entry-found : {k : ℕ} (log : List Logged) → Holds log texts bind (a .entries) → f ≡ At k → find n (boundBy o log) ≡ some (entryAt k log .value)
+  unfolding valueOf
+  entry-found {k} log h e = find-newest o n log ∙ rw (sym (q log h) ∙ e)
+
+  entry-missing : (log : List Logged) → Holds log texts bind (a .entries) → f ≡ Missing → find n (boundBy o log) ≡ none
+  unfolding valueOf
+  entry-missing log h e = find-newest o n log ∙ rw (sym (q log h) ∙ e)
+
+module _ (n : List ℕ) {texts bind : List ℕ} {a : Asked} {f : Found} where
+  module _ (q : (log : List Logged) → Holds log texts bind (a .entries) → f ≡ newest ofFile n log) where
+    pub file-found : {k : ℕ} → InScope texts bind a → f ≡ At k → Looks texts bind a (fromFile n) (Value k)
+    unfolding meaning orRule fileVar
+    file-found {k} w e =
+        record {
+          means = λ log rd s c. ap asIs (ap orEmpty (ap (find n) (c .vars) ∙ entry-found ofFile n a q log (c .bound) e));
+          value = λ j d. let z : k ≡ j = cc in rw (← z) (entry-there ofFile n a q w e);
+          text = λ j d. let z : _≡_ {A = ℕ} 0 1 = cc in absurd (omega arith);
+        }
+
+    pub file-unset : f ≡ Missing → Looks texts bind a (fromFile n) Unset
+    unfolding meaning orRule fileVar
+    file-unset e =
+        record {
+          means = λ log rd s c. ap asIs (ap orEmpty (ap (find n) (c .vars) ∙ entry-missing ofFile n a q log (c .bound) e));
+          value = λ j d. let z : _≡_ {A = ℕ} 0 1 = cc in absurd (omega arith);
+          text = λ j d. let z : _≡_ {A = ℕ} 0 1 = cc in absurd (omega arith);
+        }
+
+  module _ (q : (log : List Logged) → Holds log texts bind (a .entries) → f ≡ newest (ofKeys (a .rule)) n log) where
+    pub rule-found : {k : ℕ} → InScope texts bind a → f ≡ At k → Looks texts bind a (fromRule n) (Text k)
+    unfolding meaning orBlock orRule
+    rule-found {k} w e =
+        record {
+          means = λ log rd s c. ap (orRule rd n) (ap (find n) (c .keys) ∙ entry-found (ofKeys (a .rule)) n a q log (c .bound) e);
+          value = λ j d. let z : _≡_ {A = ℕ} 0 1 = cc in absurd (omega arith);
+          text = λ j d. let z : k ≡ j = cc in rw (← z) (entry-there (ofKeys (a .rule)) n a q w e);
+        }
+
+    pub rule-missing : {r : Source} → f ≡ Missing → Looks texts bind a (fromFile n) r → Looks texts bind a (fromRule n) r
+    unfolding orBlock
+    rule-missing {r} e l =
+        record {
+          means = λ log rd s c.
+              ap (orRule rd n) (ap (find n) (c .keys) ∙ entry-missing (ofKeys (a .rule)) n a q log (c .bound) e) ∙ l .means log rd s c;
+          value = l .value;
+          text = l .text;
+        }
+
+  module _ (q : (log : List Logged) → Holds log texts bind (a .entries) → f ≡ newest (ofBlock (a .step)) n log) where
+    pub block-found : {k : ℕ} → InScope texts bind a → f ≡ At k → Looks texts bind a (fromBlock n) (Value k)
+    unfolding meaning orStep orBlock
+    block-found {k} w e =
+        record {
+          means = λ log rd s c. ap (orBlock rd s n) (ap (find n) (c .block) ∙ entry-found (ofBlock (a .step)) n a q log (c .bound) e);
+          value = λ j d. let z : k ≡ j = cc in rw (← z) (entry-there (ofBlock (a .step)) n a q w e);
+          text = λ j d. let z : _≡_ {A = ℕ} 0 1 = cc in absurd (omega arith);
+        }
+
+    pub block-missing : {r : Source} → f ≡ Missing → Looks texts bind a (fromRule n) r → Looks texts bind a (fromBlock n) r
+    unfolding orStep
+    block-missing {r} e l =
+        record {
+          means = λ log rd s c.
+              ap (orBlock rd s n) (ap (find n) (c .block) ∙ entry-missing (ofBlock (a .step)) n a q log (c .bound) e) ∙ l .means log rd s c;
+          value = l .value;
+          text = l .text;
+        }
+
+-- ---- the step's own names
+
+module _ (n : List ℕ) {texts bind : List ℕ} (a : Asked) where
+  pub looks-inputs : eqBytes n (bytes "in") ≡ true → Looks texts bind a (λ rd s. lookup rd s n) Inputs
+  unfolding lookup orStep ofStep meaning
+  looks-inputs e =
+      record {
+        means = λ log rd s c. rw e;
+        value = λ j d. let z : _≡_ {A = ℕ} 0 1 = cc in absurd (omega arith);
+        text = λ j d. let z : _≡_ {A = ℕ} 0 1 = cc in absurd (omega arith);
+      }
+
+  module _ (p : eqBytes n (bytes "in") ≡ false) where
+    pub looks-lines : eqBytes n (bytes "in_newline") ≡ true → Looks texts bind a (λ rd s. lookup rd s n) InputLines
+    unfolding lookup orStep ofStep meaning
+    looks-lines e =
+        record {
+          means = λ log rd s c. rw (p, e);
+          value = λ j d. let z : _≡_ {A = ℕ} 0 1 = cc in absurd (omega arith);
+          text = λ j d. let z : _≡_ {A = ℕ} 0 1 = cc in absurd (omega arith);
+        }
+
+    module _ (q : eqBytes n (bytes "in_newline") ≡ false) where
+      pub looks-outputs : eqBytes n (bytes "out") ≡ true → Looks texts bind a (λ rd s. lookup rd s n) Outputs
+      unfolding lookup orStep ofStep meaning
+      looks-outputs e =
+          record {
+            means = λ log rd s c. rw (p, q, e);
+            value = λ j d. let z : _≡_ {A = ℕ} 0 1 = cc in absurd (omega arith);
+            text = λ j d. let z : _≡_ {A = ℕ} 0 1 = cc in absurd (omega arith);
+          }
+
+      pub looks-on : {r : Source} → eqBytes n (bytes "out") ≡ false → Looks texts bind a (fromBlock n) r → Looks texts bind a (λ rd s. lookup rd s n) r
+      unfolding lookup ofStep
+      looks-on e l =
+          record {
+            means = λ log rd s c. rw (p, q, e) (l .means log rd s c);
+            value = l .value;
+            text = l .text;
+          }

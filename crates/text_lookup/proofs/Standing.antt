@@ -1,0 +1,52 @@
+-- For callers: what a name stands for by the answer of its lookup.
+use Prim.Native.Nat.{ℕ, _<_}
+use mathlib.Core.List.{List}
+use mathlib.Core.Option.{Option, none, some}
+use mathlib.Core.Path.{_≡_, refl, sym, _∙_}
+use native.Mathlib.Omega.{arith}
+use Rattle.spec.specs.Reading.{Step, Reading, find, keysOf}
+use Rattle.spec.specs.Text.{asIs, ofRule, ofStep, orRule, orBlock, orStep, lookup}
+use Rattle.scan_classes.specs.Table.{classes}
+use Rattle.hold_bindings.specs.Log.{Logged, entryAt}
+use Rattle.hold_bindings.specs.Held.{Holds}
+use Rattle.text_references.specs.Begins.{Ready}
+use Rattle.text_lookup.specs.declared.Asked.{Asked}
+use Rattle.text_lookup.specs.declared.Source.{Source}
+use Rattle.text_lookup.specs.declared.Source.the-variants.{Text}
+use Rattle.text_lookup.specs.Scope.{Scope, InScope, meaning, There, Looks}
+
+module _ (rd : Reading) (s : Step) (n : List ℕ) where
+  rule-text : (o b k : Option (List ℕ)) (raw : List ℕ) → orStep rd s n o ≡ ofRule raw → b ≡ find n (s .block) → k ≡ find n (keysOf (s .rule) (rd .rules)) → k ≡ some raw
+  unfolding orStep orBlock orRule
+  rule-text (some v) b k raw e p q = let d : asIs v ≡ ofRule raw = e in let z : _≡_ {A = ℕ} 0 1 = cc in absurd (omega arith)
+  rule-text none (some v) k raw e p q = let d : asIs v ≡ ofRule raw = rw (sym p) at e in let z : _≡_ {A = ℕ} 0 1 = cc in absurd (omega arith)
+  rule-text none none none raw e p q = let d = rw (sym p, sym q) at e in let z : _≡_ {A = ℕ} 0 1 = cc in absurd (omega arith)
+  rule-text none none (some r) raw e p q = let d : ofRule r ≡ ofRule raw = rw (sym p, sym q) at e in cc
+
+  -- what the lookup finds in the rule is one of the rule's keys
+  pub found-key : (raw : List ℕ) → lookup rd s n ≡ ofRule raw → find n (keysOf (s .rule) (rd .rules)) ≡ some raw
+  unfolding lookup
+  found-key raw e = rule-text (ofStep rd s n) (find n (s .block)) (find n (keysOf (s .rule) (rd .rules))) raw e refl refl
+
+-- the value of an entry as the table gives it
+abbrev pub ValueOf : List ℕ → List ℕ → ℕ → List ℕ → Type 0
+ValueOf texts bind k raw = (log : List Logged) (count : ℕ) → Holds log texts bind count → k < count → raw ≡ entryAt k log .value
+
+module _ {texts bind : List ℕ} {a : Asked} {k : ℕ} (h : There texts bind a k) {raw : List ℕ} (v : ValueOf texts bind k raw) where
+  is-raw : {log : List Logged} {rd : Reading} {s : Step} → Scope texts bind a log rd s → raw ≡ entryAt k log .value
+  is-raw {log} {rd} {s} c = v log (a .entries) (c .bound) (h .low)
+
+module _ (n : List ℕ) {texts bind : List ℕ} {a : Asked} {r : Source} (l : Looks texts bind a (λ rd s. lookup rd s n) r) where
+  module _ {k : ℕ} {raw : List ℕ} (v : ValueOf texts bind k raw) {log : List Logged} {rd : Reading} {s : Step} (c : Scope texts bind a log rd s) where
+    pub stands-text : r ≡ Text k → lookup rd s n ≡ ofRule raw
+    unfolding meaning
+    stands-text e = l .means log rd s c ∙ rw (e, is-raw (l .text k e) v c)
+
+  -- a rule's text has no bad `$`
+  pub text-ready : {t raw : List ℕ} {k : ℕ} → t ≡ classes → InScope texts bind a → r ≡ Text k → ValueOf texts bind k raw → Ready t raw 0
+  text-ready {raw = raw} q w e v =
+      record {
+        table = q;
+        within = omega arith;
+        sound = w .scope .sound n raw (found-key (w .reading) (w .step) n raw (stands-text v (w .scope) e)) .sound;
+      }

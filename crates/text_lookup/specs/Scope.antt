@@ -1,0 +1,63 @@
+-- What a step's names are looked up in, and what an answer means.
+use Prim.Native.Nat.{ℕ, _<_}
+use mathlib.Core.List.{List, []}
+use mathlib.Core.Option.{none}
+use mathlib.Core.Path.{_≡_}
+use Rattle.spec.specs.Bytes.{space, newline}
+use Rattle.spec.specs.Limits.{maxSteps}
+use Rattle.spec.specs.Reading.{Step, Reading, keysOf}
+use Rattle.spec.specs.Sound.{SoundKeys}
+use Rattle.spec.specs.Text.{joinedBy, namesOf, Found, asIs, ofRule, orRule, orBlock, orStep}
+use Rattle.hold_bindings.specs.Log.{Logged, ofFile, ofKeys, ofStep, entryAt, boundBy}
+use Rattle.hold_bindings.specs.Held.{maxEntries, Holds, HasEntry}
+use Rattle.text_lookup.specs.declared.Asked.{Asked}
+use Rattle.text_lookup.specs.declared.Source.{Source}
+use Rattle.text_lookup.specs.declared.Source.the-variants.{Inputs, InputLines, Outputs, Value, Text, Unset}
+
+-- The table of bindings holds the scope of this step of a reading.
+pub record Scope (texts bind : List ℕ) (a : Asked) (log : List Logged) (rd : Reading) (s : Step) : Type 0 where
+  pub bound : Holds log texts bind (a .entries)
+  pub vars : rd .vars ≡ boundBy ofFile log
+  pub block : s .block ≡ boundBy (ofStep (a .step)) log
+  pub keys : keysOf (s .rule) (rd .rules) ≡ boundBy (ofKeys (a .rule)) log
+  pub sound : SoundKeys (keysOf (s .rule) (rd .rules))
+  pub step-low : a .step < maxSteps
+  pub rule-low : a .rule < maxEntries
+
+-- it holds the scope of some step of some reading
+pub record InScope (texts bind : List ℕ) (a : Asked) : Type 0 where
+  pub log : List Logged
+  pub reading : Reading
+  pub step : Step
+  pub scope : Scope texts bind a log reading step
+
+-- what an answer means
+unfoldable pub meaning : Reading → Step → List Logged → Source → Found
+unfolding joinedBy namesOf entryAt
+meaning rd s log Inputs = asIs (joinedBy space (namesOf rd (s .ins)))
+meaning rd s log InputLines = asIs (joinedBy newline (namesOf rd (s .ins)))
+meaning rd s log Outputs = asIs (joinedBy space (namesOf rd (s .outs)))
+meaning rd s log (Value k) = asIs (entryAt k log .value)
+meaning rd s log (Text k) = ofRule (entryAt k log .value)
+meaning rd s log Unset = asIs []
+
+-- the lookup's later parts
+abbrev pub fromFile : List ℕ → Reading → Step → Found
+fromFile n rd s = orRule rd n none
+
+abbrev pub fromRule : List ℕ → Reading → Step → Found
+fromRule n rd s = orBlock rd s n none
+
+abbrev pub fromBlock : List ℕ → Reading → Step → Found
+fromBlock n rd s = orStep rd s n none
+
+-- an entry of the table
+pub record There (texts bind : List ℕ) (a : Asked) (k : ℕ) : Type 0 where
+  pub entry : HasEntry texts bind k
+  pub low : k < a .entries
+
+-- The answer means what is found, whatever scope is held, and its entry is there.
+pub record Looks (texts bind : List ℕ) (a : Asked) (found : Reading → Step → Found) (r : Source) : Type 0 where
+  pub means : (log : List Logged) (rd : Reading) (s : Step) → Scope texts bind a log rd s → found rd s ≡ meaning rd s log r
+  pub value : (k : ℕ) → r ≡ Value k → There texts bind a k
+  pub text : (k : ℕ) → r ≡ Text k → There texts bind a k

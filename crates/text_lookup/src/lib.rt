@@ -1,0 +1,81 @@
+// A step's lookup: what a name in its text stands for.
+ghost use Rattle.spec.specs.Text.{lookup};
+ghost use Rattle.text_lookup.specs.Scope.{InScope, Looks, fromFile, fromRule, fromBlock};
+use byteorder::equal;
+use hold_bindings::Found;
+use hold_bindings::newest;
+
+// The step that is asked for: its number, the entry of its rule's declaration in the table of bindings, how many entries and files there are, and where
+// its outputs and its explicit inputs start and end among the mentions.
+pub struct Asked {
+    pub step: usize,
+    pub rule: usize,
+    pub entries: usize,
+    pub files: usize,
+    pub outs: usize,
+    pub ins: usize,
+    pub rest: usize,
+}
+
+// Where the text of a name is.
+pub enum Source {
+    // `in`, `in_newline` and `out`
+    Inputs,
+    InputLines,
+    Outputs,
+    // a value of the table of bindings as it is, by its entry
+    Value(usize),
+    // a rule's text, still to be expanded
+    Text(usize),
+    Unset,
+}
+
+// A name that neither the step nor its rule binds.
+fn of_file(texts: &[u8], bind: &[u32], a: Asked, name: &[u8]) -> Source
+    requires { ⌜ InScope (now texts) (now bind) a ⌝ }
+    ensures { λ r. ⌜ Looks (now (texts .entry)) (now (bind .entry)) a (fromFile (now (name .entry))) r ⌝ }
+{
+    match newest(texts, bind, a.entries, 0, name) {
+        Found::At(k) => Source::Value(k),
+        Found::Missing => Source::Unset,
+    }
+}
+
+// A name that the step does not bind.
+fn of_rule(texts: &[u8], bind: &[u32], a: Asked, name: &[u8]) -> Source
+    requires { ⌜ InScope (now texts) (now bind) a ⌝ }
+    ensures { λ r. ⌜ Looks (now (texts .entry)) (now (bind .entry)) a (fromRule (now (name .entry))) r ⌝ }
+{
+    match newest(texts, bind, a.entries, 2 + 2 * a.rule, name) {
+        Found::At(k) => Source::Text(k),
+        Found::Missing => of_file(texts, bind, a, name),
+    }
+}
+
+// A name that is none of the step's files.
+fn of_block(texts: &[u8], bind: &[u32], a: Asked, name: &[u8]) -> Source
+    requires { ⌜ InScope (now texts) (now bind) a ⌝ }
+    ensures { λ r. ⌜ Looks (now (texts .entry)) (now (bind .entry)) a (fromBlock (now (name .entry))) r ⌝ }
+{
+    match newest(texts, bind, a.entries, 3 + 2 * a.step, name) {
+        Found::At(k) => Source::Value(k),
+        Found::Missing => of_rule(texts, bind, a, name),
+    }
+}
+
+// "looked up as: `in`, `in_newline`, `out`; the block; the rule ..; the file"
+pub fn lookup(texts: &[u8], bind: &[u32], a: Asked, name: &[u8]) -> Source
+    requires { ⌜ InScope (now texts) (now bind) a ⌝ }
+    ensures { λ r. ⌜ Looks (now (texts .entry)) (now (bind .entry)) a (λ rd s. lookup rd s (now (name .entry))) r ⌝ }
+{
+    if equal(name, b"in") {
+        return Source::Inputs;
+    }
+    if equal(name, b"in_newline") {
+        return Source::InputLines;
+    }
+    if equal(name, b"out") {
+        return Source::Outputs;
+    }
+    of_block(texts, bind, a, name)
+}

@@ -1,0 +1,57 @@
+-- What a draft remembers of the texts of names.
+use Prim.Native.Nat.{ℕ, _≤_}
+use mathlib.Core.List.{List}
+use mathlib.Core.Logic.{_⊎_}
+use mathlib.Core.Path.{_≡_}
+use Rattle.lists.specs.Tests.{ifB}
+use Rattle.lists.specs.Text.{bytes}
+use Rattle.lists.specs.Bytes.{eqBytes}
+use Rattle.lists.specs.Parts.{part}
+use Rattle.spec.specs.Limits.{maxText}
+use Rattle.text_buffer.specs.Puts.{Open, Puts}
+use Rattle.text_memo.specs.declared.Span.{Span}
+use Rattle.text_memo.specs.declared.Draft.{Draft}
+
+abbrev pub span : ℕ → ℕ → Span
+span f e = record { from = f; to = e }
+
+unfoldable pub spanFor : Draft → List ℕ → Span
+unfolding eqBytes
+spanFor d n =
+    ifB (eqBytes n (bytes "command")) (λ _. d .command) λ _.
+    ifB (eqBytes n (bytes "description")) (λ _. d .description) λ _.
+    ifB (eqBytes n (bytes "generator")) (λ _. d .generator) λ _. span 1 0
+
+-- Only the span of this name may have changed, to that from a place up to the end.
+pub record Remembered (d : Draft) (name : List ℕ) (from : ℕ) (r : Draft) : Type 0 where
+  pub at : r .at ≡ d .at
+  pub spans : (n : List ℕ) → ((n ≡ name) × (spanFor r n ≡ span from (d .at))) ⊎ (spanFor r n ≡ spanFor d n)
+
+-- The part lies in what is written.
+pub record Behind (buffer : List ℕ) (from to place : ℕ) : Type 0 where
+  pub ordered : from ≤ to
+  pub written : to ≤ place
+  pub free : Open buffer place
+
+-- The spans of a draft hold the texts of their names.
+pub record Kept (text : List ℕ → List ℕ) (buffer : List ℕ) (d : Draft) (n : List ℕ) : Type 0 where
+  pub written : spanFor d n .to ≤ d .at
+  pub is : part buffer (spanFor d n .from) (spanFor d n .to) ≡ text n
+
+pub record Remembers (text : List ℕ → List ℕ) (buffer : List ℕ) (d : Draft) : Type 0 where
+  pub free : Open buffer (d .at)
+  pub kept : (n : List ℕ) → spanFor d n .from ≤ spanFor d n .to → Kept text buffer d n
+
+-- s is written behind a draft, and the draft then remembers.
+pub record Drafted (text : List ℕ → List ℕ) (before : List ℕ) (d : Draft) (s after : List ℕ) (r : Draft) : Type 0 where
+  pub puts : Puts before (d .at) s after (r .at)
+  pub remembers : r .at ≤ maxText → Remembers text after r
+
+-- another place and the same spans
+pub record Moved (d : Draft) (at : ℕ) (r : Draft) : Type 0 where
+  pub to : r .at ≡ at
+  pub same : (n : List ℕ) → spanFor r n ≡ spanFor d n
+
+-- s is written behind the draft, whatever it remembers.
+pub record Writes (before : List ℕ) (d : Draft) (s after : List ℕ) (r : Draft) : Type 0 where
+  pub drafts : (text : List ℕ → List ℕ) → Remembers text before d → Drafted text before d s after r

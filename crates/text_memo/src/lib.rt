@@ -1,0 +1,123 @@
+// A text being written, with where in it the texts of the rule's keys already stand: each of them is expanded once, and copied where it comes again.
+ghost use mathlib.Core.Path.{_≡_};
+ghost use Rattle.lists.specs.Parts.{part};
+ghost use Rattle.text_buffer.specs.Puts.{Open, Puts};
+ghost use Rattle.text_memo.specs.Draft.{spanFor, Remembered, Behind, Moved, Writes};
+use byteorder::equal;
+use spec::limits::TEXT;
+use text_buffer::put;
+use text_buffer::put_byte;
+
+// A part of the text from place to place. One that ends before it starts is none.
+pub struct Span {
+    pub from: usize,
+    pub to: usize,
+}
+
+pub struct Draft {
+    pub at: usize,
+    pub command: Span,
+    pub description: Span,
+    pub generator: Span,
+}
+
+// Where the text of a name stands.
+pub fn span_of(d: Draft, name: &[u8]) -> Span
+    ensures { λ r. ⌜ r ≡ spanFor d (now (name .entry)) ⌝ }
+{
+    if equal(name, b"command") {
+        return d.command;
+    }
+    if equal(name, b"description") {
+        return d.description;
+    }
+    if equal(name, b"generator") {
+        return d.generator;
+    }
+    Span { from: 1, to: 0 }
+}
+
+// The text of a name stands from a place up to the end.
+pub fn remember(d: Draft, name: &[u8], from: usize) -> Draft
+    ensures { λ r. ⌜ Remembered d (now (name .entry)) from r ⌝ }
+{
+    let at = d.at;
+    let span = Span { from, to: at };
+    let command = d.command;
+    let description = d.description;
+    let generator = d.generator;
+    if equal(name, b"command") {
+        return Draft {
+            at,
+            command: span,
+            description,
+            generator,
+        };
+    }
+    if equal(name, b"description") {
+        return Draft {
+            at,
+            command,
+            description: span,
+            generator,
+        };
+    }
+    if equal(name, b"generator") {
+        return Draft {
+            at,
+            command,
+            description,
+            generator: span,
+        };
+    }
+    d
+}
+
+// A part of the text again, from a place on.
+fn put_again(buffer: &mut [u8], from: usize, to: usize, place: usize) -> usize
+    requires { ⌜ Behind (now buffer) from to place ⌝ }
+    ensures { λ r. ⌜ Puts (now (buffer .entry)) place (part (now (buffer .entry)) from to) (now (buffer .exit)) r ⌝ }
+{
+    let mut i = from;
+    let mut n = place;
+    while i < to {
+        let b = buffer[i];
+        n = put_byte(buffer, n, b);
+        if TEXT < n {
+            return n;
+        }
+        i += 1;
+    }
+    n
+}
+
+// The same draft at another place.
+pub fn moved(d: Draft, at: usize) -> Draft
+    ensures { λ r. ⌜ Moved d at r ⌝ }
+{
+    let command = d.command;
+    let description = d.description;
+    let generator = d.generator;
+    Draft {
+        at,
+        command,
+        description,
+        generator,
+    }
+}
+
+// Writes bytes.
+pub fn write(buffer: &mut [u8], d: Draft, s: &[u8]) -> Draft
+    requires { ⌜ Open (now buffer) (d .at) ⌝ }
+    ensures { λ r. ⌜ Writes (now (buffer .entry)) d (now (s .entry)) (now (buffer .exit)) r ⌝ }
+{
+    moved(d, put(buffer, d.at, s))
+}
+
+// Writes a part of the text again.
+pub fn write_again(buffer: &mut [u8], d: Draft, from: usize, to: usize) -> Draft
+    requires { ⌜ Behind (now buffer) from to (d .at) ⌝ }
+    ensures { λ r. ⌜ Writes (now (buffer .entry)) d (part (now (buffer .entry)) from to) (now (buffer .exit)) r ⌝ }
+{
+    moved(d, put_again(buffer, from, to, d.at))
+}

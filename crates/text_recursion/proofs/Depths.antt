@@ -1,0 +1,80 @@
+-- A text that does not go k rule texts deep is whole after k expansions.
+use Prim.Native.Nat.{ℕ, zero, suc, _-_, _≤_}
+use mathlib.Core.List.{List, [], _∷_}
+use mathlib.Core.Bool.{Bool, false}
+use mathlib.Core.Path.{_≡_, refl, sym, _∙_, ap}
+use native.Mathlib.Omega.{arith}
+use Rattle.lists.specs.Members.{any}
+use Rattle.lists.specs.Tests.{differ, or-left, or-right}
+use Rattle.spec.specs.Dollars.{Piece, byte, ref, pieces, fill, expand, refsOf, refs}
+use Rattle.spec.specs.Reading.{Step, Reading}
+use Rattle.spec.specs.Text.{Found, asIs, ofRule, lookup, textOf, deep}
+use Rattle.text_recursion.specs.Depth.{leadsTo, goesDeep}
+
+-- none of the names: not the first, and none of the others
+module _ (p : List ℕ → Bool) (n : List ℕ) (l : List (List ℕ)) (h : any p (n ∷ l) ≡ false) where
+  pub none-first : p n ≡ false
+  unfolding any
+  none-first = or-left (p n) (any p l) h
+
+  pub none-later : any p l ≡ false
+  unfolding any
+  none-later = or-right (p n) (any p l) h
+
+module _ (p : List ℕ → Bool) (f g : List ℕ → List ℕ) (same : (m : List ℕ) → p m ≡ false → f m ≡ g m) where
+  fill-same : (l : List Piece) → any p (refsOf l) ≡ false → fill f l ≡ fill g l
+  unfolding fill refsOf
+  fill-same [] h = refl
+  fill-same (byte b ∷ l) h = ap (λ (r : List ℕ). b ∷ r) (fill-same l h)
+  fill-same (ref n ∷ l) h = rw (same n (none-first p n (refsOf l) h), fill-same l (none-later p n (refsOf l) h))
+
+  -- an expansion asks only for the names referred to
+  pub expand-same : (raw : List ℕ) → any p (refs raw) ≡ false → expand f raw ≡ expand g raw
+  unfolding expand refs
+  expand-same raw h = fill-same (pieces raw) h
+
+module _ (rd : Reading) (s : Step) where
+  pub not-zero : (k : ℕ) (n : List ℕ) → goesDeep rd s k n ≡ false → k ≡ 0 → ⊥
+  unfolding goesDeep
+  not-zero zero n h z = differ refl h
+  not-zero (suc k) n h z = omega arith
+
+  text-below : (k : ℕ) (n raw : List ℕ) → goesDeep rd s (suc k) n ≡ false → lookup rd s n ≡ ofRule raw → any (goesDeep rd s k) (refs raw) ≡ false
+  unfolding goesDeep leadsTo
+  text-below k n raw h e = rw e at h
+
+  -- the names that a rule's text refers to go less deep
+  pub text-shallow : (k : ℕ) (n raw : List ℕ) → goesDeep rd s k n ≡ false → lookup rd s n ≡ ofRule raw → any (goesDeep rd s (k - 1)) (refs raw) ≡ false
+  text-shallow k n raw h e =
+      let b : k ≡ 0 → ⊥ = not-zero k n h in
+      let z : k ≡ suc (k - 1) = omega arith in
+      text-below (k - 1) n raw (ap (λ (j : ℕ). goesDeep rd s j n) (sym z) ∙ h) e
+
+  found-stable : (k j : ℕ) (n : List ℕ) (f : Found) → lookup rd s n ≡ f → ((m : List ℕ) → goesDeep rd s k m ≡ false → textOf rd s j m ≡ textOf rd s k m)
+      → goesDeep rd s (suc k) n ≡ false → textOf rd s (suc j) n ≡ textOf rd s (suc k) n
+  unfolding textOf
+  found-stable k j n (asIs v) e q h = rw e
+  found-stable k j n (ofRule raw) e q h = rw e (expand-same (goesDeep rd s k) (textOf rd s j) (textOf rd s k) q raw (text-below k n raw h e))
+
+  pub text-stable : (k j : ℕ) (n : List ℕ) → goesDeep rd s k n ≡ false → k ≤ j → textOf rd s j n ≡ textOf rd s k n
+  text-stable zero j n h b = absurd (not-zero zero n h refl)
+  text-stable (suc k) zero n h b = absurd (omega arith)
+  text-stable (suc k) (suc j) n h b = found-stable k j n (lookup rd s n) refl (λ m g. text-stable k j m g (omega arith)) h
+
+  once : (k : ℕ) (n raw : List ℕ) → lookup rd s n ≡ ofRule raw → textOf rd s (suc k) n ≡ expand (textOf rd s k) raw
+  unfolding textOf
+  once k n raw e = rw e
+
+  whole-below : (k : ℕ) (n raw : List ℕ) → goesDeep rd s (suc k) n ≡ false → suc k ≤ deep → lookup rd s n ≡ ofRule raw → textOf rd s deep n ≡ expand (textOf rd s deep) raw
+  whole-below k n raw h b e =
+      once 3 n raw e
+      ∙ expand-same (goesDeep rd s k) (textOf rd s 3) (textOf rd s deep) (λ m g. text-stable k 3 m g (omega arith) ∙ sym (text-stable k deep m g (omega arith))) raw (text-below k n raw h e)
+
+  -- "the rule, whose text is expanded by this same order"
+  pub text-whole : (k : ℕ) (n raw : List ℕ) → goesDeep rd s k n ≡ false → k ≤ deep → lookup rd s n ≡ ofRule raw → textOf rd s deep n ≡ expand (textOf rd s deep) raw
+  text-whole zero n raw h b e = absurd (not-zero zero n h refl)
+  text-whole (suc k) n raw h b e = whole-below k n raw h b e
+
+  pub text-as-is : (n v : List ℕ) → lookup rd s n ≡ asIs v → textOf rd s deep n ≡ v
+  unfolding textOf
+  text-as-is n v e = rw e

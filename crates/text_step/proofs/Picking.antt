@@ -1,0 +1,266 @@
+-- A step by its number: its rule's declaration, and its files among the mentions.
+use Prim.Native.Nat.{ℕ, suc, _+_, _*_, _-_, _≤_, _<_}
+use mathlib.Core.List.{List, [], _∷_}
+use mathlib.Core.Bool.{Bool, true, false, _||_}
+use mathlib.Core.Path.{_≡_, refl, sym, _∙_, ap}
+use native.Mathlib.Decide.{ℕ-discrete}
+use native.Mathlib.Omega.{arith}
+use borrow.Author.Tests.{eq-eqb, ne-eqb, le-leb}
+use lib.Dec.{leb}
+use lib.ListN.{length, take, getD}
+use lib.Seq.{getD-take}
+use Rattle.lists.specs.Tests.{split}
+use Rattle.lists.specs.Bytes.{eq-eqBytes}
+use Rattle.lists.specs.Members.{in-at}
+use Rattle.lists.specs.Parts.{part}
+use Rattle.spec.specs.Reading.{Reading, isPhony, keysOf}
+use Rattle.spec.specs.Graph.{stepAt}
+use Rattle.arena.proofs.Laws.{lies-column, lies-read}
+use Rattle.hold_columns.specs.Tables.{outsIn, startIn}
+use Rattle.hold_columns.proofs.Places.{start-zero, start-suc, read-ins, read-ins-placed}
+use Rattle.hold_columns.proofs.Held.{held-outs, held-sound}
+use Rattle.hold_bindings.specs.declared.Found.{Found}
+use Rattle.hold_bindings.specs.declared.Found.the-variants.{At, Missing}
+use Rattle.hold_bindings.specs.Log.{Logged, ofRules, ofKeys, entryAt, isNamed, newest, keysAt, boundBy}
+use Rattle.hold_bindings.specs.Held.{Holds, HasEntry, Sound}
+use Rattle.hold_bindings.proofs.Lookups.{newest-below, entry-kept, entry-newest, keys-newest}
+use Rattle.hold_reading.specs.declared.Counts.{Counts}
+use Rattle.hold_reading.specs.Held.{capacities, Ruled, phony, declared, Bound, Graphed}
+use Rattle.text_lookup.specs.declared.Asked.{Asked}
+use Rattle.text_memo.proofs.Spans.{part-front}
+use Rattle.text_step.specs.declared.StepAsked.{StepAsked}
+use Rattle.text_step.specs.declared.StepAsked.the-variants.{NoCommand, Step}
+use Rattle.text_step.specs.Steps.{HasRule, Declares, InGraph, outputsFrom, Picked, Picks, PickAsk, Reads, Asks}
+
+-- ---- the rule
+
+-- a name that an entry declares is found
+newest-some : (o : ℕ) (n : List ℕ) (log : List Logged) (k : ℕ) → k < length log → entryAt k log .owner ≡ o → entryAt k log .name ≡ n → newest o n log ≡ Missing → ⊥
+unfolding newest isNamed
+newest-some o n [] k b p q e = omega arith
+newest-some o n (x ∷ l) k b p q e =
+    split (isNamed o n x)
+    (λ (t : isNamed o n x ≡ true). let d : At (length l) ≡ Missing = rw t at e in let z : _≡_ {A = ℕ} 0 1 = cc in omega arith)
+    (λ (t : isNamed o n x ≡ false).
+    elim (ℕ-discrete k (length l)) [
+      | yes z ↦
+          (let w : entryAt k (x ∷ l) ≡ x = ap (λ (j : ℕ). entryAt j (x ∷ l)) z ∙ entry-newest x l in
+          let y : isNamed o n x ≡ true = rw (eq-eqb (x .owner) o (ap (λ (v : Logged). v .owner) (sym w) ∙ p), eq-eqBytes (sym (ap (λ (v : Logged). v .name) (sym w) ∙ q))) in
+          let d : true ≡ false = sym y ∙ t in
+          let z : _≡_ {A = ℕ} 0 1 = cc in
+          omega arith)
+      | no z ↦
+          (let w : entryAt k (x ∷ l) ≡ entryAt k l = entry-kept x l k (omega arith) in
+          newest-some o n l k (omega arith) (ap (λ (v : Logged). v .owner) (sym w) ∙ p) (ap (λ (v : Logged). v .name) (sym w) ∙ q) (rw t at e))
+    ])
+
+module _ {texts bind : List ℕ} {count k : ℕ} where
+  pub rule-entry : HasRule texts bind count k → HasEntry texts bind k
+  rule-entry w = record { log = w .log; count = count; held = w .held; below = w .below }
+
+  pub rule-table : HasRule texts bind count k → Sound texts bind count
+  rule-table w = record { log = w .log; held = w .held }
+
+  module _ (w : HasRule texts bind count k) {name : List ℕ} (v : (log : List Logged) (n : ℕ) → Holds log texts bind n → k < n → name ≡ entryAt k log .name) {f : Found}
+      (q : (log : List Logged) → Holds log texts bind count → f ≡ newest ofRules name log) where
+    found : (log : List Logged) → Holds log texts bind count → newest ofRules (entryAt k log .name) log ≡ f
+    found log h = sym (q log h ∙ rw (v log count h (w .below)))
+
+    pub declares-at : {j : ℕ} → f ≡ At j → Declares texts bind count k j
+    declares-at e = record { newest = λ log h o. found log h ∙ e }
+
+    pub declares-missing : {r : ℕ} → f ≡ Missing → Declares texts bind count k r
+    declares-missing e =
+        record {
+          newest = λ log h o.
+              absurd (newest-some ofRules (entryAt k log .name) log k (omega (arith, w .below, h .rows .counted)) o refl (found log h ∙ e));
+        }
+
+-- the rule of a step that is not phony
+record Rules (log : List Logged) (rule : List ℕ) (k : ℕ) : Type 0 where
+  below : k < length log
+  owner : entryAt k log .owner ≡ ofRules
+  name : entryAt k log .name ≡ rule
+  command : isPhony rule ≡ false
+
+ruled-by : {log : List Logged} {rule : List ℕ} {m : ℕ} → Ruled log rule m → (m ≡ 0 → ⊥) → Rules log rule (m - 1)
+ruled-by (phony e) h = absurd (h refl)
+ruled-by {log} {rule} (declared {k = k} b o n e) h =
+    let z : suc k - 1 ≡ k = omega arith in
+    record { below = rw z b; owner = rw z o; name = rw z n; command = e }
+
+ruled-phony : {log : List Logged} {rule : List ℕ} {m : ℕ} → Ruled log rule m → m ≡ 0 → isPhony rule ≡ true
+ruled-phony (phony e) z = e
+ruled-phony (declared {k = k} b o n e) z = absurd (omega arith)
+
+-- ---- the columns
+
+module _ {log : List Logged} {texts bind graph : List ℕ} {c : Counts} {rd : Reading} (b : Bound log texts bind c rd) (g : Graphed log graph c rd) where
+  columns : List (List ℕ)
+  columns = g .mentions ∷ g .ends ∷ g .phony ∷ g .made ∷ g .ruleOf ∷ rd .defaults ∷ []
+
+  pub graph-long : 8192 ≤ length graph
+  unfolding columns
+  graph-long = let k = lies-column capacities graph columns 4 (g .lies) (omega arith) in omega (arith, k .within)
+
+  pub in-graph : {s : ℕ} → s < c .steps → InGraph graph s
+  in-graph h = record { low = omega (arith, b .few-steps); long = graph-long }
+
+  module _ {s : ℕ} (h : s < c .steps) where
+    there : s < length (rd .steps)
+    there = omega (arith, b .steps-counted)
+
+    rule-read : getD graph (7680 + s) 0 ≡ getD (g .ruleOf) s 0
+    unfolding columns
+    rule-read = let l = there in lies-read capacities graph columns 4 (g .lies) (omega arith) s (omega (arith, g .ruled-all))
+
+    ruled : Ruled log (stepAt (rd .steps) s .rule) (getD graph (7680 + s) 0)
+    ruled = rw rule-read (g .ruled s there)
+
+    pub is-phony : getD graph (7680 + s) 0 ≡ 0 → isPhony (stepAt (rd .steps) s .rule) ≡ true
+    is-phony z = ruled-phony ruled z
+
+    ends-low : 4 * s + 3 < length (g .ends)
+    ends-low = held-sound (g .tables) .placed s there .within
+
+    end-read : (j : ℕ) → j ≤ 4 * s + 3 → getD graph (4096 + j) 0 ≡ getD (g .ends) j 0
+    unfolding columns
+    end-read j k = let l = ends-low in lies-read capacities graph columns 1 (g .lies) (omega arith) j (omega arith)
+
+    -- where its outputs and its explicit inputs end
+    outs-end : getD graph (4096 + 4 * s) 0 ≡ getD (g .ends) (4 * s) 0
+    outs-end = end-read (4 * s) (omega arith)
+
+    ins-end : getD graph (4097 + 4 * s) 0 ≡ getD (g .ends) (4 * s + 1) 0
+    ins-end = let z : 4097 + 4 * s ≡ 4096 + (4 * s + 1) = omega arith in rw z (end-read (4 * s + 1) (omega arith))
+
+    outs-start : outputsFrom graph s ≡ startIn (g .ends) s
+    unfolding outputsFrom
+    outs-start = elim (ℕ-discrete s 0) [
+      | yes z ↦ rw (eq-eqb s 0 z) (start-zero (g .ends) s z)
+      | no z ↦
+          (let y : 4095 + 4 * s ≡ 4096 + (4 * s - 1) = omega arith in
+          rw (ne-eqb s 0 z, y) (end-read (4 * s - 1) (omega arith) ∙ start-suc (g .ends) s z))
+    ]
+
+    -- the explicit inputs in the tables
+    ins-held : part (g .mentions) (getD (g .ends) (4 * s) 0) (getD (g .ends) (4 * s + 1) 0) ≡ stepAt (rd .steps) s .ins
+    ins-held = rw (g .tables .mentioned, g .tables .ended) (read-ins (rd .steps) s)
+
+    ins-placed : (getD (g .ends) (4 * s) 0 ≤ getD (g .ends) (4 * s + 1) 0) × (getD (g .ends) (4 * s + 1) 0 ≤ getD (g .ends) (4 * s + 2) 0)
+    ins-placed = rw (g .tables .ended) (read-ins-placed (rd .steps) s there)
+
+    outs-held : part (g .mentions) (startIn (g .ends) s) (getD (g .ends) (4 * s) 0) ≡ stepAt (rd .steps) s .outs
+    unfolding outsIn
+    outs-held = held-outs (g .tables) s
+
+  -- the mentions begin the graph
+  mentions-first : take (length (g .mentions)) graph ≡ g .mentions
+  unfolding columns
+  mentions-first = lies-column capacities graph columns 0 (g .lies) (omega arith) .is
+
+  part-mentions : (f e : ℕ) → e ≤ length (g .mentions) → part graph f e ≡ part (g .mentions) f e
+  part-mentions f e k = sym (part-front graph f e (length (g .mentions)) k) ∙ ap (λ (l : List ℕ). part l f e) mentions-first
+
+  mention-low : (i : ℕ) → i < length (g .mentions) → getD graph i 0 < length (rd .files)
+  mention-low i k =
+      let e : getD graph i 0 ≡ getD (g .mentions) i 0 = sym (getD-take (length (g .mentions)) graph i 0 k) ∙ ap (λ (l : List ℕ). getD l i 0) mentions-first in
+      rw e (g .tables .low (getD (g .mentions) i 0) (in-at (g .mentions) i k))
+
+-- ---- the step
+
+pub outputs-first : (graph : List ℕ) (s : ℕ) → s ≡ 0 → 0 ≡ outputsFrom graph s
+unfolding outputsFrom
+outputs-first graph s z = sym (rw (eq-eqb s 0 z))
+
+pub outputs-later : (graph : List ℕ) (s : ℕ) → (s ≡ 0 → ⊥) → getD graph (4095 + 4 * s) 0 ≡ outputsFrom graph s
+unfolding outputsFrom
+outputs-later graph s z = sym (rw (ne-eqb s 0 z))
+
+module _ {texts bind graph : List ℕ} {c : Counts} {step k : ℕ} (w : PickAsk texts bind graph c step k) where
+  rules-of : {log : List Logged} {rd : Reading} → Bound log texts bind c rd → Graphed log graph c rd → Rules log (stepAt (rd .steps) step .rule) k
+  rules-of b g = rw (w .entry) (ruled-by (ruled b g (w .there)) (w .ruled))
+
+  pub pick-rule : HasRule texts bind (c .entries) k
+  pick-rule =
+      let r = rules-of (w .bound) (w .graphed) in
+      record { log = w .log; held = w .bound .held; below = omega (arith, r .below, w .bound .held .rows .counted); owner = r .owner }
+
+  pub pick-graph : InGraph graph step
+  pick-graph = in-graph (w .bound) (w .graphed) (w .there)
+
+  module _ {rule outs ins rest : ℕ} (d : Declares texts bind (c .entries) k rule) (o : outs ≡ outputsFrom graph step) (i : ins ≡ getD graph (4096 + 4 * step) 0)
+      (e : rest ≡ getD graph (4097 + 4 * step) 0) where
+    module _ {log : List Logged} {rd : Reading} (b : Bound log texts bind c rd) (g : Graphed log graph c rd) where
+      rule-found : newest ofRules (stepAt (rd .steps) step .rule) log ≡ At rule
+      rule-found = let r = rules-of b g in rw (← (r .name)) (d .newest log (b .held) (r .owner))
+
+      keys-found : keysOf (stepAt (rd .steps) step .rule) (rd .rules) ≡ boundBy (ofKeys rule) log
+      unfolding keysAt
+      keys-found = rw (b .rules) (keys-newest (stepAt (rd .steps) step .rule) log ∙ rw rule-found)
+
+      one : Picked graph c step (record { step = step; rule = rule; entries = c .entries; files = c .files; outs = outs; ins = ins; rest = rest }) log rd
+      one =
+          let h = w .there in
+          let p = held-sound (g .tables) .placed step (there b g h) in
+          let q = ins-placed b g h in
+          let x : outs ≡ startIn (g .ends) step = o ∙ outs-start b g h in
+          let y : ins ≡ getD (g .ends) (4 * step) 0 = i ∙ outs-end b g h in
+          let z : rest ≡ getD (g .ends) (4 * step + 1) 0 = e ∙ ins-end b g h in
+          let m : rest ≤ length (g .mentions) = omega (arith, p .inputs, p .mentioned, q .1) in
+          record {
+            there = there b g h;
+            command = rules-of b g .command;
+            number = refl;
+            entries = refl;
+            files = refl;
+            rule-low = omega (arith, newest-below ofRules (stepAt (rd .steps) step .rule) log rule rule-found, b .held .rows .counted, b .held .rows .few);
+            keys = keys-found;
+            outs-ordered = omega (arith, p .outs);
+            ins-ordered = omega (arith, q .0);
+            within = omega (arith, g .tables .few-mentions, graph-long b g);
+            outs = part-mentions b g outs ins (omega (arith, q .0)) ∙ rw (x, y) (outs-held b g h);
+            ins = part-mentions b g ins rest m ∙ rw (y, z) (ins-held b g h);
+            low = λ j l r. mention-low b g j (omega arith);
+          }
+
+    pub picks : Picks texts bind graph c step (record { step = step; rule = rule; entries = c .entries; files = c .files; outs = outs; ins = ins; rest = rest })
+    picks = record { picked = λ log rd b g. one b g }
+
+-- ---- by the answer
+
+or-right-true : (a : Bool) → a || true ≡ true
+or-right-true true = refl
+or-right-true false = refl
+
+module _ (texts bind graph : List ℕ) (c : Counts) (step : ℕ) where
+  pub step-missing : c .steps ≤ step → Asks texts bind graph c step NoCommand
+  unfolding Asks
+  step-missing h log rd b g = rw (le-leb (length (rd .steps)) step (omega (arith, b .steps-counted)))
+
+  pub step-picked : {a : Asked} → Picks texts bind graph c step a → Asks texts bind graph c step (Step a)
+  unfolding Asks
+  step-picked p = p
+
+  -- what the answer says
+  pub asked-none : {r : StepAsked} → Asks texts bind graph c step r → r ≡ NoCommand
+      → (log : List Logged) (rd : Reading) → Bound log texts bind c rd → Graphed log graph c rd → leb (length (rd .steps)) step || isPhony (stepAt (rd .steps) step .rule) ≡ true
+  unfolding Asks
+  asked-none p e = rw e at p
+
+  pub asked-step : {r : StepAsked} {a : Asked} → Asks texts bind graph c step r → r ≡ Step a → Picks texts bind graph c step a
+  unfolding Asks
+  asked-step p e = rw e at p
+
+module _ {texts bind graph : List ℕ} {c : Counts} {step : ℕ} where
+  module _ (w : Reads texts bind graph c) (h : step < c .steps) where
+    pub rule-place : 7680 + step < length graph
+    rule-place = let k = in-graph (w .bound) (w .graphed) h in omega (arith, k .low, k .long)
+
+    pub step-phony : {m : ℕ} → m ≡ getD graph (7680 + step) 0 → m ≡ 0 → Asks texts bind graph c step NoCommand
+    unfolding Asks
+    step-phony e z log rd b g = rw (is-phony b g h (sym e ∙ z)) (or-right-true (leb (length (rd .steps)) step))
+
+    pub pick-asked : {m : ℕ} → m ≡ getD graph (7680 + step) 0 → (m ≡ 0 → ⊥) → PickAsk texts bind graph c step (m - 1)
+    pick-asked e z =
+        record { log = w .log; reading = w .reading; bound = w .bound; graphed = w .graphed; there = h; ruled = λ y. z (e ∙ y); entry = rw e }

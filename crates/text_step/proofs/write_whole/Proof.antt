@@ -1,0 +1,17 @@
+-- `text_step::write_whole` meets its contract.
+use Rattle.text_step.proofs.Wanting.{whole-asked, whole-written}
+use borrow.Author.Needs.{needs}
+use Rattle.text_step.proofs.write_whole.Statement.{statement}
+use Rattle.text_step.proofs.write_whole.Tie as tie
+
+write-name-requires : tie.Need-write-name-requires
+write-name-requires c κs = whole-asked (c .before .before .before .before .before .before .before .before .pre)
+
+same-length : tie.Need-same-length
+same-length c = search needs
+
+returns : tie.Need-returns
+returns c = whole-written (c .before .before .before .before .before .before .before .before .before .before .before .pre) (c .before .before .write-name .ensures)
+
+pub write-whole-spec : {M : Type 1} → statement M
+write-whole-spec = tie.close (tie.spec write-name-requires same-length returns)

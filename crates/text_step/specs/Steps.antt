@@ -1,0 +1,88 @@
+-- The step that a text is asked of, in the table of bindings and the columns of the graph.
+use Prim.Native.Nat.{ℕ, _+_, _*_, _-_, _≤_, _<_}
+use mathlib.Core.List.{List}
+use mathlib.Core.Bool.{true, false, _||_}
+use mathlib.Core.Path.{_≡_}
+use lib.Dec.{leb, eqb}
+use lib.ListN.{length, getD}
+use Rattle.lists.specs.Tests.{ifB}
+use Rattle.lists.specs.Parts.{part}
+use Rattle.spec.specs.Limits.{maxSteps}
+use Rattle.spec.specs.Reading.{Reading, isPhony, keysOf}
+use Rattle.spec.specs.Graph.{stepAt}
+use Rattle.hold_bindings.specs.declared.Found.the-variants.{At}
+use Rattle.hold_bindings.specs.Log.{Logged, ofRules, ofKeys, entryAt, newest, boundBy}
+use Rattle.hold_bindings.specs.Held.{maxEntries, Holds}
+use Rattle.hold_reading.specs.declared.Counts.{Counts}
+use Rattle.arena.specs.Columns.{startOf}
+use Rattle.hold_reading.specs.Held.{Bound, capacities, Graphed}
+use Rattle.text_lookup.specs.declared.Asked.{Asked}
+use Rattle.text_step.specs.declared.StepAsked.{StepAsked}
+use Rattle.text_step.specs.declared.StepAsked.the-variants.{NoCommand, Step}
+
+-- ------------------------------------------------------------------ its rule
+
+pub record HasRule (texts bind : List ℕ) (count k : ℕ) : Type 0 where
+  pub log : List Logged
+  pub held : Holds log texts bind count
+  pub below : k < count
+  pub owner : entryAt k log .owner ≡ ofRules
+
+-- Entry r is the newest declaration of the name that entry k declares.
+pub record Declares (texts bind : List ℕ) (count k r : ℕ) : Type 0 where
+  pub newest : (log : List Logged) → Holds log texts bind count → entryAt k log .owner ≡ ofRules → newest ofRules (entryAt k log .name) log ≡ At r
+
+-- ------------------------------------------------------------------ its files
+
+-- the places of the ends and of the rule of a step are there
+pub record InGraph (graph : List ℕ) (step : ℕ) : Type 0 where
+  pub low : step < maxSteps
+  pub long : startOf capacities 5 ≤ length graph
+
+-- where the outputs of step s start: where the mentions of the step before it end
+unfoldable pub outputsFrom : List ℕ → ℕ → ℕ
+outputsFrom graph s = ifB (eqb s 0) (λ _. 0) (λ _. getD graph (startOf capacities 1 - 1 + 4 * s) 0)
+
+-- ------------------------------------------------------------------ the step
+
+-- What is known of a reading's step by its number.
+pub record Picked (graph : List ℕ) (c : Counts) (step : ℕ) (a : Asked) (log : List Logged) (rd : Reading) : Type 0 where
+  pub there : step < length (rd .steps)
+  pub command : isPhony (stepAt (rd .steps) step .rule) ≡ false
+  pub number : a .step ≡ step
+  pub entries : a .entries ≡ c .entries
+  pub files : a .files ≡ c .files
+  pub rule-low : a .rule < maxEntries
+  pub keys : keysOf (stepAt (rd .steps) step .rule) (rd .rules) ≡ boundBy (ofKeys (a .rule)) log
+  pub outs-ordered : a .outs ≤ a .ins
+  pub ins-ordered : a .ins ≤ a .rest
+  pub within : a .rest ≤ length graph
+  pub outs : part graph (a .outs) (a .ins) ≡ stepAt (rd .steps) step .outs
+  pub ins : part graph (a .ins) (a .rest) ≡ stepAt (rd .steps) step .ins
+  pub low : (i : ℕ) → a .outs ≤ i → i < a .rest → getD graph i 0 < length (rd .files)
+
+pub record Picks (texts bind graph : List ℕ) (c : Counts) (step : ℕ) (a : Asked) : Type 0 where
+  pub picked : (log : List Logged) (rd : Reading) → Bound log texts bind c rd → Graphed log graph c rd → Picked graph c step a log rd
+
+-- some reading is held, and this is the entry of the step's rule
+pub record PickAsk (texts bind graph : List ℕ) (c : Counts) (step k : ℕ) : Type 0 where
+  pub log : List Logged
+  pub reading : Reading
+  pub bound : Bound log texts bind c reading
+  pub graphed : Graphed log graph c reading
+  pub there : step < c .steps
+  pub ruled : (getD graph (startOf capacities 4 + step) 0 ≡ 0) → ⊥
+  pub entry : k ≡ getD graph (startOf capacities 4 + step) 0 - 1
+
+-- some reading is held
+pub record Reads (texts bind graph : List ℕ) (c : Counts) : Type 0 where
+  pub log : List Logged
+  pub reading : Reading
+  pub bound : Bound log texts bind c reading
+  pub graphed : Graphed log graph c reading
+
+-- "no such step, or it is phony" (18), or the step
+unfoldable pub Asks : List ℕ → List ℕ → List ℕ → Counts → ℕ → StepAsked → Type 0
+Asks texts bind graph c step NoCommand =
+    (log : List Logged) (rd : Reading) → Bound log texts bind c rd → Graphed log graph c rd → leb (length (rd .steps)) step || isPhony (stepAt (rd .steps) step .rule) ≡ true
+Asks texts bind graph c step (Step a) = Picks texts bind graph c step a

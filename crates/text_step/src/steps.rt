@@ -1,0 +1,74 @@
+// The step that a text is asked of: its rule and its files.
+ghost use mathlib.Core.Path.{_≡_};
+ghost use Prim.Native.Nat.{_<_};
+ghost use Rattle.text_step.specs.Steps.{HasRule, Declares, outputsFrom, InGraph, PickAsk, Picks, Reads, Asks};
+use crate::StepAsked;
+use hold_bindings::Found;
+use hold_bindings::name;
+use hold_bindings::newest;
+use hold_reading::Counts;
+use hold_reading::columns::ENDS;
+use hold_reading::columns::RULES;
+use slices::words::at;
+use text_lookup::Asked;
+
+// the last end of the step before, and where a step's explicit inputs end
+const ENDS_BEFORE: usize = ENDS - 1;
+
+const INPUT_ENDS: usize = ENDS + 1;
+
+// The declaration that a rule's name stands for, where entry k declares a rule of that name.
+fn declaration(texts: &[u8], bind: &[u32], count: usize, k: usize) -> usize
+    requires { ⌜ HasRule (now texts) (now bind) count k ⌝ }
+    ensures { λ r. ⌜ Declares (now (texts .entry)) (now (bind .entry)) count k r ⌝ }
+{
+    match newest(texts, bind, count, 1, name(texts, bind, k)) {
+        Found::At(j) => j,
+        Found::Missing => k,
+    }
+}
+
+// Where the mentions of a step start: where those of the step before it end.
+fn outputs_from(graph: &[u32], step: usize) -> usize
+    requires { ⌜ InGraph (now graph) step ⌝ }
+    ensures { λ r. ⌜ r ≡ outputsFrom (now (graph .entry)) step ⌝ }
+{
+    if step == 0 {
+        return 0;
+    }
+    at(graph, ENDS_BEFORE + 4 * step)
+}
+
+// The step, whose rule is declared at entry k.
+fn picked(texts: &[u8], bind: &[u32], graph: &[u32], c: Counts, step: usize, k: usize) -> Asked
+    requires { ⌜ PickAsk (now texts) (now bind) (now graph) c step k ⌝ }
+    ensures { λ r. ⌜ Picks (now (texts .entry)) (now (bind .entry)) (now (graph .entry)) c step r ⌝ }
+{
+    let rule = declaration(texts, bind, c.entries, k);
+    let outs = outputs_from(graph, step);
+    let ins = at(graph, ENDS + 4 * step);
+    let rest = at(graph, INPUT_ENDS + 4 * step);
+    Asked {
+        step,
+        rule,
+        entries: c.entries,
+        files: c.files,
+        outs,
+        ins,
+        rest,
+    }
+}
+
+pub fn asked(texts: &[u8], bind: &[u32], graph: &[u32], c: Counts, step: usize) -> StepAsked
+    requires { ⌜ Reads (now texts) (now bind) (now graph) c ⌝ }
+    ensures { λ r. ⌜ Asks (now (texts .entry)) (now (bind .entry)) (now (graph .entry)) c step r ⌝ }
+{
+    if c.steps <= step {
+        return StepAsked::NoCommand;
+    }
+    let rule = at(graph, RULES + step);
+    if rule == 0 {
+        return StepAsked::NoCommand;
+    }
+    StepAsked::Step(picked(texts, bind, graph, c, step, rule - 1))
+}
