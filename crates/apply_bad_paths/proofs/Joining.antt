@@ -12,7 +12,7 @@ use Rattle.cut_forms.specs.declared.BuildPlaces.{BuildPlaces}
 use Rattle.cut_forms.specs.Statements.{Stands}
 use Rattle.hold_bindings.specs.Log.{Logged}
 use Rattle.hold_reading.specs.declared.Counts.{Counts}
-use Rattle.hold_reading.specs.Held.{Bound, Holds}
+use Rattle.hold_reading.specs.Held.{Bound, HoldsReading}
 use Rattle.apply_empty_paths.specs.Walk.{pathOf, AnyPath}
 use Rattle.apply_empty_paths.proofs.Empty.{any-expanded}
 use Rattle.apply_equal_outputs.specs.Kept.{Kept}
@@ -24,18 +24,18 @@ use Rattle.apply_bad_paths.specs.Asks.{LineAsks, Checked}
 pub kept-same : (graph : List ℕ) → Kept graph graph
 kept-same graph = record { long = refl; columns = refl }
 
-module _ {l names ends texts bind graph : List ℕ} {c : Counts} {p : BuildPlaces} {r : Bool}
+module _ {l names index texts bind graph : List ℕ} {c : Counts} {p : BuildPlaces} {r : Bool}
     (a : (b : BuildLine) → Stands l p b → (log : List Logged) (rd : Reading) → Bound log texts bind c rd → r ≡ any isEmpty (expandedLine rd b .outs ++ inputsOfLine (expandedLine rd b))) where
-  pub line-empty : r ≡ true → Checked l names ends texts bind graph c p graph true
+  pub line-empty : r ≡ true → Checked l names index texts bind graph c p graph true
   unfolding badPaths
   line-empty e = record { kept = kept-same graph; answer = λ b w log rd h. sym (rw (sym (a b w log rd (h .bound)) ∙ e)) }
 
-  module _ (e : r ≡ false) {s : Bool} (m : AnyPath (λ log rd. Holds log names ends texts bind graph c rd) (λ rd raw. isMade (pathOf rd raw) rd) l (p .outs) s) where
-    made-outs : (b : BuildLine) → Stands l p b → (log : List Logged) (rd : Reading) → Holds log names ends texts bind graph c rd → any (λ x. isMade x rd) (expandedLine rd b .outs) ≡ s
+  module _ (e : r ≡ false) {s : Bool} (m : AnyPath (λ log rd. HoldsReading log names index texts bind graph c rd) (λ rd raw. isMade (pathOf rd raw) rd) l (p .outs) s) where
+    made-outs : (b : BuildLine) → Stands l p b → (log : List Logged) (rd : Reading) → HoldsReading log names index texts bind graph c rd → any (λ x. isMade x rd) (expandedLine rd b .outs) ≡ s
     unfolding expandedLine
     made-outs b w log rd h = any-expanded (λ x. isMade x rd) rd (b .outs) ∙ sym (m .answer (b .outs) (w .outs) log rd h)
 
-    pub line-made : s ≡ true → Checked l names ends texts bind graph c p graph true
+    pub line-made : s ≡ true → Checked l names index texts bind graph c p graph true
     unfolding badPaths
     line-made f = record { kept = kept-same graph; answer = λ b w log rd h. sym (rw (sym (a b w log rd (h .bound)) ∙ e, made-outs b w log rd h ∙ f)) }
 
@@ -44,7 +44,7 @@ module _ {l names ends texts bind graph : List ℕ} {c : Counts} {p : BuildPlace
     unfolding expandedLine
     twice-outs x b w log rd h = sym (x .answer (b .outs) (w .outs) log rd h)
 
-    pub line-twice : s ≡ false → {graph′ : List ℕ} {u : Bool} → Twice l texts bind graph c (p .outs) graph′ u → Checked l names ends texts bind graph c p graph′ u
+    pub line-twice : s ≡ false → {graph′ : List ℕ} {u : Bool} → Twice l texts bind graph c (p .outs) graph′ u → Checked l names index texts bind graph c p graph′ u
     unfolding badPaths
     line-twice f x =
         record {
@@ -53,7 +53,7 @@ module _ {l names ends texts bind graph : List ℕ} {c : Counts} {p : BuildPlace
         }
 
 -- what the search for equal outputs asks
-pub room-asks : {t l names ends texts bind graph word : List ℕ} {c : Counts} {p : BuildPlaces} → LineAsks t l names ends texts bind graph word c p → RoomAsks t l texts bind graph c (p .outs)
+pub room-asks : {t l names index texts bind graph word : List ℕ} {c : Counts} {p : BuildPlaces} → LineAsks t l names index texts bind graph word c p → RoomAsks t l texts bind graph c (p .outs)
 room-asks a =
     record {
       list =

@@ -12,23 +12,23 @@ use Rattle.scan_classes.specs.Table.{classes}
 use Rattle.cut_forms.specs.Statements.{Stands}
 use Rattle.cut_forms.specs.declared.BuildPlaces.{BuildPlaces}
 use Rattle.hold_bindings.specs.Log.{Logged}
-use Rattle.hold_reading.specs.Held.{Holds}
+use Rattle.hold_reading.specs.Held.{HoldsReading}
 use Rattle.hold_reading.specs.Adds.{Whole}
 use Rattle.hold_reading.specs.declared.Counts.{Counts}
 use Rattle.apply_equal_outputs.specs.Kept.{columnsEnd, Kept}
 
 -- all that is held for a build line, with room for an entry for each of its outputs
-pub record LineAsks (t l names fileEnds texts bind graph word : List ℕ) (c : Counts) (p : BuildPlaces) : Type 0 where
+pub record LineAsks (t l names index texts bind graph word : List ℕ) (c : Counts) (p : BuildPlaces) : Type 0 where
   pub table : t ≡ classes
   pub short : length l ≤ maxManifest
   pub line : BuildLine
   pub stands : Stands l p line
   pub room : maxWritten ≤ length word
   pub scratch : columnsEnd + maxManifest ≤ length graph
-  pub whole : Whole names fileEnds texts bind graph c
+  pub whole : Whole names index texts bind graph c
 
 -- "empty path, output made twice (also within one step)" (8)
-pub record Checked (l names fileEnds texts bind graph : List ℕ) (c : Counts) (p : BuildPlaces) (graph′ : List ℕ) (r : Bool) : Type 0 where
+pub record Checked (l names index texts bind graph : List ℕ) (c : Counts) (p : BuildPlaces) (graph′ : List ℕ) (r : Bool) : Type 0 where
   pub kept : Kept graph graph′
-  pub answer : (b : BuildLine) → Stands l p b → (log : List Logged) (rd : Reading) → Holds log names fileEnds texts bind graph c rd
+  pub answer : (b : BuildLine) → Stands l p b → (log : List Logged) (rd : Reading) → HoldsReading log names index texts bind graph c rd
       → r ≡ badPaths (expandedLine rd b .outs) (inputsOfLine (expandedLine rd b)) rd

@@ -13,20 +13,32 @@ pub fn bad_paths(
     l: &[u8],
     p: BuildPlaces,
     names: &[u8],
-    ends: &[u32],
+    index: &[u32],
     texts: &[u8],
     bind: &[u32],
     graph: &mut [u32],
     word: &mut [u8],
     c: Counts,
 ) -> bool
-    requires { ⌜ LineAsks (now t) (now l) (now names) (now ends) (now texts) (now bind) (now graph) (now word) c p ⌝ }
-    ensures { λ r. ⌜ Checked (now (l .entry)) (now (names .entry)) (now (ends .entry)) (now (texts .entry)) (now (bind .entry)) (now (graph .entry)) c p (now (graph .exit)) r ⌝ }
+    requires { ⌜ LineAsks (now t) (now l) (now names) (now index) (now texts) (now bind) (now graph) (now word) c p ⌝ }
+    ensures { λ r. ⌜ Checked (now (l .entry)) (now (names .entry)) (now (index .entry)) (now (texts .entry)) (now (bind .entry)) (now (graph .entry)) c p (now (graph .exit)) r ⌝ }
 {
     if has_empty_path(t, l, p, texts, bind, c, word) {
         return true;
     }
-    if has_made(t, l, p.outs, names, ends, texts, bind, graph, word, c, true) {
+    if has_made(
+        t,
+        l,
+        p.outs,
+        names,
+        index,
+        texts,
+        bind,
+        graph,
+        word,
+        c,
+        true,
+    ) {
         return true;
     }
     has_twice(t, l, p.outs, texts, bind, graph, c)

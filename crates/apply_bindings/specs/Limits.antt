@@ -8,7 +8,7 @@ use lib.ListN.{length}
 use Rattle.spec.specs.Limits.{maxName, maxBindings, maxValue, maxWritten}
 use Rattle.spec.specs.Reading.{Reading}
 use Rattle.hold_bindings.specs.Log.{Logged}
-use Rattle.hold_bindings.specs.Held.{maxOwner, Holds}
+use Rattle.hold_bindings.specs.Held.{maxOwner, HoldsBindings}
 use Rattle.hold_reading.specs.declared.Counts.{Counts}
 use Rattle.hold_reading.specs.Held.{Bound}
 use Rattle.hold_reading.specs.Binds.{countedMore}
@@ -34,4 +34,4 @@ pub record Ready (texts bind : List ℕ) (c : Counts) (e : Logged) : Type 0 wher
 -- this entry was put into the table
 pub record Put (texts bind : List ℕ) (c : Counts) (e : Logged) (texts′ bind′ : List ℕ) (r : Counts) : Type 0 where
   pub counted : r ≡ countedMore (length (e .value)) c
-  pub held : (log : List Logged) (rd : Reading) → Bound log texts bind c rd → Holds (e ∷ log) texts′ bind′ (c .entries + 1)
+  pub held : (log : List Logged) (rd : Reading) → Bound log texts bind c rd → HoldsBindings (e ∷ log) texts′ bind′ (c .entries + 1)

@@ -13,7 +13,7 @@ use Rattle.hold_reading.specs.declared.Counts.{Counts}
 use Rattle.apply_equal_outputs.specs.Kept.{columnsEnd}
 
 -- The word buffer has room for as many bytes as all names that are held, and behind the columns of the graph is room for the table of its outputs.
-pub record BuildAsks (t l names fileEnds texts bind graph word : List ℕ) (c : Counts) (p : BuildPlaces) : Type 0 where
+pub record BuildAsks (t l names index texts bind graph word : List ℕ) (c : Counts) (p : BuildPlaces) : Type 0 where
   pub table : t ≡ classes
   pub short : length l ≤ maxManifest
   pub line : BuildLine
@@ -21,4 +21,4 @@ pub record BuildAsks (t l names fileEnds texts bind graph word : List ℕ) (c : 
   pub room : maxWritten ≤ length word
   pub scratch : columnsEnd + maxManifest ≤ length graph
   pub names-room : maxWritten ≤ length names
-  pub whole : Whole names fileEnds texts bind graph c
+  pub whole : Whole names index texts bind graph c

@@ -2,7 +2,7 @@
 ghost use Rattle.spec.specs.Forms.{BuildLine};
 ghost use Rattle.spec.specs.Statements.{addStep, expandedLine};
 ghost use Rattle.cut_forms.specs.Statements.{Stands};
-ghost use Rattle.hold_reading.specs.Adds.{Adds};
+ghost use Rattle.hold_reading.specs.Adds.{AddsFiles};
 ghost use Rattle.apply_builds.specs.Asks.{BuildAsks};
 use apply_bad_paths::bad_paths;
 use apply_steps::write_step;
@@ -19,23 +19,23 @@ pub fn add_step(
     l: &[u8],
     p: BuildPlaces,
     names: &mut [u8],
-    ends: &mut [u32],
+    index: &mut [u32],
     texts: &[u8],
     bind: &[u32],
     graph: &mut [u32],
     word: &mut [u8],
     c: Counts,
 ) -> LineAnswer
-    requires { ⌜ BuildAsks (now t) (now l) (now names) (now ends) (now texts) (now bind) (now graph) (now word) c p ⌝ }
-    ensures { λ r. ⌜ ((b : BuildLine) → Stands (now (l .entry)) p b → Adds (now (names .entry)) (now (ends .entry)) (now (texts .entry)) (now (bind .entry)) (now (graph .entry)) c (λ rd. addStep start (expandedLine rd b) rd) (now (names .exit)) (now (ends .exit)) (now (graph .exit)) r) ⌝ }
+    requires { ⌜ BuildAsks (now t) (now l) (now names) (now index) (now texts) (now bind) (now graph) (now word) c p ⌝ }
+    ensures { λ r. ⌜ ((b : BuildLine) → Stands (now (l .entry)) p b → AddsFiles (now (names .entry)) (now (index .entry)) (now (texts .entry)) (now (bind .entry)) (now (graph .entry)) c (λ rd. addStep start (expandedLine rd b) rd) (now (names .exit)) (now (index .exit)) (now (graph .exit)) r) ⌝ }
 {
     let from = p.rule;
     let to = p.ins;
     if !is_declared(texts, bind, c, &l[from..to]) {
         return LineAnswer::Refused(Refusal::BadRule(start));
     }
-    if bad_paths(t, l, p, names, ends, texts, bind, graph, word, c) {
+    if bad_paths(t, l, p, names, index, texts, bind, graph, word, c) {
         return LineAnswer::Refused(Refusal::BadPath(start));
     }
-    write_step(t, start, l, p, names, ends, texts, bind, graph, word, c)
+    write_step(t, start, l, p, names, index, texts, bind, graph, word, c)
 }

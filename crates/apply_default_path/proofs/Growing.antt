@@ -11,7 +11,7 @@ use Rattle.spec.specs.Reading.{Reading}
 use Rattle.arena.proofs.Laws.{lies-column, lies-push}
 use Rattle.hold_bindings.specs.Log.{Logged}
 use Rattle.hold_reading.specs.declared.Counts.{Counts}
-use Rattle.hold_reading.specs.Held.{capacities, Bound, Graphed, Holds}
+use Rattle.hold_reading.specs.Held.{capacities, Bound, Graphed, HoldsReading}
 use Rattle.apply_files.proofs.Limits.{Within}
 use Rattle.apply_default_path.specs.Defaults.{defaulted, countedDefault}
 
@@ -20,7 +20,7 @@ pub default-room : {log : List Logged} {graph : List ℕ} {c : Counts} {rd : Rea
 default-room {graph = graph} {rd = rd} g l =
     omega (arith, lies-column capacities graph (g .mentions ∷ g .ends ∷ g .phony ∷ g .made ∷ g .ruleOf ∷ rd .defaults ∷ []) 5 (g .lies) (omega arith) .within, g .few-mentions)
 
-module _ {log : List Logged} {names ends texts bind graph : List ℕ} {c : Counts} {rd : Reading} (h : Holds log names ends texts bind graph c rd) (n k : ℕ) (w : Within n c) (b : k < length (rd .files)) where
+module _ {log : List Logged} {names index texts bind graph : List ℕ} {c : Counts} {rd : Reading} (h : HoldsReading log names index texts bind graph c rd) (n k : ℕ) (w : Within n c) (b : k < length (rd .files)) where
   bound-more : Bound log texts bind (countedDefault n c) (defaulted k n rd)
   unfolding defaulted
   bound-more =
@@ -76,6 +76,6 @@ module _ {log : List Logged} {names ends texts bind graph : List ℕ} {c : Count
         defaults-low = low-more;
       }
 
-  pub default-held : Holds log names ends texts bind (set graph (8192 + c .defaults) k) (countedDefault n c) (defaulted k n rd)
+  pub default-held : HoldsReading log names index texts bind (set graph (8192 + c .defaults) k) (countedDefault n c) (defaulted k n rd)
   unfolding defaulted
   default-held = record { named = h .named; bound = bound-more; graphed = graphed-more }

@@ -6,12 +6,12 @@ use mathlib.Core.Path.{_≡_, sym, _∙_, ap}
 use native.Mathlib.Omega.{arith}
 use lib.ListN.{length, take, set}
 use Rattle.lists.specs.Tests.{differ}
-use Rattle.hold_names.specs.declared.Found.{Found}
-use Rattle.hold_names.specs.declared.Found.the-variants.{At, Missing}
-use Rattle.hold_names.specs.Table.{Finds}
+use Rattle.hold_names.specs.declared.FoundName.{FoundName}
+use Rattle.hold_names.specs.declared.FoundName.the-variants.{At, Missing}
+use Rattle.hold_names.specs.Table.{FindsName}
 use Rattle.hold_names.proofs.Laws.{find-at, find-missing}
 use Rattle.hold_bindings.specs.Log.{Logged}
-use Rattle.hold_bindings.specs.Held.{Holds as BindingsHold}
+use Rattle.hold_bindings.specs.Held.{HoldsBindings}
 use Rattle.expand_parts.specs.Runs.{expanded}
 use Rattle.expand_dollars.specs.Written.{Written}
 use Rattle.expand_dollars.proofs.Callers.{written-long, written-whole}
@@ -21,14 +21,14 @@ use Rattle.apply_empty_paths.proofs.Empty.{path-held}
 use Rattle.apply_earlier_outputs.proofs.Makers.{made-among}
 use Rattle.apply_files.specs.Path.{overCounted}
 use Rattle.apply_files.proofs.Limits.{path-within}
-use Rattle.apply_default_path.specs.declared.Named.the-variants.{Added, Over}
+use Rattle.apply_default_path.specs.declared.AddedDefault.the-variants.{Added, Over}
 use Rattle.apply_default_path.specs.Defaults.{countedDefault, Puts, Named·is, Names}
 use Rattle.apply_default_path.proofs.Growing.{default-held}
 
 -- ---- `put_default`
 
-module _ {names ends graph : List ℕ} {c : Counts} {path : List ℕ} {r : Found} (f : Finds names ends (c .files) path r) where
-  pub put-found : {k : ℕ} → r ≡ At k → overCounted (length path) c ≡ false → Puts names ends graph c path (set graph (8192 + c .defaults) k) (countedDefault (length path) c)
+module _ {names index graph : List ℕ} {c : Counts} {path : List ℕ} {r : FoundName} (f : FindsName names index (c .files) path r) where
+  pub put-found : {k : ℕ} → r ≡ At k → overCounted (length path) c ≡ false → Puts names index graph c path (set graph (8192 + c .defaults) k) (countedDefault (length path) c)
   put-found {k} e o =
       record {
         held = λ texts bind log rd h m.
@@ -37,14 +37,14 @@ module _ {names ends graph : List ℕ} {c : Counts} {path : List ℕ} {r : Found
       }
 
   -- An output has a name.
-  pub put-missing : r ≡ Missing → {graph′ : List ℕ} {d : Counts} → Puts names ends graph c path graph′ d
+  pub put-missing : r ≡ Missing → {graph′ : List ℕ} {d : Counts} → Puts names index graph c path graph′ d
   put-missing e = record { held = λ texts bind log rd h m. differ (made-among h path m) (find-missing f (h .named) e) }
 
 -- ---- `add_default`
 
-module _ (raw : List ℕ) {names ends texts bind graph word word′ : List ℕ} {c : Counts} {n : ℕ}
-    (x : (log : List Logged) → BindingsHold log texts bind (c .entries) → Written word (expanded log raw) word′ n) where
-  pub default-over : overCounted n c ≡ true → Names names ends texts bind graph c raw graph Over
+module _ (raw : List ℕ) {names index texts bind graph word word′ : List ℕ} {c : Counts} {n : ℕ}
+    (x : (log : List Logged) → HoldsBindings log texts bind (c .entries) → Written word (expanded log raw) word′ n) where
+  pub default-over : overCounted n c ≡ true → Names names index texts bind graph c raw graph Over
   unfolding Named·is
   default-over o =
       record {
@@ -52,8 +52,8 @@ module _ (raw : List ℕ) {names ends texts bind graph word word′ : List ℕ} 
             rw (path-held (h .bound) raw, ← x log (h .bound .held) .count) o;
       }
 
-  pub default-added : n ≤ length word′ → overCounted n c ≡ false → {graph′ : List ℕ} {d : Counts} → Puts names ends graph c (take n word′) graph′ d
-      → Names names ends texts bind graph c raw graph′ (Added d)
+  pub default-added : n ≤ length word′ → overCounted n c ≡ false → {graph′ : List ℕ} {d : Counts} → Puts names index graph c (take n word′) graph′ d
+      → Names names index texts bind graph c raw graph′ (Added d)
   unfolding Named·is
   default-added l o p =
       record {

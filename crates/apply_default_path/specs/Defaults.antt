@@ -6,13 +6,13 @@ use mathlib.Core.Path.{_≡_}
 use lib.ListN.{length}
 use Rattle.spec.specs.Reading.{Reading, numberOf, isMade}
 use Rattle.hold_bindings.specs.Log.{Logged}
-use Rattle.hold_reading.specs.Held.{Holds}
+use Rattle.hold_reading.specs.Held.{HoldsReading}
 use Rattle.hold_reading.specs.declared.Counts.{Counts}
 use Rattle.apply_empty_paths.specs.Walk.{pathOf}
 use Rattle.apply_earlier_outputs.specs.Asks.{Files}
 use Rattle.apply_files.specs.Path.{overCounted}
-use Rattle.apply_default_path.specs.declared.Named.{Named}
-use Rattle.apply_default_path.specs.declared.Named.the-variants.{Added, Over}
+use Rattle.apply_default_path.specs.declared.AddedDefault.{AddedDefault}
+use Rattle.apply_default_path.specs.declared.AddedDefault.the-variants.{Added, Over}
 
 -- the reading with a default more: a file's number, and its path's bytes
 unfoldable pub defaulted : ℕ → ℕ → Reading → Reading
@@ -33,20 +33,20 @@ countedDefault n c =
       written = c .written + n;
     }
 
-pub record PutAsks (names fileEnds graph : List ℕ) (c : Counts) (path : List ℕ) : Type 0 where
-  pub files : Files names fileEnds graph c
+pub record PutAsks (names index graph : List ℕ) (c : Counts) (path : List ℕ) : Type 0 where
+  pub files : Files names index graph c
   pub within : overCounted (length path) c ≡ false
 
 -- The path of an output is a default more, whatever is bound.
-pub record Puts (names fileEnds graph : List ℕ) (c : Counts) (path graph′ : List ℕ) (d : Counts) : Type 0 where
-  pub held : (texts bind : List ℕ) (log : List Logged) (rd : Reading) → Holds log names fileEnds texts bind graph c rd → isMade path rd ≡ true
-      → Holds log names fileEnds texts bind graph′ d (defaulted (numberOf path (rd .files)) (length path) rd)
+pub record Puts (names index graph : List ℕ) (c : Counts) (path graph′ : List ℕ) (d : Counts) : Type 0 where
+  pub held : (texts bind : List ℕ) (log : List Logged) (rd : Reading) → HoldsReading log names index texts bind graph c rd → isMade path rd ≡ true
+      → HoldsReading log names index texts bind graph′ d (defaulted (numberOf path (rd .files)) (length path) rd)
 
-unfoldable pub Named·is : (names fileEnds texts bind graph′ : List ℕ) → Counts → (path : List ℕ) → List Logged → Reading → Named → Type 0
-Named·is names fileEnds texts bind graph′ c path log rd (Added d) =
-    (overCounted (length path) c ≡ false) × Holds log names fileEnds texts bind graph′ d (defaulted (numberOf path (rd .files)) (length path) rd)
-Named·is names fileEnds texts bind graph′ c path log rd Over = overCounted (length path) c ≡ true
+unfoldable pub Named·is : (names index texts bind graph′ : List ℕ) → Counts → (path : List ℕ) → List Logged → Reading → AddedDefault → Type 0
+Named·is names index texts bind graph′ c path log rd (Added d) =
+    (overCounted (length path) c ≡ false) × HoldsReading log names index texts bind graph′ d (defaulted (numberOf path (rd .files)) (length path) rd)
+Named·is names index texts bind graph′ c path log rd Over = overCounted (length path) c ≡ true
 
-pub record Names (names fileEnds texts bind graph : List ℕ) (c : Counts) (raw graph′ : List ℕ) (r : Named) : Type 0 where
-  pub answer : (log : List Logged) (rd : Reading) → Holds log names fileEnds texts bind graph c rd → isMade (pathOf rd raw) rd ≡ true
-      → Named·is names fileEnds texts bind graph′ c (pathOf rd raw) log rd r
+pub record Names (names index texts bind graph : List ℕ) (c : Counts) (raw graph′ : List ℕ) (r : AddedDefault) : Type 0 where
+  pub answer : (log : List Logged) (rd : Reading) → HoldsReading log names index texts bind graph c rd → isMade (pathOf rd raw) rd ≡ true
+      → Named·is names index texts bind graph′ c (pathOf rd raw) log rd r

@@ -4,24 +4,24 @@ ghost use Rattle.apply_default_path.specs.Defaults.{PutAsks, Puts, Names
 use apply_files::over;
 use arena::put;
 use expand_dollars::expand;
-use hold_names::Found;
+use hold_names::FoundName;
 use hold_names::find;
 use hold_reading::Counts;
 use hold_reading::columns::DEFAULTS;
 
 // What a path of a default line does: it is a default more, or over a limit.
-pub enum Named {
+pub enum AddedDefault {
     Added(Counts),
     Over,
 }
 
 // Writes the number of an output's path behind the defaults.
-fn put_default(names: &[u8], ends: &[u32], graph: &mut [u32], c: Counts, path: &[u8]) -> Counts
-    requires { ⌜ PutAsks (now names) (now ends) (now graph) c (now path) ⌝ }
-    ensures { λ r. ⌜ Puts (now (names .entry)) (now (ends .entry)) (now (graph .entry)) c (now (path .entry)) (now (graph .exit)) r ⌝ }
+fn put_default(names: &[u8], index: &[u32], graph: &mut [u32], c: Counts, path: &[u8]) -> Counts
+    requires { ⌜ PutAsks (now names) (now index) (now graph) c (now path) ⌝ }
+    ensures { λ r. ⌜ Puts (now (names .entry)) (now (index .entry)) (now (graph .entry)) c (now (path .entry)) (now (graph .exit)) r ⌝ }
 {
-    match find(names, ends, c.files, path) {
-        Found::At(k) => {
+    match find(names, index, c.files, path) {
+        FoundName::At(k) => {
             put(graph, DEFAULTS + c.defaults, k);
             Counts {
                 files: c.files,
@@ -35,7 +35,7 @@ fn put_default(names: &[u8], ends: &[u32], graph: &mut [u32], c: Counts, path: &
                 written: c.written + path.len(),
             }
         }
-        Found::Missing => c,
+        FoundName::Missing => c,
     }
 }
 
@@ -44,19 +44,19 @@ pub fn add_default(
     t: &[u8; 256],
     raw: &[u8],
     names: &[u8],
-    ends: &[u32],
+    index: &[u32],
     texts: &[u8],
     bind: &[u32],
     graph: &mut [u32],
     word: &mut [u8],
     c: Counts,
-) -> Named
-    requires { ⌜ MadeAsks (now t) (now raw) (now names) (now ends) (now texts) (now bind) (now graph) (now word) c ⌝ }
-    ensures { λ r. ⌜ Names (now (names .entry)) (now (ends .entry)) (now (texts .entry)) (now (bind .entry)) (now (graph .entry)) c (now (raw .entry)) (now (graph .exit)) r ⌝ }
+) -> AddedDefault
+    requires { ⌜ MadeAsks (now t) (now raw) (now names) (now index) (now texts) (now bind) (now graph) (now word) c ⌝ }
+    ensures { λ r. ⌜ Names (now (names .entry)) (now (index .entry)) (now (texts .entry)) (now (bind .entry)) (now (graph .entry)) c (now (raw .entry)) (now (graph .exit)) r ⌝ }
 {
     let n = expand(t, raw, texts, bind, c.entries, word);
     if over(n, c) {
-        return Named::Over;
+        return AddedDefault::Over;
     }
-    Named::Added(put_default(names, ends, graph, c, &word[..n]))
+    AddedDefault::Added(put_default(names, index, graph, c, &word[..n]))
 }

@@ -17,7 +17,7 @@ use Rattle.spec.specs.Statements.{goesOn, refused, noBlock, longerThan, mention
 use Rattle.hold_names.proofs.Numbers.{mention-old, mention-none, number-mention}
 use Rattle.hold_bindings.specs.Log.{Logged}
 use Rattle.hold_reading.specs.declared.Counts.{Counts}
-use Rattle.hold_reading.specs.Held.{Holds}
+use Rattle.hold_reading.specs.Held.{HoldsReading}
 use Rattle.apply_earlier_outputs.proofs.Makers.{made-among}
 use Rattle.apply_files.specs.Lines.{overLine}
 use Rattle.apply_files.specs.Path.{overCounted}
@@ -31,7 +31,7 @@ refused-over start ps rd e = rw e
 
 -- ---- one path more
 
-module _ {log : List Logged} {names ends texts bind graph : List ℕ} {c : Counts} {rd : Reading} (h : Holds log names ends texts bind graph c rd) (start : ℕ) (p : List ℕ) (qs : List (List ℕ)) where
+module _ {log : List Logged} {names index texts bind graph : List ℕ} {c : Counts} {rd : Reading} (h : HoldsReading log names index texts bind graph c rd) (start : ℕ) (p : List ℕ) (qs : List (List ℕ)) where
   pub sound-over : overCounted (length p) c ≡ true → soundDefaults start (p ∷ qs) rd ≡ refused (OverLimit start)
   unfolding overLine
   sound-over o = refused-over start (p ∷ qs) rd (counted-over c rd (h .graphed .mentions-counted) (h .bound .written-counted) p o qs)
@@ -60,7 +60,7 @@ module _ {log : List Logged} {names ends texts bind graph : List ℕ} {c : Count
 
 -- ---- no more path
 
-pub sound-end : {log : List Logged} {names ends texts bind graph : List ℕ} {c : Counts} {rd : Reading} → Holds log names ends texts bind graph c rd → (start : ℕ)
+pub sound-end : {log : List Logged} {names index texts bind graph : List ℕ} {c : Counts} {rd : Reading} → HoldsReading log names index texts bind graph c rd → (start : ℕ)
     → soundDefaults start [] rd ≡ goesOn rd noBlock
 unfolding soundDefaults overPaths any overCounts mentioned withDefaults numbersOf sum
 sound-end {c = c} {rd = rd} h start =

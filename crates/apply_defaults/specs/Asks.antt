@@ -9,10 +9,10 @@ use Rattle.cut_forms.specs.Paths.{PathsAt}
 use Rattle.hold_reading.specs.Adds.{Whole}
 use Rattle.hold_reading.specs.declared.Counts.{Counts}
 
-pub record DefaultAsks (t l names fileEnds texts bind graph word : List ℕ) (c : Counts) (at : ℕ) : Type 0 where
+pub record DefaultAsks (t l names index texts bind graph word : List ℕ) (c : Counts) (at : ℕ) : Type 0 where
   pub table : t ≡ classes
   pub short : length l ≤ maxManifest
   pub raw : List (List ℕ)
   pub stands : PathsAt l at raw
   pub room : maxWritten ≤ length word
-  pub whole : Whole names fileEnds texts bind graph c
+  pub whole : Whole names index texts bind graph c

@@ -6,7 +6,7 @@ use Rattle.lists.specs.Tests.{ifB}
 use Rattle.spec.specs.declared.Refusal.the-variants.{OverLimit}
 use Rattle.spec.specs.Reading.{Reading, isMade}
 use Rattle.spec.specs.Statements.{Outcome, goesOn, refused, noBlock, mentioned, overPaths, overCounts, withDefaults}
-use Rattle.hold_reading.specs.Held.{Holds}
+use Rattle.hold_reading.specs.Held.{HoldsReading}
 use Rattle.hold_reading.specs.declared.Counts.{Counts}
 use Rattle.apply_empty_paths.specs.Walk.{pathOf, AnyPath}
 use Rattle.apply_defaults.specs.Asks.{DefaultAsks}
@@ -17,6 +17,6 @@ soundDefaults start ps rd =
     let after = mentioned ps rd in
     ifB (overPaths ps || overCounts after) (λ _. refused (OverLimit start)) λ _. goesOn (withDefaults ps after) noBlock
 
-pub record SoundAsks (t l names fileEnds texts bind graph word : List ℕ) (c : Counts) (at : ℕ) : Type 0 where
-  pub asks : DefaultAsks t l names fileEnds texts bind graph word c at
-  pub made : AnyPath (λ log rd. Holds log names fileEnds texts bind graph c rd) (λ rd raw. not (isMade (pathOf rd raw) rd)) l at false
+pub record SoundAsks (t l names index texts bind graph word : List ℕ) (c : Counts) (at : ℕ) : Type 0 where
+  pub asks : DefaultAsks t l names index texts bind graph word c at
+  pub made : AnyPath (λ log rd. HoldsReading log names index texts bind graph c rd) (λ rd raw. not (isMade (pathOf rd raw) rd)) l at false

@@ -3,14 +3,14 @@ ghost use mathlib.Core.List.{List};
 ghost use Prim.Native.Nat.{ℕ};
 ghost use Rattle.spec.specs.Statements.{addDefaults, expanded};
 ghost use Rattle.cut_forms.specs.Paths.{PathsAt};
-ghost use Rattle.hold_reading.specs.Adds.{Adds};
+ghost use Rattle.hold_reading.specs.Adds.{AddsFiles};
 ghost use Rattle.apply_defaults.specs.Asks.{DefaultAsks};
 ghost use Rattle.apply_defaults.specs.Sound.{soundDefaults, SoundAsks};
-use apply_default_path::Named;
+use apply_default_path::AddedDefault;
 use apply_default_path::add_default;
 use apply_earlier_outputs::has_made;
 use apply_empty_paths::has_empty;
-use cut_forms::Next;
+use cut_forms::ListPath;
 use cut_forms::paths::next_path;
 use hold_reading::Counts;
 use hold_reading::LineAnswer;
@@ -24,32 +24,32 @@ fn add_sound(
     l: &[u8],
     at: usize,
     names: &[u8],
-    ends: &[u32],
+    index: &[u32],
     texts: &[u8],
     bind: &[u32],
     graph: &mut [u32],
     word: &mut [u8],
     c: Counts,
 ) -> LineAnswer
-    requires { ⌜ SoundAsks (now t) (now l) (now names) (now ends) (now texts) (now bind) (now graph) (now word) c at ⌝ }
-    ensures { λ r. ⌜ ((ps : List (List ℕ)) → PathsAt (now (l .entry)) at ps → Adds (now (names .entry)) (now (ends .entry)) (now (texts .entry)) (now (bind .entry)) (now (graph .entry)) c (λ rd. soundDefaults start (expanded rd ps) rd) (now (names .entry)) (now (ends .entry)) (now (graph .exit)) r) ⌝ }
+    requires { ⌜ SoundAsks (now t) (now l) (now names) (now index) (now texts) (now bind) (now graph) (now word) c at ⌝ }
+    ensures { λ r. ⌜ ((ps : List (List ℕ)) → PathsAt (now (l .entry)) at ps → AddsFiles (now (names .entry)) (now (index .entry)) (now (texts .entry)) (now (bind .entry)) (now (graph .entry)) c (λ rd. soundDefaults start (expanded rd ps) rd) (now (names .entry)) (now (index .entry)) (now (graph .exit)) r) ⌝ }
 {
     let mut d = c;
     let mut i = at;
     loop {
         match next_path(t, l, i) {
-            Next::Path(from, to) => {
-                match add_default(t, &l[from..to], names, ends, texts, bind, graph, word, d) {
-                    Named::Added(e) => {
+            ListPath::Path(from, to) => {
+                match add_default(t, &l[from..to], names, index, texts, bind, graph, word, d) {
+                    AddedDefault::Added(e) => {
                         d = e;
                         i = to;
                     }
-                    Named::Over => {
+                    AddedDefault::Over => {
                         return LineAnswer::Refused(Refusal::OverLimit(start));
                     }
                 }
             }
-            Next::Stop => {
+            ListPath::Stop => {
                 return LineAnswer::Goes(d, Open::Nothing);
             }
         }
@@ -63,21 +63,21 @@ pub fn add_defaults(
     l: &[u8],
     at: usize,
     names: &[u8],
-    ends: &[u32],
+    index: &[u32],
     texts: &[u8],
     bind: &[u32],
     graph: &mut [u32],
     word: &mut [u8],
     c: Counts,
 ) -> LineAnswer
-    requires { ⌜ DefaultAsks (now t) (now l) (now names) (now ends) (now texts) (now bind) (now graph) (now word) c at ⌝ }
-    ensures { λ r. ⌜ ((ps : List (List ℕ)) → PathsAt (now (l .entry)) at ps → Adds (now (names .entry)) (now (ends .entry)) (now (texts .entry)) (now (bind .entry)) (now (graph .entry)) c (λ rd. addDefaults start (expanded rd ps) rd) (now (names .entry)) (now (ends .entry)) (now (graph .exit)) r) ⌝ }
+    requires { ⌜ DefaultAsks (now t) (now l) (now names) (now index) (now texts) (now bind) (now graph) (now word) c at ⌝ }
+    ensures { λ r. ⌜ ((ps : List (List ℕ)) → PathsAt (now (l .entry)) at ps → AddsFiles (now (names .entry)) (now (index .entry)) (now (texts .entry)) (now (bind .entry)) (now (graph .entry)) c (λ rd. addDefaults start (expanded rd ps) rd) (now (names .entry)) (now (index .entry)) (now (graph .exit)) r) ⌝ }
 {
     if has_empty(t, l, at, texts, bind, c, word) {
         return LineAnswer::Refused(Refusal::BadPath(start));
     }
-    if has_made(t, l, at, names, ends, texts, bind, graph, word, c, false) {
+    if has_made(t, l, at, names, index, texts, bind, graph, word, c, false) {
         return LineAnswer::Refused(Refusal::BadPath(start));
     }
-    add_sound(t, start, l, at, names, ends, texts, bind, graph, word, c)
+    add_sound(t, start, l, at, names, index, texts, bind, graph, word, c)
 }

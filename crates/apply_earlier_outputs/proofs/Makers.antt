@@ -15,21 +15,21 @@ use Rattle.spec.specs.Limits.{maxFiles, maxWritten}
 use Rattle.spec.specs.Reading.{Step, Reading, numberOf, isOutput, isMade}
 use Rattle.spec.specs.Graph.{makers, makersFrom}
 use Rattle.arena.proofs.Laws.{lies-column, lies-read}
-use Rattle.hold_names.specs.declared.Found.{Found}
-use Rattle.hold_names.specs.declared.Found.the-variants.{At, Missing}
-use Rattle.hold_names.specs.Table.{Finds}
+use Rattle.hold_names.specs.declared.FoundName.{FoundName}
+use Rattle.hold_names.specs.declared.FoundName.the-variants.{At, Missing}
+use Rattle.hold_names.specs.Table.{FindsName}
 use Rattle.hold_names.proofs.Numbers.{among-none, among-there, number-missing}
 use Rattle.hold_names.proofs.Laws.{find-at, find-missing}
 use Rattle.hold_columns.specs.Tables.{madeBy, makerIn}
 use Rattle.hold_columns.proofs.Held.{held-makers}
 use Rattle.hold_bindings.specs.Log.{Logged}
-use Rattle.hold_bindings.specs.Held.{Holds as BindingsHold, Sound as BindingsSound}
+use Rattle.hold_bindings.specs.Held.{HoldsBindings, SoundBindings}
 use Rattle.expand_parts.specs.Runs.{expanded}
 use Rattle.expand_dollars.specs.Written.{Written}
 use Rattle.expand_dollars.proofs.Callers.{written-long, written-whole}
 use Rattle.hold_reading.specs.declared.Counts.{Counts}
 use Rattle.apply_empty_paths.proofs.Empty.{path-held}
-use Rattle.hold_reading.specs.Held.{capacities, Graphed, Holds}
+use Rattle.hold_reading.specs.Held.{capacities, Graphed, HoldsReading}
 use Rattle.hold_reading.specs.Adds.{Whole}
 use Rattle.apply_empty_paths.specs.Walk.{pathOf}
 use Rattle.apply_earlier_outputs.specs.Asks.{sameBool, Filed, Files}
@@ -59,8 +59,8 @@ output-entry {rd = rd} g f =
 
 -- ---- the search among the names
 
-module _ {log : List Logged} {names ends graph : List ℕ} {c : Counts} {rd : Reading} (h : Filed log names ends graph c rd) {path : List ℕ} {r : Found}
-    (f : Finds names ends (c .files) path r) where
+module _ {log : List Logged} {names index graph : List ℕ} {c : Counts} {rd : Reading} (h : Filed log names index graph c rd) {path : List ℕ} {r : FoundName}
+    (f : FindsName names index (c .files) path r) where
   module _ {k : ℕ} (e : r ≡ At k) where
     pub entry-low : k < maxFiles
     entry-low = let (a, q, b) = find-at f (h .named) e in omega (arith, h .named .few)
@@ -85,15 +85,15 @@ unknown-unmade {rd = rd} g path m =
     sym (output-entry g (numberOf path (rd .files)) ∙ rw (number-missing path (rd .files) m, z))
 
 -- An output's path is among the files.
-pub made-among : {log : List Logged} {names ends texts bind graph : List ℕ} {c : Counts} {rd : Reading} → Holds log names ends texts bind graph c rd → (p : List ℕ) → isMade p rd ≡ true
+pub made-among : {log : List Logged} {names index texts bind graph : List ℕ} {c : Counts} {rd : Reading} → HoldsReading log names index texts bind graph c rd → (p : List ℕ) → isMade p rd ≡ true
     → among p (rd .files) ≡ true
 made-among {rd = rd} h p m =
     split (among p (rd .files))
     (λ (e : among p (rd .files) ≡ true). e)
     (λ (e : among p (rd .files) ≡ false). differ m (sym (unknown-unmade (h .graphed) p e)))
 
-pub missing-unmade : {log : List Logged} {names ends graph : List ℕ} {c : Counts} {rd : Reading} (h : Filed log names ends graph c rd) {path : List ℕ} {r : Found}
-    → Finds names ends (c .files) path r → r ≡ Missing → false ≡ isMade path rd
+pub missing-unmade : {log : List Logged} {names index graph : List ℕ} {c : Counts} {rd : Reading} (h : Filed log names index graph c rd) {path : List ℕ} {r : FoundName}
+    → FindsName names index (c .files) path r → r ≡ Missing → false ≡ isMade path rd
 missing-unmade h {path} f e = unknown-unmade (h .graphed) path (find-missing f (h .named) e)
 
 -- ---- a path in the word buffer
@@ -107,35 +107,35 @@ among-short p (f ∷ l) h =
     (λ (e : eqBytes p f ≡ true). rw (eqBytes-true p f e) (omega (arith, length-append f (concat l))))
     (λ (e : eqBytes p f ≡ false). omega (arith, length-append f (concat l), among-short p l (sym (among-there p f l e) ∙ h)))
 
-pub long-unmade : {log : List Logged} {names ends texts bind graph : List ℕ} {c : Counts} {rd : Reading} → Holds log names ends texts bind graph c rd → (path : List ℕ)
+pub long-unmade : {log : List Logged} {names index texts bind graph : List ℕ} {c : Counts} {rd : Reading} → HoldsReading log names index texts bind graph c rd → (path : List ℕ)
     → maxWritten < length path → false ≡ isMade path rd
 long-unmade {rd = rd} h path b =
     split (among path (rd .files))
     (λ (e : among path (rd .files) ≡ true). absurd (omega (arith, among-short path (rd .files) e, h .bound .shared, h .bound .few-written)))
     (λ (e : among path (rd .files) ≡ false). unknown-unmade (h .graphed) path e)
 
-pub filed : {log : List Logged} {names ends texts bind graph : List ℕ} {c : Counts} {rd : Reading} → Holds log names ends texts bind graph c rd → Filed log names ends graph c rd
+pub filed : {log : List Logged} {names index texts bind graph : List ℕ} {c : Counts} {rd : Reading} → HoldsReading log names index texts bind graph c rd → Filed log names index graph c rd
 filed h = record { named = h .named; graphed = h .graphed }
 
-pub files-held : {names ends texts bind graph : List ℕ} {c : Counts} → Whole names ends texts bind graph c → Files names ends graph c
+pub files-held : {names index texts bind graph : List ℕ} {c : Counts} → Whole names index texts bind graph c → Files names index graph c
 files-held w = record { log = w .log; reading = w .reading; filed = filed (w .holds) }
 
 -- ---- what the functions on one path answer
 
 module _ (raw : List ℕ) {texts bind word word′ : List ℕ} {c : Counts} {n : ℕ}
-    (x : (log : List Logged) → BindingsHold log texts bind (c .entries) → Written word (expanded log raw) word′ n) where
-  module _ {names ends graph : List ℕ} where
-    pub long-held : maxWritten ≤ length word → length word′ < n → (log : List Logged) (rd : Reading) → Holds log names ends texts bind graph c rd → false ≡ isMade (pathOf rd raw) rd
+    (x : (log : List Logged) → HoldsBindings log texts bind (c .entries) → Written word (expanded log raw) word′ n) where
+  module _ {names index graph : List ℕ} where
+    pub long-held : maxWritten ≤ length word → length word′ < n → (log : List Logged) (rd : Reading) → HoldsReading log names index texts bind graph c rd → false ≡ isMade (pathOf rd raw) rd
     long-held r l log rd h = rw (path-held (h .bound) raw) (long-unmade h (expanded log raw) (omega (arith, x log (h .bound .held) .count, written-long (x log (h .bound .held)))))
 
-    pub made-held : n ≤ length word′ → {r : Bool} → ((log : List Logged) (rd : Reading) → Filed log names ends graph c rd → r ≡ isMade (take n word′) rd)
-        → (log : List Logged) (rd : Reading) → Holds log names ends texts bind graph c rd → r ≡ isMade (pathOf rd raw) rd
+    pub made-held : n ≤ length word′ → {r : Bool} → ((log : List Logged) (rd : Reading) → Filed log names index graph c rd → r ≡ isMade (take n word′) rd)
+        → (log : List Logged) (rd : Reading) → HoldsReading log names index texts bind graph c rd → r ≡ isMade (pathOf rd raw) rd
     made-held l e log rd h = e log rd (filed h) ∙ ap (λ (p : List ℕ). isMade p rd) (written-whole (x log (h .bound .held)) (rw (written-long (x log (h .bound .held))) at l) ∙ sym (path-held (h .bound) raw))
 
-    pub word-counted : Whole names ends texts bind graph c → n ≤ length word′ → length (take n word′) ≡ n
+    pub word-counted : Whole names index texts bind graph c → n ≤ length word′ → length (take n word′) ≡ n
     word-counted w l = let k = x (w .log) (w .holds .bound .held) in ap length (written-whole k (rw (written-long k) at l)) ∙ sym (k .count)
 
-pub table-held : {names ends texts bind graph : List ℕ} {c : Counts} → Whole names ends texts bind graph c → BindingsSound texts bind (c .entries)
+pub table-held : {names index texts bind graph : List ℕ} {c : Counts} → Whole names index texts bind graph c → SoundBindings texts bind (c .entries)
 table-held w = record { log = w .log; held = w .holds .bound .held }
 
 -- ---- a test that is compared with another

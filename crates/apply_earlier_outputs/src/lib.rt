@@ -3,26 +3,26 @@ ghost use mathlib.Core.Path.{_≡_};
 ghost use mathlib.Core.List.{List};
 ghost use Rattle.spec.specs.Reading.{Reading, isMade};
 ghost use Rattle.hold_bindings.specs.Log.{Logged};
-ghost use Rattle.hold_reading.specs.Held.{Holds};
+ghost use Rattle.hold_reading.specs.Held.{HoldsReading};
 ghost use Rattle.apply_empty_paths.specs.Walk.{pathOf, AnyPath};
 ghost use Rattle.apply_earlier_outputs.specs.Asks.{sameBool, Filed, Files, MadeAsks, PathAsks};
-use cut_forms::Next;
+use cut_forms::ListPath;
 use cut_forms::paths::next_path;
 use expand_dollars::expand;
-use hold_names::Found;
+use hold_names::FoundName;
 use hold_names::find;
 use hold_reading::Counts;
 use hold_reading::columns::MADE;
 use slices::words::at;
 
 // Whether a path is the output of an earlier step: its entry among the makers is not 0.
-fn is_output(names: &[u8], ends: &[u32], graph: &[u32], c: Counts, path: &[u8]) -> bool
-    requires { ⌜ Files (now names) (now ends) (now graph) c ⌝ }
-    ensures { λ r. ⌜ ((log : List Logged) (rd : Reading) → Filed log (now (names .entry)) (now (ends .entry)) (now (graph .entry)) c rd → r ≡ isMade (now (path .entry)) rd) ⌝ }
+fn is_output(names: &[u8], index: &[u32], graph: &[u32], c: Counts, path: &[u8]) -> bool
+    requires { ⌜ Files (now names) (now index) (now graph) c ⌝ }
+    ensures { λ r. ⌜ ((log : List Logged) (rd : Reading) → Filed log (now (names .entry)) (now (index .entry)) (now (graph .entry)) c rd → r ≡ isMade (now (path .entry)) rd) ⌝ }
 {
-    match find(names, ends, c.files, path) {
-        Found::At(k) => at(graph, MADE + k) != 0,
-        Found::Missing => false,
+    match find(names, index, c.files, path) {
+        FoundName::At(k) => at(graph, MADE + k) != 0,
+        FoundName::Missing => false,
     }
 }
 
@@ -31,21 +31,21 @@ pub fn is_made(
     t: &[u8; 256],
     raw: &[u8],
     names: &[u8],
-    ends: &[u32],
+    index: &[u32],
     texts: &[u8],
     bind: &[u32],
     graph: &[u32],
     word: &mut [u8],
     c: Counts,
 ) -> bool
-    requires { ⌜ MadeAsks (now t) (now raw) (now names) (now ends) (now texts) (now bind) (now graph) (now word) c ⌝ }
-    ensures { λ r. ⌜ ((log : List Logged) (rd : Reading) → Holds log (now (names .entry)) (now (ends .entry)) (now (texts .entry)) (now (bind .entry)) (now (graph .entry)) c rd → r ≡ isMade (pathOf rd (now (raw .entry))) rd) ⌝ }
+    requires { ⌜ MadeAsks (now t) (now raw) (now names) (now index) (now texts) (now bind) (now graph) (now word) c ⌝ }
+    ensures { λ r. ⌜ ((log : List Logged) (rd : Reading) → HoldsReading log (now (names .entry)) (now (index .entry)) (now (texts .entry)) (now (bind .entry)) (now (graph .entry)) c rd → r ≡ isMade (pathOf rd (now (raw .entry))) rd) ⌝ }
 {
     let n = expand(t, raw, texts, bind, c.entries, word);
     if word.len() < n {
         return false;
     }
-    is_output(names, ends, graph, c, &word[..n])
+    is_output(names, index, graph, c, &word[..n])
 }
 
 // Whether a path is the output of an earlier step ("output made twice"), or, with `wanted` false, whether one is not ("default that is no
@@ -55,7 +55,7 @@ pub fn has_made(
     l: &[u8],
     start: usize,
     names: &[u8],
-    ends: &[u32],
+    index: &[u32],
     texts: &[u8],
     bind: &[u32],
     graph: &[u32],
@@ -63,19 +63,19 @@ pub fn has_made(
     c: Counts,
     wanted: bool,
 ) -> bool
-    requires { ⌜ PathAsks (now t) (now l) (now names) (now ends) (now texts) (now bind) (now graph) (now word) c start ⌝ }
-    ensures { λ r. ⌜ AnyPath (λ log rd. Holds log (now (names .entry)) (now (ends .entry)) (now (texts .entry)) (now (bind .entry)) (now (graph .entry)) c rd) (λ rd raw. sameBool wanted (isMade (pathOf rd raw) rd)) (now (l .entry)) start r ⌝ }
+    requires { ⌜ PathAsks (now t) (now l) (now names) (now index) (now texts) (now bind) (now graph) (now word) c start ⌝ }
+    ensures { λ r. ⌜ AnyPath (λ log rd. HoldsReading log (now (names .entry)) (now (index .entry)) (now (texts .entry)) (now (bind .entry)) (now (graph .entry)) c rd) (λ rd raw. sameBool wanted (isMade (pathOf rd raw) rd)) (now (l .entry)) start r ⌝ }
 {
     let mut i = start;
     loop {
         match next_path(t, l, i) {
-            Next::Path(from, to) => {
-                if is_made(t, &l[from..to], names, ends, texts, bind, graph, word, c) == wanted {
+            ListPath::Path(from, to) => {
+                if is_made(t, &l[from..to], names, index, texts, bind, graph, word, c) == wanted {
                     return true;
                 }
                 i = to;
             }
-            Next::Stop => {
+            ListPath::Stop => {
                 return false;
             }
         }

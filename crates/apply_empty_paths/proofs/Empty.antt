@@ -16,7 +16,7 @@ use Rattle.cut_forms.specs.declared.BuildPlaces.{BuildPlaces}
 use Rattle.cut_forms.specs.Paths.{PathsAt}
 use Rattle.cut_forms.specs.Statements.{Stands}
 use Rattle.hold_bindings.specs.Log.{Logged}
-use Rattle.hold_bindings.specs.Held.{Holds as BindingsHold}
+use Rattle.hold_bindings.specs.Held.{HoldsBindings}
 use Rattle.expand_parts.specs.Runs as runs
 use Rattle.expand_dollars.specs.Written.{Written}
 use Rattle.expand_parts.proofs.Expansions.{expanded-vars}
@@ -36,7 +36,7 @@ none-long [] = refl
 none-long (b ∷ s) = ne-eqb (suc (length s)) 0 (λ e. omega arith)
 
 module _ (raw : List ℕ) {texts bind word word′ : List ℕ} {c : Counts} {n : ℕ}
-    (x : (log : List Logged) → BindingsHold log texts bind (c .entries) → Written word (runs.expanded log raw) word′ n) where
+    (x : (log : List Logged) → HoldsBindings log texts bind (c .entries) → Written word (runs.expanded log raw) word′ n) where
   pub empty-held : (log : List Logged) (rd : Reading) → Bound log texts bind c rd → eqb n 0 ≡ isEmpty (pathOf rd raw)
   empty-held log rd b = rw (path-held b raw, x log (b .held) .count) (none-long (runs.expanded log raw))
 

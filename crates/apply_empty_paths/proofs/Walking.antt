@@ -11,7 +11,7 @@ use Rattle.spec.specs.Limits.{maxManifest}
 use Rattle.spec.specs.Reading.{Reading}
 use Rattle.scan_classes.specs.Table.{classes}
 use Rattle.hold_bindings.specs.Log.{Logged}
-use Rattle.hold_bindings.specs.Held.{Sound}
+use Rattle.hold_bindings.specs.Held.{SoundBindings}
 use Rattle.scan_raw.specs.Texts.{PathNext}
 use Rattle.cut_forms.specs.Paths.{PathsAt}
 use Rattle.cut_forms.proofs.Walks.{walk-on}
@@ -19,7 +19,7 @@ use Rattle.expand_parts.specs.Runs.{Ready}
 use Rattle.apply_empty_paths.specs.Walk.{AnyPath}
 
 -- A path of a line is ready to be expanded.
-pub ready-path : {t l texts bind : List ℕ} {count i from to : ℕ} → t ≡ classes → length l ≤ maxManifest → Sound texts bind count → PathNext l i from to
+pub ready-path : {t l texts bind : List ℕ} {count i from to : ℕ} → t ≡ classes → length l ≤ maxManifest → SoundBindings texts bind count → PathNext l i from to
     → Ready t (part l from to) texts bind count 0
 ready-path {l = l} {from = from} {to = to} e s h p =
     record {

@@ -14,7 +14,7 @@ use Rattle.cut_forms.specs.Paths.{PathsAt}
 use Rattle.cut_forms.specs.Statements.{Stands}
 use Rattle.cut_forms.specs.declared.BuildPlaces.{BuildPlaces}
 use Rattle.hold_bindings.specs.Log.{Logged}
-use Rattle.hold_bindings.specs.Held.{Sound}
+use Rattle.hold_bindings.specs.Held.{SoundBindings}
 
 -- "Paths .. are expanded at once with the file's variables as they then stand."
 unfoldable pub pathOf : Reading → List ℕ → List ℕ
@@ -26,7 +26,7 @@ pub record ListAsks (t l texts bind : List ℕ) (count at : ℕ) : Type 0 where
   pub table : t ≡ classes
   pub short : length l ≤ maxManifest
   pub within : at ≤ length l
-  pub held : Sound texts bind count
+  pub held : SoundBindings texts bind count
 
 -- where the parts of a build line stand, and the table of bindings
 pub record FormAsks (t l texts bind : List ℕ) (count : ℕ) (p : BuildPlaces) : Type 0 where
@@ -34,7 +34,7 @@ pub record FormAsks (t l texts bind : List ℕ) (count : ℕ) (p : BuildPlaces) 
   pub short : length l ≤ maxManifest
   pub line : BuildLine
   pub stands : Stands l p line
-  pub held : Sound texts bind count
+  pub held : SoundBindings texts bind count
 
 -- whether any path of the list passes a test, whatever reading is held
 pub record AnyPath (Held : List Logged → Reading → Type 0) (test : Reading → List ℕ → Bool) (l : List ℕ) (at : ℕ) (r : Bool) : Type 0 where

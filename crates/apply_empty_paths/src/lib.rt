@@ -12,7 +12,7 @@ ghost use Rattle.expand_parts.specs.Runs.{Ready};
 ghost use Rattle.hold_reading.specs.Held.{Bound};
 ghost use Rattle.apply_empty_paths.specs.Walk.{pathOf, ListAsks, FormAsks, AnyPath};
 use cut_forms::BuildPlaces;
-use cut_forms::Next;
+use cut_forms::ListPath;
 use cut_forms::paths::next_path;
 use expand_dollars::expand;
 use hold_reading::Counts;
@@ -47,13 +47,13 @@ pub fn has_empty(
     let mut i = start;
     loop {
         match next_path(t, l, i) {
-            Next::Path(from, to) => {
+            ListPath::Path(from, to) => {
                 if is_empty(t, &l[from..to], texts, bind, c, word) {
                     return true;
                 }
                 i = to;
             }
-            Next::Stop => {
+            ListPath::Stop => {
                 return false;
             }
         }

@@ -5,7 +5,7 @@ use Rattle.spec.specs.Reading.{Reading}
 use Rattle.arena.proofs.Laws.{lies-kept}
 use Rattle.hold_bindings.specs.Log.{Logged}
 use Rattle.hold_reading.specs.declared.Counts.{Counts}
-use Rattle.hold_reading.specs.Held.{capacities, Graphed, Holds}
+use Rattle.hold_reading.specs.Held.{capacities, Graphed, HoldsReading}
 use Rattle.hold_reading.specs.Adds.{Whole}
 use Rattle.apply_equal_outputs.specs.Kept.{Kept}
 
@@ -29,9 +29,9 @@ graphed-kept {graph = graph} {graph′ = graph′} {rd = rd} k g =
       defaults-low = g .defaults-low;
     }
 
-pub held-kept : {log : List Logged} {names ends texts bind graph graph′ : List ℕ} {c : Counts} {rd : Reading} → Kept graph graph′ → Holds log names ends texts bind graph c rd
-    → Holds log names ends texts bind graph′ c rd
+pub held-kept : {log : List Logged} {names index texts bind graph graph′ : List ℕ} {c : Counts} {rd : Reading} → Kept graph graph′ → HoldsReading log names index texts bind graph c rd
+    → HoldsReading log names index texts bind graph′ c rd
 held-kept k h = record { named = h .named; bound = h .bound; graphed = graphed-kept k (h .graphed) }
 
-pub whole-kept : {names ends texts bind graph graph′ : List ℕ} {c : Counts} → Kept graph graph′ → Whole names ends texts bind graph c → Whole names ends texts bind graph′ c
+pub whole-kept : {names index texts bind graph graph′ : List ℕ} {c : Counts} → Kept graph graph′ → Whole names index texts bind graph c → Whole names index texts bind graph′ c
 whole-kept k w = record { log = w .log; reading = w .reading; holds = held-kept k (w .holds) }

@@ -21,11 +21,11 @@ use Rattle.cut_forms.proofs.Walks.{walk-on}
 use Rattle.arena.specs.Inserted.{inserted, Shifted}
 use Rattle.arena.proofs.Inserting.{each-inserted}
 use Rattle.hold_bindings.specs.Log.{Logged}
-use Rattle.hold_bindings.specs.Held.{Holds as BindingsHold}
+use Rattle.hold_bindings.specs.Held.{HoldsBindings}
 use Rattle.expand_parts.specs.Runs.{expanded as expandedBy, Ready}
 use Rattle.hold_reading.specs.Held.{Bound}
 use Rattle.hold_reading.specs.declared.Counts.{Counts}
-use Rattle.apply_equal_outputs.specs.declared.Place.the-variants.{Taken, Free}
+use Rattle.apply_equal_outputs.specs.declared.TablePlace.the-variants.{Taken, Free}
 use Rattle.apply_empty_paths.specs.Walk.{pathOf}
 use Rattle.apply_equal_outputs.specs.Kept.{columnsEnd}
 use Rattle.apply_equal_outputs.specs.Sorted.{Between, entryOf, rawOf, Lies, pathsOf, Sorted, PlaceAsks, Ordered, Belongs, PlaceIn, Added, TwiceAsks, Compared, Twice}
@@ -109,7 +109,7 @@ entry-ready p h =
 
 -- what `order` says of the path and that of an entry v
 pub order-held : {l texts bind : List ℕ} {c : Counts} {from to : ℕ} {table : List ℕ} {k v : ℕ} {r : Order} → v ≡ getD table k 0
-    → ((log : List Logged) → BindingsHold log texts bind (c .entries) → r ≡ orderBytes (expandedBy log (part l from to)) (expandedBy log (part l (v / 65536) (v % 65536))))
+    → ((log : List Logged) → HoldsBindings log texts bind (c .entries) → r ≡ orderBytes (expandedBy log (part l from to)) (expandedBy log (part l (v / 65536) (v % 65536))))
     → Ordered l texts bind c from to table k r
 unfolding rawOf
 order-held {l} {from = from} {to = to} {v = v} q e =

@@ -20,8 +20,8 @@ use Rattle.hold_bindings.specs.Log.{Logged}
 use Rattle.expand_parts.specs.Runs.{Ready}
 use Rattle.hold_reading.specs.Held.{Bound}
 use Rattle.hold_reading.specs.declared.Counts.{Counts}
-use Rattle.apply_equal_outputs.specs.declared.Place.{Place}
-use Rattle.apply_equal_outputs.specs.declared.Place.the-variants.{Taken, Free}
+use Rattle.apply_equal_outputs.specs.declared.TablePlace.{TablePlace}
+use Rattle.apply_equal_outputs.specs.declared.TablePlace.the-variants.{Taken, Free}
 use Rattle.apply_empty_paths.specs.Walk.{pathOf}
 use Rattle.apply_equal_outputs.specs.Kept.{columnsEnd, Kept}
 
@@ -81,12 +81,12 @@ pub record SortedAsks (t l texts bind : List ℕ) (c : Counts) (from to : ℕ) (
   pub path : PlaceAsks t l texts bind (c .entries) from to
   pub sorted : Sorted l texts bind c table
 
--- Place p is the one where the path belongs.
+-- TablePlace p is the one where the path belongs.
 pub record Belongs (l texts bind : List ℕ) (c : Counts) (from to : ℕ) (table : List ℕ) (p : ℕ) : Type 0 where
   pub within : p ≤ length table
   pub between : (log : List Logged) (rd : Reading) → Bound log texts bind c rd → Between (pathsOf rd l table) (pathOf rd (part l from to)) p p
 
-pub record PlaceIn (l texts bind : List ℕ) (c : Counts) (from to : ℕ) (table : List ℕ) (r : Place) : Type 0 where
+pub record PlaceIn (l texts bind : List ℕ) (c : Counts) (from to : ℕ) (table : List ℕ) (r : TablePlace) : Type 0 where
   pub taken : r ≡ Taken → (log : List Logged) (rd : Reading) → Bound log texts bind c rd → among (pathOf rd (part l from to)) (pathsOf rd l table) ≡ true
   pub free : {p : ℕ} → r ≡ Free p → Belongs l texts bind c from to table p
 

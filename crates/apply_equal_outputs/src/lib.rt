@@ -1,7 +1,7 @@
 // Two equal outputs in a line. The outputs so far stand in a table that is sorted by what they expand to, so each is compared with few others.
 ghost use Rattle.apply_equal_outputs.specs.Sorted.{EntryAsks, Ordered, SortedAsks, PlaceIn, AddAsks, Added, TableAsks, Compared, RoomAsks, Twice};
 use arena::insert;
-use cut_forms::Next;
+use cut_forms::ListPath;
 use cut_forms::paths::next_path;
 use expand_order::order;
 use hold_reading::Counts;
@@ -10,7 +10,7 @@ use lists::Order;
 use slices::words::at;
 
 // Where a path stands in a sorted table: an equal one is there, or it belongs at a place.
-pub enum Place {
+pub enum TablePlace {
     Taken,
     Free(usize),
 }
@@ -46,7 +46,7 @@ fn place_for(
     bind: &[u32],
     c: Counts,
     table: &[u32],
-) -> Place
+) -> TablePlace
     requires { ⌜ SortedAsks (now t) (now l) (now texts) (now bind) c from to (now table) ⌝ }
     ensures { λ r. ⌜ PlaceIn (now (l .entry)) (now (texts .entry)) (now (bind .entry)) c from to (now (table .entry)) r ⌝ }
 {
@@ -62,11 +62,11 @@ fn place_for(
                 low = mid + 1;
             }
             Order::Equal => {
-                return Place::Taken;
+                return TablePlace::Taken;
             }
         }
     }
-    Place::Free(low)
+    TablePlace::Free(low)
 }
 
 // Whether the path from one place to another is in the table of n entries. Where it is not, it is put in.
@@ -85,8 +85,8 @@ fn is_taken(
     ensures { λ r. ⌜ Added (now (l .entry)) (now (texts .entry)) (now (bind .entry)) c from to (now (table .entry)) n (now (table .exit)) r ⌝ }
 {
     match place_for(t, l, from, to, texts, bind, c, &table[..n]) {
-        Place::Taken => true,
-        Place::Free(p) => {
+        TablePlace::Taken => true,
+        TablePlace::Free(p) => {
             insert(table, n, p, from * 65536 + to);
             false
         }
@@ -110,14 +110,14 @@ fn has_equal(
     let mut i = start;
     loop {
         match next_path(t, l, i) {
-            Next::Path(from, to) => {
+            ListPath::Path(from, to) => {
                 if is_taken(t, l, from, to, texts, bind, c, table, n) {
                     return true;
                 }
                 n += 1;
                 i = to;
             }
-            Next::Stop => {
+            ListPath::Stop => {
                 return false;
             }
         }

@@ -142,7 +142,7 @@ counted-over c rd m n p e =
       ]
     ]
 
-pub path-over : {names fileEnds texts bind graph : List ℕ} {c : Counts} {h : Line} → Writing names fileEnds texts bind graph c h → (p : List ℕ) → overCounted (length p) c ≡ true
+pub path-over : {names index texts bind graph : List ℕ} {c : Counts} {h : Line} → Writing names index texts bind graph c h → (p : List ℕ) → overCounted (length p) c ≡ true
     → (more : List (List ℕ)) → overLine (p ∷ more) (h .reading) ≡ true
 path-over {c = c} {h = h} w p e = counted-over c (h .reading) (w .mentions-counted) (w .bound .written-counted) p e
 

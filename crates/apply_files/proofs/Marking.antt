@@ -12,7 +12,7 @@ use Rattle.spec.specs.Reading.{numberOf, mention}
 use Rattle.spec.specs.Statements.{mentioned}
 use Rattle.hold_names.specs.declared.Added.{Added}
 use Rattle.hold_names.specs.declared.Added.the-variants.{Old, New, Full}
-use Rattle.hold_names.specs.Table.{Adds}
+use Rattle.hold_names.specs.Table.{AddsName}
 use Rattle.hold_names.proofs.Numbers.{mention-none, mention-old, mention-new}
 use Rattle.hold_names.proofs.Laws as named
 use Rattle.hold_names.proofs.Laws.{after-old, after-new, after-full}
@@ -55,7 +55,7 @@ made-new p files made h =
 
 -- ---- what is held then
 
-module _ {names fileEnds texts bind graph : List ℕ} {c : Counts} {h : Line} (w : Writing names fileEnds texts bind graph c h) (p : List ℕ) (l : Within (length p) c) where
+module _ {names index texts bind graph : List ℕ} {c : Counts} {h : Line} (w : Writing names index texts bind graph c h) (p : List ℕ) (l : Within (length p) c) where
   bound-path : (files : ℕ) → Bound (h .log) texts bind (countedPath files (length p) c) (mentioned (p ∷ []) (h .reading))
   unfolding mentioned sum
   bound-path files =
@@ -78,10 +78,10 @@ module _ {names fileEnds texts bind graph : List ℕ} {c : Counts} {h : Line} (w
         shared = omega (arith, b .shared, concat-mention (h .reading .files) p);
       }
 
-  path-held : {names′ ends′ graph′ : List ℕ} {files k : ℕ} → named.Mentioned (h .reading .files) p k names′ ends′ files
+  path-held : {names′ index′ graph′ : List ℕ} {files k : ℕ} → named.Mentioned (h .reading .files) p k names′ index′ files
       → Columns graph′ (h .mentions ++ (k ∷ [])) (h .ends) (h .phony) (madeWith p (h .reading .files) (h .made)) (h .ruleOf) (h .reading .defaults)
       → length (madeWith p (h .reading .files) (h .made)) ≡ files
-      → Writing names′ ends′ texts bind graph′ (countedPath files (length p) c) (withPath p h)
+      → Writing names′ index′ texts bind graph′ (countedPath files (length p) c) (withPath p h)
   unfolding withPath mentioned
   path-held {files = files} m q f =
       record {
@@ -101,9 +101,9 @@ module _ {names fileEnds texts bind graph : List ℕ} {c : Counts} {h : Line} (w
 
 -- ---- by the answer
 
-module _ {names fileEnds graph path names′ fileEnds′ : List ℕ} {c : Counts} {r : Added} (a : Adds names fileEnds (c .files) path names′ fileEnds′ r) (l : Within (length path) c)
-    {texts bind : List ℕ} {h : Line} (w : Writing names fileEnds texts bind graph c h) where
-  pub path-old : {k : ℕ} {graph′ : List ℕ} {d : Counts} → r ≡ Old k → Again graph c k (length path) graph′ d → Marks names′ fileEnds′ texts bind graph′ h (path ∷ []) (On d)
+module _ {names index graph path names′ index′ : List ℕ} {c : Counts} {r : Added} (a : AddsName names index (c .files) path names′ index′ r) (l : Within (length path) c)
+    {texts bind : List ℕ} {h : Line} (w : Writing names index texts bind graph c h) where
+  pub path-old : {k : ℕ} {graph′ : List ℕ} {d : Counts} → r ≡ Old k → Again graph c k (length path) graph′ d → Marks names′ index′ texts bind graph′ h (path ∷ []) (On d)
   unfolding withPaths
   path-old {k} e g =
       let m = after-old a (w .named) e in
@@ -111,7 +111,7 @@ module _ {names fileEnds graph path names′ fileEnds′ : List ℕ} {c : Counts
       rw (g .stored, g .counted)
       (on (path-held w path l m (rw z (push-mention (w .columns) k (c .paths) (w .paths-counted) (mentions-short w path l))) (rw z (w .filed ∙ sym (w .named .counted)))) (path-short path l))
 
-  pub path-new : {k : ℕ} {graph′ : List ℕ} {d : Counts} → r ≡ New k → First graph c k (length path) graph′ d → Marks names′ fileEnds′ texts bind graph′ h (path ∷ []) (On d)
+  pub path-new : {k : ℕ} {graph′ : List ℕ} {d : Counts} → r ≡ New k → First graph c k (length path) graph′ d → Marks names′ index′ texts bind graph′ h (path ∷ []) (On d)
   unfolding withPaths
   path-new {k} e g =
       let m = after-new a (w .named) e in
@@ -124,7 +124,7 @@ module _ {names fileEnds graph path names′ fileEnds′ : List ℕ} {c : Counts
       (rw z (omega (arith, length-append (h .made) (0 ∷ []), w .filed, w .named .counted))))
       (path-short path l))
 
-  pub path-full : maxWritten ≤ length names → r ≡ Full → {graph′ : List ℕ} → Marks names′ fileEnds′ texts bind graph′ h (path ∷ []) Over
+  pub path-full : maxWritten ≤ length names → r ≡ Full → {graph′ : List ℕ} → Marks names′ index′ texts bind graph′ h (path ∷ []) Over
   path-full n e =
       let x = after-full a (w .named) e (omega (arith, w .bound .shared, l .low)) in
       over (line-files path (h .reading) (x .0) (x .1))

@@ -10,7 +10,7 @@ use Rattle.spec.specs.Limits.{maxMentions}
 use Rattle.spec.specs.Reading.{Reading, numberOf, mention}
 use Rattle.spec.specs.Statements.{mentioned, overPaths, overCounts}
 use Rattle.arena.specs.Columns.{Lies}
-use Rattle.hold_names.specs.Table.{Holds as NamesHold}
+use Rattle.hold_names.specs.Table.{HoldsNames}
 use Rattle.hold_bindings.specs.Log.{Logged}
 use Rattle.hold_reading.specs.declared.Counts.{Counts}
 use Rattle.hold_reading.specs.Held.{Bound, capacities}
@@ -31,8 +31,8 @@ pub record Line : Type 0 where
 pub record Columns (graph mentions ends phony made ruleOf defaults : List ℕ) : Type 0 where
   pub lies : Lies capacities graph (mentions ∷ ends ∷ phony ∷ made ∷ ruleOf ∷ defaults ∷ [])
 
-pub record Writing (names fileEnds texts bind graph : List ℕ) (c : Counts) (h : Line) : Type 0 where
-  pub named : NamesHold names fileEnds (c .files) (h .reading .files)
+pub record Writing (names index texts bind graph : List ℕ) (c : Counts) (h : Line) : Type 0 where
+  pub named : HoldsNames names index (c .files) (h .reading .files)
   pub bound : Bound (h .log) texts bind c (h .reading)
   pub columns : Columns graph (h .mentions) (h .ends) (h .phony) (h .made) (h .ruleOf) (h .reading .defaults)
   pub filed : length (h .made) ≡ length (h .reading .files)
@@ -70,6 +70,6 @@ unfoldable pub overLine : List (List ℕ) → Reading → Bool
 overLine ps rd = overPaths ps || overCounts (mentioned ps rd)
 
 -- The paths are mentioned, or the line is over a limit, whatever it mentions after them.
-pub data Marks (names fileEnds texts bind graph : List ℕ) (h : Line) (ps : List (List ℕ)) : Mentioned → Type 0 where
-  on : {c : Counts} → Writing names fileEnds texts bind graph c (withPaths ps h) → overPaths ps ≡ false → Marks names fileEnds texts bind graph h ps (On c)
-  over : ((more : List (List ℕ)) → overLine (ps ++ more) (h .reading) ≡ true) → Marks names fileEnds texts bind graph h ps Over
+pub data Marks (names index texts bind graph : List ℕ) (h : Line) (ps : List (List ℕ)) : Mentioned → Type 0 where
+  on : {c : Counts} → Writing names index texts bind graph c (withPaths ps h) → overPaths ps ≡ false → Marks names index texts bind graph h ps (On c)
+  over : ((more : List (List ℕ)) → overLine (ps ++ more) (h .reading) ≡ true) → Marks names index texts bind graph h ps Over

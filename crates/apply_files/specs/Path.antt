@@ -46,13 +46,13 @@ pub record First (graph : List ℕ) (c : Counts) (k n : ℕ) (graph′ : List �
   pub counted : r ≡ countedPath (c .files + 1) n c
 
 -- a path that is within the limits but for the count of files
-pub record Fits (path names fileEnds graph : List ℕ) (c : Counts) : Type 0 where
+pub record Fits (path names index graph : List ℕ) (c : Counts) : Type 0 where
   pub texts : List ℕ
   pub bind : List ℕ
   pub names-long : maxWritten ≤ length names
   pub within : overCounted (length path) c ≡ false
   pub line : Line
-  pub writing : Writing names fileEnds texts bind graph c line
+  pub writing : Writing names index texts bind graph c line
 
-pub record Marked (path names fileEnds graph : List ℕ) (c : Counts) (names′ fileEnds′ graph′ : List ℕ) (r : Mentioned) : Type 0 where
-  pub marks : (texts bind : List ℕ) (h : Line) → Writing names fileEnds texts bind graph c h → Marks names′ fileEnds′ texts bind graph′ h (path ∷ []) r
+pub record Marked (path names index graph : List ℕ) (c : Counts) (names′ index′ graph′ : List ℕ) (r : Mentioned) : Type 0 where
+  pub marks : (texts bind : List ℕ) (h : Line) → Writing names index texts bind graph c h → Marks names′ index′ texts bind graph′ h (path ∷ []) r

@@ -80,15 +80,15 @@ fn note_first(graph: &mut [u32], c: Counts, k: usize, n: usize) -> Counts
 pub fn mark(
     path: &[u8],
     names: &mut [u8],
-    ends: &mut [u32],
+    index: &mut [u32],
     graph: &mut [u32],
     c: Counts,
 ) -> Mentioned
-    requires { ⌜ Fits (now path) (now names) (now ends) (now graph) c ⌝ }
-    ensures { λ r. ⌜ Marked (now (path .entry)) (now (names .entry)) (now (ends .entry)) (now (graph .entry)) c (now (names .exit)) (now (ends .exit)) (now (graph .exit)) r ⌝ }
+    requires { ⌜ Fits (now path) (now names) (now index) (now graph) c ⌝ }
+    ensures { λ r. ⌜ Marked (now (path .entry)) (now (names .entry)) (now (index .entry)) (now (graph .entry)) c (now (names .exit)) (now (index .exit)) (now (graph .exit)) r ⌝ }
 {
     let files = c.files;
-    match add(names, ends, files, path) {
+    match add(names, index, files, path) {
         Added::Old(k) => Mentioned::On(note_again(graph, c, k, path.len())),
         Added::New(k) => Mentioned::On(note_first(graph, c, k, path.len())),
         Added::Full => Mentioned::Over,

@@ -6,13 +6,13 @@ use Rattle.spec.specs.Limits.{maxValue}
 use Rattle.cut_refusals.specs.Cuts.{CutAsks}
 use Rattle.hold_reading.specs.declared.Counts.{Counts}
 use Rattle.hold_reading.specs.declared.Open.{Open}
-use Rattle.hold_reading.specs.Binds.{Sound}
+use Rattle.hold_reading.specs.Binds.{SoundBlock}
 
 pub record KeyAsks (t : List ℕ) (start : ℕ) (l texts bind : List ℕ) (c : Counts) (o : Open) : Type 0 where
   pub cut : CutAsks t start l
-  pub sound : Sound texts bind c o
+  pub sound : SoundBlock texts bind c o
 
 pub record Asks (t : List ℕ) (start : ℕ) (l texts bind word : List ℕ) (c : Counts) (o : Open) : Type 0 where
   pub cut : CutAsks t start l
   pub room : maxValue ≤ length word
-  pub sound : Sound texts bind c o
+  pub sound : SoundBlock texts bind c o

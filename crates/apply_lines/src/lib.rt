@@ -18,7 +18,7 @@ pub fn read_line(
     l: &[u8],
     ended: bool,
     names: &mut [u8],
-    ends: &mut [u32],
+    index: &mut [u32],
     texts: &mut [u8],
     bind: &mut [u32],
     graph: &mut [u32],
@@ -26,8 +26,8 @@ pub fn read_line(
     c: Counts,
     block: Open,
 ) -> LineAnswer
-    requires { ⌜ LineAsks (now t) start (now l) (now names) (now ends) (now texts) (now bind) (now graph) (now word) c block ⌝ }
-    ensures { λ r. ⌜ LineMeets (now (names .entry)) (now (ends .entry)) (now (texts .entry)) (now (bind .entry)) (now (graph .entry)) c block (readLine (lineOf start (now (l .entry)) ended)) (now (names .exit)) (now (ends .exit)) (now (texts .exit)) (now (bind .exit)) (now (graph .exit)) r ⌝ }
+    requires { ⌜ LineAsks (now t) start (now l) (now names) (now index) (now texts) (now bind) (now graph) (now word) c block ⌝ }
+    ensures { λ r. ⌜ LineMeets (now (names .entry)) (now (index .entry)) (now (texts .entry)) (now (bind .entry)) (now (graph .entry)) c block (readLine (lineOf start (now (l .entry)) ended)) (now (names .exit)) (now (index .exit)) (now (texts .exit)) (now (bind .exit)) (now (graph .exit)) r ⌝ }
 {
     match line_kind(l) {
         LineKind::Comment => LineAnswer::Goes(c, block),
@@ -39,7 +39,7 @@ pub fn read_line(
             l,
             ended,
             names,
-            ends,
+            index,
             texts,
             bind,
             graph,

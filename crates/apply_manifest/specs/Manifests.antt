@@ -9,47 +9,47 @@ use Rattle.spec.specs.Lines.{linesOf}
 use Rattle.spec.specs.Statements.{noBlock}
 use Rattle.spec.specs.Manifest.{readLines, accepted, refusedWith, readManifest}
 use Rattle.scan_classes.specs.Table.{classes}
-use Rattle.hold_names.specs.Table.{maxNumbers, Holds as NamesHold}
+use Rattle.hold_names.specs.Table.{maxNumbers, HoldsNames}
 use Rattle.hold_bindings.specs.Log.{Logged}
 use Rattle.hold_bindings.specs.Held.{maxTexts, maxRows}
 use Rattle.hold_reading.specs.declared.Counts.{Counts}
 use Rattle.hold_reading.specs.declared.LineAnswer.{LineAnswer}
-use Rattle.hold_reading.specs.Held.{Holds, Agrees}
+use Rattle.hold_reading.specs.Held.{HoldsReading, Agrees}
 use Rattle.apply_statements.specs.Asks.{Room}
 use Rattle.apply_manifest.specs.declared.ReadAnswer.{ReadAnswer}
 use Rattle.apply_manifest.specs.declared.ReadAnswer.the-variants.{Accepted, Refused}
 
 -- room in the buffers for any manifest, whatever they hold
-pub record Roomy (t names fileEnds texts bind graph word : List ℕ) : Type 0 where
+pub record Roomy (t names index texts bind graph word : List ℕ) : Type 0 where
   pub table : t ≡ classes
   pub room : Room names graph word
   pub names-small : length names < 2 ^ 32
-  pub numbers-room : maxNumbers ≤ length fileEnds
+  pub numbers-room : maxNumbers ≤ length index
   pub texts-room : maxTexts ≤ length texts
   pub bind-room : maxRows ≤ length bind
 
 -- the same, for a manifest that is not too long
-pub record LinesAsk (t m names fileEnds texts bind graph word : List ℕ) : Type 0 where
+pub record LinesAsk (t m names index texts bind graph word : List ℕ) : Type 0 where
   pub short : length m ≤ maxManifest
-  pub roomy : Roomy t names fileEnds texts bind graph word
+  pub roomy : Roomy t names index texts bind graph word
 
 -- the same, with no names held
-pub record TopAsk (t m names fileEnds texts bind graph word : List ℕ) : Type 0 where
+pub record TopAsk (t m names index texts bind graph word : List ℕ) : Type 0 where
   pub short : length m ≤ maxManifest
-  pub roomy : Roomy t names fileEnds texts bind graph word
-  pub empty : NamesHold names fileEnds 0 []
+  pub roomy : Roomy t names index texts bind graph word
+  pub empty : HoldsNames names index 0 []
 
 -- The answer agrees with the lines of the manifest, read from the top.
-pub record LinesRead (m names fileEnds texts bind graph : List ℕ) (r : LineAnswer) : Type 0 where
-  pub agrees : Agrees names fileEnds texts bind graph (readLines (linesOf m) nothingRead noBlock) r
+pub record LinesRead (m names index texts bind graph : List ℕ) (r : LineAnswer) : Type 0 where
+  pub agrees : Agrees names index texts bind graph (readLines (linesOf m) nothingRead noBlock) r
 
 -- The manifest is accepted, and the buffers hold what was read.
-pub record Held (m names fileEnds texts bind graph : List ℕ) (c : Counts) : Type 0 where
+pub record Held (m names index texts bind graph : List ℕ) (c : Counts) : Type 0 where
   pub log : List Logged
   pub reading : Reading
   pub is : readManifest m ≡ accepted reading
-  pub holds : Holds log names fileEnds texts bind graph c reading
+  pub holds : HoldsReading log names index texts bind graph c reading
 
 unfoldable pub IsRead : List ℕ → List ℕ → List ℕ → List ℕ → List ℕ → List ℕ → ReadAnswer → Type 0
-IsRead m names fileEnds texts bind graph (Accepted c) = Held m names fileEnds texts bind graph c
-IsRead m names fileEnds texts bind graph (Refused r) = readManifest m ≡ refusedWith r
+IsRead m names index texts bind graph (Accepted c) = Held m names index texts bind graph c
+IsRead m names index texts bind graph (Refused r) = readManifest m ≡ refusedWith r

@@ -25,14 +25,14 @@ fn read_from_top(
     t: &[u8; 256],
     m: &[u8],
     names: &mut [u8],
-    ends: &mut [u32],
+    index: &mut [u32],
     texts: &mut [u8],
     bind: &mut [u32],
     graph: &mut [u32],
     word: &mut [u8],
 ) -> LineAnswer
-    requires { ⌜ TopAsk (now t) (now m) (now names) (now ends) (now texts) (now bind) (now graph) (now word) ⌝ }
-    ensures { λ r. ⌜ LinesRead (now (m .entry)) (now (names .exit)) (now (ends .exit)) (now (texts .exit)) (now (bind .exit)) (now (graph .exit)) r ⌝ }
+    requires { ⌜ TopAsk (now t) (now m) (now names) (now index) (now texts) (now bind) (now graph) (now word) ⌝ }
+    ensures { λ r. ⌜ LinesRead (now (m .entry)) (now (names .exit)) (now (index .exit)) (now (texts .exit)) (now (bind .exit)) (now (graph .exit)) r ⌝ }
 {
     let mut c = Counts {
         files: 0,
@@ -56,7 +56,7 @@ fn read_from_top(
             &m[i..end],
             s.ended,
             names,
-            ends,
+            index,
             texts,
             bind,
             graph,
@@ -82,17 +82,17 @@ fn read_lines(
     t: &[u8; 256],
     m: &[u8],
     names: &mut [u8],
-    ends: &mut [u32],
+    index: &mut [u32],
     texts: &mut [u8],
     bind: &mut [u32],
     graph: &mut [u32],
     word: &mut [u8],
 ) -> LineAnswer
-    requires { ⌜ LinesAsk (now t) (now m) (now names) (now ends) (now texts) (now bind) (now graph) (now word) ⌝ }
-    ensures { λ r. ⌜ LinesRead (now (m .entry)) (now (names .exit)) (now (ends .exit)) (now (texts .exit)) (now (bind .exit)) (now (graph .exit)) r ⌝ }
+    requires { ⌜ LinesAsk (now t) (now m) (now names) (now index) (now texts) (now bind) (now graph) (now word) ⌝ }
+    ensures { λ r. ⌜ LinesRead (now (m .entry)) (now (names .exit)) (now (index .exit)) (now (texts .exit)) (now (bind .exit)) (now (graph .exit)) r ⌝ }
 {
-    clear(ends);
-    read_from_top(t, m, names, ends, texts, bind, graph, word)
+    clear(index);
+    read_from_top(t, m, names, index, texts, bind, graph, word)
 }
 
 // Reads a manifest into the buffers. "Order: 1, 2, 3; lines from the top."
@@ -100,21 +100,21 @@ pub fn read(
     t: &[u8; 256],
     m: &[u8],
     names: &mut [u8],
-    ends: &mut [u32],
+    index: &mut [u32],
     texts: &mut [u8],
     bind: &mut [u32],
     graph: &mut [u32],
     word: &mut [u8],
 ) -> ReadAnswer
-    requires { ⌜ Roomy (now t) (now names) (now ends) (now texts) (now bind) (now graph) (now word) ⌝ }
-    ensures { λ r. ⌜ IsRead (now (m .entry)) (now (names .exit)) (now (ends .exit)) (now (texts .exit)) (now (bind .exit)) (now (graph .exit)) r ⌝ }
+    requires { ⌜ Roomy (now t) (now names) (now index) (now texts) (now bind) (now graph) (now word) ⌝ }
+    ensures { λ r. ⌜ IsRead (now (m .entry)) (now (names .exit)) (now (index .exit)) (now (texts .exit)) (now (bind .exit)) (now (graph .exit)) r ⌝ }
 {
     if MANIFEST < m.len() {
         return ReadAnswer::Refused(Refusal::LongManifest);
     }
     match bad_byte(m) {
         FirstBad::At(p) => ReadAnswer::Refused(Refusal::BadByte(p)),
-        FirstBad::Nowhere => match read_lines(t, m, names, ends, texts, bind, graph, word) {
+        FirstBad::Nowhere => match read_lines(t, m, names, index, texts, bind, graph, word) {
             LineAnswer::Goes(c, _) => ReadAnswer::Accepted(c),
             LineAnswer::Refused(r) => ReadAnswer::Refused(r),
         },

@@ -9,7 +9,7 @@ use Rattle.spec.specs.Dollars.{expand}
 use Rattle.spec.specs.Reading.{fileVar}
 use Rattle.spec.specs.Statements.{expanded}
 use Rattle.hold_bindings.specs.Log.{Logged}
-use Rattle.hold_bindings.specs.Held.{Holds}
+use Rattle.hold_bindings.specs.Held.{HoldsBindings}
 use Rattle.expand_parts.specs.Runs as runs
 use Rattle.expand_dollars.specs.Written.{Written}
 use Rattle.expand_parts.proofs.Expansions.{expanded-vars}
@@ -22,9 +22,9 @@ use Rattle.apply_files.specs.Path.{overCounted, Fits, Marked}
 use Rattle.apply_mentions.specs.Asks.{Asks, Mentions}
 use Rattle.apply_files.proofs.Limits.{path-over, path-within}
 
-module _ {t raw names fileEnds texts bind graph word : List ℕ} {c : Counts} (a : Asks t raw names fileEnds texts bind graph word c) {word′ : List ℕ} {k : ℕ}
-    (x : (log : List Logged) → Holds log texts bind (c .entries) → Written word (runs.expanded log raw) word′ k) where
-  pub mention-over : {names′ fileEnds′ graph′ : List ℕ} → overCounted k c ≡ true → Mentions raw names fileEnds texts bind graph c names′ fileEnds′ graph′ Over
+module _ {t raw names index texts bind graph word : List ℕ} {c : Counts} (a : Asks t raw names index texts bind graph word c) {word′ : List ℕ} {k : ℕ}
+    (x : (log : List Logged) → HoldsBindings log texts bind (c .entries) → Written word (runs.expanded log raw) word′ k) where
+  pub mention-over : {names′ index′ graph′ : List ℕ} → overCounted k c ≡ true → Mentions raw names index texts bind graph c names′ index′ graph′ Over
   unfolding expanded
   mention-over h =
       record {
@@ -42,7 +42,7 @@ module _ {t raw names fileEnds texts bind graph word : List ℕ} {c : Counts} (a
         let w = x (a .line .log) (a .writing .bound .held) in
         ap length (written-whole w path-fits) ∙ sym (w .count)
 
-    pub mention-fits : Fits (take k word′) names fileEnds graph c
+    pub mention-fits : Fits (take k word′) names index graph c
     mention-fits =
         record {
           texts = texts;
@@ -53,8 +53,8 @@ module _ {t raw names fileEnds texts bind graph word : List ℕ} {c : Counts} (a
           writing = a .writing;
         }
 
-    pub mention-marked : {names′ fileEnds′ graph′ : List ℕ} {r : Mentioned} → Marked (take k word′) names fileEnds graph c names′ fileEnds′ graph′ r
-        → Mentions raw names fileEnds texts bind graph c names′ fileEnds′ graph′ r
+    pub mention-marked : {names′ index′ graph′ : List ℕ} {r : Mentioned} → Marked (take k word′) names index graph c names′ index′ graph′ r
+        → Mentions raw names index texts bind graph c names′ index′ graph′ r
     unfolding expanded
     mention-marked m =
         record {

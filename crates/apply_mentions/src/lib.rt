@@ -3,7 +3,7 @@ ghost use Rattle.apply_mentions.specs.Asks.{Asks, Mentions, ListAsks, Me
 use apply_files::Mentioned;
 use apply_files::mark;
 use apply_files::over;
-use cut_forms::Next;
+use cut_forms::ListPath;
 use cut_forms::paths::next_path;
 use expand_dollars::expand;
 use hold_reading::Counts;
@@ -13,21 +13,21 @@ pub fn mention(
     t: &[u8; 256],
     raw: &[u8],
     names: &mut [u8],
-    ends: &mut [u32],
+    index: &mut [u32],
     texts: &[u8],
     bind: &[u32],
     graph: &mut [u32],
     word: &mut [u8],
     c: Counts,
 ) -> Mentioned
-    requires { ⌜ Asks (now t) (now raw) (now names) (now ends) (now texts) (now bind) (now graph) (now word) c ⌝ }
-    ensures { λ r. ⌜ Mentions (now (raw .entry)) (now (names .entry)) (now (ends .entry)) (now (texts .entry)) (now (bind .entry)) (now (graph .entry)) c (now (names .exit)) (now (ends .exit)) (now (graph .exit)) r ⌝ }
+    requires { ⌜ Asks (now t) (now raw) (now names) (now index) (now texts) (now bind) (now graph) (now word) c ⌝ }
+    ensures { λ r. ⌜ Mentions (now (raw .entry)) (now (names .entry)) (now (index .entry)) (now (texts .entry)) (now (bind .entry)) (now (graph .entry)) c (now (names .exit)) (now (index .exit)) (now (graph .exit)) r ⌝ }
 {
     let n = expand(t, raw, texts, bind, c.entries, word);
     if over(n, c) {
         return Mentioned::Over;
     }
-    mark(&word[..n], names, ends, graph, c)
+    mark(&word[..n], names, index, graph, c)
 }
 
 // All paths of the list that starts at a place.
@@ -36,25 +36,25 @@ pub fn mention_all(
     l: &[u8],
     at: usize,
     names: &mut [u8],
-    ends: &mut [u32],
+    index: &mut [u32],
     texts: &[u8],
     bind: &[u32],
     graph: &mut [u32],
     word: &mut [u8],
     c: Counts,
 ) -> Mentioned
-    requires { ⌜ ListAsks (now t) (now l) (now names) (now ends) (now texts) (now bind) (now graph) (now word) c at ⌝ }
-    ensures { λ r. ⌜ MentionsAll (now (l .entry)) at (now (names .entry)) (now (ends .entry)) (now (texts .entry)) (now (bind .entry)) (now (graph .entry)) c (now (names .exit)) (now (ends .exit)) (now (graph .exit)) r ⌝ }
+    requires { ⌜ ListAsks (now t) (now l) (now names) (now index) (now texts) (now bind) (now graph) (now word) c at ⌝ }
+    ensures { λ r. ⌜ MentionsAll (now (l .entry)) at (now (names .entry)) (now (index .entry)) (now (texts .entry)) (now (bind .entry)) (now (graph .entry)) c (now (names .exit)) (now (index .exit)) (now (graph .exit)) r ⌝ }
 {
     let mut i = at;
     let mut d = c;
     loop {
         match next_path(t, l, i) {
-            Next::Path(from, to) => match mention(
+            ListPath::Path(from, to) => match mention(
                 t,
                 &l[from..to],
                 names,
-                ends,
+                index,
                 texts,
                 bind,
                 graph,
@@ -69,7 +69,7 @@ pub fn mention_all(
                     return Mentioned::Over;
                 }
             },
-            Next::Stop => {
+            ListPath::Stop => {
                 return Mentioned::On(d);
             }
         }

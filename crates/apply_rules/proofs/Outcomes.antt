@@ -13,15 +13,15 @@ use Rattle.spec.specs.Limits.{maxFiles, maxName, maxRules, maxMentions, maxValu
 use Rattle.spec.specs.Reading.{Rule, Reading, declared, hasKey}
 use Rattle.spec.specs.Statements.{Block, refused, startRule, longerThan, ruleKey, addKey, countBinding, overCounts, overBinding, blockLine}
 use Rattle.spec.specs.Manifest.{withRule, close}
-use Rattle.hold_bindings.specs.declared.Found.the-variants.{At}
+use Rattle.hold_bindings.specs.declared.FoundEntry.the-variants.{At}
 use Rattle.hold_bindings.specs.Log.{Logged, logged, ofRules, ofKeys, newestRule}
-use Rattle.hold_bindings.specs.Held.{Holds, Room, HasRoom}
+use Rattle.hold_bindings.specs.Held.{HoldsBindings, Room, HasRoom}
 use Rattle.hold_bindings.proofs.Lookups.{rule-begun, rule-kept}
 use Rattle.hold_reading.specs.declared.Counts.{Counts}
 use Rattle.hold_reading.specs.declared.Open.the-variants.{Nothing, Rule as OpenRule, Step as OpenStep}
 use Rattle.hold_reading.specs.declared.LineAnswer.the-variants.{Goes, Refused}
 use Rattle.hold_reading.specs.Held.{joined, Opens, nothing, aRule, aStep, Bound}
-use Rattle.hold_reading.specs.Binds.{Sound, countedRule, Binds, goes, Meets}
+use Rattle.hold_reading.specs.Binds.{SoundBlock, countedRule, Binds, goes, Meets}
 use Rattle.hold_reading.proofs.Grow.{newest-rule-below, bound-room, bound-rule, bound-key, beside-same, beside-rule, beside-key}
 use Rattle.hold_reading.proofs.Lift.{joined-none, none-bound, refused-by}
 use Rattle.apply_bindings.specs.Limits.{overCounted, Ready, Put}
@@ -35,7 +35,7 @@ rule-room : {log : List Logged} {texts bind : List ℕ} {c : Counts} {rd : Readi
     → Room log texts bind (c .entries) (logged ofRules n [])
 rule-room d n s l = bound-room d (logged ofRules n []) (omega (arith, d .entries-counted, d .few-bindings)) (omega (arith, d .few-written)) (omega arith) s
 
-pub start-room : {texts bind : List ℕ} {c : Counts} → Sound texts bind c Nothing → (n : List ℕ) → length n ≤ maxName → c .rules < maxRules
+pub start-room : {texts bind : List ℕ} {c : Counts} → SoundBlock texts bind c Nothing → (n : List ℕ) → length n ≤ maxName → c .rules < maxRules
     → HasRoom texts bind (c .entries) (logged ofRules n [])
 start-room w n s l = record { log = w .log; room = rule-room (none-bound (w .known)) n s l }
 
@@ -62,7 +62,7 @@ module _ (start : ℕ) (n : List ℕ) {texts bind : List ℕ} {c : Counts} {t : 
                 (rw (sym (e log rd d) ∙ h, le-ltb maxName (length n) s, le-leb maxRules (length (rd .rules)) (omega (arith, d .rules-counted))));
           }
 
-      pub start-goes : {texts′ bind′ : List ℕ} → c .rules < maxRules → ((log : List Logged) → Room log texts bind (c .entries) (logged ofRules n []) → Holds (logged ofRules n [] ∷ log) texts′ bind′ (c .entries + 1))
+      pub start-goes : {texts′ bind′ : List ℕ} → c .rules < maxRules → ((log : List Logged) → Room log texts bind (c .entries) (logged ofRules n []) → HoldsBindings (logged ofRules n [] ∷ log) texts′ bind′ (c .entries + 1))
           → Meets texts bind c Nothing (λ rd b. startRule start n rd) texts′ bind′ (Goes (countedRule c) (OpenRule start (c .entries)))
       unfolding joined startRule longerThan
       start-goes l p =
@@ -117,7 +117,7 @@ module _ (start head k : ℕ) (n raw : List ℕ) {log : List Logged} {texts bind
 
 -- t is the test of the key.
 module _ (start head k : ℕ) (n raw : List ℕ) {texts bind : List ℕ} {c : Counts} {t : Bool}
-    (e : (log : List Logged) → Holds log texts bind (c .entries) → t ≡ badKey k n log) where
+    (e : (log : List Logged) → HoldsBindings log texts bind (c .entries) → t ≡ badKey k n log) where
   pub keys-bad : {texts′ bind′ : List ℕ} → t ≡ true → Meets texts bind c (OpenRule head k) (λ rd b. blockLine start b n raw rd) texts′ bind′ (Refused (BadRule start))
   keys-bad h =
       record { agrees = λ log rd b w. refused-by (key-bad start head k n raw rd (w .opens) (w .bound) (sym (e log (w .bound .held)) ∙ h)) }
@@ -169,7 +169,7 @@ module _ {texts bind : List ℕ} {c : Counts} where
   closed-step = record { agrees = λ log rd b w. close-step rd (w .opens) (w .bound) }
 
   -- t is the test for `command`.
-  module _ (head k : ℕ) {t : Bool} (e : (log : List Logged) → Holds log texts bind (c .entries) → t ≡ keyed k (bytes "command") log) where
+  module _ (head k : ℕ) {t : Bool} (e : (log : List Logged) → HoldsBindings log texts bind (c .entries) → t ≡ keyed k (bytes "command") log) where
     pub closed-rule : t ≡ true → Meets texts bind c (OpenRule head k) close texts bind (Goes c Nothing)
     closed-rule h = record { agrees = λ log rd b w. close-rule rd head k (w .opens) (w .bound) (sym (e log (w .bound .held)) ∙ h) }
 
@@ -181,14 +181,14 @@ module _ {texts bind : List ℕ} {c : Counts} where
 open-below : {log : List Logged} {b : Block} {head k : ℕ} → Opens log b (OpenRule head k) → k < length log
 open-below {log} {k = k} (aRule o) = newest-rule-below log k o
 
-pub of-rule : {texts bind : List ℕ} {c : Counts} {head k : ℕ} → Sound texts bind c (OpenRule head k) → OfRule texts bind (c .entries) k
+pub of-rule : {texts bind : List ℕ} {c : Counts} {head k : ℕ} → SoundBlock texts bind c (OpenRule head k) → OfRule texts bind (c .entries) k
 of-rule s =
     record {
       table = record { log = s .log; held = s .known .bound .held };
       below = omega (arith, open-below (s .known .opens), s .known .bound .held .rows .counted);
     }
 
-pub key-ready : {texts bind : List ℕ} {c : Counts} {head k : ℕ} → Sound texts bind c (OpenRule head k) → (n raw : List ℕ) → overCounted (length n) (length raw) c ≡ false
+pub key-ready : {texts bind : List ℕ} {c : Counts} {head k : ℕ} → SoundBlock texts bind c (OpenRule head k) → (n raw : List ℕ) → overCounted (length n) (length raw) c ≡ false
     → Ready texts bind c (logged (ofKeys k) n raw)
 key-ready {k = k} s n raw q =
     let p = of-rule s in

@@ -1,7 +1,7 @@
 // Rule blocks: "`rule NAME`, then indented `key = value` lines: `command` (needed), `description`, `generator`, each at most once, kept unexpanded."
 ghost use Rattle.spec.specs.Statements.{startRule, blockLine};
 ghost use Rattle.spec.specs.Manifest.{close};
-ghost use Rattle.hold_reading.specs.Binds.{Sound, Meets};
+ghost use Rattle.hold_reading.specs.Binds.{SoundBlock, Meets};
 use apply_bindings::over;
 use apply_bindings::put;
 use hold_bindings::push;
@@ -23,7 +23,7 @@ pub fn start_rule(
     bind: &mut [u32],
     c: Counts,
 ) -> LineAnswer
-    requires { ⌜ Sound (now texts) (now bind) c Open.Nothing ⌝ }
+    requires { ⌜ SoundBlock (now texts) (now bind) c Open.Nothing ⌝ }
     ensures { λ r. ⌜ Meets (now (texts .entry)) (now (bind .entry)) c Open.Nothing (λ rd b. startRule start (now (name .entry)) rd) (now (texts .exit)) (now (bind .exit)) r ⌝ }
 {
     if is_declared(texts, bind, c, name) {
@@ -62,7 +62,7 @@ pub fn add_key(
     bind: &mut [u32],
     c: Counts,
 ) -> LineAnswer
-    requires { ⌜ Sound (now texts) (now bind) c (Open.Rule head entry) ⌝ }
+    requires { ⌜ SoundBlock (now texts) (now bind) c (Open.Rule head entry) ⌝ }
     ensures { λ r. ⌜ Meets (now (texts .entry)) (now (bind .entry)) c (Open.Rule head entry) (λ rd b. blockLine start b (now (name .entry)) (now (raw .entry)) rd) (now (texts .exit)) (now (bind .exit)) r ⌝ }
 {
     if is_bad_key(texts, bind, c.entries, entry, name) {
@@ -77,7 +77,7 @@ pub fn add_key(
 
 // "A missing `command` is found when its block closes, at the rule's line."
 pub fn close(texts: &[u8], bind: &[u32], c: Counts, block: Open) -> LineAnswer
-    requires { ⌜ Sound (now texts) (now bind) c block ⌝ }
+    requires { ⌜ SoundBlock (now texts) (now bind) c block ⌝ }
     ensures { λ r. ⌜ Meets (now (texts .entry)) (now (bind .entry)) c block close (now (texts .entry)) (now (bind .entry)) r ⌝ }
 {
     match block {

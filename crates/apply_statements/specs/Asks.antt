@@ -10,7 +10,7 @@ use Rattle.cut_refusals.specs.Cuts.{CutAsks}
 use Rattle.hold_reading.specs.declared.Counts.{Counts}
 use Rattle.hold_reading.specs.declared.Open.{Open}
 use Rattle.hold_reading.specs.declared.LineAnswer.{LineAnswer}
-use Rattle.hold_reading.specs.Held.{joined, Opens, Holds, Agrees}
+use Rattle.hold_reading.specs.Held.{joined, Opens, HoldsReading, Agrees}
 use Rattle.apply_equal_outputs.specs.Kept.{columnsEnd}
 
 -- room that no line uses up: for all names, for one word, and behind the columns of the graph
@@ -20,20 +20,20 @@ pub record Room (names graph word : List ℕ) : Type 0 where
   pub word-room : maxWritten ≤ length word
 
 -- the buffers hold some reading and its open block
-pub record Between (names fileEnds texts bind graph : List ℕ) (c : Counts) (o : Open) : Type 0 where
+pub record Between (names index texts bind graph : List ℕ) (c : Counts) (o : Open) : Type 0 where
   pub log : List Logged
   pub reading : Reading
   pub block : Block
-  pub holds : Holds log names fileEnds texts bind graph c (joined reading block)
+  pub holds : HoldsReading log names index texts bind graph c (joined reading block)
   pub opens : Opens log block o
 
-pub record LineAsks (t : List ℕ) (start : ℕ) (l names fileEnds texts bind graph word : List ℕ) (c : Counts) (o : Open) : Type 0 where
+pub record LineAsks (t : List ℕ) (start : ℕ) (l names index texts bind graph word : List ℕ) (c : Counts) (o : Open) : Type 0 where
   pub cut : CutAsks t start l
   pub room : Room names graph word
-  pub between : Between names fileEnds texts bind graph c o
+  pub between : Between names index texts bind graph c o
 
 -- The line's answer agrees with its outcome, whatever reading and block were held.
-pub record LineMeets (names fileEnds texts bind graph : List ℕ) (c : Counts) (o : Open) (line : Reading → Block → Outcome)
-    (names′ fileEnds′ texts′ bind′ graph′ : List ℕ) (r : LineAnswer) : Type 0 where
-  pub agrees : (log : List Logged) (rd : Reading) (b : Block) → Holds log names fileEnds texts bind graph c (joined rd b) → Opens log b o
-      → Agrees names′ fileEnds′ texts′ bind′ graph′ (line rd b) r
+pub record LineMeets (names index texts bind graph : List ℕ) (c : Counts) (o : Open) (line : Reading → Block → Outcome)
+    (names′ index′ texts′ bind′ graph′ : List ℕ) (r : LineAnswer) : Type 0 where
+  pub agrees : (log : List Logged) (rd : Reading) (b : Block) → HoldsReading log names index texts bind graph c (joined rd b) → Opens log b o
+      → Agrees names′ index′ texts′ bind′ graph′ (line rd b) r

@@ -20,26 +20,26 @@ pub fn read_statement(
     l: &[u8],
     ended: bool,
     names: &mut [u8],
-    ends: &mut [u32],
+    index: &mut [u32],
     texts: &mut [u8],
     bind: &mut [u32],
     graph: &mut [u32],
     word: &mut [u8],
     c: Counts,
 ) -> LineAnswer
-    requires { ⌜ LineAsks (now t) start (now l) (now names) (now ends) (now texts) (now bind) (now graph) (now word) c Open.Nothing ⌝ }
-    ensures { λ r. ⌜ LineMeets (now (names .entry)) (now (ends .entry)) (now (texts .entry)) (now (bind .entry)) (now (graph .entry)) c Open.Nothing (readStatement (lineOf start (now (l .entry)) ended)) (now (names .exit)) (now (ends .exit)) (now (texts .exit)) (now (bind .exit)) (now (graph .exit)) r ⌝ }
+    requires { ⌜ LineAsks (now t) start (now l) (now names) (now index) (now texts) (now bind) (now graph) (now word) c Open.Nothing ⌝ }
+    ensures { λ r. ⌜ LineMeets (now (names .entry)) (now (index .entry)) (now (texts .entry)) (now (bind .entry)) (now (graph .entry)) c Open.Nothing (readStatement (lineOf start (now (l .entry)) ended)) (now (names .exit)) (now (index .exit)) (now (texts .exit)) (now (bind .exit)) (now (graph .exit)) r ⌝ }
 {
     match cut_file_line(t, start, l, ended) {
         FileLine::Rule(from, to) => start_rule(start, &l[from..to], texts, bind, c),
-        FileLine::Build(p) => add_step(t, start, l, p, names, ends, texts, bind, graph, word, c),
+        FileLine::Build(p) => add_step(t, start, l, p, names, index, texts, bind, graph, word, c),
         FileLine::Default(at) => add_defaults(
             t,
             start,
             l,
             at,
             names,
-            ends,
+            index,
             texts,
             bind,
             graph,
@@ -67,7 +67,7 @@ pub fn read_file_line(
     l: &[u8],
     ended: bool,
     names: &mut [u8],
-    ends: &mut [u32],
+    index: &mut [u32],
     texts: &mut [u8],
     bind: &mut [u32],
     graph: &mut [u32],
@@ -75,8 +75,8 @@ pub fn read_file_line(
     c: Counts,
     block: Open,
 ) -> LineAnswer
-    requires { ⌜ LineAsks (now t) start (now l) (now names) (now ends) (now texts) (now bind) (now graph) (now word) c block ⌝ }
-    ensures { λ r. ⌜ LineMeets (now (names .entry)) (now (ends .entry)) (now (texts .entry)) (now (bind .entry)) (now (graph .entry)) c block (λ rd b. andThen (close rd b) (readStatement (lineOf start (now (l .entry)) ended))) (now (names .exit)) (now (ends .exit)) (now (texts .exit)) (now (bind .exit)) (now (graph .exit)) r ⌝ }
+    requires { ⌜ LineAsks (now t) start (now l) (now names) (now index) (now texts) (now bind) (now graph) (now word) c block ⌝ }
+    ensures { λ r. ⌜ LineMeets (now (names .entry)) (now (index .entry)) (now (texts .entry)) (now (bind .entry)) (now (graph .entry)) c block (λ rd b. andThen (close rd b) (readStatement (lineOf start (now (l .entry)) ended))) (now (names .exit)) (now (index .exit)) (now (texts .exit)) (now (bind .exit)) (now (graph .exit)) r ⌝ }
 {
     match close(texts, bind, c, block) {
         LineAnswer::Goes(d, _) => read_statement(
@@ -85,7 +85,7 @@ pub fn read_file_line(
             l,
             ended,
             names,
-            ends,
+            index,
             texts,
             bind,
             graph,

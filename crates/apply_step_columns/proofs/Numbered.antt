@@ -13,8 +13,8 @@ use Rattle.lists.specs.Bytes.{eqBytes, eqBytes-true}
 use Rattle.spec.specs.Basics.{among}
 use Rattle.spec.specs.Reading as reading
 use Rattle.spec.specs.Reading.{Rule, Reading, isPhony}
-use Rattle.hold_bindings.specs.declared.Found.{Found}
-use Rattle.hold_bindings.specs.declared.Found.the-variants.{At, Missing}
+use Rattle.hold_bindings.specs.declared.FoundEntry.{FoundEntry}
+use Rattle.hold_bindings.specs.declared.FoundEntry.the-variants.{At, Missing}
 use Rattle.hold_bindings.specs.Log.{Logged, ofRules, entryAt, isNamed, newest, isAt, rulesOf}
 use Rattle.hold_bindings.proofs.Lookups.{newest-below, entry-kept, entry-newest, declared-newest}
 use Rattle.hold_reading.specs.Held.{Ruled, phony, declared}
@@ -51,7 +51,7 @@ newest-named o n (x ∷ l) k e =
     let f = rw t at e in
     rw (entry-kept x l k (newest-below o n l k f)) (newest-named o n l k f))
 
-found-ruled : (name : List ℕ) (log : List Logged) (f : Found) → newest ofRules name log ≡ f → isPhony name ≡ false → isAt f ≡ true → Ruled log name (entryNumber f)
+found-ruled : (name : List ℕ) (log : List Logged) (f : FoundEntry) → newest ofRules name log ≡ f → isPhony name ≡ false → isAt f ≡ true → Ruled log name (entryNumber f)
 unfolding entryNumber isAt isNamed
 found-ruled name log (At k) e p a =
     let h : isNamed ofRules name (entryAt k log) ≡ true = newest-named ofRules name log k e in
@@ -74,7 +74,7 @@ pub ruled-bit : {log : List Logged} {name : List ℕ} {n : ℕ} → Ruled log na
 ruled-bit (phony e) = rw e
 ruled-bit (declared b o n p) = rw p
 
-found-low : (log : List Logged) (name : List ℕ) (f : Found) → newest ofRules name log ≡ f → entryNumber f ≤ length log
+found-low : (log : List Logged) (name : List ℕ) (f : FoundEntry) → newest ofRules name log ≡ f → entryNumber f ≤ length log
 unfolding entryNumber
 found-low log name (At k) e = newest-below ofRules name log k e
 found-low log name Missing e = omega arith

@@ -7,8 +7,8 @@ use Rattle.lists.specs.Tests.{ifB}
 use Rattle.lists.specs.Parts.{part}
 use Rattle.spec.specs.Limits.{maxSteps}
 use Rattle.spec.specs.Reading.{isPhony}
-use Rattle.hold_bindings.specs.declared.Found.{Found}
-use Rattle.hold_bindings.specs.declared.Found.the-variants.{At, Missing}
+use Rattle.hold_bindings.specs.declared.FoundEntry.{FoundEntry}
+use Rattle.hold_bindings.specs.declared.FoundEntry.the-variants.{At, Missing}
 use Rattle.hold_bindings.specs.Log.{Logged, ofRules, newest}
 use Rattle.hold_bindings.specs.Held.{maxEntries}
 use Rattle.hold_reading.specs.declared.Counts.{Counts}
@@ -16,7 +16,7 @@ use Rattle.apply_files.specs.Lines.{Line, Columns}
 
 -- ------------------------------------------------------------------ the rule's number
 
-unfoldable pub entryNumber : Found → ℕ
+unfoldable pub entryNumber : FoundEntry → ℕ
 entryNumber (At k) = suc k
 entryNumber Missing = 0
 

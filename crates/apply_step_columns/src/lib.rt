@@ -2,11 +2,11 @@
 ghost use mathlib.Core.Path.{_≡_};
 ghost use mathlib.Core.List.{List};
 ghost use Rattle.hold_bindings.specs.Log.{Logged};
-ghost use Rattle.hold_bindings.specs.Held.{Holds, Sound};
+ghost use Rattle.hold_bindings.specs.Held.{HoldsBindings, SoundBindings};
 ghost use Rattle.apply_step_columns.specs.Joins.{ruleNumber, phonyBit, MakeAsks, Makes, JoinAsks, Joins};
 use arena::put;
 use byteorder::equal;
-use hold_bindings::Found;
+use hold_bindings::FoundEntry;
 use hold_bindings::newest;
 use hold_reading::Counts;
 use hold_reading::columns::ENDS;
@@ -17,15 +17,15 @@ use slices::words::at;
 
 // 0 for phony, else the number of the rule's declaration and one more.
 pub fn rule_number(name: &[u8], texts: &[u8], bind: &[u32], count: usize) -> usize
-    requires { ⌜ Sound (now texts) (now bind) count ⌝ }
-    ensures { λ r. ⌜ ((log : List Logged) → Holds log (now (texts .entry)) (now (bind .entry)) count → r ≡ ruleNumber (now (name .entry)) log) ⌝ }
+    requires { ⌜ SoundBindings (now texts) (now bind) count ⌝ }
+    ensures { λ r. ⌜ ((log : List Logged) → HoldsBindings log (now (texts .entry)) (now (bind .entry)) count → r ≡ ruleNumber (now (name .entry)) log) ⌝ }
 {
     if equal(name, b"phony") {
         return 0;
     }
     match newest(texts, bind, count, 1, name) {
-        Found::At(k) => k + 1,
-        Found::Missing => 0,
+        FoundEntry::At(k) => k + 1,
+        FoundEntry::Missing => 0,
     }
 }
 

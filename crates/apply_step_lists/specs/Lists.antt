@@ -37,24 +37,24 @@ withLists [] h = h
 withLists (ps ∷ pss) h = withLists pss (withEnd (withPaths ps h))
 
 -- The lists are mentioned, or the line is over a limit, whatever it mentions after them.
-pub data Listed (names fileEnds texts bind graph : List ℕ) (h : Line) (pss : List (List (List ℕ))) : Mentioned → Type 0 where
-  on : {c : Counts} → Writing names fileEnds texts bind graph c (withLists pss h) → overPaths (concat pss) ≡ false → Listed names fileEnds texts bind graph h pss (On c)
-  over : ((more : List (List ℕ)) → overLine (concat pss ++ more) (h .reading) ≡ true) → Listed names fileEnds texts bind graph h pss Over
+pub data Listed (names index texts bind graph : List ℕ) (h : Line) (pss : List (List (List ℕ))) : Mentioned → Type 0 where
+  on : {c : Counts} → Writing names index texts bind graph c (withLists pss h) → overPaths (concat pss) ≡ false → Listed names index texts bind graph h pss (On c)
+  over : ((more : List (List ℕ)) → overLine (concat pss ++ more) (h .reading) ≡ true) → Listed names index texts bind graph h pss Over
 
 -- ------------------------------------------------------------------ one list, whose end is number e of all
 
-pub record ListAsks (t l names fileEnds texts bind graph word : List ℕ) (c : Counts) (at e : ℕ) : Type 0 where
-  pub asks : mentions.ListAsks t l names fileEnds texts bind graph word c at
+pub record ListAsks (t l names index texts bind graph word : List ℕ) (c : Counts) (at e : ℕ) : Type 0 where
+  pub asks : mentions.ListAsks t l names index texts bind graph word c at
   pub ended : length (asks .line .ends) ≡ e
   pub low : e < 4 * maxSteps
 
-pub record Lists (l : List ℕ) (at e : ℕ) (names fileEnds texts bind graph : List ℕ) (c : Counts) (names′ fileEnds′ graph′ : List ℕ) (r : Mentioned) : Type 0 where
-  pub listed : (raw : List (List ℕ)) → PathsAt l at raw → (h : Line) → Writing names fileEnds texts bind graph c h → length (h .ends) ≡ e
-      → Listed names′ fileEnds′ texts bind graph′ h (expanded (h .reading) raw ∷ []) r
+pub record Lists (l : List ℕ) (at e : ℕ) (names index texts bind graph : List ℕ) (c : Counts) (names′ index′ graph′ : List ℕ) (r : Mentioned) : Type 0 where
+  pub listed : (raw : List (List ℕ)) → PathsAt l at raw → (h : Line) → Writing names index texts bind graph c h → length (h .ends) ≡ e
+      → Listed names′ index′ texts bind graph′ h (expanded (h .reading) raw ∷ []) r
 
 -- ------------------------------------------------------------------ two lists
 
-pub record TwoAsks (t l names fileEnds texts bind graph word : List ℕ) (c : Counts) (at next e : ℕ) : Type 0 where
+pub record TwoAsks (t l names index texts bind graph word : List ℕ) (c : Counts) (at next e : ℕ) : Type 0 where
   pub table : t ≡ classes
   pub short : length l ≤ maxManifest
   pub first : List (List ℕ)
@@ -63,30 +63,30 @@ pub record TwoAsks (t l names fileEnds texts bind graph word : List ℕ) (c : Co
   pub second-stands : PathsAt l next second
   pub room : Room names word
   pub line : Line
-  pub writing : Writing names fileEnds texts bind graph c line
+  pub writing : Writing names index texts bind graph c line
   pub ended : length (line .ends) ≡ e
   pub low : e + 1 < 4 * maxSteps
 
-pub record Two (l : List ℕ) (at next e : ℕ) (names fileEnds texts bind graph : List ℕ) (c : Counts) (names′ fileEnds′ graph′ : List ℕ) (r : Mentioned) : Type 0 where
-  pub listed : (first second : List (List ℕ)) → PathsAt l at first → PathsAt l next second → (h : Line) → Writing names fileEnds texts bind graph c h → length (h .ends) ≡ e
-      → Listed names′ fileEnds′ texts bind graph′ h (expanded (h .reading) first ∷ expanded (h .reading) second ∷ []) r
+pub record Two (l : List ℕ) (at next e : ℕ) (names index texts bind graph : List ℕ) (c : Counts) (names′ index′ graph′ : List ℕ) (r : Mentioned) : Type 0 where
+  pub listed : (first second : List (List ℕ)) → PathsAt l at first → PathsAt l next second → (h : Line) → Writing names index texts bind graph c h → length (h .ends) ≡ e
+      → Listed names′ index′ texts bind graph′ h (expanded (h .reading) first ∷ expanded (h .reading) second ∷ []) r
 
 -- ------------------------------------------------------------------ the four of a line
 
 abbrev pub listsOf : BuildLine → List (List (List ℕ))
 listsOf b = b .outs ∷ b .ins ∷ b .implicit ∷ b .orderOnly ∷ []
 
-pub record FourAsks (t l names fileEnds texts bind graph word : List ℕ) (c : Counts) (p : BuildPlaces) : Type 0 where
+pub record FourAsks (t l names index texts bind graph word : List ℕ) (c : Counts) (p : BuildPlaces) : Type 0 where
   pub table : t ≡ classes
   pub short : length l ≤ maxManifest
   pub raw : BuildLine
   pub stands : Stands l p raw
   pub room : Room names word
   pub line : Line
-  pub writing : Writing names fileEnds texts bind graph c line
+  pub writing : Writing names index texts bind graph c line
   pub ended : length (line .ends) ≡ 4 * c .steps
   pub few : c .steps < maxSteps
 
-pub record Four (l names fileEnds texts bind graph : List ℕ) (c : Counts) (p : BuildPlaces) (names′ fileEnds′ graph′ : List ℕ) (r : Mentioned) : Type 0 where
-  pub listed : (b : BuildLine) → Stands l p b → (h : Line) → Writing names fileEnds texts bind graph c h → length (h .ends) ≡ 4 * c .steps
-      → Listed names′ fileEnds′ texts bind graph′ h (expanded (h .reading) (b .outs) ∷ expanded (h .reading) (b .ins) ∷ expanded (h .reading) (b .implicit) ∷ expanded (h .reading) (b .orderOnly) ∷ []) r
+pub record Four (l names index texts bind graph : List ℕ) (c : Counts) (p : BuildPlaces) (names′ index′ graph′ : List ℕ) (r : Mentioned) : Type 0 where
+  pub listed : (b : BuildLine) → Stands l p b → (h : Line) → Writing names index texts bind graph c h → length (h .ends) ≡ 4 * c .steps
+      → Listed names′ index′ texts bind graph′ h (expanded (h .reading) (b .outs) ∷ expanded (h .reading) (b .ins) ∷ expanded (h .reading) (b .implicit) ∷ expanded (h .reading) (b .orderOnly) ∷ []) r

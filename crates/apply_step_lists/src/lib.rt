@@ -14,17 +14,17 @@ fn one(
     at: usize,
     e: usize,
     names: &mut [u8],
-    ends: &mut [u32],
+    index: &mut [u32],
     texts: &[u8],
     bind: &[u32],
     graph: &mut [u32],
     word: &mut [u8],
     c: Counts,
 ) -> Mentioned
-    requires { ⌜ ListAsks (now t) (now l) (now names) (now ends) (now texts) (now bind) (now graph) (now word) c at e ⌝ }
-    ensures { λ r. ⌜ Lists (now (l .entry)) at e (now (names .entry)) (now (ends .entry)) (now (texts .entry)) (now (bind .entry)) (now (graph .entry)) c (now (names .exit)) (now (ends .exit)) (now (graph .exit)) r ⌝ }
+    requires { ⌜ ListAsks (now t) (now l) (now names) (now index) (now texts) (now bind) (now graph) (now word) c at e ⌝ }
+    ensures { λ r. ⌜ Lists (now (l .entry)) at e (now (names .entry)) (now (index .entry)) (now (texts .entry)) (now (bind .entry)) (now (graph .entry)) c (now (names .exit)) (now (index .exit)) (now (graph .exit)) r ⌝ }
 {
-    match mention_all(t, l, at, names, ends, texts, bind, graph, word, c) {
+    match mention_all(t, l, at, names, index, texts, bind, graph, word, c) {
         Mentioned::On(d) => {
             put(graph, ENDS + e, d.paths);
             Mentioned::On(d)
@@ -41,18 +41,18 @@ fn two(
     next: usize,
     e: usize,
     names: &mut [u8],
-    ends: &mut [u32],
+    index: &mut [u32],
     texts: &[u8],
     bind: &[u32],
     graph: &mut [u32],
     word: &mut [u8],
     c: Counts,
 ) -> Mentioned
-    requires { ⌜ TwoAsks (now t) (now l) (now names) (now ends) (now texts) (now bind) (now graph) (now word) c at next e ⌝ }
-    ensures { λ r. ⌜ Two (now (l .entry)) at next e (now (names .entry)) (now (ends .entry)) (now (texts .entry)) (now (bind .entry)) (now (graph .entry)) c (now (names .exit)) (now (ends .exit)) (now (graph .exit)) r ⌝ }
+    requires { ⌜ TwoAsks (now t) (now l) (now names) (now index) (now texts) (now bind) (now graph) (now word) c at next e ⌝ }
+    ensures { λ r. ⌜ Two (now (l .entry)) at next e (now (names .entry)) (now (index .entry)) (now (texts .entry)) (now (bind .entry)) (now (graph .entry)) c (now (names .exit)) (now (index .exit)) (now (graph .exit)) r ⌝ }
 {
-    match one(t, l, at, e, names, ends, texts, bind, graph, word, c) {
-        Mentioned::On(d) => one(t, l, next, e + 1, names, ends, texts, bind, graph, word, d),
+    match one(t, l, at, e, names, index, texts, bind, graph, word, c) {
+        Mentioned::On(d) => one(t, l, next, e + 1, names, index, texts, bind, graph, word, d),
         Mentioned::Over => Mentioned::Over,
     }
 }
@@ -63,20 +63,33 @@ pub fn four(
     l: &[u8],
     p: BuildPlaces,
     names: &mut [u8],
-    ends: &mut [u32],
+    index: &mut [u32],
     texts: &[u8],
     bind: &[u32],
     graph: &mut [u32],
     word: &mut [u8],
     c: Counts,
 ) -> Mentioned
-    requires { ⌜ FourAsks (now t) (now l) (now names) (now ends) (now texts) (now bind) (now graph) (now word) c p ⌝ }
-    ensures { λ r. ⌜ Four (now (l .entry)) (now (names .entry)) (now (ends .entry)) (now (texts .entry)) (now (bind .entry)) (now (graph .entry)) c p (now (names .exit)) (now (ends .exit)) (now (graph .exit)) r ⌝ }
+    requires { ⌜ FourAsks (now t) (now l) (now names) (now index) (now texts) (now bind) (now graph) (now word) c p ⌝ }
+    ensures { λ r. ⌜ Four (now (l .entry)) (now (names .entry)) (now (index .entry)) (now (texts .entry)) (now (bind .entry)) (now (graph .entry)) c p (now (names .exit)) (now (index .exit)) (now (graph .exit)) r ⌝ }
 {
     let outs = p.outs;
     let ins = p.ins;
     let e = 4 * c.steps;
-    match two(t, l, outs, ins, e, names, ends, texts, bind, graph, word, c) {
+    match two(
+        t,
+        l,
+        outs,
+        ins,
+        e,
+        names,
+        index,
+        texts,
+        bind,
+        graph,
+        word,
+        c,
+    ) {
         Mentioned::On(d) => two(
             t,
             l,
@@ -84,7 +97,7 @@ pub fn four(
             p.order,
             e + 2,
             names,
-            ends,
+            index,
             texts,
             bind,
             graph,

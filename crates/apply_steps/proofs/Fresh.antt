@@ -17,7 +17,7 @@ use Rattle.spec.specs.Reading.{Step, Reading, numberOf, numbersOf, mention, isO
 use Rattle.spec.specs.Statements.{badPaths, twice}
 use Rattle.spec.specs.Graph.{makers, makersFrom}
 use Rattle.hold_names.proofs.Numbers.{among-cons, number-there, number-mention, mention-none, mention-old, mention-new}
-use Rattle.hold_columns.specs.Tables.{makerIn, madeBy, Holds}
+use Rattle.hold_columns.specs.Tables.{makerIn, madeBy, HoldsColumns}
 use Rattle.hold_columns.proofs.Held.{held-makers}
 
 -- ---- a path that is new has a number behind the old ones
@@ -45,7 +45,7 @@ no-output k [] f h = refl
 no-output k (s ∷ l) f h =
     rw (or-left (has f (s .outs)) (isOutput f l) h) (no-output (suc k) l f (or-right (has f (s .outs)) (isOutput f l) h))
 
-module _ (rd : Reading) {mentions ends phony made : List ℕ} (t : Holds (rd .steps) (length (rd .files)) mentions ends phony made) (qs : List (List ℕ)) where
+module _ (rd : Reading) {mentions ends phony made : List ℕ} (t : HoldsColumns (rd .steps) (length (rd .files)) mentions ends phony made) (qs : List (List ℕ)) where
   path-fresh : (p : List ℕ) → isMade p rd ≡ false → makers (rd .steps) (numberOf p (mention (rd .files) qs)) ≡ []
   unfolding isMade makers makerIn madeBy
   path-fresh p h =

@@ -14,7 +14,7 @@ use Rattle.lists.specs.Members.{has}
 use Rattle.spec.specs.Basics.{concat}
 use Rattle.spec.specs.Reading.{Step}
 use Rattle.spec.specs.Graph.{inputs, makers, makersFrom}
-use Rattle.hold_columns.specs.Tables.{mentionsOf, endsFrom, madeBy, makerIn, Holds}
+use Rattle.hold_columns.specs.Tables.{mentionsOf, endsFrom, madeBy, makerIn, HoldsColumns}
 use Rattle.hold_columns.proofs.Held.{held-makers}
 use Rattle.apply_step_columns.specs.Joins.{setAll}
 
@@ -88,7 +88,7 @@ set-all-has v (x ∷ fs) made f low h =
     set-all-not v fs (set made x v) f e ∙ rw z (getD-set-same made x v 0 (low 0 (omega arith))))
 
 -- The files of a new step were made by no other.
-module _ {steps : List Step} {files : ℕ} {mentions ends phony made : List ℕ} (t : Holds steps files mentions ends phony made) (s : Step) where
+module _ {steps : List Step} {files : ℕ} {mentions ends phony made : List ℕ} (t : HoldsColumns steps files mentions ends phony made) (s : Step) where
   pub makes-more : (now : List ℕ) → ((f : ℕ) → getD now f 0 ≡ getD made f 0) → ((i : ℕ) → i < length (s .outs) → getD (s .outs) i 0 < length now)
       → ((f : ℕ) → has f (s .outs) ≡ true → makers steps f ≡ []) → (f : ℕ) → makers (steps ++ (s ∷ [])) f ≡ madeBy (getD (setAll (length steps + 1) (s .outs) now) f 0)
   unfolding makerIn madeBy

@@ -21,7 +21,7 @@ use Rattle.hold_bindings.proofs.Lookups.{no-lines, owned-more}
 use Rattle.hold_columns.specs.Tables as tables
 use Rattle.hold_columns.specs.Tables.{bit, mentionsOf, endsFrom}
 use Rattle.hold_reading.specs.declared.Counts.{Counts}
-use Rattle.hold_reading.specs.Held.{Bound, Ruled, Graphed, Holds}
+use Rattle.hold_reading.specs.Held.{Bound, Ruled, Graphed, HoldsReading}
 use Rattle.apply_files.specs.Lines.{Writing}
 use Rattle.apply_files.proofs.Limits.{mention-more}
 use Rattle.apply_mentions.proofs.Closed.{numbers-low, length-numbers}
@@ -79,9 +79,9 @@ module _ {log : List Logged} {texts bind : List ℕ} {d : Counts} {rd : Reading}
 
 -- ---- the graph
 
-module _ {log : List Logged} {names fileEnds texts bind graph : List ℕ} {c : Counts} {rd : Reading} (w : Holds log names fileEnds texts bind graph c rd) (b : BuildLine)
-    (few : c .steps < maxSteps) (clear : badPaths (b .outs) (inputsOfLine b) rd ≡ false) {names′ fileEnds′ graph₁ : List ℕ} {d : Counts} {made : List ℕ}
-    (x : Writing names′ fileEnds′ texts bind graph₁ d (lineAfter b (lineOf w) made)) (same : (f : ℕ) → getD made f 0 ≡ getD (w .graphed .made) f 0)
+module _ {log : List Logged} {names index texts bind graph : List ℕ} {c : Counts} {rd : Reading} (w : HoldsReading log names index texts bind graph c rd) (b : BuildLine)
+    (few : c .steps < maxSteps) (clear : badPaths (b .outs) (inputsOfLine b) rd ≡ false) {names′ index′ graph₁ : List ℕ} {d : Counts} {made : List ℕ}
+    (x : Writing names′ index′ texts bind graph₁ d (lineAfter b (lineOf w) made)) (same : (f : ℕ) → getD made f 0 ≡ getD (w .graphed .made) f 0)
     {n : ℕ} (r : Ruled log (b .rule) n) where
   abbrev g : Graphed log graph c rd
   g = w .graphed
@@ -132,7 +132,7 @@ module _ {log : List Logged} {names fileEnds texts bind graph : List ℕ} {c : C
   unfolding mentioned
   files-few = omega (arith, x .named .counted, x .named .few)
 
-  step-tables : tables.Holds (rd .steps ++ (step ∷ [])) (length (filesWith b rd)) mentions ends (g .phony ++ (phonyBit n ∷ [])) makers
+  step-tables : tables.HoldsColumns (rd .steps ++ (step ∷ [])) (length (filesWith b rd)) mentions ends (g .phony ++ (phonyBit n ∷ [])) makers
   step-tables =
       record {
         mentioned = step-mentioned;
@@ -181,7 +181,7 @@ module _ {log : List Logged} {names fileEnds texts bind graph : List ℕ} {c : C
         }
 
     -- all that is held of the reading with the step
-    pub step-held : Holds log names′ fileEnds′ texts bind graph′ (countedStep d) (withStep step (mentioned (pathsOf b) rd))
+    pub step-held : HoldsReading log names′ index′ texts bind graph′ (countedStep d) (withStep step (mentioned (pathsOf b) rd))
     unfolding withStep mentioned
     step-held =
         record {

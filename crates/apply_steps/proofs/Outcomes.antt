@@ -20,7 +20,7 @@ use Rattle.hold_bindings.specs.Held as bindings
 use Rattle.hold_reading.specs.declared.Counts.{Counts}
 use Rattle.hold_reading.specs.declared.Open.the-variants.{Step as OpenStep}
 use Rattle.hold_reading.specs.declared.LineAnswer.the-variants.{Goes, Refused}
-use Rattle.hold_reading.specs.Held.{joined, aStep, Ruled, Holds, goes, refuses}
+use Rattle.hold_reading.specs.Held.{joined, aStep, Ruled, HoldsReading, goes, refuses}
 use Rattle.apply_files.specs.declared.Mentioned.the-variants.{On, Over}
 use Rattle.apply_files.specs.Lines.{Line, Writing, overLine}
 use Rattle.apply_steps.specs.Asks.{StepAsks, Clear, Writes}
@@ -51,7 +51,7 @@ module _ (start : ℕ) (b : BuildLine) (rd : Reading) (k : Clear b rd) where
   step-goes p q h = rw (k .known, k .sound, p, q, lt-leb maxSteps (length (rd .steps)) h)
 
 -- What is held is within the limits.
-not-over : {names fileEnds texts bind graph : List ℕ} {c : Counts} {h : Line} → Writing names fileEnds texts bind graph c h → overCounts (h .reading) ≡ false
+not-over : {names index texts bind graph : List ℕ} {c : Counts} {h : Line} → Writing names index texts bind graph c h → overCounts (h .reading) ≡ false
 unfolding overCounts
 not-over {h = h} w =
     rw (
@@ -63,8 +63,8 @@ not-over {h = h} w =
 
 -- ---- the lists
 
-module _ {log : List Logged} {names fileEnds texts bind graph : List ℕ} {c : Counts} {rd : Reading} (w : Holds log names fileEnds texts bind graph c rd) where
-  begins : Writing names fileEnds texts bind graph c (lineOf w)
+module _ {log : List Logged} {names index texts bind graph : List ℕ} {c : Counts} {rd : Reading} (w : HoldsReading log names index texts bind graph c rd) where
+  begins : Writing names index texts bind graph c (lineOf w)
   begins =
       let g = w .graphed in
       record {
@@ -83,18 +83,18 @@ module _ {log : List Logged} {names fileEnds texts bind graph : List ℕ} {c : C
   ends-begun =
       omega (arith, ap length (w .graphed .tables .ended), length-ends 0 (rd .steps), w .bound .steps-counted)
 
-  module _ {l : List ℕ} {p : BuildPlaces} {b : BuildLine} (s : Stands l p b) {names′ fileEnds′ graph′ : List ℕ} where
-    four-held : {d : Counts} → Four l names fileEnds texts bind graph c p names′ fileEnds′ graph′ (On d)
-        → Writing names′ fileEnds′ texts bind graph′ d (lineAfter (expandedLine rd b) (lineOf w) (withLists (listsOf (expandedLine rd b)) (lineOf w) .made))
+  module _ {l : List ℕ} {p : BuildPlaces} {b : BuildLine} (s : Stands l p b) {names′ index′ graph′ : List ℕ} where
+    four-held : {d : Counts} → Four l names index texts bind graph c p names′ index′ graph′ (On d)
+        → Writing names′ index′ texts bind graph′ d (lineAfter (expandedLine rd b) (lineOf w) (withLists (listsOf (expandedLine rd b)) (lineOf w) .made))
     unfolding expandedLine
     four-held {d} f =
-        subst (λ (h : Line). Writing names′ fileEnds′ texts bind graph′ d h) (lists-line (expandedLine rd b) (lineOf w)) (listed-on (f .listed b s (lineOf w) begins ends-begun))
+        subst (λ (h : Line). Writing names′ index′ texts bind graph′ d h) (lists-line (expandedLine rd b) (lineOf w)) (listed-on (f .listed b s (lineOf w) begins ends-begun))
 
-    four-short : {d : Counts} → Four l names fileEnds texts bind graph c p names′ fileEnds′ graph′ (On d) → overPaths (pathsOf (expandedLine rd b)) ≡ false
+    four-short : {d : Counts} → Four l names index texts bind graph c p names′ index′ graph′ (On d) → overPaths (pathsOf (expandedLine rd b)) ≡ false
     unfolding expandedLine
     four-short f = rw (← (concat-lists (expandedLine rd b))) (listed-short (f .listed b s (lineOf w) begins ends-begun))
 
-    four-past : Four l names fileEnds texts bind graph c p names′ fileEnds′ graph′ Over → overLine (pathsOf (expandedLine rd b)) rd ≡ true
+    four-past : Four l names index texts bind graph c p names′ index′ graph′ Over → overLine (pathsOf (expandedLine rd b)) rd ≡ true
     unfolding expandedLine
     four-past f =
         let a = concat (listsOf (expandedLine rd b)) in
@@ -102,20 +102,20 @@ module _ {log : List Logged} {names fileEnds texts bind graph : List ℕ} {c : C
 
 -- ---- `write_step`
 
-module _ (start : ℕ) {l names fileEnds texts bind graph : List ℕ} {c : Counts} {p : BuildPlaces} {names′ fileEnds′ graph′ : List ℕ} where
-  pub write-many : maxSteps ≤ c .steps → Writes l names fileEnds texts bind graph c start p names′ fileEnds′ graph′ (Refused (OverLimit start))
+module _ (start : ℕ) {l names index texts bind graph : List ℕ} {c : Counts} {p : BuildPlaces} {names′ index′ graph′ : List ℕ} where
+  pub write-many : maxSteps ≤ c .steps → Writes l names index texts bind graph c start p names′ index′ graph′ (Refused (OverLimit start))
   write-many h =
       record {
         agrees = λ b s log rd w k. rw (step-many start (expandedLine rd b) rd k (omega (arith, w .bound .steps-counted))) refuses;
       }
 
-  pub write-over : Four l names fileEnds texts bind graph c p names′ fileEnds′ graph′ Over → Writes l names fileEnds texts bind graph c start p names′ fileEnds′ graph′ (Refused (OverLimit start))
+  pub write-over : Four l names index texts bind graph c p names′ index′ graph′ Over → Writes l names index texts bind graph c start p names′ index′ graph′ (Refused (OverLimit start))
   write-over f =
       record { agrees = λ b s log rd w k. rw (step-over start (expandedLine rd b) rd k (four-past w s f)) refuses }
 
-  pub write-goes : c .steps < maxSteps → {graph₁ : List ℕ} {d : Counts} → Four l names fileEnds texts bind graph c p names′ fileEnds′ graph₁ (On d) → {n : ℕ}
-      → ((log : List Logged) → bindings.Holds log texts bind (d .entries) → n ≡ ruleNumber (part l (p .rule) (p .ins)) log) → {e : Counts} → Joins graph₁ (c .paths) n d graph′ e
-      → Writes l names fileEnds texts bind graph c start p names′ fileEnds′ graph′ (Goes e OpenStep)
+  pub write-goes : c .steps < maxSteps → {graph₁ : List ℕ} {d : Counts} → Four l names index texts bind graph c p names′ index′ graph₁ (On d) → {n : ℕ}
+      → ((log : List Logged) → bindings.HoldsBindings log texts bind (d .entries) → n ≡ ruleNumber (part l (p .rule) (p .ins)) log) → {e : Counts} → Joins graph₁ (c .paths) n d graph′ e
+      → Writes l names index texts bind graph c start p names′ index′ graph′ (Goes e OpenStep)
   unfolding joined expandedLine
   write-goes few {d = d} f {n} r j =
       record {
@@ -131,8 +131,8 @@ module _ (start : ℕ) {l names fileEnds texts bind graph : List ℕ} {c : Count
 
 -- ---- what the calls ask
 
-module _ {t l names fileEnds texts bind graph word : List ℕ} {c : Counts} {p : BuildPlaces} (a : StepAsks t l names fileEnds texts bind graph word c p) where
-  pub write-four : c .steps < maxSteps → FourAsks t l names fileEnds texts bind graph word c p
+module _ {t l names index texts bind graph word : List ℕ} {c : Counts} {p : BuildPlaces} (a : StepAsks t l names index texts bind graph word c p) where
+  pub write-four : c .steps < maxSteps → FourAsks t l names index texts bind graph word c p
   write-four few =
       record {
         table = a .table;
@@ -146,11 +146,11 @@ module _ {t l names fileEnds texts bind graph word : List ℕ} {c : Counts} {p :
         few = few;
       }
 
-  module _ {names′ fileEnds′ graph′ : List ℕ} {d : Counts} (f : Four l names fileEnds texts bind graph c p names′ fileEnds′ graph′ (On d)) where
-    pub write-rule : bindings.Sound texts bind (d .entries)
+  module _ {names′ index′ graph′ : List ℕ} {d : Counts} (f : Four l names index texts bind graph c p names′ index′ graph′ (On d)) where
+    pub write-rule : bindings.SoundBindings texts bind (d .entries)
     write-rule = record { log = a .whole .log; held = four-held (a .whole .holds) (a .stands) f .bound .held }
 
-    pub write-join : c .steps < maxSteps → {n : ℕ} (name : List ℕ) → ((log : List Logged) → bindings.Holds log texts bind (d .entries) → n ≡ ruleNumber name log)
+    pub write-join : c .steps < maxSteps → {n : ℕ} (name : List ℕ) → ((log : List Logged) → bindings.HoldsBindings log texts bind (d .entries) → n ≡ ruleNumber name log)
         → JoinAsks graph′ (c .paths) n d
     write-join few name r =
         let w = a .whole .holds in

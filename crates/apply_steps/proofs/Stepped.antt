@@ -17,7 +17,7 @@ use Rattle.hold_bindings.specs.Log.{Logged}
 use Rattle.hold_columns.specs.Tables.{mentionsOf, endsFrom}
 use Rattle.hold_columns.proofs.Held.{held-steps}
 use Rattle.hold_reading.specs.declared.Counts.{Counts}
-use Rattle.hold_reading.specs.Held.{Graphed, Holds}
+use Rattle.hold_reading.specs.Held.{Graphed, HoldsReading}
 use Rattle.apply_files.specs.Lines.{Line, Writing}
 use Rattle.apply_files.proofs.Limits.{mention-more}
 use Rattle.apply_mentions.proofs.Closed.{Among, among-all, numbers-append, numbers-low, length-numbers}
@@ -29,7 +29,7 @@ use Rattle.hold_columns.proofs.Places.{part-mid, length-ends}
 
 -- ---- the line that is held, before its first path and after its last
 
-abbrev pub lineOf : {log : List Logged} {names fileEnds texts bind graph : List ℕ} {c : Counts} {rd : Reading} → Holds log names fileEnds texts bind graph c rd → Line
+abbrev pub lineOf : {log : List Logged} {names index texts bind graph : List ℕ} {c : Counts} {rd : Reading} → HoldsReading log names index texts bind graph c rd → Line
 lineOf {log} {rd = rd} h =
     let g = h .graphed in
     record { log = log; reading = rd; mentions = g .mentions; ends = g .ends; phony = g .phony; made = g .made; ruleOf = g .ruleOf }
@@ -102,8 +102,8 @@ module _ (b : BuildLine) (rd : Reading) where
   pub outs-among : Among (b .outs) (filesWith b rd)
   outs-among = among-front (filesWith b rd) (b .outs) (inputsOfLine b) (among-all (rd .files) (pathsOf b))
 
-module _ {log : List Logged} {names fileEnds texts bind graph : List ℕ} {c : Counts} {rd : Reading} (w : Holds log names fileEnds texts bind graph c rd) (b : BuildLine)
-    (few : c .steps < maxSteps) {names′ fileEnds′ graph₁ : List ℕ} {d : Counts} {made : List ℕ} (x : Writing names′ fileEnds′ texts bind graph₁ d (lineAfter b (lineOf w) made)) where
+module _ {log : List Logged} {names index texts bind graph : List ℕ} {c : Counts} {rd : Reading} (w : HoldsReading log names index texts bind graph c rd) (b : BuildLine)
+    (few : c .steps < maxSteps) {names′ index′ graph₁ : List ℕ} {d : Counts} {made : List ℕ} (x : Writing names′ index′ texts bind graph₁ d (lineAfter b (lineOf w) made)) where
   abbrev g : Graphed log graph c rd
   g = w .graphed
 

@@ -14,17 +14,17 @@ use Rattle.cut_forms.specs.Statements.{Stands}
 use Rattle.hold_bindings.specs.Log.{Logged}
 use Rattle.hold_reading.specs.declared.Counts.{Counts}
 use Rattle.hold_reading.specs.declared.LineAnswer.{LineAnswer}
-use Rattle.hold_reading.specs.Held.{Holds, Agrees}
+use Rattle.hold_reading.specs.Held.{HoldsReading, Agrees}
 use Rattle.hold_reading.specs.Adds.{Whole}
 use Rattle.apply_mentions.specs.Asks.{Room}
 
-pub record StepAsks (t l names fileEnds texts bind graph word : List ℕ) (c : Counts) (p : BuildPlaces) : Type 0 where
+pub record StepAsks (t l names index texts bind graph word : List ℕ) (c : Counts) (p : BuildPlaces) : Type 0 where
   pub table : t ≡ classes
   pub short : length l ≤ maxManifest
   pub line : BuildLine
   pub stands : Stands l p line
   pub room : Room names word
-  pub whole : Whole names fileEnds texts bind graph c
+  pub whole : Whole names index texts bind graph c
 
 -- A line whose paths are expanded has no 7 and no 8.
 pub record Clear (b : BuildLine) (rd : Reading) : Type 0 where
@@ -32,6 +32,6 @@ pub record Clear (b : BuildLine) (rd : Reading) : Type 0 where
   pub sound : badPaths (b .outs) (inputsOfLine b) rd ≡ false
 
 -- Its answer agrees with its outcome, whatever reading was held.
-pub record Writes (l names fileEnds texts bind graph : List ℕ) (c : Counts) (start : ℕ) (p : BuildPlaces) (names′ fileEnds′ graph′ : List ℕ) (r : LineAnswer) : Type 0 where
-  pub agrees : (b : BuildLine) → Stands l p b → (log : List Logged) (rd : Reading) → Holds log names fileEnds texts bind graph c rd → Clear (expandedLine rd b) rd
-      → Agrees names′ fileEnds′ texts bind graph′ (addStep start (expandedLine rd b) rd) r
+pub record Writes (l names index texts bind graph : List ℕ) (c : Counts) (start : ℕ) (p : BuildPlaces) (names′ index′ graph′ : List ℕ) (r : LineAnswer) : Type 0 where
+  pub agrees : (b : BuildLine) → Stands l p b → (log : List Logged) (rd : Reading) → HoldsReading log names index texts bind graph c rd → Clear (expandedLine rd b) rd
+      → Agrees names′ index′ texts bind graph′ (addStep start (expandedLine rd b) rd) r

@@ -19,20 +19,20 @@ pub fn write_step(
     l: &[u8],
     p: BuildPlaces,
     names: &mut [u8],
-    ends: &mut [u32],
+    index: &mut [u32],
     texts: &[u8],
     bind: &[u32],
     graph: &mut [u32],
     word: &mut [u8],
     c: Counts,
 ) -> LineAnswer
-    requires { ⌜ StepAsks (now t) (now l) (now names) (now ends) (now texts) (now bind) (now graph) (now word) c p ⌝ }
-    ensures { λ r. ⌜ Writes (now (l .entry)) (now (names .entry)) (now (ends .entry)) (now (texts .entry)) (now (bind .entry)) (now (graph .entry)) c start p (now (names .exit)) (now (ends .exit)) (now (graph .exit)) r ⌝ }
+    requires { ⌜ StepAsks (now t) (now l) (now names) (now index) (now texts) (now bind) (now graph) (now word) c p ⌝ }
+    ensures { λ r. ⌜ Writes (now (l .entry)) (now (names .entry)) (now (index .entry)) (now (texts .entry)) (now (bind .entry)) (now (graph .entry)) c start p (now (names .exit)) (now (index .exit)) (now (graph .exit)) r ⌝ }
 {
     if STEPS <= c.steps {
         return LineAnswer::Refused(Refusal::OverLimit(start));
     }
-    match four(t, l, p, names, ends, texts, bind, graph, word, c) {
+    match four(t, l, p, names, index, texts, bind, graph, word, c) {
         Mentioned::On(d) => {
             let from = p.rule;
             let to = p.ins;

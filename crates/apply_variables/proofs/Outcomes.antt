@@ -12,7 +12,7 @@ use Rattle.spec.specs.Reading.{Step, Reading, fileVar}
 use Rattle.spec.specs.Statements.{Block, refused, addVar, addToBlock, blockLine, wrongVersion, countBinding, overBinding, overCounts, longerThan}
 use Rattle.spec.specs.Manifest.{withStep}
 use Rattle.hold_bindings.specs.Log.{Logged, logged, ofFile, ofStep}
-use Rattle.hold_bindings.specs.Held.{Holds}
+use Rattle.hold_bindings.specs.Held.{HoldsBindings}
 use Rattle.expand_parts.specs.Runs.{expanded}
 use Rattle.expand_dollars.specs.Written.{Written}
 use Rattle.hold_reading.specs.declared.Counts.{Counts}
@@ -20,7 +20,7 @@ use Rattle.hold_reading.specs.declared.Open.the-variants.{Nothing, Step as Open
 use Rattle.hold_reading.specs.declared.LineAnswer.{LineAnswer}
 use Rattle.hold_reading.specs.declared.LineAnswer.the-variants.{Goes, Refused}
 use Rattle.hold_reading.specs.Held.{joined, Opens, nothing, aStep, Bound}
-use Rattle.hold_reading.specs.Binds.{Known, Sound, Binds, goes, Meets}
+use Rattle.hold_reading.specs.Binds.{Known, SoundBlock, Binds, goes, Meets}
 use Rattle.hold_reading.proofs.Grow.{bound-var, bound-line, beside-var, beside-line}
 use Rattle.hold_reading.proofs.Lift.{joined-none, none-bound, refused-by}
 use Rattle.apply_bindings.specs.Limits.{overCounted, Ready, Put}
@@ -51,13 +51,13 @@ module _ (start : ℕ) (n v : List ℕ) {texts bind : List ℕ} {c : Counts} (h 
             (goes (logged ofFile n v ∷ []) (bound-var d n v (p .held log rd d) (f .few) (f .low)) nothing (beside-var rd n v));
       }
 
-  pub var-ready : Sound texts bind c Nothing → Ready texts bind c (logged ofFile n v)
+  pub var-ready : SoundBlock texts bind c Nothing → Ready texts bind c (logged ofFile n v)
   var-ready s =
       record { log = s .log; reading = s .reading; bound = none-bound (s .known); fits = within n v ofFile h (omega arith) }
 
 -- the value of a raw one, as the word buffer has it
 module _ (start : ℕ) (n raw : List ℕ) {texts bind word word′ : List ℕ} {c : Counts} {k : ℕ}
-    (x : (log : List Logged) → Holds log texts bind (c .entries) → Written word (expanded log raw) word′ k) where
+    (x : (log : List Logged) → HoldsBindings log texts bind (c .entries) → Written word (expanded log raw) word′ k) where
   pub var-over : {texts′ bind′ : List ℕ} → overCounted (length n) k c ≡ true
       → Meets texts bind c Nothing (λ rd b. addVar start n (expand (fileVar (rd .vars)) raw) rd) texts′ bind′ (Refused (OverLimit start))
   unfolding addVar
@@ -95,8 +95,8 @@ module _ (start : ℕ) (n raw : List ℕ) {log : List Logged} {texts bind : List
   unfolding joined withStep blockLine addToBlock
   line-bound (aStep {s = s}) d f m e h {texts′} {bind′} p =
       let z : c .steps - 1 ≡ length (rd .steps) = omega (arith, d .steps-counted, length-append (rd .steps) (s ∷ [])) in
-      let g : Holds (logged (ofStep (length (rd .steps))) n v ∷ log) texts′ bind′ (c .entries + 1) =
-      subst (λ (j : ℕ). Holds (logged (ofStep j) n v ∷ log) texts′ bind′ (c .entries + 1)) z (p .held log (withStep s rd) d) in
+      let g : HoldsBindings (logged (ofStep (length (rd .steps))) n v ∷ log) texts′ bind′ (c .entries + 1) =
+      subst (λ (j : ℕ). HoldsBindings (logged (ofStep j) n v ∷ log) texts′ bind′ (c .entries + 1)) z (p .held log (withStep s rd) d) in
       let r = within n v (ofStep (c .steps - 1)) h (omega (arith, d .few-steps)) in
       rw (e, line-test s d f m ∙ h, p .counted)
       (goes (logged (ofStep (length (rd .steps))) n v ∷ [])
@@ -105,7 +105,7 @@ module _ (start : ℕ) (n raw : List ℕ) {log : List Logged} {texts bind : List
       (beside-line rd n v s))
 
 module _ (start : ℕ) (n raw : List ℕ) {texts bind word word′ : List ℕ} {c : Counts} {k : ℕ}
-    (x : (log : List Logged) → Holds log texts bind (c .entries) → Written word (expanded log raw) word′ k) where
+    (x : (log : List Logged) → HoldsBindings log texts bind (c .entries) → Written word (expanded log raw) word′ k) where
   pub line-over : {texts′ bind′ : List ℕ} → overCounted (length n) k c ≡ true
       → Meets texts bind c OpenStep (λ rd b. blockLine start b n raw rd) texts′ bind′ (Refused (OverLimit start))
   line-over h =
@@ -135,7 +135,7 @@ step-open : {log : List Logged} {texts bind : List ℕ} {c : Counts} (rd : Readi
 unfolding joined withStep
 step-open rd (aStep {s = s}) d = omega (arith, d .steps-counted, length-append (rd .steps) (s ∷ []))
 
-module _ {texts bind : List ℕ} {c : Counts} (s : Sound texts bind c OpenStep) where
+module _ {texts bind : List ℕ} {c : Counts} (s : SoundBlock texts bind c OpenStep) where
   pub step-begun : 1 ≤ c .steps
   step-begun = step-open (s .reading) (s .known .opens) (s .known .bound)
 

@@ -11,7 +11,7 @@ use Rattle.spec.specs.Reading.{Bound as Binding, Reading, fileVar}
 use Rattle.spec.specs.Statements.{Block, noBlock, ruleBlock, buildBlock}
 use Rattle.spec.specs.Manifest.{withRule, withStep}
 use Rattle.hold_bindings.specs.Log.{Logged}
-use Rattle.hold_bindings.specs.Held.{Holds}
+use Rattle.hold_bindings.specs.Held.{HoldsBindings}
 use Rattle.expand_parts.specs.Runs.{expanded}
 use Rattle.expand_dollars.specs.Written.{laidOver, Written}
 use Rattle.hold_reading.specs.declared.Counts.{Counts}
@@ -44,7 +44,7 @@ module _ {t raw texts bind word : List ℕ} {c : Counts} {o : Open} (a : Asks t 
   pub value-fits : k ≤ length word
   value-fits = omega (arith, value-short n k c h, a .room)
 
-  pub value-counted : {word′ : List ℕ} → ((log : List Logged) → Holds log texts bind (c .entries) → Written word (expanded log raw) word′ k) → length (take k word′) ≡ k
+  pub value-counted : {word′ : List ℕ} → ((log : List Logged) → HoldsBindings log texts bind (c .entries) → Written word (expanded log raw) word′ k) → length (take k word′) ≡ k
   value-counted x =
       let w = x (a .sound .log) (a .sound .known .bound .held) in
       ap length (written-word w value-fits) ∙ sym (w .count)

@@ -10,7 +10,7 @@ use Rattle.spec.specs.Dollars.{badDollar}
 use Rattle.scan_classes.specs.Table.{classes}
 use Rattle.hold_reading.specs.declared.Counts.{Counts}
 use Rattle.hold_reading.specs.declared.Open.{Open}
-use Rattle.hold_reading.specs.Binds.{Sound}
+use Rattle.hold_reading.specs.Binds.{SoundBlock}
 use Rattle.apply_bindings.specs.Limits.{overCounted}
 
 pub record Asks (t raw texts bind word : List ℕ) (c : Counts) (o : Open) : Type 0 where
@@ -18,9 +18,9 @@ pub record Asks (t raw texts bind word : List ℕ) (c : Counts) (o : Open) : Typ
   pub short : length raw ≤ maxManifest
   pub dollars : badDollar raw ≡ none
   pub room : maxValue ≤ length word
-  pub sound : Sound texts bind c o
+  pub sound : SoundBlock texts bind c o
 
 -- the table, with room for a line of this name and value
 pub record Roomy (texts bind : List ℕ) (c : Counts) (o : Open) (n v : List ℕ) : Type 0 where
-  pub sound : Sound texts bind c o
+  pub sound : SoundBlock texts bind c o
   pub within : overCounted (length n) (length v) c ≡ false

@@ -8,7 +8,7 @@ use native.Mathlib.Omega.{arith}
 use lib.ListN.{length, take, drop, getD, set, length-set, length-take}
 use lib.Seq.{take-all, take-suc, drop-cons, set-append-seam, append-snoc}
 use Rattle.spec.specs.Card.{soundCard, cardEntries, timeIn}
-use Rattle.hold_names.specs.Table.{Holds, Sound, Names}
+use Rattle.hold_names.specs.Table.{HoldsNames, SoundNames, Names}
 use Rattle.ask_file_times.specs.Times.{TimesAsked, timesOf, Timed}
 
 module _ (card : List ℕ) where
@@ -23,22 +23,22 @@ module _ (card : List ℕ) where
   length-times (x ∷ a) = ap suc (length-times a)
 
 -- the times of the files below f are there
-pub record Filling (card names ends : List ℕ) (count : ℕ) (start : List ℕ) (f : ℕ) (times : List ℕ) : Type 0 where
+pub record Filling (card names index : List ℕ) (count : ℕ) (start : List ℕ) (f : ℕ) (times : List ℕ) : Type 0 where
   pub sound : soundCard card ≡ true
-  pub named : Sound names ends count
+  pub named : SoundNames names index count
   pub room : count ≤ length times
   pub same : length times ≡ length start
   pub low : f ≤ count
-  pub begun : (files : List (List ℕ)) → Holds names ends count files → times ≡ timesOf card (take f files) ++ drop f start
+  pub begun : (files : List (List ℕ)) → HoldsNames names index count files → times ≡ timesOf card (take f files) ++ drop f start
 
-module _ {card names ends : List ℕ} {count : ℕ} {start : List ℕ} where
-  pub fill-begin : TimesAsked card names ends count start → Filling card names ends count start 0 start
+module _ {card names index : List ℕ} {count : ℕ} {start : List ℕ} where
+  pub fill-begin : TimesAsked card names index count start → Filling card names index count start 0 start
   unfolding timesOf
   fill-begin a =
       record { sound = a .sound; named = a .named; room = a .room; same = refl; low = omega arith; begun = λ files h. refl }
 
-  pub fill-more : {f : ℕ} {times n : List ℕ} → Filling card names ends count start f times → f < count → Names names ends count f n
-      → {t : ℕ} → t ≡ timeIn (cardEntries card) n → Filling card names ends count start (f + 1) (set times f t)
+  pub fill-more : {f : ℕ} {times n : List ℕ} → Filling card names index count start f times → f < count → Names names index count f n
+      → {t : ℕ} → t ≡ timeIn (cardEntries card) n → Filling card names index count start (f + 1) (set times f t)
   unfolding timesOf
   fill-more {f} {times} {n} w l a {t} e =
       record {
@@ -59,7 +59,7 @@ module _ {card names ends : List ℕ} {count : ℕ} {start : List ℕ} where
             z ∙ rw (add-one f, take-suc files f [] k, times-append card (take f files) (getD files f [] ∷ []), v) (sym (append-snoc (timesOf card (take f files)) (timeIn (cardEntries card) (getD files f [])) (drop (suc f) start)));
       }
 
-  pub fill-end : {f : ℕ} {times : List ℕ} → Filling card names ends count start f times → count ≤ f → Timed card names ends count start times
+  pub fill-end : {f : ℕ} {times : List ℕ} → Filling card names index count start f times → count ≤ f → Timed card names index count start times
   fill-end {f} w l =
       record {
         filled = λ files h.

@@ -5,11 +5,11 @@ use mathlib.Core.List.{List, _++_, map}
 use mathlib.Core.Path.{_≡_}
 use lib.ListN.{length, drop}
 use Rattle.spec.specs.Card.{soundCard, cardEntries, timeIn}
-use Rattle.hold_names.specs.Table.{Holds, Sound}
+use Rattle.hold_names.specs.Table.{HoldsNames, SoundNames}
 
-pub record TimesAsked (card names ends : List ℕ) (count : ℕ) (times : List ℕ) : Type 0 where
+pub record TimesAsked (card names index : List ℕ) (count : ℕ) (times : List ℕ) : Type 0 where
   pub sound : soundCard card ≡ true
-  pub named : Sound names ends count
+  pub named : SoundNames names index count
   pub room : count ≤ length times
 
 -- the times of these files
@@ -18,5 +18,5 @@ unfolding timeIn cardEntries
 timesOf card files = map (timeIn (cardEntries card)) files
 
 -- the column begins with the times of the files held, and what lies beyond is as it was
-pub record Timed (card names ends : List ℕ) (count : ℕ) (before after : List ℕ) : Type 0 where
-  pub filled : (files : List (List ℕ)) → Holds names ends count files → after ≡ timesOf card files ++ drop count before
+pub record Timed (card names index : List ℕ) (count : ℕ) (before after : List ℕ) : Type 0 where
+  pub filled : (files : List (List ℕ)) → HoldsNames names index count files → after ≡ timesOf card files ++ drop count before

@@ -4,13 +4,13 @@ use hold_names::name;
 use scan_card_lookup::time_of;
 
 // Puts the time of each file at its number; 0 where the card does not list it.
-pub fn fill_times(card: &[u8], names: &[u8], ends: &[u32], count: usize, times: &mut [u64])
-    requires { ⌜ TimesAsked (now card) (now names) (now ends) count (now times) ⌝ }
-    ensures { λ _. ⌜ Timed (now (card .entry)) (now (names .entry)) (now (ends .entry)) count (now (times .entry)) (now (times .exit)) ⌝ }
+pub fn fill_times(card: &[u8], names: &[u8], index: &[u32], count: usize, times: &mut [u64])
+    requires { ⌜ TimesAsked (now card) (now names) (now index) count (now times) ⌝ }
+    ensures { λ _. ⌜ Timed (now (card .entry)) (now (names .entry)) (now (index .entry)) count (now (times .entry)) (now (times .exit)) ⌝ }
 {
     let mut f = 0;
     while f < count {
-        times[f] = time_of(card, name(names, ends, count, f));
+        times[f] = time_of(card, name(names, index, count, f));
         f += 1;
     }
 }

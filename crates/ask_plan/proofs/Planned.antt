@@ -36,12 +36,12 @@ module _ (manifest card targets list : List ℕ) (room : leastList ≤ length li
       rw (long, e, n) (record { says = refl; leaves = z ∙ cleared list })
 
   -- 11 to 15, and the list
-  pub planned : {names ends texts bind graph : List ℕ} {c : Counts} {r : PlanAnswer} {exit : List ℕ} → Held manifest names ends texts bind graph c
-      → PlansRead card targets names ends graph c list r exit → PlanPromise manifest card targets list r exit
+  pub planned : {names index texts bind graph : List ℕ} {c : Counts} {r : PlanAnswer} {exit : List ℕ} → Held manifest names index texts bind graph c
+      → PlansRead card targets names index graph c list r exit → PlanPromise manifest card targets list r exit
   unfolding planAsk
   planned {texts = texts} {bind = bind} h p = rw (long, h .is) (p .plans (h .log) texts bind (h .reading) (h .holds))
 
-pub askable : {manifest names ends texts bind graph : List ℕ} {c : Counts} {list : List ℕ} → leastList ≤ length list → Held manifest names ends texts bind graph c
-    → ReadAsked names ends graph c list
+pub askable : {manifest names index texts bind graph : List ℕ} {c : Counts} {list : List ℕ} → leastList ≤ length list → Held manifest names index texts bind graph c
+    → ReadAsked names index graph c list
 askable {texts = texts} {bind = bind} r h =
     record { texts = texts; bind = bind; whole = record { log = h .log; reading = h .reading; holds = h .holds }; room = r }

@@ -5,6 +5,6 @@ use lib.ListN.{length}
 use Rattle.spec.specs.Limits.{leastList}
 use Rattle.apply_manifest.specs.Manifests.{Roomy}
 
-pub record PlanAsked (t names ends texts bind graph word list : List ℕ) : Type 0 where
-  pub roomy : Roomy t names ends texts bind graph word
+pub record PlanAsked (t names index texts bind graph word list : List ℕ) : Type 0 where
+  pub roomy : Roomy t names index texts bind graph word
   pub room : leastList ≤ length list

@@ -23,18 +23,18 @@ fn plan_in(
     card: &[u8],
     targets: &[u8],
     names: &mut [u8],
-    ends: &mut [u32],
+    index: &mut [u32],
     texts: &mut [u8],
     bind: &mut [u32],
     graph: &mut [u32],
     word: &mut [u8],
     list: &mut [u32],
 ) -> PlanAnswer
-    requires { ⌜ PlanAsked (now t) (now names) (now ends) (now texts) (now bind) (now graph) (now word) (now list) ⌝ }
+    requires { ⌜ PlanAsked (now t) (now names) (now index) (now texts) (now bind) (now graph) (now word) (now list) ⌝ }
     ensures { λ r. ⌜ PlanPromise (now (manifest .entry)) (now (card .entry)) (now (targets .entry)) (now (list .entry)) r (now (list .exit)) ⌝ }
 {
-    match read(t, manifest, names, ends, texts, bind, graph, word) {
-        ReadAnswer::Accepted(c) => plan_read(card, targets, names, ends, graph, c, list),
+    match read(t, manifest, names, index, texts, bind, graph, word) {
+        ReadAnswer::Accepted(c) => plan_read(card, targets, names, index, graph, c, list),
         ReadAnswer::Refused(r) => {
             zero_from(list, 0);
             PlanAnswer::Refused(r)
@@ -49,7 +49,7 @@ pub fn plan_buffered(manifest: &[u8], card: &[u8], targets: &[u8], list: &mut [u
 {
     let t = table();
     let mut names = [0u8; WRITTEN];
-    let mut ends = [0u32; NUMBERS];
+    let mut index = [0u32; NUMBERS];
     let mut texts = [0u8; TEXTS];
     let mut bind = [0u32; ROWS];
     let mut graph = [0u32; ROOM];
@@ -60,7 +60,7 @@ pub fn plan_buffered(manifest: &[u8], card: &[u8], targets: &[u8], list: &mut [u
         card,
         targets,
         &mut names,
-        &mut ends,
+        &mut index,
         &mut texts,
         &mut bind,
         &mut graph,

@@ -9,7 +9,7 @@ use Rattle.spec.specs.declared.PlanAnswer.{PlanAnswer}
 use Rattle.spec.specs.Reading.{Reading}
 use Rattle.arena.specs.Columns.{Lies, startOf, column}
 use Rattle.arena.proofs.Laws.{Column, lies-column, lies-part}
-use Rattle.hold_columns.specs.Tables.{Holds}
+use Rattle.hold_columns.specs.Tables.{HoldsColumns}
 use Rattle.hold_columns.proofs.Places.{length-ends}
 use Rattle.hold_columns.proofs.Held.{held-steps, held-sound}
 use Rattle.hold_reading.specs.declared.Counts.{Counts}
@@ -41,7 +41,7 @@ module _ (graph : List ℕ) (c : Counts) where
     pub few-files : c .files ≤ 1024
     pub few-defaults : c .defaults ≤ 4096
     pub counted : length madeIn ≡ c .files
-    pub tables : Holds (rd .steps) (length (rd .files)) mentionsIn endsIn phonyIn madeIn
+    pub tables : HoldsColumns (rd .steps) (length (rd .files)) mentionsIn endsIn phonyIn madeIn
     pub defaults : defaultsIn ≡ rd .defaults
     pub defaults-low : (i : ℕ) → i < length (rd .defaults) → getD (rd .defaults) i 0 < c .files
 

@@ -21,24 +21,24 @@ use Rattle.spec.specs.Answers.{numberOfRefusal, planSays}
 use Rattle.spec.specs.PlanAsk.{PlanOutcome, targetFiles, planRoots, planRead}
 use Rattle.spec.specs.Promises.{leftBy, PlanMeets}
 use Rattle.hold_bindings.specs.Log.{Logged}
-use Rattle.hold_names.specs.Table.{Sound}
+use Rattle.hold_names.specs.Table.{SoundNames}
 use Rattle.ask_file_times.specs.Times.{timesOf, Timed}
 use Rattle.ask_target_files.specs.declared.Numbered.{Numbered}
 use Rattle.ask_target_files.specs.declared.Numbered.the-variants.{All, Bad}
 use Rattle.ask_target_files.specs.Numbered.{numbersOf, Numbers, Says, NumbersTargets}
 use Rattle.hold_reading.specs.declared.Counts.{Counts}
-use Rattle.hold_reading.specs.Held.{Holds}
+use Rattle.hold_reading.specs.Held.{HoldsReading}
 use Rattle.graph_plan.proofs.Outcomes.{cleared}
 use Rattle.ask_plan_reading.proofs.Laws.{CardTimes, plan-of-read}
 use Rattle.ask_plan_columns.specs.Columns.{Tabled, ColumnsAsked, PlansColumns}
 use Rattle.ask_plan_reading.specs.Asked.{ReadAsked, PlansRead}
 
-pub tabled : {log : List Logged} {names ends texts bind graph : List ℕ} {c : Counts} {rd : Reading} → Holds log names ends texts bind graph c rd → Tabled graph c rd
+pub tabled : {log : List Logged} {names index texts bind graph : List ℕ} {c : Counts} {rd : Reading} → HoldsReading log names index texts bind graph c rd → Tabled graph c rd
 tabled {log = log} h =
     record { log = log; graphed = h .graphed; files-counted = h .named .counted; steps-counted = h .bound .steps-counted }
 
-module _ {names ends graph : List ℕ} {c : Counts} {list : List ℕ} (a : ReadAsked names ends graph c list) where
-  pub named : Sound names ends (c .files)
+module _ {names index graph : List ℕ} {c : Counts} {list : List ℕ} (a : ReadAsked names index graph c list) where
+  pub named : SoundNames names index (c .files)
   named = record { files = a .whole .reading .files; holds = a .whole .holds .named }
 
   pub few-files : c .files ≤ maxFiles
@@ -46,13 +46,13 @@ module _ {names ends graph : List ℕ} {c : Counts} {list : List ℕ} (a : ReadA
 
 -- ---- 11 and 12
 
-module _ {card targets names ends graph : List ℕ} {c : Counts} {list exit : List ℕ} (z : exit ≡ zeroed list 0 (length list)) where
-  pub bad-card : soundCard card ≡ false → PlansRead card targets names ends graph c list (Refused BadCard) exit
+module _ {card targets names index graph : List ℕ} {c : Counts} {list exit : List ℕ} (z : exit ≡ zeroed list 0 (length list)) where
+  pub bad-card : soundCard card ≡ false → PlansRead card targets names index graph c list (Refused BadCard) exit
   unfolding planRead PlanMeets planSays leftBy numberOfRefusal
   bad-card s = record { plans = λ log texts bind rd h. rw s (record { says = refl; leaves = z ∙ cleared list }) }
 
-  pub bad-target : soundCard card ≡ true → {numbers : List ℕ} {r : Numbered} {place : ℕ} → NumbersTargets targets names ends (c .files) numbers r → r ≡ Bad place
-      → PlansRead card targets names ends graph c list (Refused (BadTarget place)) exit
+  pub bad-target : soundCard card ≡ true → {numbers : List ℕ} {r : Numbered} {place : ℕ} → NumbersTargets targets names index (c .files) numbers r → r ≡ Bad place
+      → PlansRead card targets names index graph c list (Refused (BadTarget place)) exit
   unfolding planRead planRoots PlanMeets planSays leftBy numberOfRefusal
   bad-target s {numbers} {place = place} n e =
       record {
@@ -69,10 +69,10 @@ time-at g (x ∷ l) zero b = refl
 time-at g (x ∷ l) (suc f) b = time-at g l f (le-of-suc-le-suc b)
 
 -- the times and the targets' numbers, as far as they are filled
-module _ {card targets names ends graph : List ℕ} {c : Counts} (s : soundCard card ≡ true)
-    {numbers : List ℕ} {r : Numbered} {k : ℕ} (n : NumbersTargets targets names ends (c .files) numbers r) (e : r ≡ All k)
-    {before times : List ℕ} (t : Timed card names ends (c .files) before times) where
-  module _ {log : List Logged} {texts bind : List ℕ} {rd : Reading} (h : Holds log names ends texts bind graph c rd) where
+module _ {card targets names index graph : List ℕ} {c : Counts} (s : soundCard card ≡ true)
+    {numbers : List ℕ} {r : Numbered} {k : ℕ} (n : NumbersTargets targets names index (c .files) numbers r) (e : r ≡ All k)
+    {before times : List ℕ} (t : Timed card names index (c .files) before times) where
+  module _ {log : List Logged} {texts bind : List ℕ} {rd : Reading} (h : HoldsReading log names index texts bind graph c rd) where
     numbered : Numbers targets numbers (rd .files) k
     numbered = subst (Says targets numbers (rd .files)) e (n .says (rd .files) (h .named))
 
@@ -98,10 +98,10 @@ module _ {card targets names ends graph : List ℕ} {c : Counts} (s : soundCard 
         subst (λ (o : PlanOutcome). PlanMeets o list (planSays answer) exit) (plan-of-read card s rd (take (c .files) times) timed targets (take k numbers) targets-are (numbered .good)) (p .plans rd (tabled h))
 
   pub plans : {answer : PlanAnswer} {list exit : List ℕ} → PlansColumns graph c (take (c .files) times) (take k numbers) list answer exit
-      → PlansRead card targets names ends graph c list answer exit
+      → PlansRead card targets names index graph c list answer exit
   plans p = record { plans = λ log texts bind rd h. meets h p }
 
-  module _ {list : List ℕ} (a : ReadAsked names ends graph c list) where
+  module _ {list : List ℕ} (a : ReadAsked names index graph c list) where
     pub numbers-within : k ≤ length numbers
     numbers-within = numbered (a .whole .holds) .within
 

@@ -17,28 +17,28 @@ fn plan_tables(
     card: &[u8],
     targets: &[u8],
     names: &[u8],
-    ends: &[u32],
+    index: &[u32],
     graph: &[u32],
     c: Counts,
     times: &mut [u64],
     numbers: &mut [u32],
     list: &mut [u32],
 ) -> PlanAnswer
-    requires { ⌜ TablesAsked (now names) (now ends) (now graph) c (now times) (now numbers) (now list) ⌝ }
-    ensures { λ r. ⌜ PlansRead (now (card .entry)) (now (targets .entry)) (now (names .entry)) (now (ends .entry)) (now (graph .entry)) c (now (list .entry)) r (now (list .exit)) ⌝ }
+    requires { ⌜ TablesAsked (now names) (now index) (now graph) c (now times) (now numbers) (now list) ⌝ }
+    ensures { λ r. ⌜ PlansRead (now (card .entry)) (now (targets .entry)) (now (names .entry)) (now (index .entry)) (now (graph .entry)) c (now (list .entry)) r (now (list .exit)) ⌝ }
 {
     if !sound(card) {
         zero_from(list, 0);
         return PlanAnswer::Refused(Refusal::BadCard);
     }
     let files = c.files;
-    match number_targets(targets, names, ends, files, numbers) {
+    match number_targets(targets, names, index, files, numbers) {
         Numbered::Bad(place) => {
             zero_from(list, 0);
             PlanAnswer::Refused(Refusal::BadTarget(place))
         }
         Numbered::All(n) => {
-            fill_times(card, names, ends, files, times);
+            fill_times(card, names, index, files, times);
             plan_columns(graph, c, &times[..files], &numbers[..n], list)
         }
     }
@@ -49,13 +49,13 @@ pub fn plan_read(
     card: &[u8],
     targets: &[u8],
     names: &[u8],
-    ends: &[u32],
+    index: &[u32],
     graph: &[u32],
     c: Counts,
     list: &mut [u32],
 ) -> PlanAnswer
-    requires { ⌜ ReadAsked (now names) (now ends) (now graph) c (now list) ⌝ }
-    ensures { λ r. ⌜ PlansRead (now (card .entry)) (now (targets .entry)) (now (names .entry)) (now (ends .entry)) (now (graph .entry)) c (now (list .entry)) r (now (list .exit)) ⌝ }
+    requires { ⌜ ReadAsked (now names) (now index) (now graph) c (now list) ⌝ }
+    ensures { λ r. ⌜ PlansRead (now (card .entry)) (now (targets .entry)) (now (names .entry)) (now (index .entry)) (now (graph .entry)) c (now (list .entry)) r (now (list .exit)) ⌝ }
 {
     let mut times = [0u64; FILES];
     let mut numbers = [0u32; TARGETS];
@@ -63,7 +63,7 @@ pub fn plan_read(
         card,
         targets,
         names,
-        ends,
+        index,
         graph,
         c,
         &mut times,

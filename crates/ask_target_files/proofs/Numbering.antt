@@ -14,39 +14,39 @@ use Rattle.lists.specs.Parts.{part}
 use Rattle.spec.specs.Limits.{maxTargets}
 use Rattle.spec.specs.Reading.{numberOf}
 use Rattle.spec.specs.Targets.{malformed}
-use Rattle.hold_names.specs.declared.Found.{Found}
-use Rattle.hold_names.specs.declared.Found.the-variants.{At, Missing}
-use Rattle.hold_names.specs.Table.{Holds, Sound, Finds}
+use Rattle.hold_names.specs.declared.FoundName.{FoundName}
+use Rattle.hold_names.specs.declared.FoundName.the-variants.{At, Missing}
+use Rattle.hold_names.specs.Table.{HoldsNames, SoundNames, FindsName}
 use Rattle.hold_names.proofs.Laws.{find-at, find-missing}
-use Rattle.scan_targets.specs.declared.Next.{Next}
-use Rattle.scan_targets.specs.declared.Next.the-variants.{End, Bad as BadName, Name}
+use Rattle.scan_targets.specs.declared.NextTarget.{NextTarget}
+use Rattle.scan_targets.specs.declared.NextTarget.the-variants.{End, Bad as BadName, Name}
 use Rattle.scan_targets.specs.Next.{nextIn}
 use Rattle.scan_targets.proofs.Walk.{namesFrom, Turn, Walking, walk-malformed, walk-begin, walk-end, walk-bad, walk-turn, walk-missing, walk-more}
 use Rattle.ask_target_files.specs.declared.Numbered.the-variants.{All, Bad}
 use Rattle.ask_target_files.specs.Numbered.{Asked, numbersOf, NumbersTargets}
 
 -- the numbers of the names up to a place are there, whatever names are held
-pub record Walked (targets names ends : List ℕ) (count : ℕ) (start : List ℕ) (from n : ℕ) (out : List ℕ) : Type 0 where
+pub record Walked (targets names index : List ℕ) (count : ℕ) (start : List ℕ) (from n : ℕ) (out : List ℕ) : Type 0 where
   pub same : length out ≡ length start
-  pub named : Sound names ends count
+  pub named : SoundNames names index count
   pub room : maxTargets ≤ length out
   pub within : from ≤ length targets
   pub short : length targets ≤ maxTargets
   pub few : n + n ≤ from
   pub low : (i : ℕ) → i < n → getD out i 0 < count
-  pub walks : (files : List (List ℕ)) → Holds names ends count files → Walking files targets from (take n out)
+  pub walks : (files : List (List ℕ)) → HoldsNames names index count files → Walking files targets from (take n out)
 
-module _ {targets names ends : List ℕ} {count : ℕ} where
-  pub form-bad : {out : List ℕ} → malformed targets ≡ true → NumbersTargets targets names ends count out (Bad 0)
+module _ {targets names index : List ℕ} {count : ℕ} where
+  pub form-bad : {out : List ℕ} → malformed targets ≡ true → NumbersTargets targets names index count out (Bad 0)
   form-bad h = record { says = λ files d. walk-malformed files targets h }
 
-  pub begin : {out : List ℕ} → Asked names ends count out → malformed targets ≡ false → Walked targets names ends count out 0 0 out
+  pub begin : {out : List ℕ} → Asked names index count out → malformed targets ≡ false → Walked targets names index count out 0 0 out
   begin a h =
       let w = walk-begin [] targets h in
       record { same = refl; named = a .named; room = a .room; within = w .within; short = w .short; few = omega arith; low = λ i b. absurd (not-suc-le-zero b); walks = λ files d. walk-begin files targets h }
 
-  module _ {from n : ℕ} {start out : List ℕ} (w : Walked targets names ends count start from n out) {r : Next} (a : r ≡ nextIn (namesFrom targets from)) where
-    pub ended : r ≡ End → NumbersTargets targets names ends count out (All n)
+  module _ {from n : ℕ} {start out : List ℕ} (w : Walked targets names index count start from n out) {r : NextTarget} (a : r ≡ nextIn (namesFrom targets from)) where
+    pub ended : r ≡ End → NumbersTargets targets names index count out (All n)
     unfolding numbersOf
     ended e =
         record {
@@ -56,18 +56,18 @@ module _ {targets names ends : List ℕ} {count : ℕ} where
               record { good = g; within = k; counted = sym (ap length h ∙ length-take-le n out k); numbers = sym h; low = rw (← d .counted) (w .low) };
         }
 
-    pub bad : r ≡ BadName → NumbersTargets targets names ends count out (Bad from)
+    pub bad : r ≡ BadName → NumbersTargets targets names index count out (Bad from)
     bad e = record { says = λ files d. walk-bad (w .walks files d) a e }
 
     module _ {end : ℕ} (e : r ≡ Name end) where
-      pub turned : (files : List (List ℕ)) → Holds names ends count files → Turn targets from end
+      pub turned : (files : List (List ℕ)) → HoldsNames names index count files → Turn targets from end
       turned files d = walk-turn (w .walks files d) a e
 
       pub turn : Turn targets from end
       turn = turned (w .named .files) (w .named .holds)
 
-      module _ {x : Found} (f : Finds names ends count (part targets from end) x) where
-        pub unknown : x ≡ Missing → NumbersTargets targets names ends count out (Bad from)
+      module _ {x : FoundName} (f : FindsName names index count (part targets from end) x) where
+        pub unknown : x ≡ Missing → NumbersTargets targets names index count out (Bad from)
         unknown m = record { says = λ files d. walk-missing (w .walks files d) a e (find-missing f d m) }
 
         below : {k : ℕ} → x ≡ At k → k < count
@@ -84,7 +84,7 @@ module _ {targets names ends : List ℕ} {count : ℕ} where
             let (i, j, k) = find-at f h m in
             omega (arith, h .few)
 
-        pub more : {k : ℕ} → x ≡ At k → Walked targets names ends count start (end + 1) (n + 1) (set out n k)
+        pub more : {k : ℕ} → x ≡ At k → Walked targets names index count start (end + 1) (n + 1) (set out n k)
         more {k} m =
             record {
               same = simp length-set (w .same);

@@ -7,12 +7,12 @@ use lib.ListN.{length, take, getD}
 use Rattle.spec.specs.Limits.{maxTargets}
 use Rattle.spec.specs.Reading.{numberOf}
 use Rattle.spec.specs.Targets.{Target, targetsOf, badTarget}
-use Rattle.hold_names.specs.Table.{Holds, Sound}
+use Rattle.hold_names.specs.Table.{HoldsNames, SoundNames}
 use Rattle.ask_target_files.specs.declared.Numbered.{Numbered}
 use Rattle.ask_target_files.specs.declared.Numbered.the-variants.{All, Bad}
 
-pub record Asked (names ends : List ℕ) (count : ℕ) (out : List ℕ) : Type 0 where
-  pub named : Sound names ends count
+pub record Asked (names index : List ℕ) (count : ℕ) (out : List ℕ) : Type 0 where
+  pub named : SoundNames names index count
   -- each name takes two bytes at least
   pub room : maxTargets ≤ length out
 
@@ -33,5 +33,5 @@ abbrev pub Says : List ℕ → List ℕ → List (List ℕ) → Numbered → Typ
 Says targets out files (All n) = Numbers targets out files n
 Says targets out files (Bad place) = badTarget files targets ≡ some place
 
-pub record NumbersTargets (targets names ends : List ℕ) (count : ℕ) (out : List ℕ) (r : Numbered) : Type 0 where
-  pub says : (files : List (List ℕ)) → Holds names ends count files → Says targets out files r
+pub record NumbersTargets (targets names index : List ℕ) (count : ℕ) (out : List ℕ) (r : Numbered) : Type 0 where
+  pub says : (files : List (List ℕ)) → HoldsNames names index count files → Says targets out files r

@@ -1,8 +1,8 @@
 // The names of a target list as numbers of files, or 12.
 ghost use Rattle.ask_target_files.specs.Numbered.{Asked, NumbersTargets};
-use hold_names::Found;
+use hold_names::FoundName;
 use hold_names::find;
-use scan_targets::Next;
+use scan_targets::NextTarget;
 use scan_targets::bad_form;
 use scan_targets::name_at;
 
@@ -17,12 +17,12 @@ pub enum Numbered {
 pub fn number_targets(
     targets: &[u8],
     names: &[u8],
-    ends: &[u32],
+    index: &[u32],
     count: usize,
     out: &mut [u32],
 ) -> Numbered
-    requires { ⌜ Asked (now names) (now ends) count (now out) ⌝ }
-    ensures { λ r. ⌜ NumbersTargets (now (targets .entry)) (now (names .entry)) (now (ends .entry)) count (now (out .exit)) r ⌝ }
+    requires { ⌜ Asked (now names) (now index) count (now out) ⌝ }
+    ensures { λ r. ⌜ NumbersTargets (now (targets .entry)) (now (names .entry)) (now (index .entry)) count (now (out .exit)) r ⌝ }
 {
     if bad_form(targets) {
         return Numbered::Bad(0);
@@ -31,18 +31,18 @@ pub fn number_targets(
     let mut n = 0;
     loop {
         match name_at(targets, from) {
-            Next::End => {
+            NextTarget::End => {
                 return Numbered::All(n);
             }
-            Next::Bad => {
+            NextTarget::Bad => {
                 return Numbered::Bad(from);
             }
-            Next::Name(end) => {
-                match find(names, ends, count, &targets[from..end]) {
-                    Found::Missing => {
+            NextTarget::Name(end) => {
+                match find(names, index, count, &targets[from..end]) {
+                    FoundName::Missing => {
                         return Numbered::Bad(from);
                     }
-                    Found::At(k) => {
+                    FoundName::At(k) => {
                         out[n] = k as u32;
                         n += 1;
                         from = end + 1;

@@ -24,11 +24,11 @@ module _ (manifest buffer : List ℕ) (room : maxText ≤ length buffer) where
       → TextPromise manifest step wanted buffer (Refused r) exit
   unread step wanted e z = refusal-promised manifest buffer room step wanted e (z ∙ cleared buffer)
 
-  module _ {names ends texts bind graph : List ℕ} {c : Counts} (h : Held manifest names ends texts bind graph c) where
-    pub askable : {t : List ℕ} → t ≡ classes → TextAsk t names ends texts bind graph c buffer
+  module _ {names index texts bind graph : List ℕ} {c : Counts} (h : Held manifest names index texts bind graph c) where
+    pub askable : {t : List ℕ} → t ≡ classes → TextAsk t names index texts bind graph c buffer
     askable e = text-asked manifest buffer room (h .is) (h .holds) e
 
     -- 18, 16, 17, and the text
-    pub written : {step : ℕ} {wanted : Wanted} {r : TextAnswer} {exit : List ℕ} → TextOf names ends texts bind graph c step wanted buffer exit r
+    pub written : {step : ℕ} {wanted : Wanted} {r : TextAnswer} {exit : List ℕ} → TextOf names index texts bind graph c step wanted buffer exit r
         → TextPromise manifest step wanted buffer r exit
     written p = text-promised manifest buffer room (h .is) (h .holds) p

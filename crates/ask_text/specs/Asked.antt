@@ -5,6 +5,6 @@ use lib.ListN.{length}
 use Rattle.spec.specs.Limits.{maxText}
 use Rattle.apply_manifest.specs.Manifests.{Roomy}
 
-pub record TextAsked (t names ends texts bind graph word buffer : List ℕ) : Type 0 where
-  pub roomy : Roomy t names ends texts bind graph word
+pub record TextAsked (t names index texts bind graph word buffer : List ℕ) : Type 0 where
+  pub roomy : Roomy t names index texts bind graph word
   pub room : maxText ≤ length buffer

@@ -24,21 +24,21 @@ fn text_in(
     step: usize,
     wanted: Wanted,
     names: &mut [u8],
-    ends: &mut [u32],
+    index: &mut [u32],
     texts: &mut [u8],
     bind: &mut [u32],
     graph: &mut [u32],
     word: &mut [u8],
     buffer: &mut [u8],
 ) -> TextAnswer
-    requires { ⌜ TextAsked (now t) (now names) (now ends) (now texts) (now bind) (now graph) (now word) (now buffer) ⌝ }
+    requires { ⌜ TextAsked (now t) (now names) (now index) (now texts) (now bind) (now graph) (now word) (now buffer) ⌝ }
     ensures { λ r. ⌜ TextPromise (now (manifest .entry)) step wanted (now (buffer .entry)) r (now (buffer .exit)) ⌝ }
 {
-    match read(t, manifest, names, ends, texts, bind, graph, word) {
+    match read(t, manifest, names, index, texts, bind, graph, word) {
         ReadAnswer::Accepted(c) => text_of(
             t,
             names,
-            ends,
+            index,
             texts,
             bind,
             graph,
@@ -61,7 +61,7 @@ pub fn text_buffered(manifest: &[u8], step: usize, wanted: Wanted, buffer: &mut 
 {
     let t = table();
     let mut names = [0u8; WRITTEN];
-    let mut ends = [0u32; NUMBERS];
+    let mut index = [0u32; NUMBERS];
     let mut texts = [0u8; TEXTS];
     let mut bind = [0u32; ROWS];
     let mut graph = [0u32; ROOM];
@@ -72,7 +72,7 @@ pub fn text_buffered(manifest: &[u8], step: usize, wanted: Wanted, buffer: &mut 
         step,
         wanted,
         &mut names,
-        &mut ends,
+        &mut index,
         &mut texts,
         &mut bind,
         &mut graph,

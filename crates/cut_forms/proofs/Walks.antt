@@ -12,8 +12,8 @@ use Rattle.spec.specs.Forms.{Cut, fits, fails, then, Paths, withPath, paths}
 use Rattle.scan_raw.specs.Texts.{PathsStop, PathNext, PathsBad}
 use Rattle.scan_raw.proofs.PathLists.{Listing, list-begin, list-next, list-stop, list-bad}
 use Rattle.cut_forms.specs.declared.Fault.the-variants.{BadDollar}
-use Rattle.cut_forms.specs.declared.Next.{Next}
-use Rattle.cut_forms.specs.declared.Next.the-variants.{Path, Stop}
+use Rattle.cut_forms.specs.declared.ListPath.{ListPath}
+use Rattle.cut_forms.specs.declared.ListPath.the-variants.{Path, Stop}
 use Rattle.cut_forms.specs.Faults.{Fails}
 use Rattle.cut_forms.specs.Paths.{PathsAt, NextAt, ListEnds}
 use Rattle.cut_forms.proofs.Faults.{bad-dollar}
@@ -49,7 +49,7 @@ walk-bad a w = ap rawOf (sym (w .cut) ∙ a .is)
 
 -- ---- what `next_path` answers
 
-module _ (l : List ℕ) (i : ℕ) (r : Next) (n : NextAt l i r) where
+module _ (l : List ℕ) (i : ℕ) (r : ListPath) (n : NextAt l i r) where
   pub goes-on : {from to : ℕ} → r ≡ Path from to → PathNext l i from to
   unfolding NextAt
   goes-on e = rw e at n

@@ -7,8 +7,8 @@ use lib.ListN.{length, drop}
 use Rattle.spec.specs.Basics.{isEmpty}
 use Rattle.spec.specs.Forms.{fits, paths}
 use Rattle.scan_raw.specs.Texts.{PathNext}
-use Rattle.cut_forms.specs.declared.Next.{Next}
-use Rattle.cut_forms.specs.declared.Next.the-variants.{Path, Stop}
+use Rattle.cut_forms.specs.declared.ListPath.{ListPath}
+use Rattle.cut_forms.specs.declared.ListPath.the-variants.{Path, Stop}
 use Rattle.cut_forms.specs.declared.Listed.{Listed}
 use Rattle.cut_forms.specs.declared.Listed.the-variants.{Ends, Wrong}
 use Rattle.cut_forms.specs.Faults.{Fails}
@@ -20,7 +20,7 @@ pub record PathsAt (l : List ℕ) (at : ℕ) (ps : List (List ℕ)) : Type 0 whe
   pub cut : paths (drop at l) ≡ fits (record { raw = ps; rest = rest })
 
 -- The first path of the list that starts at place `at`, if it has one.
-unfoldable pub NextAt : List ℕ → ℕ → Next → Type 0
+unfoldable pub NextAt : List ℕ → ℕ → ListPath → Type 0
 NextAt l at (Path from to) = PathNext l at from to
 NextAt l at Stop = (ps : List (List ℕ)) → PathsAt l at ps → ps ≡ []
 

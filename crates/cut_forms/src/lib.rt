@@ -37,7 +37,7 @@ pub struct BuildPlaces {
 }
 
 // The next path of a list: where it starts and ends.
-pub enum Next {
+pub enum ListPath {
     Path(usize, usize),
     Stop,
 }

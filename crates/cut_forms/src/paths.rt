@@ -7,8 +7,8 @@ ghost use Rattle.scan_classes.specs.Table.{classes};
 ghost use Rattle.cut_forms.specs.Paths.{ListedAt, NextAt};
 ghost use Rattle.cut_forms.specs.Statements.{StatementAt};
 use crate::Fault;
+use crate::ListPath;
 use crate::Listed;
-use crate::Next;
 use crate::Statement;
 use scan_raw::NextPath;
 use scan_raw::texts;
@@ -37,14 +37,14 @@ pub fn listed(t: &[u8; 256], l: &[u8], at: usize) -> Listed
 }
 
 // The next path of a list that was found sound: for a later pass over it.
-pub fn next_path(t: &[u8; 256], l: &[u8], at: usize) -> Next
+pub fn next_path(t: &[u8; 256], l: &[u8], at: usize) -> ListPath
     requires { ⌜ (now t ≡ classes) × (at ≤ length (now l)) ⌝ }
     ensures { λ r. ⌜ NextAt (now (l .entry)) at r ⌝ }
 {
     match texts::next_path(t, l, at) {
-        NextPath::Path(from, to) => Next::Path(from, to),
-        NextPath::Stop(_) => Next::Stop,
-        NextPath::BadDollar(_) => Next::Stop,
+        NextPath::Path(from, to) => ListPath::Path(from, to),
+        NextPath::Stop(_) => ListPath::Stop,
+        NextPath::BadDollar(_) => ListPath::Stop,
     }
 }
 

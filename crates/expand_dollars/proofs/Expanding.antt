@@ -6,7 +6,7 @@ use native.Mathlib.Omega.{arith}
 use lib.ListN.{length, drop, length-append, drop-of-length-le}
 use Rattle.lists.specs.Parts.{part}
 use Rattle.hold_bindings.specs.Log.{Logged}
-use Rattle.hold_bindings.specs.Held.{maxTexts, Holds}
+use Rattle.hold_bindings.specs.Held.{maxTexts, HoldsBindings}
 use Rattle.expand_parts.specs.declared.Run.{Run}
 use Rattle.expand_parts.specs.Runs.{expanded, bytesOf, leftOf, Begins, Ready}
 use Rattle.expand_parts.proofs.Expansions.{length-bytes, expanded-none}
@@ -24,7 +24,7 @@ pub record Expanding (t raw texts bind : List ℕ) (count : ℕ) (before word : 
   pub ready : Ready t raw texts bind count i
   pub bounded : n ≤ maxTexts * i
   pub long : length word ≡ length before
-  pub done : (log : List Logged) → Holds log texts bind count → Done (expanded log raw) (expanded log (drop i raw)) before word n
+  pub done : (log : List Logged) → HoldsBindings log texts bind count → Done (expanded log raw) (expanded log (drop i raw)) before word n
 
 pub expand-begin : {t raw texts bind : List ℕ} {count : ℕ} (word : List ℕ) → Ready t raw texts bind count 0 → Expanding t raw texts bind count word word 0 0
 expand-begin word r =
@@ -58,7 +58,7 @@ module _ {t raw texts bind : List ℕ} {count : ℕ} {before word : List ℕ} {i
               };
         }
 
-  pub expand-done : length raw ≤ i → (log : List Logged) → Holds log texts bind count → Written before (expanded log raw) word n
+  pub expand-done : length raw ≤ i → (log : List Logged) → HoldsBindings log texts bind count → Written before (expanded log raw) word n
   expand-done h log k =
       let d = x .done log k in
       let e : d .part ≡ expanded log raw =

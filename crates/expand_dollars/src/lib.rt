@@ -2,7 +2,7 @@
 ghost use mathlib.Core.Path.{_≡_};
 ghost use mathlib.Core.List.{List};
 ghost use Rattle.hold_bindings.specs.Log.{Logged};
-ghost use Rattle.hold_bindings.specs.Held.{Holds};
+ghost use Rattle.hold_bindings.specs.Held.{HoldsBindings};
 ghost use Rattle.expand_parts.specs.Runs.{expanded, bytesOf, Placed, Ready};
 ghost use Rattle.expand_dollars.specs.Written.{laidAt, Written};
 use expand_parts::Run;
@@ -48,7 +48,7 @@ pub fn expand(
     word: &mut [u8],
 ) -> usize
     requires { ⌜ Ready (now t) (now raw) (now texts) (now bind) count 0 ⌝ }
-    ensures { λ r. ⌜ ((log : List Logged) → Holds log (now (texts .entry)) (now (bind .entry)) count → Written (now (word .entry)) (expanded log (now (raw .entry))) (now (word .exit)) r) ⌝ }
+    ensures { λ r. ⌜ ((log : List Logged) → HoldsBindings log (now (texts .entry)) (now (bind .entry)) count → Written (now (word .entry)) (expanded log (now (raw .entry))) (now (word .exit)) r) ⌝ }
 {
     let mut i = 0;
     let mut n = 0;

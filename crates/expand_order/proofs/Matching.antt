@@ -14,7 +14,7 @@ use Rattle.lists.specs.Order.{orderBytes, less-order, greater-order, equal-orde
 use Rattle.lists.specs.Parts.{drop-part}
 use Rattle.lists.specs.declared.Order as order
 use Rattle.hold_bindings.specs.Log.{Logged}
-use Rattle.hold_bindings.specs.Held.{Holds}
+use Rattle.hold_bindings.specs.Held.{HoldsBindings}
 use Rattle.expand_parts.specs.declared.Run.{Run}
 use Rattle.expand_order.specs.declared.Ahead.{Ahead}
 use Rattle.expand_order.specs.declared.Ahead.the-variants.{Less, Greater, Both}
@@ -28,7 +28,7 @@ use Rattle.expand_parts.proofs.Filling.{left-none}
 pub record Matching (t a b texts bind : List ℕ) (count : ℕ) (x y : Run) : Type 0 where
   pub first : Going t a texts bind count x
   pub second : Going t b texts bind count y
-  pub left : (log : List Logged) → Holds log texts bind count → orderBytes (expanded log a) (expanded log b) ≡ orderBytes (leftOf log a texts x) (leftOf log b texts y)
+  pub left : (log : List Logged) → HoldsBindings log texts bind count → orderBytes (expanded log a) (expanded log b) ≡ orderBytes (leftOf log a texts x) (leftOf log b texts y)
 
 -- ---- the start
 
@@ -102,17 +102,17 @@ less-behind k f e n h z = omega arith
 
 module _ {t a b texts bind : List ℕ} {count : ℕ} {x y p q : Run} (m : Matching t a b texts bind count x y)
     (f : Filled a texts bind count x p) (g : Filled b texts bind count y q) where
-  now-left : (log : List Logged) → Holds log texts bind count → orderBytes (expanded log a) (expanded log b) ≡ orderBytes (leftOf log a texts p) (leftOf log b texts q)
+  now-left : (log : List Logged) → HoldsBindings log texts bind count → orderBytes (expanded log a) (expanded log b) ≡ orderBytes (leftOf log a texts p) (leftOf log b texts q)
   now-left log h = m .left log h ∙ rw (f .left log h, g .left log h)
 
   module _ {r : Ahead} (c : Compared (bytesOf a texts p) (bytesOf b texts q) r) where
-    pub match-lower : r ≡ Less → (log : List Logged) → Holds log texts bind count → order.the-variants.Less ≡ orderBytes (expanded log a) (expanded log b)
+    pub match-lower : r ≡ Less → (log : List Logged) → HoldsBindings log texts bind count → order.the-variants.Less ≡ orderBytes (expanded log a) (expanded log b)
     unfolding Compared
     match-lower e log h =
         let d : (s t : List ℕ) → orderBytes (bytesOf a texts p ++ s) (bytesOf b texts q ++ t) ≡ order.the-variants.Less = rw e at c in
         sym (now-left log h ∙ rw (left-is log a texts p, left-is log b texts q) (d _ _))
 
-    pub match-higher : r ≡ Greater → (log : List Logged) → Holds log texts bind count → order.the-variants.Greater ≡ orderBytes (expanded log a) (expanded log b)
+    pub match-higher : r ≡ Greater → (log : List Logged) → HoldsBindings log texts bind count → order.the-variants.Greater ≡ orderBytes (expanded log a) (expanded log b)
     unfolding Compared
     match-higher e log h =
         let d : (s t : List ℕ) → orderBytes (bytesOf a texts p ++ s) (bytesOf b texts q ++ t) ≡ order.the-variants.Greater = rw e at c in
@@ -127,7 +127,7 @@ module _ {t a b texts bind : List ℕ} {count : ℕ} {x y p q : Run} (m : Matchi
       pub shorter : n ≡ min (p .to - p .from) (q .to - q .from)
       shorter = agreed .count ∙ rw (length-bytes (f .placed), length-bytes (g .placed))
 
-      pub match-end : n ≡ 0 → {o : order.Order} → o ≡ orderLengths (p .to - p .from) (q .to - q .from) → (log : List Logged) → Holds log texts bind count → o ≡ orderBytes (expanded log a) (expanded log b)
+      pub match-end : n ≡ 0 → {o : order.Order} → o ≡ orderLengths (p .to - p .from) (q .to - q .from) → (log : List Logged) → HoldsBindings log texts bind count → o ≡ orderBytes (expanded log a) (expanded log b)
       match-end z l log h =
           l
           ∙ ends (sym shorter ∙ z) (λ o. left-last f o log) (λ o. left-last g o log) (left-longer (f .placed) log) (left-longer (g .placed) log)

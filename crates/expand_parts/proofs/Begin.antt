@@ -12,7 +12,7 @@ use Rattle.lists.specs.Parts.{part, part-none}
 use Rattle.lists.specs.Runs.{isNot, afterRun, Reads, part-run}
 use Rattle.spec.specs.Bytes.{dollar}
 use Rattle.spec.specs.Dollars.{badDollar}
-use Rattle.scan_dollars.specs.Element.{literal, joins, wrong, element, restOf, Found, FoundName}
+use Rattle.scan_dollars.specs.Element.{literal, joins, wrong, element, restOf, FoundElement, FoundName}
 use Rattle.scan_raw.proofs.Pieces.{sound-not-bad}
 use Rattle.expand_parts.specs.declared.Run.{Run}
 use Rattle.expand_parts.specs.Runs.{expanded, bytesOf, Placed, leftOf, Begins, Variable, Ready}
@@ -42,7 +42,7 @@ module _ (raw texts bind : List ℕ) (count i : ℕ) (h : i < length raw) (s : b
   -- ---- what a `$` begins
 
   module _ (d : getD raw i 0 ≡ dollar) where
-    pub literal-begins : {b n : ℕ} → Found raw (i + 1) n (element (drop (i + 1) raw)) (literal b (drop n raw)) → Begins raw texts bind count i (own (i + 1) (i + 2) n)
+    pub literal-begins : {b n : ℕ} → FoundElement raw (i + 1) n (element (drop (i + 1) raw)) (literal b (drop n raw)) → Begins raw texts bind count i (own (i + 1) (i + 2) n)
     unfolding leftOf bytesOf expanded restOf
     literal-begins {b} {n} f =
         let l : drop (i + 1) raw ≡ b ∷ drop n raw = literal-here (drop (i + 1) raw) (f .is) in
@@ -57,7 +57,7 @@ module _ (raw texts bind : List ℕ) (count i : ℕ) (h : i < length raw) (s : b
           gives = λ log q. ap (expanded log) (dollar-here raw i h s d) ∙ expand-literal _ (drop (i + 1) raw) (f .is) ∙ sym (rw p);
         }
 
-    pub join-begins : {n : ℕ} → Found raw (i + 1) n (element (drop (i + 1) raw)) (joins (drop n raw)) → Begins raw texts bind count i (own n n n)
+    pub join-begins : {n : ℕ} → FoundElement raw (i + 1) n (element (drop (i + 1) raw)) (joins (drop n raw)) → Begins raw texts bind count i (own n n n)
     unfolding leftOf bytesOf expanded restOf
     join-begins {n} f =
         record {

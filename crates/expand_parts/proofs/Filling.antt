@@ -9,7 +9,7 @@ use lib.ListN.{length, drop}
 use Rattle.lists.specs.Tests.{split}
 use Rattle.lists.specs.Parts.{part-none}
 use Rattle.hold_bindings.specs.Log.{Logged}
-use Rattle.hold_bindings.specs.Held.{maxTexts, Holds}
+use Rattle.hold_bindings.specs.Held.{maxTexts, HoldsBindings}
 use Rattle.expand_parts.specs.declared.Run.{Run}
 use Rattle.expand_parts.specs.Runs.{expanded, bytesOf, leftOf, Begins, Going, most, Filled}
 
@@ -36,7 +36,7 @@ no-more a b c h = omega arith
 pub record Filling (t raw texts bind : List ℕ) (count : ℕ) (r x : Run) : Type 0 where
   pub going : Going t raw texts bind count x
   pub most : most raw x ≤ most raw r
-  pub left : (log : List Logged) → Holds log texts bind count → leftOf log raw texts r ≡ leftOf log raw texts x
+  pub left : (log : List Logged) → HoldsBindings log texts bind count → leftOf log raw texts r ≡ leftOf log raw texts x
 
 pub fill-begin : {t raw texts bind : List ℕ} {count : ℕ} {r : Run} → Going t raw texts bind count r → Filling t raw texts bind count r r
 fill-begin g = record { going = g; most = le-refl _; left = λ log h. refl }

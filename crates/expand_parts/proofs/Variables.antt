@@ -8,22 +8,22 @@ use native.Mathlib.Nat.{le-refl}
 use lib.ListN.{length}
 use Rattle.lists.specs.Tests.{differ}
 use Rattle.lists.specs.Parts.{part-none}
-use Rattle.hold_bindings.specs.declared.Found.{Found}
-use Rattle.hold_bindings.specs.declared.Found.the-variants.{At, Missing}
-use Rattle.hold_bindings.specs.declared.Place.{Place}
+use Rattle.hold_bindings.specs.declared.FoundEntry.{FoundEntry}
+use Rattle.hold_bindings.specs.declared.FoundEntry.the-variants.{At, Missing}
+use Rattle.hold_bindings.specs.declared.ValuePlace.{ValuePlace}
 use Rattle.hold_bindings.specs.Log.{Logged, ofFile, newest, valueOf}
-use Rattle.hold_bindings.specs.Held.{Holds, Sound, HasEntry, ValueAt}
+use Rattle.hold_bindings.specs.Held.{HoldsBindings, SoundBindings, HasEntry, ValueAt}
 use Rattle.hold_bindings.proofs.Lookups.{newest-below, var-newest}
 use Rattle.expand_parts.specs.Runs.{bytesOf, Variable}
 
 -- f is the newest entry of the name.
-module _ (name : List ℕ) {texts bind : List ℕ} {count : ℕ} {f : Found} (q : (log : List Logged) → Holds log texts bind count → f ≡ newest ofFile name log) where
-  pub found-entry : {k : ℕ} → Sound texts bind count → f ≡ At k → HasEntry texts bind k
+module _ (name : List ℕ) {texts bind : List ℕ} {count : ℕ} {f : FoundEntry} (q : (log : List Logged) → HoldsBindings log texts bind count → f ≡ newest ofFile name log) where
+  pub found-entry : {k : ℕ} → SoundBindings texts bind count → f ≡ At k → HasEntry texts bind k
   found-entry {k} s e =
       let b : k < length (s .log) = newest-below ofFile name (s .log) k (sym (q (s .log) (s .held)) ∙ e) in
       record { log = s .log; count = count; held = s .held; below = omega (arith, s .held .rows .counted) }
 
-  pub found-value : {k : ℕ} {p : Place} (raw : List ℕ) (next : ℕ) → f ≡ At k → ValueAt texts bind k p
+  pub found-value : {k : ℕ} {p : ValuePlace} (raw : List ℕ) (next : ℕ) → f ≡ At k → ValueAt texts bind k p
       → Variable name raw texts bind count next (record { bound = true; from = p .from; to = p .to; next = next })
   unfolding bytesOf valueOf
   found-value {k} raw next e v =

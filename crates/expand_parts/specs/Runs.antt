@@ -12,7 +12,7 @@ use Rattle.spec.specs.Dollars.{badDollar, expand}
 use Rattle.spec.specs.Reading.{fileVar}
 use Rattle.scan_classes.specs.Table.{classes}
 use Rattle.hold_bindings.specs.Log.{Logged, ofFile, boundBy}
-use Rattle.hold_bindings.specs.Held.{maxTexts, Holds, Sound}
+use Rattle.hold_bindings.specs.Held.{maxTexts, HoldsBindings, SoundBindings}
 use Rattle.expand_parts.specs.declared.Run.{Run}
 
 -- what a raw text expands to with the file's variables of a log
@@ -41,7 +41,7 @@ pub record Begins (raw texts bind : List ℕ) (count i : ℕ) (r : Run) : Type 0
   pub placed : Placed raw texts r
   pub forward : i < r .next
   pub bounded : r .to - r .from ≤ maxTexts * (r .next - i)
-  pub gives : (log : List Logged) → Holds log texts bind count → expanded log (drop i raw) ≡ leftOf log raw texts r
+  pub gives : (log : List Logged) → HoldsBindings log texts bind count → expanded log (drop i raw) ≡ leftOf log raw texts r
 
 -- A run for the value of a name.
 pub record Variable (name raw texts bind : List ℕ) (count place : ℕ) (r : Run) : Type 0 where
@@ -50,7 +50,7 @@ pub record Variable (name raw texts bind : List ℕ) (count place : ℕ) (r : Ru
   pub in-raw : r .bound ≡ false → r .to ≤ place
   pub in-texts : r .bound ≡ true → r .to ≤ length texts
   pub bounded : r .to - r .from ≤ maxTexts
-  pub value : (log : List Logged) → Holds log texts bind count → bytesOf raw texts r ≡ fileVar (boundBy ofFile log) name
+  pub value : (log : List Logged) → HoldsBindings log texts bind count → bytesOf raw texts r ≡ fileVar (boundBy ofFile log) name
 
 -- What an expansion from place i on asks.
 pub record Ready (t raw texts bind : List ℕ) (count i : ℕ) : Type 0 where
@@ -58,14 +58,14 @@ pub record Ready (t raw texts bind : List ℕ) (count i : ℕ) : Type 0 where
   pub short : length raw ≤ maxManifest
   pub within : i ≤ length raw
   pub sound : badDollar (drop i raw) ≡ none
-  pub held : Sound texts bind count
+  pub held : SoundBindings texts bind count
 
 -- What going on from a run asks.
 pub record Going (t raw texts bind : List ℕ) (count : ℕ) (r : Run) : Type 0 where
   pub table : t ≡ classes
   pub short : length raw ≤ maxManifest
   pub placed : Placed raw texts r
-  pub held : Sound texts bind count
+  pub held : SoundBindings texts bind count
 
 -- how many bytes there can be from a run on
 abbrev pub most : List ℕ → Run → ℕ
@@ -76,4 +76,4 @@ pub record Filled (raw texts bind : List ℕ) (count : ℕ) (r x : Run) : Type 0
   pub placed : Placed raw texts x
   pub most : most raw x ≤ most raw r
   pub last : x .to ≤ x .from → length raw ≤ x .next
-  pub left : (log : List Logged) → Holds log texts bind count → leftOf log raw texts r ≡ leftOf log raw texts x
+  pub left : (log : List Logged) → HoldsBindings log texts bind count → leftOf log raw texts r ≡ leftOf log raw texts x

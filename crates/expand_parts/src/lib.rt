@@ -2,9 +2,9 @@
 ghost use mathlib.Core.List.{List};
 ghost use Prim.Native.Nat.{ℕ, _<_};
 ghost use lib.ListN.{length};
-ghost use Rattle.hold_bindings.specs.Held.{Sound};
+ghost use Rattle.hold_bindings.specs.Held.{SoundBindings};
 ghost use Rattle.expand_parts.specs.Runs.{Begins, Variable, Ready, Going, Filled};
-use hold_bindings::Found;
+use hold_bindings::FoundEntry;
 use hold_bindings::newest;
 use hold_bindings::value_place;
 use scan_dollars::Escape;
@@ -21,11 +21,11 @@ pub struct Run {
 
 // The value of a name, as a run.
 fn variable(wanted: &[u8], texts: &[u8], bind: &[u32], count: usize, next: usize) -> Run
-    requires { ⌜ Sound (now texts) (now bind) count ⌝ }
+    requires { ⌜ SoundBindings (now texts) (now bind) count ⌝ }
     ensures { λ r. ⌜ ((raw : List ℕ) → Variable (now (wanted .entry)) raw (now (texts .entry)) (now (bind .entry)) count next r) ⌝ }
 {
     match newest(texts, bind, count, 0, wanted) {
-        Found::At(k) => {
+        FoundEntry::At(k) => {
             let p = value_place(texts, bind, k);
             Run {
                 bound: true,
@@ -34,7 +34,7 @@ fn variable(wanted: &[u8], texts: &[u8], bind: &[u32], count: usize, next: usize
                 next,
             }
         }
-        Found::Missing => Run {
+        FoundEntry::Missing => Run {
             bound: false,
             from: next,
             to: next,

@@ -11,7 +11,7 @@ use Rattle.orders.specs.Reach.{rising-reach, reach-low}
 use Rattle.spec.specs.Reading.{Step}
 use Rattle.spec.specs.Graph.{before, makersOf, needed}
 use Rattle.spec.specs.Stale.{isStale, staleNeeded, listOf}
-use Rattle.hold_columns.specs.Tables.{bit, Holds, Marks, Shown}
+use Rattle.hold_columns.specs.Tables.{bit, HoldsColumns, Marks, Shown}
 use Rattle.hold_columns.proofs.Held.{held-before, held-steps}
 use Rattle.graph_stale.specs.Judge.{timeAt, StaleMarked}
 use Rattle.graph_list.specs.Listing.{marked, leastIn, ListAsked, SpaceAsked, StaleListed}
@@ -33,7 +33,7 @@ needed-below : (steps : List Step) (roots : List ℕ) {s : ℕ} → s ∈ needed
 unfolding needed
 needed-below steps roots h = reach-low (before steps) (length steps) (makersOf steps roots) h
 
-module _ (times : List ℕ) {mentions ends phony made marks : List ℕ} {steps : List Step} {files : ℕ} (h : Holds steps files mentions ends phony made) (roots : List ℕ)
+module _ (times : List ℕ) {mentions ends phony made marks : List ℕ} {steps : List Step} {files : ℕ} (h : HoldsColumns steps files mentions ends phony made) (roots : List ℕ)
     (m : Marks (length phony) (staleNeeded steps (timeAt times) roots) marks) where
   stale-rising : Rising (staleNeeded steps (timeAt times) roots)
   unfolding staleNeeded

@@ -14,7 +14,7 @@ use Rattle.orders.specs.Reach.{Upstream, upstream}
 use Rattle.spec.specs.Reading.{Step}
 use Rattle.spec.specs.Graph.{before, needed}
 use Rattle.spec.specs.Stale.{listOf}
-use Rattle.hold_columns.specs.Tables.{makersIn, beforeIn, Holds, Sound, Sorted, Shown}
+use Rattle.hold_columns.specs.Tables.{makersIn, beforeIn, HoldsColumns, SoundColumns, Sorted, Shown}
 use Rattle.graph_stale.specs.Judge.{timeAt}
 
 -- the steps with the mark 1
@@ -46,7 +46,7 @@ pub record Looks (s : ℕ) (ready : Bool) (pending clear exit : List ℕ) (best 
   pub least : ready ≡ true → getD pending s 0 ≡ 1 → (getD clear s 0 ≡ 1 → ⊥) → r ≤ s
 
 pub record LookAsked (mentions ends made pending clear : List ℕ) (s : ℕ) : Type 0 where
-  pub sound : Sound (length pending) mentions ends made
+  pub sound : SoundColumns (length pending) mentions ends made
   pub long : length clear ≡ length pending
   pub low : s < length pending
 
@@ -57,7 +57,7 @@ pub record NextReady (before : ℕ → List ℕ) (pending order : List ℕ) (n r
   pub least : (s : ℕ) → s ∈ order → getD pending s 0 ≡ 1 → Unblocked before pending s → r ≤ s
 
 pub record PassAsked (mentions ends made order pending clear : List ℕ) : Type 0 where
-  pub sound : Sound (length pending) mentions ends made
+  pub sound : SoundColumns (length pending) mentions ends made
   pub sorted : Sorted (beforeIn mentions ends made) order
   pub steps : (i : ℕ) → i < length order → getD order i 0 < length pending
   pub long : length clear ≡ length pending
@@ -70,7 +70,7 @@ pub record Passed (mentions ends made order pending exit : List ℕ) (r : ℕ) :
 
 -- What the list asks: sound tables, an order that holds every pending step, nothing clear yet, room for every step.
 pub record ListAsked (mentions ends made order pending clear list : List ℕ) : Type 0 where
-  pub sound : Sound (length pending) mentions ends made
+  pub sound : SoundColumns (length pending) mentions ends made
   pub sorted : Sorted (beforeIn mentions ends made) order
   pub steps : (i : ℕ) → i < length order → getD order i 0 < length pending
   pub inside : (s : ℕ) → getD pending s 0 ≡ 1 → s ∈ order
@@ -84,7 +84,7 @@ leastIn mentions ends made pending = greedy (marked (length pending) pending) (u
 
 -- What listing the stale steps asks: sound tables, a time for each file, an order of steps with each after those before it, room for every step.
 pub record StaleListAsked (mentions ends phony made times order list : List ℕ) : Type 0 where
-  pub sound : Sound (length phony) mentions ends made
+  pub sound : SoundColumns (length phony) mentions ends made
   pub timed : length times ≡ length made
   pub sorted : Sorted (beforeIn mentions ends made) order
   pub steps : (i : ℕ) → i < length order → getD order i 0 < length phony
@@ -99,5 +99,5 @@ pub record SpaceAsked (mentions ends phony made times order marks clear list : L
 -- The list is document 01's, whatever steps the tables hold and whatever the roots are, where `order` is an order of the needed steps.
 abbrev pub StaleListed : List ℕ → List ℕ → List ℕ → List ℕ → List ℕ → List ℕ → List ℕ → ℕ → List ℕ → Type 0
 StaleListed mentions ends phony made times order list k exit =
-    (steps : List Step) (files : ℕ) (roots : List ℕ) → Holds steps files mentions ends phony made → IsOrder (In (needed steps roots)) (By (before steps)) order
+    (steps : List Step) (files : ℕ) (roots : List ℕ) → HoldsColumns steps files mentions ends phony made → IsOrder (In (needed steps roots)) (By (before steps)) order
     → Shown (listOf steps (timeAt times) roots) list k exit

@@ -10,7 +10,7 @@ use lib.ListN.{length, getD, take, set, length-set}
 use lib.Seq.{take-suc, take-suc-set, getD-take, getD-set-same, getD-set-other, length-take-le}
 use Rattle.lists.specs.Members.{_∈_, _∉_, _⊆_, here, there, in-left, in-right, in-snoc, at-before, place-before, not-in-nil}
 use Rattle.orders.specs.Reach.{direct, Reached, upstream-more}
-use Rattle.hold_columns.specs.Tables.{makerAt, inputsIn, beforeIn, Sound, Files}
+use Rattle.hold_columns.specs.Tables.{makerAt, inputsIn, beforeIn, SoundColumns, Files}
 use Rattle.hold_columns.proofs.Makers.{in-makersIn, makersIn-in, maker-low}
 use Rattle.hold_columns.proofs.Held.{part-files, part-few}
 use Rattle.graph_order.specs.Walk.{Walk, Passed, Opens, Settled, Circled, Starts, Finds}
@@ -70,7 +70,7 @@ explore-begin {seen} {path} {order} {root} {done} r =
 
 -- a turn: s is the last step of the path, and place i of its inputs is the first from `from` on whose maker is not done
 pub record Turn (mentions ends made : List ℕ) (n : ℕ) (old : List ℕ) (root : ℕ) (seen next path order : List ℕ) (depth done s : ℕ) (fs : List ℕ) (from i : ℕ) : Type 0 where
-  pub sound : Sound n mentions ends made
+  pub sound : SoundColumns n mentions ends made
   pub state : Exploring mentions ends made n old root seen next path order depth done
   pub deep : 0 < depth
   pub last : s ≡ getD path (depth - 1) 0
@@ -99,7 +99,7 @@ module _ {mentions ends made : List ℕ} {n : ℕ} {old : List ℕ} {root : ℕ}
   pub top-low : s < n
   top-low = r .walk .path-low s top-in
 
-  module _ (sound : Sound n mentions ends made) {fs : List ℕ} (q : fs ≡ inputsIn mentions ends s) where
+  module _ (sound : SoundColumns n mentions ends made) {fs : List ℕ} (q : fs ≡ inputsIn mentions ends s) where
     pub top-files : Files n fs made
     unfolding inputsIn
     top-files = rw q (part-files sound (getD ends _ 0) (getD ends _ 0))

@@ -12,7 +12,7 @@ use Rattle.lists.specs.Members.{_∈_, has, has-true, has-false, in-cons, in-ta
 use Rattle.orders.specs.Greedy.{In}
 use Rattle.orders.specs.Reach.{Upstream, direct, further, Reached, upstream-more, reach-least, reach-complete}
 use Rattle.lists.specs.Fill.{length-zeros, getD-zeros}
-use Rattle.hold_columns.specs.Tables.{makerAt, makersIn, beforeIn, neededIn, Sound, Files}
+use Rattle.hold_columns.specs.Tables.{makerAt, makersIn, beforeIn, neededIn, SoundColumns, Files}
 use Rattle.hold_columns.proofs.Makers.{in-makersIn, makersIn-in, maker-low, makers-small}
 use Rattle.hold_columns.proofs.Held.{before-small}
 use Rattle.graph_order.specs.declared.Visit.{Visit}
@@ -154,7 +154,7 @@ roots-begin {seen} {next} {order} r =
     }
 
 module _ {mentions ends made roots : List ℕ} {n : ℕ} {seen next path order : List ℕ} {done i : ℕ}
-    (sound : Sound n mentions ends made) (files : Files n roots made) (r : Rooting mentions ends made roots n seen next path order done i) where
+    (sound : SoundColumns n mentions ends made) (files : Files n roots made) (r : Rooting mentions ends made roots n seen next path order done i) where
   pub roots-ask : i < length roots → RootAsked mentions ends made roots i seen next path order done
   roots-ask b =
       let e : length order ≡ n = r .state .visited .order-long in

@@ -5,13 +5,13 @@ use mathlib.Core.List.{List}
 use lib.ListN.{length}
 use Rattle.orders.specs.Order.{IsCircle}
 use Rattle.orders.specs.Greedy.{In, By}
-use Rattle.hold_columns.specs.Tables.{beforeIn, neededIn, Sound, Files, Shown}
+use Rattle.hold_columns.specs.Tables.{beforeIn, neededIn, SoundColumns, Files, Shown}
 use Rattle.graph_order.specs.declared.Sorting.{Sorting}
 use Rattle.graph_order.specs.declared.Sorting.the-variants.{Ordered as OrderedSteps, Circular}
 use Rattle.graph_order.specs.Walk.{SortAsked, Ordered}
 
 pub record NeededAsked (mentions ends made roots order list : List ℕ) : Type 0 where
-  pub sound : Sound (length order) mentions ends made
+  pub sound : SoundColumns (length order) mentions ends made
   pub files : Files (length order) roots made
   pub room : length order ≤ length list
 

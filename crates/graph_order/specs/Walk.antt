@@ -10,7 +10,7 @@ use Rattle.orders.specs.Order.{IsOrder, IsCircle}
 use Rattle.orders.specs.Greedy.{In, By}
 use Rattle.orders.specs.Reach.{Reached}
 use Rattle.orders.specs.Circle.{Linked}
-use Rattle.hold_columns.specs.Tables.{makerAt, makersIn, inputsIn, beforeIn, neededIn, Sound, Files}
+use Rattle.hold_columns.specs.Tables.{makerAt, makersIn, inputsIn, beforeIn, neededIn, SoundColumns, Files}
 use Rattle.graph_order.specs.declared.Visit.{Visit}
 use Rattle.graph_order.specs.declared.Visit.the-variants.{Done, Circle}
 
@@ -75,7 +75,7 @@ Explored mentions ends made n old root seen next path order (Circle from to) =
 
 -- What a walk starts from: sound tables, a step not seen yet, and what was done before.
 pub record Starts (mentions ends made seen next path order : List ℕ) (root done : ℕ) : Type 0 where
-  pub sound : Sound (length order) mentions ends made
+  pub sound : SoundColumns (length order) mentions ends made
   pub visited : Visited mentions ends made (length order) (In (take done order)) seen next order done
   pub path-long : length path ≡ length order
   pub root-low : root < length order
@@ -100,7 +100,7 @@ RootSeen mentions ends made roots n i seen next path order (Circle from to) =
 
 -- what the walk from root i asks
 pub record RootAsked (mentions ends made roots : List ℕ) (i : ℕ) (seen next path order : List ℕ) (done : ℕ) : Type 0 where
-  pub sound : Sound (length order) mentions ends made
+  pub sound : SoundColumns (length order) mentions ends made
   pub files : Files (length order) roots made
   pub state : Rooted mentions ends made roots (length order) seen next order done i
   pub path-long : length path ≡ length order
@@ -108,7 +108,7 @@ pub record RootAsked (mentions ends made roots : List ℕ) (i : ℕ) (seen next 
 
 -- What all the walks ask: sound tables, roots that are files, nothing seen.
 pub record SortAsked (mentions ends made roots seen next path order : List ℕ) : Type 0 where
-  pub sound : Sound (length order) mentions ends made
+  pub sound : SoundColumns (length order) mentions ends made
   pub files : Files (length order) roots made
   pub unseen : seen ≡ zeros (length order)
   pub unpassed : next ≡ zeros (length order)

@@ -15,7 +15,7 @@ use Rattle.spec.specs.Reading.{Step}
 use Rattle.spec.specs.Graph.{tops}
 use Rattle.spec.specs.Answers.{Said, numberOfRefusal, planSays}
 use Rattle.spec.specs.Promises.{filled, leftBy, PlanMeets}
-use Rattle.hold_columns.specs.Tables.{Holds}
+use Rattle.hold_columns.specs.Tables.{HoldsColumns}
 use Rattle.hold_columns.proofs.Blank.{take-blank, length-blank}
 use Rattle.hold_columns.proofs.Held.{held-steps}
 use Rattle.graph_roots.specs.Tops.{TopsFound}
@@ -34,7 +34,7 @@ and-false : (b : Bool) → (b && false) ≡ false
 and-false true = refl
 and-false false = refl
 
-module _ {mentions ends phony made times roots list : List ℕ} (q : FromAsked mentions ends phony made times roots list) {steps : List Step} {files : ℕ} (h : Holds steps files mentions ends phony made) (exit : List ℕ) where
+module _ {mentions ends phony made times roots list : List ℕ} (q : FromAsked mentions ends phony made times roots list) {steps : List Step} {files : ℕ} (h : HoldsColumns steps files mentions ends phony made) (exit : List ℕ) where
   -- there is a root
   pub rooted-some : 0 < length roots → (said : Said) → PlanMeets (planOf steps files (timeAt times) roots) list said exit → PlanMeets (planRooted steps files (timeAt times) roots) list said exit
   unfolding planRooted

@@ -19,14 +19,14 @@ use Rattle.spec.specs.Graph.{before, needed, isNeededSource}
 use Rattle.spec.specs.Words.{Makes, NeededSource}
 use Rattle.spec.proofs.Graph.{in-makers, in-needed}
 use Rattle.spec.proofs.Sources.{in-source}
-use Rattle.hold_columns.specs.Tables.{makerIn, Holds}
+use Rattle.hold_columns.specs.Tables.{makerIn, HoldsColumns}
 use Rattle.hold_columns.proofs.Makers.{in-makerIn, makerIn-in}
 use Rattle.hold_columns.proofs.Held.{held-makers, held-inputs}
 use Rattle.graph_sources.specs.Sources.{Absent, Wanted, LowestMissing}
 use Rattle.graph_stale.specs.Judge.{timeAt}
 use Rattle.graph_plan.specs.Plan.{missingOf}
 
-module _ {steps : List Step} {files : ℕ} {mentions ends phony made : List ℕ} (h : Holds steps files mentions ends phony made) (times roots : List ℕ) {order : List ℕ}
+module _ {steps : List Step} {files : ℕ} {mentions ends phony made : List ℕ} (h : HoldsColumns steps files mentions ends phony made) (times roots : List ℕ) {order : List ℕ}
     (o : IsOrder (In (needed steps roots)) (By (before steps)) order) where
   test : ℕ → Bool
   test f = eqb (timeAt times f) 0 && isNeededSource steps roots f

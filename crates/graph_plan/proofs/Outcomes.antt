@@ -20,7 +20,7 @@ use Rattle.spec.specs.Stale.{listOf}
 use Rattle.spec.specs.Answers.{Said, numberOfRefusal, placeOfRefusal, planSays}
 use Rattle.spec.specs.Promises.{filled, leftBy, PlanMeets, counts, refused14}
 use Rattle.spec.proofs.Graph.{in-before, in-needed}
-use Rattle.hold_columns.specs.Tables.{makersIn, beforeIn, neededIn, Holds, Files, Shown}
+use Rattle.hold_columns.specs.Tables.{makersIn, beforeIn, neededIn, HoldsColumns, Files, Shown}
 use Rattle.hold_columns.proofs.Makers.{makers-small}
 use Rattle.hold_columns.proofs.Held.{before-small, held-before, held-needed, held-steps}
 use Rattle.graph_order.specs.declared.Sorting.{Sorting}
@@ -39,7 +39,7 @@ cleared list = let z : length list - 0 ≡ length list = omega arith in zeroed-a
 
 -- ---- what the orders found say of the steps held
 
-module _ {steps : List Step} {files : ℕ} {mentions ends phony made : List ℕ} (h : Holds steps files mentions ends phony made) (roots : List ℕ) where
+module _ {steps : List Step} {files : ℕ} {mentions ends phony made : List ℕ} (h : HoldsColumns steps files mentions ends phony made) (roots : List ℕ) where
   pub needed-order : {l : List ℕ} → IsOrder (In (neededIn mentions ends made (length phony) roots)) (By (beforeIn mentions ends made)) l → IsOrder (In (needed steps roots)) (By (before steps)) l
   needed-order o = rw (held-steps h, held-needed h roots, held-before h) at o
 

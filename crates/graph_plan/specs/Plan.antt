@@ -22,7 +22,7 @@ use Rattle.spec.specs.Stale.{listOf}
 use Rattle.spec.specs.Answers.{planSays}
 use Rattle.spec.specs.PlanAsk.{PlanOutcome, listed, circular, noPlan}
 use Rattle.spec.specs.Promises.{PlanMeets}
-use Rattle.hold_columns.specs.Tables.{beforeIn, neededIn, Holds, Sound}
+use Rattle.hold_columns.specs.Tables.{beforeIn, neededIn, HoldsColumns, SoundColumns}
 use Rattle.graph_stale.specs.Judge.{timeAt}
 
 -- "a needed source is missing": "lowest file number" (15)
@@ -61,35 +61,35 @@ planGraph steps files card defaults targets = planRooted steps files card (roots
 
 abbrev pub ListsOr : List ℕ → List ℕ → List ℕ → List ℕ → List ℕ → List ℕ → List ℕ → PlanAnswer → List ℕ → Type 0
 ListsOr mentions ends phony made times roots list answer exit =
-    (steps : List Step) (files : ℕ) → Holds steps files mentions ends phony made
+    (steps : List Step) (files : ℕ) → HoldsColumns steps files mentions ends phony made
     → PlanMeets (listedOr steps (timeAt times) roots (missingOf steps files (timeAt times) roots)) list (planSays answer) exit
 
 abbrev pub Plans : List ℕ → List ℕ → List ℕ → List ℕ → List ℕ → List ℕ → List ℕ → PlanAnswer → List ℕ → Type 0
 Plans mentions ends phony made times roots list answer exit =
-    (steps : List Step) (files : ℕ) → Holds steps files mentions ends phony made
+    (steps : List Step) (files : ℕ) → HoldsColumns steps files mentions ends phony made
     → PlanMeets (planOf steps files (timeAt times) roots) list (planSays answer) exit
 
 abbrev pub PlansRooted : List ℕ → List ℕ → List ℕ → List ℕ → List ℕ → List ℕ → List ℕ → PlanAnswer → List ℕ → Type 0
 PlansRooted mentions ends phony made times roots list answer exit =
-    (steps : List Step) (files : ℕ) → Holds steps files mentions ends phony made
+    (steps : List Step) (files : ℕ) → HoldsColumns steps files mentions ends phony made
     → PlanMeets (planRooted steps files (timeAt times) roots) list (planSays answer) exit
 
 -- where neither targets nor defaults are named
 abbrev pub PlansTops : List ℕ → List ℕ → List ℕ → List ℕ → List ℕ → List ℕ → PlanAnswer → List ℕ → Type 0
 PlansTops mentions ends phony made times list answer exit =
-    (steps : List Step) (files : ℕ) → Holds steps files mentions ends phony made
+    (steps : List Step) (files : ℕ) → HoldsColumns steps files mentions ends phony made
     → PlanMeets (planRooted steps files (timeAt times) (tops steps)) list (planSays answer) exit
 
 abbrev pub PlansGraph : List ℕ → List ℕ → List ℕ → List ℕ → List ℕ → List ℕ → List ℕ → List ℕ → PlanAnswer → List ℕ → Type 0
 PlansGraph mentions ends phony made times defaults targets list answer exit =
-    (steps : List Step) (files : ℕ) → Holds steps files mentions ends phony made
+    (steps : List Step) (files : ℕ) → HoldsColumns steps files mentions ends phony made
     → PlanMeets (planGraph steps files (timeAt times) defaults targets) list (planSays answer) exit
 
 -- ------------------------------------------------------------------ what they ask
 
 -- sound tables, a time for each file, and the room that 1 asks for
 pub record GraphAsked (mentions ends phony made times list : List ℕ) : Type 0 where
-  pub sound : Sound (length phony) mentions ends made
+  pub sound : SoundColumns (length phony) mentions ends made
   pub timed : length times ≡ length made
   pub room : leastList ≤ length list
 

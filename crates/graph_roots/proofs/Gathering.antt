@@ -17,7 +17,7 @@ use Rattle.lists.specs.Members.{_∈_, keep, any, has, has-true, in-has, in-app
 use Rattle.spec.specs.Basics.{concat}
 use Rattle.spec.specs.Reading.{Step}
 use Rattle.spec.specs.Graph.{inputs, noStep, stepAt, isInput, tops}
-use Rattle.hold_columns.specs.Tables.{startIn, outsIn, Holds, Sound}
+use Rattle.hold_columns.specs.Tables.{startIn, outsIn, HoldsColumns, SoundColumns}
 use Rattle.hold_columns.proofs.Held.{in-part, outs-low, held-inputs, held-outs, held-steps}
 use Rattle.graph_roots.specs.Tops.{InputsMarked, unmarked, Appended, AppendAsked, outsBefore, TopsAsked, TopsFound}
 
@@ -58,7 +58,7 @@ unfolding concat
 outs-concat [] x = append-nil (x .outs)
 outs-concat (y ∷ l) x = ap (λ (z : List ℕ). y .outs ++ z) (outs-concat l x) ∙ sym (append-assoc (y .outs) (concat (map (λ (s : Step). s .outs) l)) (x .outs))
 
-module _ {steps : List Step} {files : ℕ} {mentions ends phony made : List ℕ} (h : Holds steps files mentions ends phony made) where
+module _ {steps : List Step} {files : ℕ} {mentions ends phony made : List ℕ} (h : HoldsColumns steps files mentions ends phony made) where
   outs-before : (s : ℕ) → s ≤ length steps → outsBefore mentions ends s ≡ concat (map (λ (x : Step). x .outs) (take s steps))
   unfolding outsBefore concat
   outs-before zero b = refl
@@ -98,7 +98,7 @@ unmarked-in : (marks l : List ℕ) {f : ℕ} → f ∈ unmarked marks l → f �
 unfolding unmarked
 unmarked-in marks l h = in-keep (λ f. not (eqb (getD marks f 0) 1)) l h .0
 
-start-low : {n : ℕ} {mentions ends made : List ℕ} → Sound n mentions ends made → (s : ℕ) → s ≤ n → startIn ends s ≤ length mentions
+start-low : {n : ℕ} {mentions ends made : List ℕ} → SoundColumns n mentions ends made → (s : ℕ) → s ≤ n → startIn ends s ≤ length mentions
 unfolding startIn
 start-low r zero b = omega arith
 start-low r (suc s) b = r .placed s b .mentioned

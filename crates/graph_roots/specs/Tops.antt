@@ -11,7 +11,7 @@ use Rattle.lists.specs.Members.{_∈_, keep}
 use Rattle.spec.specs.Limits.{maxFiles}
 use Rattle.spec.specs.Reading.{Step}
 use Rattle.spec.specs.Graph.{tops}
-use Rattle.hold_columns.specs.Tables.{inputsIn, outsIn, Holds, Sound}
+use Rattle.hold_columns.specs.Tables.{inputsIn, outsIn, HoldsColumns, SoundColumns}
 
 -- the files of a list are marked too
 pub record MarkedToo (fs marks exit : List ℕ) : Type 0 where
@@ -44,7 +44,7 @@ outsBefore mentions ends zero = []
 outsBefore mentions ends (suc s) = outsBefore mentions ends s ++ outsIn mentions ends s
 
 pub record MarkAsked (mentions ends phony made marks : List ℕ) : Type 0 where
-  pub sound : Sound (length phony) mentions ends made
+  pub sound : SoundColumns (length phony) mentions ends made
   pub blank : marks ≡ zeros (length made)
 
 pub record AppendAsked (fs marks out : List ℕ) (k : ℕ) : Type 0 where
@@ -53,7 +53,7 @@ pub record AppendAsked (fs marks out : List ℕ) (k : ℕ) : Type 0 where
   pub room : k + length fs ≤ length out
 
 pub record TopsAsked (mentions ends phony made marks out : List ℕ) : Type 0 where
-  pub sound : Sound (length phony) mentions ends made
+  pub sound : SoundColumns (length phony) mentions ends made
   pub blank : marks ≡ zeros (length made)
   pub room : length mentions ≤ length out
 
@@ -61,4 +61,4 @@ pub record TopsAsked (mentions ends phony made marks out : List ℕ) : Type 0 wh
 pub record TopsFound (mentions ends phony made out : List ℕ) (r : ℕ) : Type 0 where
   pub within : r ≤ length out
   pub low : (f : ℕ) → f ∈ take r out → f < length made
-  pub found : (steps : List Step) (files : ℕ) → Holds steps files mentions ends phony made → take r out ≡ tops steps
+  pub found : (steps : List Step) (files : ℕ) → HoldsColumns steps files mentions ends phony made → take r out ≡ tops steps

@@ -12,7 +12,7 @@ use Rattle.spec.specs.Reading.{Step}
 use Rattle.spec.specs.Graph.{before}
 use Rattle.spec.specs.Stale.{verdict}
 use Rattle.spec.proofs.Stale.{verdict-local}
-use Rattle.hold_columns.specs.Tables.{Holds, Sorted}
+use Rattle.hold_columns.specs.Tables.{HoldsColumns, Sorted}
 use Rattle.graph_stale.specs.declared.Judged.{Judged}
 use Rattle.graph_stale.specs.Judge.{known, timeAt, Told, Judges, JudgeAsked, AllTold, AllAsked}
 
@@ -22,7 +22,7 @@ pub record Telling (mentions ends phony made times order before-stale stale late
   pub stale-long : length stale ≡ length phony
   pub late-long : length late ≡ length phony
   pub others : (s : ℕ) → s ∉ take i order → getD stale s 0 ≡ getD before-stale s 0
-  pub told : (steps : List Step) (files : ℕ) → Holds steps files mentions ends phony made → Sorted (before steps) order
+  pub told : (steps : List Step) (files : ℕ) → HoldsColumns steps files mentions ends phony made → Sorted (before steps) order
       → (s : ℕ) → s ∈ take i order → Told steps times stale late s (record { stale = getD stale s 0; time = getD late s 0 })
 
 pub tell-begin : {mentions ends phony made times order stale late : List ℕ} → AllAsked mentions ends phony made times order stale late

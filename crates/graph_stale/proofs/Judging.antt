@@ -13,7 +13,7 @@ use Rattle.spec.specs.Basics.{isEmpty}
 use Rattle.spec.specs.Reading.{Step}
 use Rattle.spec.specs.Graph.{counted, stepAt}
 use Rattle.spec.specs.Stale.{phonyStep, madeTime, timeOf, greatest, newestInput, makerStale, outputMissing, staleCommand, stalePhony, verdict}
-use Rattle.hold_columns.specs.Tables.{bit, makerIn, countedIn, inputsIn, outsIn, Holds}
+use Rattle.hold_columns.specs.Tables.{bit, makerIn, countedIn, inputsIn, outsIn, HoldsColumns}
 use Rattle.hold_columns.proofs.Held.{held-phony, held-makers, held-makersOf, held-counted, held-inputs, held-outs}
 use Rattle.graph_stale.specs.Judge.{known, timeAt, lateTime, fileTime, newestOf, staleMaker, outdated, bareMissing, Told}
 
@@ -41,7 +41,7 @@ unfolding any
 any-never p [] f = refl
 any-never p (x ∷ l) f = rw (f x) (any-never p l f)
 
-module _ {steps : List Step} {files : ℕ} {mentions ends phony made : List ℕ} (h : Holds steps files mentions ends phony made) (times stale late : List ℕ) where
+module _ {steps : List Step} {files : ℕ} {mentions ends phony made : List ℕ} (h : HoldsColumns steps files mentions ends phony made) (times stale late : List ℕ) where
   phony-test : (m : ℕ) → eqb (getD phony m 0) 1 ≡ phonyStep steps m
   phony-test m = rw (held-phony h m) (bit-test (phonyStep steps m))
 

@@ -22,7 +22,7 @@ use Rattle.spec.specs.Stale.{Verdict, unknown, phonyStep, verdict, verdicts, to
 use Rattle.spec.specs.Words.{input}
 use Rattle.spec.proofs.Graph.{in-before, in-needed}
 use Rattle.spec.proofs.Stale.{verdict-local}
-use Rattle.hold_columns.specs.Tables.{bit, Holds, Marks, Sorted}
+use Rattle.hold_columns.specs.Tables.{bit, HoldsColumns, Marks, Sorted}
 use Rattle.hold_columns.proofs.Held.{held-phony}
 use Rattle.graph_stale.specs.Judge.{known, timeAt, Told, AllTold, CommandsKept, StaleMarked}
 use Rattle.graph_stale.proofs.Judging.{bit-test}
@@ -98,7 +98,7 @@ marked-inside {phony} {order} {exit} t unmarked k s e = elim (decLt s (length ph
 ]
 
 module _ {mentions ends phony made times order blank stale late exit : List ℕ} (t : AllTold mentions ends phony made times order blank stale late)
-    (unmarked : blank ≡ zeros (length phony)) (k : CommandsKept phony stale exit) {steps : List Step} {files : ℕ} (h : Holds steps files mentions ends phony made)
+    (unmarked : blank ≡ zeros (length phony)) (k : CommandsKept phony stale exit) {steps : List Step} {files : ℕ} (h : HoldsColumns steps files mentions ends phony made)
     (roots : List ℕ) (o : IsOrder (In (needed steps roots)) (By (before steps)) order) where
   sorted : Sorted (before steps) order
   sorted = record { once = o .lists .once; after = direct-earlier (needed-closed steps roots) o }

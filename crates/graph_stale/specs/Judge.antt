@@ -14,7 +14,7 @@ use Rattle.spec.specs.Basics.{isEmpty}
 use Rattle.spec.specs.Reading.{Step}
 use Rattle.spec.specs.Graph.{before, needed}
 use Rattle.spec.specs.Stale.{Verdict, greatest, verdict, staleNeeded}
-use Rattle.hold_columns.specs.Tables.{bit, makerIn, makersIn, inputsIn, outsIn, Holds, Sound, Files, Marks, Sorted}
+use Rattle.hold_columns.specs.Tables.{bit, makerIn, makersIn, inputsIn, outsIn, HoldsColumns, SoundColumns, Files, Marks, Sorted}
 use Rattle.graph_stale.specs.declared.Judged.{Judged}
 
 -- what the columns say of a step
@@ -67,7 +67,7 @@ bareMissing mentions ends times s = isEmpty (inputsIn mentions ends s) && outdat
 
 -- what judging a step asks
 pub record JudgeAsked (mentions ends phony made times stale late : List ℕ) : Type 0 where
-  pub sound : Sound (length phony) mentions ends made
+  pub sound : SoundColumns (length phony) mentions ends made
   pub timed : length times ≡ length made
   pub stale-long : length stale ≡ length phony
   pub late-long : length late ≡ length phony
@@ -80,14 +80,14 @@ pub record Told (steps : List Step) (times stale late : List ℕ) (s : ℕ) (jud
 -- whatever steps the tables hold
 abbrev pub Judges : List ℕ → List ℕ → List ℕ → List ℕ → List ℕ → List ℕ → List ℕ → ℕ → Judged → Type 0
 Judges mentions ends phony made times stale late s judged =
-    (steps : List Step) (files : ℕ) → Holds steps files mentions ends phony made → Told steps times stale late s judged
+    (steps : List Step) (files : ℕ) → HoldsColumns steps files mentions ends phony made → Told steps times stale late s judged
 
 -- the columns hold the verdict on each step of the order, and what they held before of any other
 pub record AllTold (mentions ends phony made times order before-stale stale late : List ℕ) : Type 0 where
   pub stale-long : length stale ≡ length phony
   pub late-long : length late ≡ length phony
   pub others : (s : ℕ) → s ∉ order → getD stale s 0 ≡ getD before-stale s 0
-  pub told : (steps : List Step) (files : ℕ) → Holds steps files mentions ends phony made → Sorted (before steps) order
+  pub told : (steps : List Step) (files : ℕ) → HoldsColumns steps files mentions ends phony made → Sorted (before steps) order
       → (s : ℕ) → s ∈ order → Told steps times stale late s (record { stale = getD stale s 0; time = getD late s 0 })
 
 pub record AllAsked (mentions ends phony made times order stale late : List ℕ) : Type 0 where
@@ -101,7 +101,7 @@ pub record CommandsKept (phony marks exit : List ℕ) : Type 0 where
   pub kept : (s : ℕ) → s < length phony → (getD phony s 0 ≡ 1 → ⊥) → getD exit s 0 ≡ getD marks s 0
 
 pub record StaleAsked (mentions ends phony made times order marks : List ℕ) : Type 0 where
-  pub sound : Sound (length phony) mentions ends made
+  pub sound : SoundColumns (length phony) mentions ends made
   pub timed : length times ≡ length made
   pub steps : (i : ℕ) → i < length order → getD order i 0 < length phony
   pub unmarked : marks ≡ zeros (length phony)
@@ -111,5 +111,5 @@ pub record StaleAsked (mentions ends phony made times order marks : List ℕ) : 
 pub record StaleMarked (mentions ends phony made times order marks : List ℕ) : Type 0 where
   pub long : length marks ≡ length phony
   pub inside : (s : ℕ) → getD marks s 0 ≡ 1 → s ∈ order
-  pub marked : (steps : List Step) (files : ℕ) (roots : List ℕ) → Holds steps files mentions ends phony made → IsOrder (In (needed steps roots)) (By (before steps)) order
+  pub marked : (steps : List Step) (files : ℕ) (roots : List ℕ) → HoldsColumns steps files mentions ends phony made → IsOrder (In (needed steps roots)) (By (before steps)) order
       → Marks (length phony) (staleNeeded steps (timeAt times) roots) marks

@@ -10,7 +10,7 @@ use Rattle.lists.specs.Parts.{part, part-to-end, drop-take}
 use Rattle.spec.specs.Limits.{maxName}
 use Rattle.arena.specs.Inserted.{inserted, Shifted}
 use Rattle.hold_bindings.specs.Log.{Logged, noEntry, entryAt, asOf}
-use Rattle.hold_bindings.specs.Held.{maxEntries, maxTexts, maxRows, rowsEnd, textsOf, rowOf, rowsOf, valuesIn, ShortNames, indexIn, Rows, Holds, HasEntry, Room, HasRoom, startIn, Row, PlaceOf, Pushed}
+use Rattle.hold_bindings.specs.Held.{maxEntries, maxTexts, maxRows, rowsEnd, textsOf, rowOf, rowsOf, valuesIn, ShortNames, indexIn, Rows, HoldsBindings, HasEntry, Room, HasRoom, startIn, Row, PlaceOf, Pushed}
 use Rattle.hold_bindings.proofs.Indexing.{nothing-indexed, indexed-more}
 
 -- ---- lengths
@@ -52,7 +52,7 @@ prefix-last p q r t h =
 
 -- ---- nothing is held yet
 
-pub held-none : (texts bind : List ℕ) → maxTexts ≤ length texts → maxRows ≤ length bind → Holds [] texts bind 0
+pub held-none : (texts bind : List ℕ) → maxTexts ≤ length texts → maxRows ≤ length bind → HoldsBindings [] texts bind 0
 unfolding textsOf rowsOf valuesIn
 held-none texts bind t b =
     record {
@@ -153,7 +153,7 @@ older (e ∷ l) k {texts} {bind} {count} h b = elim (decLe k (length l)) [
   | no d ↦ (let z : suc (length l) - k ≡ 0 = omega arith in let c : k ≡ count = omega (arith, h .counted) in rw (z, c) h)
 ]
 
-pub row-at : (log : List Logged) (k : ℕ) {texts bind : List ℕ} {count : ℕ} → Holds log texts bind count → k < count → Row (entryAt k log) texts bind k
+pub row-at : (log : List Logged) (k : ℕ) {texts bind : List ℕ} {count : ℕ} → HoldsBindings log texts bind count → k < count → Row (entryAt k log) texts bind k
 row-at log k {texts} {bind} {count} h b =
     let c : k < length log = omega (arith, h .rows .counted) in
     let o : Rows (entryAt k log ∷ asOf k log) texts bind (suc k) = rw (asOf-suc log k c) at (older log (suc k) (h .rows) c) in
@@ -291,7 +291,7 @@ module _ {log : List Logged} {texts bind : List ℕ} {count : ℕ} {e : Logged} 
       ∙ ap (λ (l : List ℕ). inserted (take count l) p count) (part-to-end bind′ rowsEnd ∙ w .behind)
       ∙ ap (inserted (indexIn bind count) p) (r .held .rows .counted)
 
-  pub entry-held : Holds (e ∷ log) texts′ back (count + 1)
+  pub entry-held : HoldsBindings (e ∷ log) texts′ back (count + 1)
   entry-held =
       record {
         rows = rows-kept (w .rows log r) length-back front-back;

@@ -14,7 +14,7 @@ use Rattle.lists.specs.Tests.{split, differ}
 use Rattle.lists.specs.Bytes.{lessBytes, eqBytes-true, eqBytes-refl, less-trans, less-ne, less-total}
 use Rattle.arena.specs.Inserted.{inserted}
 use Rattle.arena.proofs.Inserting.{length-inserted, each-inserted, pairs-inserted, has-inserted, keeps-inserted}
-use Rattle.hold_bindings.specs.declared.Found.the-variants.{At, Missing}
+use Rattle.hold_bindings.specs.declared.FoundEntry.the-variants.{At, Missing}
 use Rattle.hold_bindings.specs.Log.{Logged, entryAt, isNamed, newest}
 use Rattle.hold_bindings.specs.Index.{keyOf, keyAt, Before, Indexed, Between}
 use Rattle.hold_bindings.proofs.Lookups.{entry-kept, entry-newest}

@@ -13,8 +13,8 @@ use Rattle.lists.specs.Bytes.{eqBytes}
 use Rattle.lists.specs.Members.{any}
 use Rattle.spec.specs.Basics.{among}
 use Rattle.spec.specs.Reading.{Rule, find, fileVar, orEmpty, hasKey, keysOf}
-use Rattle.hold_bindings.specs.declared.Found.{Found}
-use Rattle.hold_bindings.specs.declared.Found.the-variants.{At, Missing}
+use Rattle.hold_bindings.specs.declared.FoundEntry.{FoundEntry}
+use Rattle.hold_bindings.specs.declared.FoundEntry.the-variants.{At, Missing}
 use Rattle.hold_bindings.specs.Log.{Logged, ofFile, ofRules, ofKeys, ofStep, entryAt, isNamed, newest, isAt, valueOf, boundOf, boundBy, rulesIn, rulesOf, newestRule, keysAt, withKey, Owner, Owned}
 
 -- ---- numbers of entries
@@ -49,7 +49,7 @@ module _ (e : Logged) (l : List Logged) (o : ℕ) where
 
 -- ---- the newest entry of a name is what a lookup finds
 
-value-kept : (x : Logged) (l : List Logged) (f : Found) → ((k : ℕ) → f ≡ At k → k < length l) → valueOf f (x ∷ l) ≡ valueOf f l
+value-kept : (x : Logged) (l : List Logged) (f : FoundEntry) → ((k : ℕ) → f ≡ At k → k < length l) → valueOf f (x ∷ l) ≡ valueOf f l
 unfolding valueOf
 value-kept x l (At k) h = ap (λ (e : Logged). some (e .value)) (entry-kept x l k (h k refl))
 value-kept x l Missing h = refl

@@ -8,10 +8,10 @@ use borrow.Author.Tests.{eq-eqb, ne-eqb}
 use lib.ListN.{length, drop, getD}
 use lib.Seq.{getD-take, getD-drop}
 use Rattle.lists.specs.Bytes.{eqBytes, lessBytes, less-same, less-lower, less-asym}
-use Rattle.hold_bindings.specs.declared.Found.the-variants.{At, Missing}
+use Rattle.hold_bindings.specs.declared.FoundEntry.the-variants.{At, Missing}
 use Rattle.hold_bindings.specs.Log.{Logged, entryAt, isNamed, newest}
 use Rattle.hold_bindings.specs.Index.{keyOf, keyAt, Between}
-use Rattle.hold_bindings.specs.Held.{rowsEnd, indexIn, Holds, Row, PlaceOf}
+use Rattle.hold_bindings.specs.Held.{rowsEnd, indexIn, HoldsBindings, Row, PlaceOf}
 use Rattle.hold_bindings.proofs.Indexing.{between-all, between-lower, between-higher, none-in-front, last-named, last-other}
 
 -- Entry k is e, and x is the owner that was read.
@@ -35,7 +35,7 @@ module _ {e : Logged} {texts bind : List ℕ} {k : ℕ} (w : Row e texts bind k)
 
 -- ---- the index in the buffer
 
-module _ {log : List Logged} {texts bind : List ℕ} {count : ℕ} (h : Holds log texts bind count) where
+module _ {log : List Logged} {texts bind : List ℕ} {count : ℕ} (h : HoldsBindings log texts bind count) where
   length-index : length (indexIn bind count) ≡ count
   length-index = h .index .long ∙ sym (h .rows .counted)
 
@@ -50,7 +50,7 @@ module _ {log : List Logged} {texts bind : List ℕ} {count : ℕ} (h : Holds lo
 pub record Halving (texts bind : List ℕ) (count o : ℕ) (n : List ℕ) (low high : ℕ) : Type 0 where
   pub ordered : low ≤ high
   pub within : high ≤ count
-  pub between : (log : List Logged) → Holds log texts bind count → Between log (indexIn bind count) (o ∷ n) low high
+  pub between : (log : List Logged) → HoldsBindings log texts bind count → Between log (indexIn bind count) (o ∷ n) low high
 
 pub half-begin : {texts bind : List ℕ} {count o : ℕ} {n : List ℕ} → Halving texts bind count o n 0 count
 half-begin {bind = bind} {count = count} {o = o} {n = n} =
@@ -63,8 +63,8 @@ half-begin {bind = bind} {count = count} {o = o} {n = n} =
 module _ {texts bind : List ℕ} {count o : ℕ} {n : List ℕ} {low high : ℕ} (x : Halving texts bind count o n low high) where
   -- The entry in the middle is k, and r says whether the name comes before it.
   module _ {mid k : ℕ} (above : low ≤ mid) (below : mid < high) (q : k ≡ getD bind (rowsEnd + mid) 0) {r : Bool}
-      (t : (log : List Logged) (c : ℕ) → Holds log texts bind c → k < c → r ≡ lessBytes (o ∷ n) (keyAt log k)) where
-    compared : (log : List Logged) → Holds log texts bind count → lessBytes (o ∷ n) (keyAt log (getD (indexIn bind count) mid 0)) ≡ r
+      (t : (log : List Logged) (c : ℕ) → HoldsBindings log texts bind c → k < c → r ≡ lessBytes (o ∷ n) (keyAt log k)) where
+    compared : (log : List Logged) → HoldsBindings log texts bind count → lessBytes (o ∷ n) (keyAt log (getD (indexIn bind count) mid 0)) ≡ r
     compared log h =
         let a : mid < count = omega (arith, x .within) in
         sym (t log count h (index-below h a q) ∙ ap (λ (j : ℕ). lessBytes (o ∷ n) (keyAt log j)) (q ∙ sym (index-at h mid a)))
@@ -93,20 +93,20 @@ module _ {texts bind : List ℕ} {count o : ℕ} {n : List ℕ} {low high : ℕ}
 -- ---- the newest entry
 
 module _ {texts bind : List ℕ} {count o : ℕ} {n : List ℕ} {p : ℕ} (w : PlaceOf texts bind count o n p) where
-  pub seek-none : p ≡ 0 → (log : List Logged) → Holds log texts bind count → Missing ≡ newest o n log
+  pub seek-none : p ≡ 0 → (log : List Logged) → HoldsBindings log texts bind count → Missing ≡ newest o n log
   seek-none z log h = sym (none-in-front (h .index) (w .between log h) z)
 
   -- The entry in front of place p is k, and r says whether it is named.
   module _ (a : 0 < p) {k : ℕ} (q : k ≡ getD bind (rowsEnd + (p - 1)) 0) {r : Bool}
-      (t : (log : List Logged) (c : ℕ) → Holds log texts bind c → k < c → r ≡ isNamed o n (entryAt k log)) where
-    entry-in-front : {log : List Logged} → Holds log texts bind count → getD (indexIn bind count) (p - 1) 0 ≡ k
+      (t : (log : List Logged) (c : ℕ) → HoldsBindings log texts bind c → k < c → r ≡ isNamed o n (entryAt k log)) where
+    entry-in-front : {log : List Logged} → HoldsBindings log texts bind count → getD (indexIn bind count) (p - 1) 0 ≡ k
     entry-in-front h = index-at h (p - 1) (omega (arith, w .within)) ∙ sym q
 
-    tested : {log : List Logged} → Holds log texts bind count → {b : Bool} → r ≡ b → isNamed o n (entryAt (getD (indexIn bind count) (p - 1) 0) log) ≡ b
+    tested : {log : List Logged} → HoldsBindings log texts bind count → {b : Bool} → r ≡ b → isNamed o n (entryAt (getD (indexIn bind count) (p - 1) 0) log) ≡ b
     tested {log} h e = rw (entry-in-front h) (sym (t log count h (index-below h (omega (arith, w .within)) q)) ∙ e)
 
-    pub seek-found : r ≡ true → (log : List Logged) → Holds log texts bind count → At k ≡ newest o n log
+    pub seek-found : r ≡ true → (log : List Logged) → HoldsBindings log texts bind count → At k ≡ newest o n log
     seek-found e log h = sym (last-named (h .index) (w .between log h) a (tested h e) ∙ ap At (entry-in-front h))
 
-    pub seek-other : r ≡ false → (log : List Logged) → Holds log texts bind count → Missing ≡ newest o n log
+    pub seek-other : r ≡ false → (log : List Logged) → HoldsBindings log texts bind count → Missing ≡ newest o n log
     seek-other e log h = sym (last-other (h .index) (w .between log h) a (tested h e))

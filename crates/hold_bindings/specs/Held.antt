@@ -6,7 +6,7 @@ use mathlib.Core.Path.{_≡_}
 use lib.ListN.{length, take, drop, getD}
 use Rattle.lists.specs.Parts.{part}
 use Rattle.spec.specs.Limits.{maxRules, maxBindings, maxName, maxWritten}
-use Rattle.hold_bindings.specs.declared.Place.{Place}
+use Rattle.hold_bindings.specs.declared.ValuePlace.{ValuePlace}
 use Rattle.hold_bindings.specs.Log.{Logged, entryAt}
 use Rattle.hold_bindings.specs.Index.{Indexed, Between}
 
@@ -67,23 +67,23 @@ pub record Rows (log : List Logged) (texts bind : List ℕ) (count : ℕ) : Type
   pub bind-held : take (length (rowsOf log)) bind ≡ rowsOf log
 
 -- The log is held, with its index.
-pub record Holds (log : List Logged) (texts bind : List ℕ) (count : ℕ) : Type 0 where
+pub record HoldsBindings (log : List Logged) (texts bind : List ℕ) (count : ℕ) : Type 0 where
   pub rows : Rows log texts bind count
   pub index : Indexed log (indexIn bind count)
 
 -- Some log is held; it has an entry k; and it has room for one more.
-pub record Sound (texts bind : List ℕ) (count : ℕ) : Type 0 where
+pub record SoundBindings (texts bind : List ℕ) (count : ℕ) : Type 0 where
   pub log : List Logged
-  pub held : Holds log texts bind count
+  pub held : HoldsBindings log texts bind count
 
 pub record HasEntry (texts bind : List ℕ) (k : ℕ) : Type 0 where
   pub log : List Logged
   pub count : ℕ
-  pub held : Holds log texts bind count
+  pub held : HoldsBindings log texts bind count
   pub below : k < count
 
 pub record Room (log : List Logged) (texts bind : List ℕ) (count : ℕ) (e : Logged) : Type 0 where
-  pub held : Holds log texts bind count
+  pub held : HoldsBindings log texts bind count
   pub few : count < maxEntries
   pub owner : e .owner ≤ maxOwner
   pub name : length (e .name) ≤ maxName
@@ -112,18 +112,18 @@ pub record Row (e : Logged) (texts bind : List ℕ) (k : ℕ) : Type 0 where
   pub value : part texts (getD bind (3 * k) 0) (getD bind (3 * k + 1) 0) ≡ e .value
 
 -- The value of entry k lies there.
-pub record ValueAt (texts bind : List ℕ) (k : ℕ) (p : Place) : Type 0 where
+pub record ValueAt (texts bind : List ℕ) (k : ℕ) (p : ValuePlace) : Type 0 where
   pub ordered : p .from ≤ p .to
   pub ends : p .to ≤ maxTexts
   pub texts-long : maxTexts ≤ length texts
-  pub value : (log : List Logged) (count : ℕ) → Holds log texts bind count → k < count → part texts (p .from) (p .to) ≡ entryAt k log .value
+  pub value : (log : List Logged) (count : ℕ) → HoldsBindings log texts bind count → k < count → part texts (p .from) (p .to) ≡ entryAt k log .value
 
 -- ------------------------------------------------------------------ the index and an entry more
 
 -- No entry in front of place p of the index comes after this owner and this name, and every one from there on does.
 pub record PlaceOf (texts bind : List ℕ) (count owner : ℕ) (wanted : List ℕ) (p : ℕ) : Type 0 where
   pub within : p ≤ count
-  pub between : (log : List Logged) → Holds log texts bind count → Between log (indexIn bind count) (owner ∷ wanted) p p
+  pub between : (log : List Logged) → HoldsBindings log texts bind count → Between log (indexIn bind count) (owner ∷ wanted) p p
 
 -- An entry more in the texts and the rows.
 pub record Pushed (texts bind : List ℕ) (count : ℕ) (e : Logged) (texts′ bind′ : List ℕ) : Type 0 where

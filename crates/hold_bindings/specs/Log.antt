@@ -9,8 +9,8 @@ use lib.ListN.{length, getD, drop}
 use Rattle.lists.specs.Tests.{ifB}
 use Rattle.lists.specs.Bytes.{eqBytes}
 use Rattle.spec.specs.Reading.{Bound, Rule}
-use Rattle.hold_bindings.specs.declared.Found.{Found}
-use Rattle.hold_bindings.specs.declared.Found.the-variants.{At, Missing}
+use Rattle.hold_bindings.specs.declared.FoundEntry.{FoundEntry}
+use Rattle.hold_bindings.specs.declared.FoundEntry.the-variants.{At, Missing}
 
 -- One line: whose it is, the name, and the value. A declaration has the rule's name and no value; a rule's key has its value as written, any
 -- other line its value expanded.
@@ -55,16 +55,16 @@ unfolding eqBytes
 isNamed o n e = eqb (e .owner) o && eqBytes n (e .name)
 
 -- "a later line replaces it", "last one wins"
-unfoldable pub newest : ℕ → List ℕ → List Logged → Found
+unfoldable pub newest : ℕ → List ℕ → List Logged → FoundEntry
 unfolding isNamed
 newest o n [] = Missing
 newest o n (e ∷ l) = ifB (isNamed o n e) (λ _. At (length l)) (λ _. newest o n l)
 
-unfoldable pub isAt : Found → Bool
+unfoldable pub isAt : FoundEntry → Bool
 isAt (At k) = true
 isAt Missing = false
 
-unfoldable pub valueOf : Found → List Logged → Option (List ℕ)
+unfoldable pub valueOf : FoundEntry → List Logged → Option (List ℕ)
 unfolding entryAt
 valueOf (At k) log = some (entryAt k log .value)
 valueOf Missing log = none
@@ -91,11 +91,11 @@ unfolding rulesIn
 rulesOf log = rulesIn log log
 
 -- the number of the newest declaration: the rule whose block is open, while one is
-unfoldable pub newestRule : List Logged → Found
+unfoldable pub newestRule : List Logged → FoundEntry
 newestRule [] = Missing
 newestRule (e ∷ l) = ifB (eqb (e .owner) ofRules) (λ _. At (length l)) (λ _. newestRule l)
 
-unfoldable pub keysAt : Found → List Logged → List Bound
+unfoldable pub keysAt : FoundEntry → List Logged → List Bound
 unfolding boundBy
 keysAt (At k) log = boundBy (ofKeys k) log
 keysAt Missing log = []

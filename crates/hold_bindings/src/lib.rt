@@ -6,7 +6,7 @@ ghost use lib.ListN.{length, set};
 ghost use Rattle.lists.specs.Bytes.{lessBytes};
 ghost use Rattle.hold_bindings.specs.Log.{Logged, logged, entryAt, isNamed, newest};
 ghost use Rattle.hold_bindings.specs.Index.{keyAt};
-ghost use Rattle.hold_bindings.specs.Held.{Holds, Sound, HasEntry, HasRoom, Room, startIn, ValueAt, PlaceOf, Pushed};
+ghost use Rattle.hold_bindings.specs.Held.{HoldsBindings, SoundBindings, HasEntry, HasRoom, Room, startIn, ValueAt, PlaceOf, Pushed};
 use arena::insert;
 use byteorder::equal;
 use byteorder::less;
@@ -22,13 +22,13 @@ pub const ROWS: usize = 4608;
 const INDEX: usize = 3456;
 
 // The number of an entry, if there is one.
-pub enum Found {
+pub enum FoundEntry {
     At(usize),
     Missing,
 }
 
 // A part of the texts.
-pub struct Place {
+pub struct ValuePlace {
     pub from: usize,
     pub to: usize,
 }
@@ -46,7 +46,7 @@ fn start(bind: &[u32], k: usize) -> usize
 
 pub fn name<'a, 'b>(texts: &'a [u8], bind: &'b [u32], k: usize) -> &'a [u8]
     requires { ⌜ HasEntry (now texts) (now bind) k ⌝ }
-    ensures { λ r. ⌜ ((log : List Logged) (count : ℕ) → Holds log (now (texts .entry)) (now (bind .entry)) count → k < count → now r ≡ entryAt k log .name) ⌝ }
+    ensures { λ r. ⌜ ((log : List Logged) (count : ℕ) → HoldsBindings log (now (texts .entry)) (now (bind .entry)) count → k < count → now r ≡ entryAt k log .name) ⌝ }
 {
     let from = start(bind, k);
     let to = at(bind, 3 * k);
@@ -54,18 +54,18 @@ pub fn name<'a, 'b>(texts: &'a [u8], bind: &'b [u32], k: usize) -> &'a [u8]
 }
 
 // Where the value of entry k lies in the texts.
-pub fn value_place(texts: &[u8], bind: &[u32], k: usize) -> Place
+pub fn value_place(texts: &[u8], bind: &[u32], k: usize) -> ValuePlace
     requires { ⌜ HasEntry (now texts) (now bind) k ⌝ }
     ensures { λ r. ⌜ ValueAt (now (texts .entry)) (now (bind .entry)) k r ⌝ }
 {
     let from = at(bind, 3 * k);
     let to = at(bind, 3 * k + 1);
-    Place { from, to }
+    ValuePlace { from, to }
 }
 
 pub fn value<'a, 'b>(texts: &'a [u8], bind: &'b [u32], k: usize) -> &'a [u8]
     requires { ⌜ HasEntry (now texts) (now bind) k ⌝ }
-    ensures { λ r. ⌜ ((log : List Logged) (count : ℕ) → Holds log (now (texts .entry)) (now (bind .entry)) count → k < count → now r ≡ entryAt k log .value) ⌝ }
+    ensures { λ r. ⌜ ((log : List Logged) (count : ℕ) → HoldsBindings log (now (texts .entry)) (now (bind .entry)) count → k < count → now r ≡ entryAt k log .value) ⌝ }
 {
     let p = value_place(texts, bind, k);
     let from = p.from;
@@ -76,7 +76,7 @@ pub fn value<'a, 'b>(texts: &'a [u8], bind: &'b [u32], k: usize) -> &'a [u8]
 // Whether entry k has this owner and this name.
 fn is_named(texts: &[u8], bind: &[u32], k: usize, owner: usize, wanted: &[u8]) -> bool
     requires { ⌜ HasEntry (now texts) (now bind) k ⌝ }
-    ensures { λ r. ⌜ ((log : List Logged) (count : ℕ) → Holds log (now (texts .entry)) (now (bind .entry)) count → k < count → r ≡ isNamed owner (now (wanted .entry)) (entryAt k log)) ⌝ }
+    ensures { λ r. ⌜ ((log : List Logged) (count : ℕ) → HoldsBindings log (now (texts .entry)) (now (bind .entry)) count → k < count → r ≡ isNamed owner (now (wanted .entry)) (entryAt k log)) ⌝ }
 {
     if at(bind, 3 * k + 2) != owner {
         return false;
@@ -87,7 +87,7 @@ fn is_named(texts: &[u8], bind: &[u32], k: usize, owner: usize, wanted: &[u8]) -
 // Whether this owner and this name come before those of entry k.
 fn is_before(texts: &[u8], bind: &[u32], k: usize, owner: usize, wanted: &[u8]) -> bool
     requires { ⌜ HasEntry (now texts) (now bind) k ⌝ }
-    ensures { λ r. ⌜ ((log : List Logged) (count : ℕ) → Holds log (now (texts .entry)) (now (bind .entry)) count → k < count → r ≡ lessBytes (owner ∷ now (wanted .entry)) (keyAt log k)) ⌝ }
+    ensures { λ r. ⌜ ((log : List Logged) (count : ℕ) → HoldsBindings log (now (texts .entry)) (now (bind .entry)) count → k < count → r ≡ lessBytes (owner ∷ now (wanted .entry)) (keyAt log k)) ⌝ }
 {
     let o = at(bind, 3 * k + 2);
     if owner < o {
@@ -101,7 +101,7 @@ fn is_before(texts: &[u8], bind: &[u32], k: usize, owner: usize, wanted: &[u8]) 
 
 // Where the index has the first entry that comes after this owner and this name, by halving.
 fn place_of(texts: &[u8], bind: &[u32], count: usize, owner: usize, wanted: &[u8]) -> usize
-    requires { ⌜ Sound (now texts) (now bind) count ⌝ }
+    requires { ⌜ SoundBindings (now texts) (now bind) count ⌝ }
     ensures { λ r. ⌜ PlaceOf (now (texts .entry)) (now (bind .entry)) count owner (now (wanted .entry)) r ⌝ }
 {
     let mut low = 0;
@@ -118,19 +118,19 @@ fn place_of(texts: &[u8], bind: &[u32], count: usize, owner: usize, wanted: &[u8
 }
 
 // The newest entry of this owner and this name.
-pub fn newest(texts: &[u8], bind: &[u32], count: usize, owner: usize, wanted: &[u8]) -> Found
-    requires { ⌜ Sound (now texts) (now bind) count ⌝ }
-    ensures { λ r. ⌜ ((log : List Logged) → Holds log (now (texts .entry)) (now (bind .entry)) count → r ≡ newest owner (now (wanted .entry)) log) ⌝ }
+pub fn newest(texts: &[u8], bind: &[u32], count: usize, owner: usize, wanted: &[u8]) -> FoundEntry
+    requires { ⌜ SoundBindings (now texts) (now bind) count ⌝ }
+    ensures { λ r. ⌜ ((log : List Logged) → HoldsBindings log (now (texts .entry)) (now (bind .entry)) count → r ≡ newest owner (now (wanted .entry)) log) ⌝ }
 {
     let p = place_of(texts, bind, count, owner, wanted);
     if p == 0 {
-        return Found::Missing;
+        return FoundEntry::Missing;
     }
     let k = at(bind, INDEX + (p - 1));
     if is_named(texts, bind, k, owner, wanted) {
-        return Found::At(k);
+        return FoundEntry::At(k);
     }
-    Found::Missing
+    FoundEntry::Missing
 }
 
 // The three numbers of entry k.
@@ -174,7 +174,7 @@ pub fn push(
     value: &[u8],
 )
     requires { ⌜ HasRoom (now texts) (now bind) count (logged owner (now name) (now value)) ⌝ }
-    ensures { λ _. ⌜ ((log : List Logged) → Room log (now (texts .entry)) (now (bind .entry)) count (logged owner (now (name .entry)) (now (value .entry))) → Holds (logged owner (now (name .entry)) (now (value .entry)) ∷ log) (now (texts .exit)) (now (bind .exit)) (count + 1)) ⌝ }
+    ensures { λ _. ⌜ ((log : List Logged) → Room log (now (texts .entry)) (now (bind .entry)) count (logged owner (now (name .entry)) (now (value .entry))) → HoldsBindings (logged owner (now (name .entry)) (now (value .entry)) ∷ log) (now (texts .exit)) (now (bind .exit)) (count + 1)) ⌝ }
 {
     let p = place_of(texts, bind, count, owner, name);
     push_row(texts, bind, count, owner, name, value);

@@ -14,7 +14,7 @@ use Rattle.spec.specs.Reading.{Step, isPhony}
 use Rattle.spec.specs.Graph.{inputs, counted, noStep, stepAt, makers, makersOf, before, needed}
 use Rattle.spec.specs.Stale.{phonyStep}
 use Rattle.spec.proofs.Graph.{in-makers}
-use Rattle.hold_columns.specs.Tables.{bit, mentionsOf, madeBy, Holds, startIn, outsIn, countedIn, inputsIn, makerIn, makersIn, beforeIn, neededIn, Sound, Files}
+use Rattle.hold_columns.specs.Tables.{bit, mentionsOf, madeBy, HoldsColumns, startIn, outsIn, countedIn, inputsIn, makerIn, makersIn, beforeIn, neededIn, SoundColumns, Files}
 use Rattle.hold_columns.proofs.Makers.{makers-small}
 use Rattle.hold_columns.proofs.Places.{read-inputs, read-counted, read-outs, read-placed}
 
@@ -41,14 +41,14 @@ unfolding outsIn
 outs-low low ends s q i b = rw q (part-low low (startIn ends s) (getD ends (4 * s) 0) i (rw q at b))
 
 -- and their makers are steps
-pub part-files : {n : ℕ} {mentions ends made : List ℕ} → Sound n mentions ends made → (f e : ℕ) → Files n (part mentions f e) made
+pub part-files : {n : ℕ} {mentions ends made : List ℕ} → SoundColumns n mentions ends made → (f e : ℕ) → Files n (part mentions f e) made
 part-files r f e = record { low = part-low (r .low) f e; makers = r .makers }
 
-pub before-small : {n : ℕ} {mentions ends made : List ℕ} → Sound n mentions ends made → Closed (beforeIn mentions ends made) (λ s. s < n)
+pub before-small : {n : ℕ} {mentions ends made : List ℕ} → SoundColumns n mentions ends made → Closed (beforeIn mentions ends made) (λ s. s < n)
 unfolding beforeIn inputsIn
 before-small {ends} r s b m h = makers-small (part-files r (getD ends (4 * s) 0) (getD ends (4 * s + 3) 0)) m h
 
-pub part-few : {n : ℕ} {mentions ends made : List ℕ} → Sound n mentions ends made → (f e : ℕ) → length (part mentions f e) ≤ maxMentions
+pub part-few : {n : ℕ} {mentions ends made : List ℕ} → SoundColumns n mentions ends made → (f e : ℕ) → length (part mentions f e) ≤ maxMentions
 part-few {mentions} r f e = simp (length-take, length-drop) (omega (arith, r .few-mentions))
 
 -- an output of a step is among the mentions
@@ -69,7 +69,7 @@ unfolding madeBy
 entry-low n zero g = omega arith
 entry-low n (suc m) g = g m (here refl)
 
-module _ {steps : List Step} {files : ℕ} {mentions ends phony made : List ℕ} (h : Holds steps files mentions ends phony made) where
+module _ {steps : List Step} {files : ℕ} {mentions ends phony made : List ℕ} (h : HoldsColumns steps files mentions ends phony made) where
   pub held-inputs : (s : ℕ) → inputsIn mentions ends s ≡ inputs (stepAt steps s)
   held-inputs s = rw (h .mentioned, h .ended) (read-inputs steps s)
 
@@ -110,7 +110,7 @@ module _ {steps : List Step} {files : ℕ} {mentions ends phony made : List ℕ}
   unfolding neededIn needed
   held-needed roots = rw (held-before, held-makersOf roots)
 
-  pub held-sound : Sound (length steps) mentions ends made
+  pub held-sound : SoundColumns (length steps) mentions ends made
   held-sound = record {
     placed = λ s b. rw (h .mentioned, h .ended) (read-placed steps s b);
     low = λ f k. rw (h .counted) (h .low f k);

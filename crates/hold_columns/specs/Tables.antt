@@ -41,7 +41,7 @@ madeBy zero = []
 madeBy (suc m) = m ∷ []
 
 -- the tables hold these steps, over so many files
-pub record Holds (steps : List Step) (files : ℕ) (mentions ends phony made : List ℕ) : Type 0 where
+pub record HoldsColumns (steps : List Step) (files : ℕ) (mentions ends phony made : List ℕ) : Type 0 where
   pub mentioned : mentions ≡ concat (map mentionsOf steps)
   pub ended : ends ≡ endsFrom 0 steps
   pub phonies : phony ≡ map (λ (s : Step). bit (isPhony (s .rule))) steps
@@ -104,7 +104,7 @@ pub record Placed (mentions ends : List ℕ) (s : ℕ) : Type 0 where
   pub mentioned : getD ends (4 * s + 3) 0 ≤ length mentions
 
 -- all numbers of n steps' tables are in range
-pub record Sound (n : ℕ) (mentions ends made : List ℕ) : Type 0 where
+pub record SoundColumns (n : ℕ) (mentions ends made : List ℕ) : Type 0 where
   pub placed : (s : ℕ) → s < n → Placed mentions ends s
   pub low : (f : ℕ) → f ∈ mentions → f < length made
   pub makers : (f : ℕ) → f < length made → getD made f 0 ≤ n

@@ -11,17 +11,17 @@ use Rattle.lists.specs.Tests.{split, differ}
 use Rattle.spec.specs.Limits.{maxFiles}
 use Rattle.spec.specs.Basics.{among, concat}
 use Rattle.spec.specs.Reading.{numberOf, mention}
-use Rattle.hold_names.specs.declared.Found.{Found}
-use Rattle.hold_names.specs.declared.Found.the-variants.{At, Missing}
+use Rattle.hold_names.specs.declared.FoundName.{FoundName}
+use Rattle.hold_names.specs.declared.FoundName.the-variants.{At, Missing}
 use Rattle.hold_names.specs.declared.Added.{Added}
 use Rattle.hold_names.specs.declared.Added.the-variants.{Old, New, Full}
-use Rattle.hold_names.specs.Table.{Holds, fits, added, filesAfter, countAfter, Finds, Adds}
+use Rattle.hold_names.specs.Table.{HoldsNames, fits, added, filesAfter, countAfter, FindsName, AddsName}
 use Rattle.hold_names.proofs.Numbers.{number-below, number-new, mention-old, mention-new, mention-none}
 use Rattle.hold_names.proofs.Steps.{clash, found-at, found-missing}
 
 -- ---- after `find`
 
-module _ {names ends : List ℕ} {count : ℕ} {p : List ℕ} {r : Found} (f : Finds names ends count p r) {files : List (List ℕ)} (h : Holds names ends count files) where
+module _ {names index : List ℕ} {count : ℕ} {p : List ℕ} {r : FoundName} (f : FindsName names index count p r) {files : List (List ℕ)} (h : HoldsNames names index count files) where
   pub find-at : {k : ℕ} → r ≡ At k → (among p files ≡ true) × (k ≡ numberOf p files) × (k < count)
   find-at {k} e =
       let (a, q) = found-at p files k (sym e ∙ f .answer files h) in
@@ -33,8 +33,8 @@ module _ {names ends : List ℕ} {count : ℕ} {p : List ℕ} {r : Found} (f : F
 -- ---- after `add`
 
 -- the path has number k among the names held now
-pub record Mentioned (files : List (List ℕ)) (p : List ℕ) (k : ℕ) (names ends : List ℕ) (count : ℕ) : Type 0 where
-  pub holds : Holds names ends count (mention files (p ∷ []))
+pub record Mentioned (files : List (List ℕ)) (p : List ℕ) (k : ℕ) (names index : List ℕ) (count : ℕ) : Type 0 where
+  pub holds : HoldsNames names index count (mention files (p ∷ []))
   pub number : k ≡ numberOf p (mention files (p ∷ []))
   pub below : k < count
 
@@ -68,8 +68,8 @@ added-full b p files e =
     (λ (g : fits b p files ≡ true). let q : Full ≡ New (length files) = rw (h, g) at e in clash (cc))
     (λ (g : fits b p files ≡ false). (h, g)))
 
-module _ {names ends : List ℕ} {count : ℕ} {p names′ ends′ : List ℕ} {r : Added} (a : Adds names ends count p names′ ends′ r) {files : List (List ℕ)} (h : Holds names ends count files) where
-  pub after-old : {k : ℕ} → r ≡ Old k → Mentioned files p k names′ ends′ count
+module _ {names index : List ℕ} {count : ℕ} {p names′ index′ : List ℕ} {r : Added} (a : AddsName names index count p names′ index′ r) {files : List (List ℕ)} (h : HoldsNames names index count files) where
+  pub after-old : {k : ℕ} → r ≡ Old k → Mentioned files p k names′ index′ count
   unfolding countAfter filesAfter
   after-old {k} e =
       let (m, q) = added-old (length names) p files k (sym e ∙ a .answer files h) in
@@ -80,7 +80,7 @@ module _ {names ends : List ℕ} {count : ℕ} {p names′ ends′ : List ℕ} {
         below = omega (arith, number-below p files m, h .counted);
       }
 
-  pub after-new : {k : ℕ} → r ≡ New k → Mentioned files p k names′ ends′ (count + 1)
+  pub after-new : {k : ℕ} → r ≡ New k → Mentioned files p k names′ index′ (count + 1)
   unfolding countAfter filesAfter
   after-new {k} e =
       let (m, q) = added-new (length names) p files k (sym e ∙ a .answer files h) in
@@ -92,7 +92,7 @@ module _ {names ends : List ℕ} {count : ℕ} {p names′ ends′ : List ℕ} {
       }
 
   -- With room for its bytes, a new path is refused only where there are as many files as there may be.
-  pub after-full : r ≡ Full → length (concat files) + length p ≤ length names → (among p files ≡ false) × (maxFiles ≤ length files) × Holds names′ ends′ count files
+  pub after-full : r ≡ Full → length (concat files) + length p ≤ length names → (among p files ≡ false) × (maxFiles ≤ length files) × HoldsNames names′ index′ count files
   unfolding countAfter filesAfter fits
   after-full e b =
       let (m, g) = added-full (length names) p files (sym e ∙ a .answer files h) in

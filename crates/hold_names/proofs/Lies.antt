@@ -13,7 +13,7 @@ use Rattle.lists.specs.Fill.{zeroed, length-zeroed, getD-zeroed-in}
 use Rattle.lists.specs.Parts.{part, drop-take}
 use Rattle.spec.specs.Limits.{maxFiles}
 use Rattle.spec.specs.Basics.{among, concat}
-use Rattle.hold_names.specs.Table.{endsFrom, bucketOf, lastIn, maxNumbers, Holds, Names, startIn, linked}
+use Rattle.hold_names.specs.Table.{endsFrom, bucketOf, lastIn, maxNumbers, HoldsNames, Names, startIn, linked}
 use Rattle.hold_names.proofs.Buckets.{bucket-small, name-old, name-new, last-none, last-old, last-new, last-other, nowhere}
 
 -- ---- names end to end
@@ -85,65 +85,65 @@ ends-snoc at (f ∷ l) p =
 part-take : (l : List ℕ) (n a b : ℕ) → b ≤ n → part (take n l) a b ≡ part l a b
 part-take l n a b h = rw (drop-take a n l) (take-take (b - a) (n - a) (drop a l) (omega arith))
 
-module _ {names ends : List ℕ} {count : ℕ} {files : List (List ℕ)} (h : Holds names ends count files) where
-  pub end-held : (k : ℕ) → k < count → getD ends k 0 ≡ startOf files (suc k)
+module _ {names index : List ℕ} {count : ℕ} {files : List (List ℕ)} (h : HoldsNames names index count files) where
+  pub end-held : (k : ℕ) → k < count → getD index k 0 ≡ startOf files (suc k)
   end-held k l =
-      sym (getD-take count ends k 0 l) ∙ ap (λ (x : List ℕ). getD x k 0) (h .column)
+      sym (getD-take count index k 0 l) ∙ ap (λ (x : List ℕ). getD x k 0) (h .column)
       ∙ ends-at 0 files k (omega (arith, h .counted)) ∙ omega arith
 
-  pub start-held : (k : ℕ) → k ≤ count → startIn ends k ≡ startOf files k
+  pub start-held : (k : ℕ) → k ≤ count → startIn index k ≡ startOf files k
   unfolding startIn
   start-held zero l = sym (start-zero files)
   start-held (suc k) l = end-held k l
 
   -- in order, and within the bytes
-  pub name-within : (k : ℕ) → k < count → (startIn ends k ≤ getD ends k 0) × (getD ends k 0 ≤ length names)
+  pub name-within : (k : ℕ) → k < count → (startIn index k ≤ getD index k 0) × (getD index k 0 ≤ length names)
   name-within k l =
       omega
       (arith, start-held k (omega arith), end-held k l, start-suc files k (omega (arith, h .counted)), start-within files (suc k), h .within)
 
-  pub name-held : (k : ℕ) → k < count → part names (startIn ends k) (getD ends k 0) ≡ getD files k []
+  pub name-held : (k : ℕ) → k < count → part names (startIn index k) (getD index k 0) ≡ getD files k []
   name-held k l =
       rw (start-held k (omega arith), end-held k l)
       (sym (part-take names (length (concat files)) (startOf files k) (startOf files (suc k)) (start-within files (suc k)))
       ∙ ap (λ (x : List ℕ). part x (startOf files k) (startOf files (suc k))) (h .bytes)
       ∙ part-concat files k (omega (arith, h .counted)))
 
-  pub used-held : startIn ends count ≡ length (concat files)
+  pub used-held : startIn index count ≡ length (concat files)
   used-held =
       start-held count (omega arith)
       ∙ ap (λ (x : List (List ℕ)). length (concat x)) (take-all count files (omega (arith, h .counted)))
 
 -- ---- they hold one list only
 
-pub holds-one : {names ends : List ℕ} {count : ℕ} {f g : List (List ℕ)} → Holds names ends count f → Holds names ends count g → f ≡ g
+pub holds-one : {names index : List ℕ} {count : ℕ} {f g : List (List ℕ)} → HoldsNames names index count f → HoldsNames names index count g → f ≡ g
 holds-one {f = f} {g = g} a b =
     ext-getD [] f g (sym (a .counted) ∙ b .counted)
     (λ k l. sym (name-held a k (omega (arith, a .counted))) ∙ name-held b k (omega (arith, a .counted)))
 
-pub names-answer : {names ends : List ℕ} {count k : ℕ} → k < count → Names names ends count k (part names (startIn ends k) (getD ends k 0))
+pub names-answer : {names index : List ℕ} {count k : ℕ} → k < count → Names names index count k (part names (startIn index k) (getD index k 0))
 names-answer {k = k} l = record { answer = λ files h. name-held h k l }
 
 -- ---- where a name begins
 
-pub start-none : (ends : List ℕ) {k : ℕ} → k ≡ 0 → 0 ≡ startIn ends k
+pub start-none : (index : List ℕ) {k : ℕ} → k ≡ 0 → 0 ≡ startIn index k
 unfolding startIn
-start-none ends e = rw e
+start-none index e = rw e
 
-pub start-one : (ends : List ℕ) (k : ℕ) → (k ≡ 0 → ⊥) → getD ends (k - 1) 0 ≡ startIn ends k
+pub start-one : (index : List ℕ) (k : ℕ) → (k ≡ 0 → ⊥) → getD index (k - 1) 0 ≡ startIn index k
 unfolding startIn
-start-one ends zero h = absurd (h refl)
-start-one ends (suc k) h = let z : suc k - 1 ≡ k = omega arith in rw z
+start-one index zero h = absurd (h refl)
+start-one index (suc k) h = let z : suc k - 1 ≡ k = omega arith in rw z
 
 -- ---- no name, and one name more
 
-pub holds-none : (names ends : List ℕ) → length names < 2 ^ 32 → maxNumbers ≤ length ends → Holds names (zeroed ends 2048 3072) 0 []
+pub holds-none : (names index : List ℕ) → length names < 2 ^ 32 → maxNumbers ≤ length index → HoldsNames names (zeroed index 2048 3072) 0 []
 unfolding endsFrom concat
-holds-none names ends h r =
+holds-none names index h r =
     record {
       counted = refl;
       few = omega arith;
-      room = rw (length-zeroed ends 2048 3072 (omega arith) (omega (arith, r))) r;
+      room = rw (length-zeroed index 2048 3072 (omega arith) (omega (arith, r))) r;
       small = h;
       within = omega arith;
       bytes = refl;
@@ -151,50 +151,50 @@ holds-none names ends h r =
       once = λ i j l k. absurd (not-suc-le-zero k);
       links = λ k l. absurd (not-suc-le-zero l);
       heads = λ b l.
-          getD-zeroed-in ends 2048 3072 (omega arith) (omega (arith, r)) (2048 + b) (omega arith) (omega (arith, l)) ∙ sym (last-none b []);
+          getD-zeroed-in index 2048 3072 (omega arith) (omega (arith, r)) (2048 + b) (omega arith) (omega (arith, l)) ∙ sym (last-none b []);
     }
 
-module _ {names ends : List ℕ} {count : ℕ} {files : List (List ℕ)} (p : List ℕ) (h : Holds names ends count files) (a : count < maxFiles) (b : ℕ) (to : ℕ) where
+module _ {names index : List ℕ} {count : ℕ} {files : List (List ℕ)} (p : List ℕ) (h : HoldsNames names index count files) (a : count < maxFiles) (b : ℕ) (to : ℕ) where
   -- the numbers that are as they were
-  kept : (i : ℕ) → (i ≡ count → ⊥) → (i ≡ 1024 + count → ⊥) → (i ≡ 2048 + b → ⊥) → getD (linked ends count b to) i 0 ≡ getD ends i 0
+  kept : (i : ℕ) → (i ≡ count → ⊥) → (i ≡ 1024 + count → ⊥) → (i ≡ 2048 + b → ⊥) → getD (linked index count b to) i 0 ≡ getD index i 0
   unfolding linked
   kept i x y z =
-      getD-set-other (set (set ends count to) (1024 + count) (getD ends (2048 + b) 0)) (2048 + b) i (count + 1) 0 z
-      ∙ getD-set-other (set ends count to) (1024 + count) i (getD ends (2048 + b) 0) 0 y ∙ getD-set-other ends count i to 0 x
+      getD-set-other (set (set index count to) (1024 + count) (getD index (2048 + b) 0)) (2048 + b) i (count + 1) 0 z
+      ∙ getD-set-other (set index count to) (1024 + count) i (getD index (2048 + b) 0) 0 y ∙ getD-set-other index count i to 0 x
 
-  length-linked : length (linked ends count b to) ≡ length ends
+  length-linked : length (linked index count b to) ≡ length index
   unfolding linked
   length-linked = simp length-set refl
 
-  head-now : b < 1024 → getD (linked ends count b to) (2048 + b) 0 ≡ count + 1
+  head-now : b < 1024 → getD (linked index count b to) (2048 + b) 0 ≡ count + 1
   unfolding linked
-  head-now l = getD-set-same (set (set ends count to) (1024 + count) (getD ends (2048 + b) 0)) (2048 + b) (count + 1) 0 (simp length-set (omega (arith, h .room)))
+  head-now l = getD-set-same (set (set index count to) (1024 + count) (getD index (2048 + b) 0)) (2048 + b) (count + 1) 0 (simp length-set (omega (arith, h .room)))
 
-  link-now : b < 1024 → getD (linked ends count b to) (1024 + count) 0 ≡ getD ends (2048 + b) 0
+  link-now : b < 1024 → getD (linked index count b to) (1024 + count) 0 ≡ getD index (2048 + b) 0
   unfolding linked
   link-now l =
-      getD-set-other (set (set ends count to) (1024 + count) (getD ends (2048 + b) 0)) (2048 + b) (1024 + count) (count + 1) 0 (λ (q : 1024 + count ≡ 2048 + b). omega (arith, q))
-      ∙ getD-set-same (set ends count to) (1024 + count) (getD ends (2048 + b) 0) 0 (simp length-set (omega (arith, h .room)))
+      getD-set-other (set (set index count to) (1024 + count) (getD index (2048 + b) 0)) (2048 + b) (1024 + count) (count + 1) 0 (λ (q : 1024 + count ≡ 2048 + b). omega (arith, q))
+      ∙ getD-set-same (set index count to) (1024 + count) (getD index (2048 + b) 0) 0 (simp length-set (omega (arith, h .room)))
 
-  column-now : take (suc count) (linked ends count b to) ≡ take count ends ++ (to ∷ [])
+  column-now : take (suc count) (linked index count b to) ≡ take count index ++ (to ∷ [])
   unfolding linked
   column-now =
-      take-set-le (suc count) (set (set ends count to) (1024 + count) (getD ends (2048 + b) 0)) (2048 + b) (count + 1) (omega arith)
-      ∙ take-set-le (suc count) (set ends count to) (1024 + count) (getD ends (2048 + b) 0) (omega arith) ∙ take-suc-set ends count to (omega (arith, h .room))
+      take-set-le (suc count) (set (set index count to) (1024 + count) (getD index (2048 + b) 0)) (2048 + b) (count + 1) (omega arith)
+      ∙ take-set-le (suc count) (set index count to) (1024 + count) (getD index (2048 + b) 0) (omega arith) ∙ take-suc-set index count to (omega (arith, h .room))
 
 -- the head of another bucket
-other : {names ends : List ℕ} {count : ℕ} {files : List (List ℕ)} (p : List ℕ) (h : Holds names ends count files) (a : count < maxFiles) (to b : ℕ) → b < 1024
-    → (bucketOf p ≡ b → ⊥) → getD (linked ends count (bucketOf p) to) (2048 + b) 0 ≡ lastIn b (files ++ (p ∷ [])) (count + 1)
+other : {names index : List ℕ} {count : ℕ} {files : List (List ℕ)} (p : List ℕ) (h : HoldsNames names index count files) (a : count < maxFiles) (to b : ℕ) → b < 1024
+    → (bucketOf p ≡ b → ⊥) → getD (linked index count (bucketOf p) to) (2048 + b) 0 ≡ lastIn b (files ++ (p ∷ [])) (count + 1)
 other {count = count} {files = files} p h a to b l d =
     let f : count ≡ length files = h .counted in
     let s = bucket-small p in
     kept p h a (bucketOf p) to (2048 + b) (λ (q : 2048 + b ≡ count). omega (arith, q)) (λ (q : 2048 + b ≡ 1024 + count). omega (arith, q)) (λ (q : 2048 + b ≡ 2048 + bucketOf p). d (omega arith))
     ∙ h .heads b l ∙ rw f (sym (last-other files p b d))
 
-pub holds-more : {names ends : List ℕ} {count : ℕ} {files : List (List ℕ)} (p : List ℕ) → Holds names ends count files → count < maxFiles → among p files ≡ false
+pub holds-more : {names index : List ℕ} {count : ℕ} {files : List (List ℕ)} (p : List ℕ) → HoldsNames names index count files → count < maxFiles → among p files ≡ false
     → length (concat files) + length p ≤ length names
-    → Holds (paste names (length (concat files)) p (length p)) (linked ends count (bucketOf p) (length (concat files) + length p)) (count + 1) (files ++ (p ∷ []))
-holds-more {names} {ends} {count} {files} p h a m c =
+    → HoldsNames (paste names (length (concat files)) p (length p)) (linked index count (bucketOf p) (length (concat files) + length p)) (count + 1) (files ++ (p ∷ []))
+holds-more {names} {index} {count} {files} p h a m c =
     let n = length (concat files) in
     let e : length (concat (files ++ (p ∷ []))) ≡ n + length p = ap length (concat-snoc files p) ∙ length-append (concat files) p in
     let z : 0 + (n + length p) ≡ n + length p = omega arith in

@@ -13,28 +13,28 @@ use Rattle.lists.specs.Bytes.{eqBytes, eqBytes-true, eqBytes-false}
 use Rattle.spec.specs.Limits.{maxFiles}
 use Rattle.spec.specs.Basics.{among, concat}
 use Rattle.spec.specs.Reading.{numberOf}
-use Rattle.hold_names.specs.declared.Found.{Found}
-use Rattle.hold_names.specs.declared.Found.the-variants.{At, Missing}
+use Rattle.hold_names.specs.declared.FoundName.{FoundName}
+use Rattle.hold_names.specs.declared.FoundName.the-variants.{At, Missing}
 use Rattle.hold_names.specs.declared.Added.the-variants.{Old, New, Full}
-use Rattle.hold_names.specs.Table.{bucketOf, lastIn, Holds, Sound, found, fits, added, filesAfter, countAfter, Finds, Adds, Names, startIn, linked}
+use Rattle.hold_names.specs.Table.{bucketOf, lastIn, HoldsNames, SoundNames, found, fits, added, filesAfter, countAfter, FindsName, AddsName, Names, startIn, linked}
 use Rattle.hold_names.proofs.Buckets.{bucket-small, last-low, last-is, last-behind, first-stands, among-nowhere}
 use Rattle.hold_names.proofs.Lies.{holds-one, holds-more, used-held}
 
 -- ---- the search
 
 -- the state of the search: no name from j on is the path, and the one before j is in its bucket
-pub record Finding (names ends : List ℕ) (count : ℕ) (path : List ℕ) (j : ℕ) : Type 0 where
+pub record Finding (names index : List ℕ) (count : ℕ) (path : List ℕ) (j : ℕ) : Type 0 where
   pub files : List (List ℕ)
-  pub holds : Holds names ends count files
+  pub holds : HoldsNames names index count files
   pub within : j ≤ count
   pub bucket : 0 < j → bucketOf (getD files (j - 1) []) ≡ bucketOf path
   pub passed : (k : ℕ) → j ≤ k → k < count → getD files k [] ≡ path → ⊥
 
-module _ {names ends : List ℕ} {count : ℕ} {path : List ℕ} where
-  pub find-begin : {b : ℕ} → Sound names ends count → b ≡ bucketOf path → Finding names ends count path (getD ends (2048 + b) 0)
+module _ {names index : List ℕ} {count : ℕ} {path : List ℕ} where
+  pub find-begin : {b : ℕ} → SoundNames names index count → b ≡ bucketOf path → Finding names index count path (getD index (2048 + b) 0)
   find-begin {b} s e =
       let q : b < 1024 = rw e (bucket-small path) in
-      let h : getD ends (2048 + b) 0 ≡ lastIn b (s .files) count = s .holds .heads b q in
+      let h : getD index (2048 + b) 0 ≡ lastIn b (s .files) count = s .holds .heads b q in
       record {
         files = s .files;
         holds = s .holds;
@@ -43,21 +43,21 @@ module _ {names ends : List ℕ} {count : ℕ} {path : List ℕ} where
         passed = λ k l d f. last-behind b (s .files) count k (rw h at l) d (ap bucketOf f ∙ sym e);
       }
 
-  module _ {j : ℕ} (r : Finding names ends count path j) where
+  module _ {j : ℕ} (r : Finding names index count path j) where
     -- whatever they hold, it is what the search goes through
-    finds : {a : Found} → found path (r .files) ≡ a → Finds names ends count path a
+    finds : {a : FoundName} → found path (r .files) ≡ a → FindsName names index count path a
     finds e = record { answer = λ files h. rw (← holds-one (r .holds) h) (sym e) }
 
-    pub find-end : j ≤ 0 → Finds names ends count path Missing
+    pub find-end : j ≤ 0 → FindsName names index count path Missing
     unfolding found
     find-end l =
         finds (rw (among-nowhere path (r .files) (λ k d. r .passed k (omega arith) (omega (arith, r .holds .counted)))))
 
-    module _ (l : 0 < j) {n : List ℕ} (a : Names names ends count (j - 1) n) where
+    module _ (l : 0 < j) {n : List ℕ} (a : Names names index count (j - 1) n) where
       name : n ≡ getD (r .files) (j - 1) []
       name = a .answer (r .files) (r .holds)
 
-      pub find-here : eqBytes path n ≡ true → Finds names ends count path (At (j - 1))
+      pub find-here : eqBytes path n ≡ true → FindsName names index count path (At (j - 1))
       unfolding found
       find-here e =
           let q : getD (r .files) (j - 1) [] ≡ path = sym (eqBytes-true path n e ∙ name) in
@@ -65,11 +65,11 @@ module _ {names ends : List ℕ} {count : ℕ} {path : List ℕ} where
           let (x, y) = first-stands path (r .files) (j - 1) (omega (arith, r .holds .counted)) q (λ i d f. r .holds .once i (j - 1) d w (f ∙ sym q)) in
           finds (rw (x, y))
 
-      pub find-more : eqBytes path n ≡ false → Finding names ends count path (getD ends (1024 + (j - 1)) 0)
+      pub find-more : eqBytes path n ≡ false → Finding names index count path (getD index (1024 + (j - 1)) 0)
       find-more e =
           let w : j - 1 < count = omega (arith, r .within) in
           let b = bucketOf (getD (r .files) (j - 1) []) in
-          let h : getD ends (1024 + (j - 1)) 0 ≡ lastIn b (r .files) (j - 1) = r .holds .links (j - 1) w in
+          let h : getD index (1024 + (j - 1)) 0 ≡ lastIn b (r .files) (j - 1) = r .holds .links (j - 1) w in
           let u : b ≡ bucketOf path = r .bucket l in
           record {
             files = r .files;
@@ -85,7 +85,7 @@ module _ {names ends : List ℕ} {count : ℕ} {path : List ℕ} where
             ];
           }
 
-      pub less : getD ends (1024 + (j - 1)) 0 < j
+      pub less : getD index (1024 + (j - 1)) 0 < j
       less =
           let h = r .holds .links (j - 1) (omega (arith, r .within)) in
           omega (arith, h, last-low (bucketOf (getD (r .files) (j - 1) [])) (r .files) (j - 1))
@@ -112,8 +112,8 @@ found-missing p files e =
 
 -- ---- one name more, or none
 
-module _ {names ends : List ℕ} {count : ℕ} {p : List ℕ} {r : Found} (f : Finds names ends count p r) where
-  pub add-old : {k : ℕ} → r ≡ At k → Adds names ends count p names ends (Old k)
+module _ {names index : List ℕ} {count : ℕ} {p : List ℕ} {r : FoundName} (f : FindsName names index count p r) where
+  pub add-old : {k : ℕ} → r ≡ At k → AddsName names index count p names index (Old k)
   unfolding added countAfter filesAfter
   add-old {k} e =
       record {
@@ -122,19 +122,19 @@ module _ {names ends : List ℕ} {count : ℕ} {p : List ℕ} {r : Found} (f : F
       }
 
   module _ (e : r ≡ Missing) where
-    absent : (files : List (List ℕ)) → Holds names ends count files → among p files ≡ false
+    absent : (files : List (List ℕ)) → HoldsNames names index count files → among p files ≡ false
     absent files h = found-missing p files (sym e ∙ f .answer files h)
 
-    pub add-full : ((files : List (List ℕ)) → Holds names ends count files → fits (length names) p files ≡ false) → Adds names ends count p names ends Full
+    pub add-full : ((files : List (List ℕ)) → HoldsNames names index count files → fits (length names) p files ≡ false) → AddsName names index count p names index Full
     unfolding added countAfter filesAfter
     add-full n = record { answer = λ files h. rw (absent files h, n files h); after = λ files h. h }
 
-    pub full-files : maxFiles ≤ count → Adds names ends count p names ends Full
+    pub full-files : maxFiles ≤ count → AddsName names index count p names index Full
     unfolding fits
     full-files l = add-full (λ files h. rw (le-ltb (length files) maxFiles (omega (arith, h .counted))))
 
-    module _ (a : count < maxFiles) {from : ℕ} (s : from ≡ startIn ends count) where
-      pub full-bytes : length names - from < length p → Adds names ends count p names ends Full
+    module _ (a : count < maxFiles) {from : ℕ} (s : from ≡ startIn index count) where
+      pub full-bytes : length names - from < length p → AddsName names index count p names index Full
       unfolding fits
       full-bytes l =
           add-full
@@ -142,7 +142,7 @@ module _ {names ends : List ℕ} {count : ℕ} {p : List ℕ} {r : Found} (f : F
           rw (lt-ltb (length files) maxFiles (omega (arith, h .counted)), lt-leb (length (concat files) + length p) (length names) (omega (arith, used-held h))))
 
       pub add-new : length p ≤ length names - from → {b : ℕ} → b ≡ bucketOf p
-          → Adds names ends count p (paste names from p (length p)) (linked ends count b (from + length p)) (New count)
+          → AddsName names index count p (paste names from p (length p)) (linked index count b (from + length p)) (New count)
       unfolding added fits countAfter filesAfter
       add-new l e =
           record {

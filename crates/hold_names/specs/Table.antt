@@ -9,8 +9,8 @@ use Rattle.lists.specs.Tests.{ifB}
 use Rattle.spec.specs.Limits.{maxFiles}
 use Rattle.spec.specs.Basics.{among, concat}
 use Rattle.spec.specs.Reading.{numberOf}
-use Rattle.hold_names.specs.declared.Found.{Found}
-use Rattle.hold_names.specs.declared.Found.the-variants.{At, Missing}
+use Rattle.hold_names.specs.declared.FoundName.{FoundName}
+use Rattle.hold_names.specs.declared.FoundName.the-variants.{At, Missing}
 use Rattle.hold_names.specs.declared.Added.{Added}
 use Rattle.hold_names.specs.declared.Added.the-variants.{Old, New, Full}
 
@@ -49,28 +49,28 @@ headsFrom = linksFrom + maxFiles
 abbrev pub maxNumbers : ℕ
 maxNumbers = headsFrom + buckets
 
-pub record Holds (names ends : List ℕ) (count : ℕ) (files : List (List ℕ)) : Type 0 where
+pub record HoldsNames (names index : List ℕ) (count : ℕ) (files : List (List ℕ)) : Type 0 where
   pub counted : count ≡ length files
   pub few : count ≤ maxFiles
-  pub room : maxNumbers ≤ length ends
+  pub room : maxNumbers ≤ length index
   pub small : length names < 2 ^ 32
   pub within : length (concat files) ≤ length names
   pub bytes : take (length (concat files)) names ≡ concat files
-  pub column : take count ends ≡ endsFrom 0 files
+  pub column : take count index ≡ endsFrom 0 files
   -- no name is there twice
   pub once : (i j : ℕ) → i < j → j < count → getD files i [] ≡ getD files j [] → ⊥
   -- each name's link is the one before it in its bucket
-  pub links : (k : ℕ) → k < count → getD ends (linksFrom + k) 0 ≡ lastIn (bucketOf (getD files k [])) files k
-  pub heads : (b : ℕ) → b < buckets → getD ends (headsFrom + b) 0 ≡ lastIn b files count
+  pub links : (k : ℕ) → k < count → getD index (linksFrom + k) 0 ≡ lastIn (bucketOf (getD files k [])) files k
+  pub heads : (b : ℕ) → b < buckets → getD index (headsFrom + b) 0 ≡ lastIn b files count
 
 -- the buffers hold some table
-pub record Sound (names ends : List ℕ) (count : ℕ) : Type 0 where
+pub record SoundNames (names index : List ℕ) (count : ℕ) : Type 0 where
   pub files : List (List ℕ)
-  pub holds : Holds names ends count files
+  pub holds : HoldsNames names index count files
 
 -- ---- the answers, by the names held
 
-unfoldable pub found : List ℕ → List (List ℕ) → Found
+unfoldable pub found : List ℕ → List (List ℕ) → FoundName
 found p files = ifB (among p files) (λ _. At (numberOf p files)) (λ _. Missing)
 
 -- is there room for one more, with so many bytes
@@ -93,21 +93,21 @@ countAfter (Old k) n = n
 countAfter (New k) n = n + 1
 countAfter Full n = n
 
-pub record Finds (names ends : List ℕ) (count : ℕ) (path : List ℕ) (r : Found) : Type 0 where
-  pub answer : (files : List (List ℕ)) → Holds names ends count files → r ≡ found path files
+pub record FindsName (names index : List ℕ) (count : ℕ) (path : List ℕ) (r : FoundName) : Type 0 where
+  pub answer : (files : List (List ℕ)) → HoldsNames names index count files → r ≡ found path files
 
-pub record Adds (names ends : List ℕ) (count : ℕ) (path names′ ends′ : List ℕ) (r : Added) : Type 0 where
-  pub answer : (files : List (List ℕ)) → Holds names ends count files → r ≡ added (length names) path files
-  pub after : (files : List (List ℕ)) → Holds names ends count files → Holds names′ ends′ (countAfter r count) (filesAfter r path files)
+pub record AddsName (names index : List ℕ) (count : ℕ) (path names′ index′ : List ℕ) (r : Added) : Type 0 where
+  pub answer : (files : List (List ℕ)) → HoldsNames names index count files → r ≡ added (length names) path files
+  pub after : (files : List (List ℕ)) → HoldsNames names index count files → HoldsNames names′ index′ (countAfter r count) (filesAfter r path files)
 
-pub record Names (names ends : List ℕ) (count k : ℕ) (r : List ℕ) : Type 0 where
-  pub answer : (files : List (List ℕ)) → Holds names ends count files → r ≡ getD files k []
+pub record Names (names index : List ℕ) (count k : ℕ) (r : List ℕ) : Type 0 where
+  pub answer : (files : List (List ℕ)) → HoldsNames names index count files → r ≡ getD files k []
 
 -- where name k begins, by the column of ends
 unfoldable pub startIn : List ℕ → ℕ → ℕ
-startIn ends zero = 0
-startIn ends (suc k) = getD ends k 0
+startIn index zero = 0
+startIn index (suc k) = getD index k 0
 
 -- the three numbers of a name more: its end, its link, and the head of its bucket
 unfoldable pub linked : List ℕ → ℕ → ℕ → ℕ → List ℕ
-linked ends count b to = set (set (set ends count to) (linksFrom + count) (getD ends (headsFrom + b) 0)) (headsFrom + b) (count + 1)
+linked index count b to = set (set (set index count to) (linksFrom + count) (getD index (headsFrom + b) 0)) (headsFrom + b) (count + 1)

@@ -1,11 +1,11 @@
-// The table of file names: a number for each path, by first mention. The bytes of the names lie end to end in `names`; `ends` has where each
+// The table of file names: a number for each path, by first mention. The bytes of the names lie end to end in `names`; `index` has where each
 // ends, then a link for each to the one before it in its bucket, then the last name of each bucket.
 ghost use mathlib.Core.Path.{_≡_};
 ghost use Prim.Native.Nat.{_^_, _≤_, _<_};
 ghost use lib.ListN.{length};
 ghost use Rattle.lists.specs.Fill.{zeroed};
 ghost use Rattle.spec.specs.Limits.{maxFiles};
-ghost use Rattle.hold_names.specs.Table.{bucketOf, maxNumbers, Sound, Finds, Adds, Names, startIn, linked};
+ghost use Rattle.hold_names.specs.Table.{bucketOf, maxNumbers, SoundNames, FindsName, AddsName, Names, startIn, linked};
 use byteorder::equal;
 use slices::bytes::copy_at;
 use slices::words::at;
@@ -19,7 +19,7 @@ const HEADS: usize = 2048;
 
 pub const NUMBERS: usize = 3072;
 
-pub enum Found {
+pub enum FoundName {
     At(usize),
     Missing,
 }
@@ -53,79 +53,79 @@ fn bucket(path: &[u8]) -> usize
 }
 
 // Makes the table one of no names.
-pub fn clear(ends: &mut [u32])
-    requires { ⌜ maxNumbers ≤ length (now ends) ⌝ }
-    ensures { λ _. ⌜ now (ends .exit) ≡ zeroed (now (ends .entry)) 2048 3072 ⌝ }
+pub fn clear(index: &mut [u32])
+    requires { ⌜ maxNumbers ≤ length (now index) ⌝ }
+    ensures { λ _. ⌜ now (index .exit) ≡ zeroed (now (index .entry)) 2048 3072 ⌝ }
 {
-    zero_part(ends, HEADS, NUMBERS);
+    zero_part(index, HEADS, NUMBERS);
 }
 
 // The number of a path, by the names of its bucket from the last to the first.
-pub fn find(names: &[u8], ends: &[u32], count: usize, path: &[u8]) -> Found
-    requires { ⌜ Sound (now names) (now ends) count ⌝ }
-    ensures { λ r. ⌜ Finds (now (names .entry)) (now (ends .entry)) count (now (path .entry)) r ⌝ }
+pub fn find(names: &[u8], index: &[u32], count: usize, path: &[u8]) -> FoundName
+    requires { ⌜ SoundNames (now names) (now index) count ⌝ }
+    ensures { λ r. ⌜ FindsName (now (names .entry)) (now (index .entry)) count (now (path .entry)) r ⌝ }
 {
-    let mut j = at(ends, HEADS + bucket(path));
+    let mut j = at(index, HEADS + bucket(path));
     while 0 < j {
         let k = j - 1;
-        if equal(path, name(names, ends, count, k)) {
-            return Found::At(k);
+        if equal(path, name(names, index, count, k)) {
+            return FoundName::At(k);
         }
-        j = at(ends, LINKS + k);
+        j = at(index, LINKS + k);
     }
-    Found::Missing
+    FoundName::Missing
 }
 
 // Puts down the numbers of a name more.
-fn link(ends: &mut [u32], count: usize, b: usize, to: usize)
-    requires { ⌜ (maxNumbers ≤ length (now ends)) × (count < maxFiles) × (b < 1024) × (to < 2 ^ 32) ⌝ }
-    ensures { λ _. ⌜ now (ends .exit) ≡ linked (now (ends .entry)) count b to ⌝ }
+fn link(index: &mut [u32], count: usize, b: usize, to: usize)
+    requires { ⌜ (maxNumbers ≤ length (now index)) × (count < maxFiles) × (b < 1024) × (to < 2 ^ 32) ⌝ }
+    ensures { λ _. ⌜ now (index .exit) ≡ linked (now (index .entry)) count b to ⌝ }
 {
-    let head = ends[HEADS + b];
-    ends[count] = to as u32;
-    ends[LINKS + count] = head;
-    ends[HEADS + b] = (count + 1) as u32;
+    let head = index[HEADS + b];
+    index[count] = to as u32;
+    index[LINKS + count] = head;
+    index[HEADS + b] = (count + 1) as u32;
 }
 
 // The number of a path, which is added where it is not there yet.
-pub fn add(names: &mut [u8], ends: &mut [u32], count: usize, path: &[u8]) -> Added
-    requires { ⌜ Sound (now names) (now ends) count ⌝ }
-    ensures { λ r. ⌜ Adds (now (names .entry)) (now (ends .entry)) count (now (path .entry)) (now (names .exit)) (now (ends .exit)) r ⌝ }
+pub fn add(names: &mut [u8], index: &mut [u32], count: usize, path: &[u8]) -> Added
+    requires { ⌜ SoundNames (now names) (now index) count ⌝ }
+    ensures { λ r. ⌜ AddsName (now (names .entry)) (now (index .entry)) count (now (path .entry)) (now (names .exit)) (now (index .exit)) r ⌝ }
 {
-    let found = find(names, ends, count, path);
-    if let Found::At(k) = found {
+    let found = find(names, index, count, path);
+    if let FoundName::At(k) = found {
         return Added::Old(k);
     }
     if FILES <= count {
         return Added::Full;
     }
-    let from = start(ends, count);
+    let from = start(index, count);
     if names.len() - from < path.len() {
         return Added::Full;
     }
     copy_at(names, from, path);
-    link(ends, count, bucket(path), from + path.len());
+    link(index, count, bucket(path), from + path.len());
     Added::New(count)
 }
 
 // The path of a number, as a part of the names.
-pub fn name<'a>(names: &'a [u8], ends: &[u32], count: usize, k: usize) -> &'a [u8]
-    requires { ⌜ Sound (now names) (now ends) count ⌝ }
+pub fn name<'a>(names: &'a [u8], index: &[u32], count: usize, k: usize) -> &'a [u8]
+    requires { ⌜ SoundNames (now names) (now index) count ⌝ }
     requires { ⌜ k < count ⌝ }
-    ensures { λ r. ⌜ Names (now (names .entry)) (now (ends .entry)) count k (now r) ⌝ }
+    ensures { λ r. ⌜ Names (now (names .entry)) (now (index .entry)) count k (now r) ⌝ }
 {
-    let from = start(ends, k);
-    let to = at(ends, k);
+    let from = start(index, k);
+    let to = at(index, k);
     &names[from..to]
 }
 
 // Where name k begins: where the one before it ends.
-fn start(ends: &[u32], k: usize) -> usize
-    requires { ⌜ k ≤ length (now ends) ⌝ }
-    ensures { λ r. ⌜ r ≡ startIn (now (ends .entry)) k ⌝ }
+fn start(index: &[u32], k: usize) -> usize
+    requires { ⌜ k ≤ length (now index) ⌝ }
+    ensures { λ r. ⌜ r ≡ startIn (now (index .entry)) k ⌝ }
 {
     if k == 0 {
         return 0;
     }
-    at(ends, k - 1)
+    at(index, k - 1)
 }

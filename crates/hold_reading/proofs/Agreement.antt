@@ -12,7 +12,7 @@ use Rattle.spec.specs.Reading.{Reading, nothingRead}
 use Rattle.spec.specs.Graph.{makers, makersFrom}
 use Rattle.spec.specs.Statements.{Block, noBlock, Outcome, goesOn, refused}
 use Rattle.arena.specs.Columns.{Lies}
-use Rattle.hold_names.specs.Table.{Holds as NamesHold}
+use Rattle.hold_names.specs.Table.{HoldsNames}
 use Rattle.hold_bindings.specs.Log.{Logged, boundBy, rulesIn, rulesOf}
 use Rattle.hold_bindings.specs.Held.{maxTexts, maxRows, valuesIn}
 use Rattle.hold_bindings.proofs.Entries.{held-none}
@@ -20,24 +20,24 @@ use Rattle.hold_columns.specs.Tables.{madeBy}
 use Rattle.hold_reading.specs.declared.Counts.{Counts}
 use Rattle.hold_reading.specs.declared.Open.{Open}
 use Rattle.hold_reading.specs.declared.LineAnswer.the-variants.{Goes, Refused}
-use Rattle.hold_reading.specs.Held.{joined, Opens, capacities, Holds, Agrees, goes, refuses}
+use Rattle.hold_reading.specs.Held.{joined, Opens, capacities, HoldsReading, Agrees, goes, refuses}
 
 -- ---- by the answer
 
 -- The reading goes on, and is held.
-pub record GoesOn (names fileEnds texts bind graph : List ℕ) (c : Counts) (o : Open) (out : Outcome) : Type 0 where
+pub record GoesOn (names index texts bind graph : List ℕ) (c : Counts) (o : Open) (out : Outcome) : Type 0 where
   pub log : List Logged
   pub reading : Reading
   pub block : Block
   pub outcome : out ≡ goesOn reading block
-  pub holds : Holds log names fileEnds texts bind graph c (joined reading block)
+  pub holds : HoldsReading log names index texts bind graph c (joined reading block)
   pub opens : Opens log block o
 
-module _ {names fileEnds texts bind graph : List ℕ} where
-  pub agreed-on : {out : Outcome} {c : Counts} {o : Open} → Agrees names fileEnds texts bind graph out (Goes c o) → GoesOn names fileEnds texts bind graph c o out
+module _ {names index texts bind graph : List ℕ} where
+  pub agreed-on : {out : Outcome} {c : Counts} {o : Open} → Agrees names index texts bind graph out (Goes c o) → GoesOn names index texts bind graph c o out
   agreed-on (goes {log = l} {rd = rd} {b = b} h p) = record { log = l; reading = rd; block = b; outcome = refl; holds = h; opens = p }
 
-  pub agreed-refused : {out : Outcome} {r : Refusal} → Agrees names fileEnds texts bind graph out (Refused r) → out ≡ refused r
+  pub agreed-refused : {out : Outcome} {r : Refusal} → Agrees names index texts bind graph out (Refused r) → out ≡ refused r
   agreed-refused refuses = refl
 
 -- ---- before the first line
@@ -50,9 +50,9 @@ unfolding Lies sum
 none-lies [] a h = tt
 none-lies (n ∷ ns) a h = (omega arith, omega arith, refl, none-lies ns (drop n a) (omega (arith, length-drop n a)))
 
-module _ (names fileEnds texts bind graph : List ℕ) where
-  pub start-held : NamesHold names fileEnds 0 [] → maxTexts ≤ length texts → maxRows ≤ length bind → sum capacities ≤ length graph
-      → Holds [] names fileEnds texts bind graph noCounts (joined nothingRead noBlock)
+module _ (names index texts bind graph : List ℕ) where
+  pub start-held : HoldsNames names index 0 [] → maxTexts ≤ length texts → maxRows ≤ length bind → sum capacities ≤ length graph
+      → HoldsReading [] names index texts bind graph noCounts (joined nothingRead noBlock)
   unfolding joined boundBy rulesOf rulesIn valuesIn concat makers makersFrom madeBy Rattle.hold_columns.specs.Tables.endsFrom
   start-held n t b g =
       record {

@@ -9,7 +9,7 @@ use Rattle.lists.specs.Members.{has}
 use Rattle.spec.specs.Basics.{concat}
 use Rattle.spec.specs.Reading.{Step, isPhony}
 use Rattle.spec.specs.Graph.{noStep, stepAt, inputs, makers, makersFrom}
-use Rattle.hold_columns.specs.Tables.{bit, mentionsOf, endsFrom, Holds}
+use Rattle.hold_columns.specs.Tables.{bit, mentionsOf, endsFrom, HoldsColumns}
 use Rattle.hold_reading.specs.Binds.{bare}
 
 mentions-bare : (l : List Step) → concat (map mentionsOf (map bare l)) ≡ concat (map mentionsOf l)
@@ -55,7 +55,7 @@ module _ (a b : List Step) (e : map bare a ≡ map bare b) where
   unfolding makers
   same-makers f = sym (makers-from-bare 0 a f) ∙ ap (λ (l : List Step). makersFrom 0 l f) e ∙ makers-from-bare 0 b f
 
-  pub same-tables : {files : ℕ} {mentions ends phony made : List ℕ} → Holds b files mentions ends phony made → Holds a files mentions ends phony made
+  pub same-tables : {files : ℕ} {mentions ends phony made : List ℕ} → HoldsColumns b files mentions ends phony made → HoldsColumns a files mentions ends phony made
   same-tables h =
       record {
         mentioned = h .mentioned ∙ sym (mentions-bare b) ∙ sym (ap (λ (l : List Step). concat (map mentionsOf l)) e) ∙ mentions-bare a;

@@ -14,9 +14,9 @@ use Rattle.spec.specs.Reading.{Bound as Binding, Rule, Step, Reading}
 use Rattle.spec.specs.Statements.{countBinding, setVar}
 use Rattle.spec.specs.Manifest.{withRule, withStep}
 use Rattle.spec.specs.Graph.{noStep, stepAt}
-use Rattle.hold_bindings.specs.declared.Found.the-variants.{At}
+use Rattle.hold_bindings.specs.declared.FoundEntry.the-variants.{At}
 use Rattle.hold_bindings.specs.Log.{Logged, logged, ofFile, ofRules, ofKeys, ofStep, boundBy, rulesIn, rulesOf, newestRule, withKey, Owned}
-use Rattle.hold_bindings.specs.Held.{maxEntries, maxOwner, Holds, Room, valuesIn}
+use Rattle.hold_bindings.specs.Held.{maxEntries, maxOwner, HoldsBindings, Room, valuesIn}
 use Rattle.hold_bindings.proofs.Lookups.{bound-same, bound-other, owner-file, owner-rules, owner-keys, owner-step, keys-not-step, rules-other, rules-declared, rules-key}
 use Rattle.hold_reading.specs.declared.Counts.{Counts}
 use Rattle.hold_reading.specs.Held.{Bound}
@@ -60,7 +60,7 @@ bound-room b e f w o n = record { held = b .held; few = f; owner = o; name = n; 
 -- ---- a rule
 
 module _ {log : List Logged} {texts bind texts′ bind′ : List ℕ} {c : Counts} {rd : Reading} (b : Bound log texts bind c rd) where
-  pub bound-rule : (n : List ℕ) → Holds (logged ofRules n [] ∷ log) texts′ bind′ (c .entries + 1) → c .rules < maxRules
+  pub bound-rule : (n : List ℕ) → HoldsBindings (logged ofRules n [] ∷ log) texts′ bind′ (c .entries + 1) → c .rules < maxRules
       → Bound (logged ofRules n [] ∷ log) texts′ bind′ (countedRule c) (withRule (record { name = n; keys = [] }) rd)
   unfolding withRule valuesIn
   bound-rule n h f =
@@ -96,7 +96,7 @@ record More (n : ℕ) (rd rd′ : Reading) : Type 0 where
   written : rd′ .written ≡ rd .written + n
 
 module _ {log : List Logged} {texts bind texts′ bind′ : List ℕ} {c : Counts} {rd : Reading} (b : Bound log texts bind c rd) (e : Logged)
-    (h : Holds (e ∷ log) texts′ bind′ (c .entries + 1)) (f : c .bindings < maxBindings) (w : c .written + length (e .value) ≤ maxWritten) where
+    (h : HoldsBindings (e ∷ log) texts′ bind′ (c .entries + 1)) (f : c .bindings < maxBindings) (w : c .written + length (e .value) ≤ maxWritten) where
   bound-more : {rd′ : Reading} → More (length (e .value)) rd rd′ → rd′ .vars ≡ boundBy ofFile (e ∷ log) → rd′ .rules ≡ rulesOf (e ∷ log)
       → ((s : ℕ) → s < length (rd′ .steps) → stepAt (rd′ .steps) s .block ≡ boundBy (ofStep s) (e ∷ log)) → Owned (length (rd′ .steps)) (e ∷ log)
       → Bound (e ∷ log) texts′ bind′ (countedMore (length (e .value)) c) rd′
@@ -122,7 +122,7 @@ module _ {log : List Logged} {texts bind texts′ bind′ : List ℕ} {c : Count
 
 -- a variable of the file
 module _ {log : List Logged} {texts bind texts′ bind′ : List ℕ} {c : Counts} {rd : Reading} (b : Bound log texts bind c rd) (n v : List ℕ)
-    (h : Holds (logged ofFile n v ∷ log) texts′ bind′ (c .entries + 1)) (f : c .bindings < maxBindings) (w : c .written + length v ≤ maxWritten) where
+    (h : HoldsBindings (logged ofFile n v ∷ log) texts′ bind′ (c .entries + 1)) (f : c .bindings < maxBindings) (w : c .written + length v ≤ maxWritten) where
   pub bound-var : Bound (logged ofFile n v ∷ log) texts′ bind′ (countedMore (length v) c) (setVar n v (countBinding (length v) rd))
   unfolding setVar countBinding
   bound-var =
@@ -136,7 +136,7 @@ module _ {log : List Logged} {texts bind texts′ bind′ : List ℕ} {c : Count
 
 -- a key of the open rule
 module _ {log : List Logged} {texts bind texts′ bind′ : List ℕ} {c : Counts} (rd : Reading) (r : Rule) (k : ℕ) (b : Bound log texts bind c (withRule r rd))
-    (o : newestRule log ≡ At k) (n v : List ℕ) (h : Holds (logged (ofKeys k) n v ∷ log) texts′ bind′ (c .entries + 1)) (f : c .bindings < maxBindings)
+    (o : newestRule log ≡ At k) (n v : List ℕ) (h : HoldsBindings (logged (ofKeys k) n v ∷ log) texts′ bind′ (c .entries + 1)) (f : c .bindings < maxBindings)
     (w : c .written + length v ≤ maxWritten) where
   pub bound-key : Bound (logged (ofKeys k) n v ∷ log) texts′ bind′ (countedMore (length v) c) (withRule (keyMore n v r) (countBinding (length v) rd))
   unfolding withRule withKey countBinding
@@ -151,7 +151,7 @@ module _ {log : List Logged} {texts bind texts′ bind′ : List ℕ} {c : Count
 
 -- a line of the open step's block
 module _ {log : List Logged} {texts bind texts′ bind′ : List ℕ} {c : Counts} (rd : Reading) (s : Step) (b : Bound log texts bind c (withStep s rd)) (n v : List ℕ)
-    (h : Holds (logged (ofStep (length (rd .steps))) n v ∷ log) texts′ bind′ (c .entries + 1)) (f : c .bindings < maxBindings)
+    (h : HoldsBindings (logged (ofStep (length (rd .steps))) n v ∷ log) texts′ bind′ (c .entries + 1)) (f : c .bindings < maxBindings)
     (w : c .written + length v ≤ maxWritten) where
   line-blocks : (i : ℕ) → i < length (rd .steps ++ (lineMore n v s ∷ []))
       → stepAt (rd .steps ++ (lineMore n v s ∷ [])) i .block ≡ boundBy (ofStep i) (logged (ofStep (length (rd .steps))) n v ∷ log)

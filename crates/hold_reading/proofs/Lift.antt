@@ -7,7 +7,7 @@ use lib.ListN.{length, length-append}
 use Rattle.spec.specs.declared.Refusal.{Refusal}
 use Rattle.spec.specs.Reading.{Reading}
 use Rattle.spec.specs.Statements.{Block, Outcome, refused}
-use Rattle.hold_names.specs.Table.{Holds as NamesHold}
+use Rattle.hold_names.specs.Table.{HoldsNames}
 use Rattle.hold_bindings.specs.Log.{Logged, entryAt}
 use Rattle.hold_bindings.proofs.Lookups.{entry-kept}
 use Rattle.hold_reading.specs.declared.Counts.{Counts}
@@ -15,8 +15,8 @@ use Rattle.hold_reading.specs.declared.Open.{Open}
 use Rattle.hold_reading.specs.declared.Open.the-variants.{Nothing}
 use Rattle.hold_reading.specs.declared.LineAnswer.{LineAnswer}
 use Rattle.hold_reading.specs.declared.LineAnswer.the-variants.{Refused}
-use Rattle.hold_reading.specs.Held.{joined, Opens, nothing, Bound, Ruled, phony, declared, Graphed, Holds, Agrees, goes, refuses}
-use Rattle.hold_reading.specs.Binds.{Known, Sound, Beside, Binds, Meets}
+use Rattle.hold_reading.specs.Held.{joined, Opens, nothing, Bound, Ruled, phony, declared, Graphed, HoldsReading, Agrees, goes, refuses}
+use Rattle.hold_reading.specs.Binds.{Known, SoundBlock, Beside, Binds, Meets}
 use Rattle.hold_reading.proofs.Bare.{same-count, same-rule, same-tables}
 
 -- ---- the log grows
@@ -35,7 +35,7 @@ ruled-more {log} more (declared {k = k} h o n p) =
 -- ---- the names and the graph stay
 
 module _ {c c′ : Counts} {rd rd′ : Reading} (s : Beside c rd c′ rd′) where
-  pub named-beside : {names fileEnds : List ℕ} → NamesHold names fileEnds (c .files) (rd .files) → NamesHold names fileEnds (c′ .files) (rd′ .files)
+  pub named-beside : {names index : List ℕ} → HoldsNames names index (c .files) (rd .files) → HoldsNames names index (c′ .files) (rd′ .files)
   named-beside h = rw (s .files-counted, s .files) h
 
   pub graphed-beside : {log : List Logged} {graph : List ℕ} (more : List Logged) → Graphed log graph c rd → Graphed (more ++ log) graph c′ rd′
@@ -60,14 +60,14 @@ module _ {c c′ : Counts} {rd rd′ : Reading} (s : Beside c rd c′ rd′) whe
 
 -- ---- a line
 
-module _ {log : List Logged} {names fileEnds texts bind graph : List ℕ} {c : Counts} {rd : Reading} where
-  pub lifted : {texts′ bind′ : List ℕ} {out : Outcome} {r : LineAnswer} → Holds log names fileEnds texts bind graph c rd → Binds log c rd texts′ bind′ out r
-      → Agrees names fileEnds texts′ bind′ graph out r
+module _ {log : List Logged} {names index texts bind graph : List ℕ} {c : Counts} {rd : Reading} where
+  pub lifted : {texts′ bind′ : List ℕ} {out : Outcome} {r : LineAnswer} → HoldsReading log names index texts bind graph c rd → Binds log c rd texts′ bind′ out r
+      → Agrees names index texts′ bind′ graph out r
   lifted h (Binds.goes more b o s) = goes (record { named = named-beside s (h .named); bound = b; graphed = graphed-beside s more (h .graphed) }) o
   lifted h Binds.refuses = refuses
 
-module _ {log : List Logged} {names fileEnds texts bind graph : List ℕ} {c : Counts} (rd : Reading) {b : Block} {o : Open}
-    (h : Holds log names fileEnds texts bind graph c (joined rd b)) (p : Opens log b o) where
+module _ {log : List Logged} {names index texts bind graph : List ℕ} {c : Counts} (rd : Reading) {b : Block} {o : Open}
+    (h : HoldsReading log names index texts bind graph c (joined rd b)) (p : Opens log b o) where
   -- what a line that binds asks
   pub known : Known log texts bind c rd b o
   known =
@@ -78,12 +78,12 @@ module _ {log : List Logged} {names fileEnds texts bind graph : List ℕ} {c : C
         few-mentions = omega (arith, h .graphed .mentions-counted, h .graphed .mentions-low);
       }
 
-  pub sound : Sound texts bind c o
+  pub sound : SoundBlock texts bind c o
   sound = record { log = log; reading = rd; block = b; known = known }
 
   -- what it gives
   pub met : {line : Reading → Block → Outcome} {texts′ bind′ : List ℕ} {r : LineAnswer} → Meets texts bind c o line texts′ bind′ r
-      → Agrees names fileEnds texts′ bind′ graph (line rd b) r
+      → Agrees names index texts′ bind′ graph (line rd b) r
   met m = lifted h (m .agrees log rd b known)
 
 -- ---- what a line's laws begin with

@@ -5,16 +5,16 @@ use mathlib.Core.List.{List}
 use Rattle.spec.specs.Reading.{Reading}
 use Rattle.spec.specs.Statements.{Outcome}
 use Rattle.hold_bindings.specs.Log.{Logged}
-use Rattle.hold_reading.specs.Held.{Holds, Agrees}
+use Rattle.hold_reading.specs.Held.{HoldsReading, Agrees}
 use Rattle.hold_reading.specs.declared.Counts.{Counts}
 use Rattle.hold_reading.specs.declared.LineAnswer.{LineAnswer}
 
 -- the buffers hold some reading
-pub record Whole (names fileEnds texts bind graph : List ℕ) (c : Counts) : Type 0 where
+pub record Whole (names index texts bind graph : List ℕ) (c : Counts) : Type 0 where
   pub log : List Logged
   pub reading : Reading
-  pub holds : Holds log names fileEnds texts bind graph c reading
+  pub holds : HoldsReading log names index texts bind graph c reading
 
 -- The line's answer agrees with its outcome, whatever reading was held.
-pub record Adds (names fileEnds texts bind graph : List ℕ) (c : Counts) (line : Reading → Outcome) (names′ fileEnds′ graph′ : List ℕ) (r : LineAnswer) : Type 0 where
-  pub agrees : (log : List Logged) (rd : Reading) → Holds log names fileEnds texts bind graph c rd → Agrees names′ fileEnds′ texts bind graph′ (line rd) r
+pub record AddsFiles (names index texts bind graph : List ℕ) (c : Counts) (line : Reading → Outcome) (names′ index′ graph′ : List ℕ) (r : LineAnswer) : Type 0 where
+  pub agrees : (log : List Logged) (rd : Reading) → HoldsReading log names index texts bind graph c rd → Agrees names′ index′ texts bind graph′ (line rd) r

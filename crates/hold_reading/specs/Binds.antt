@@ -24,7 +24,7 @@ pub record Known (log : List Logged) (texts bind : List ℕ) (c : Counts) (rd : 
   pub few-mentions : joined rd b .mentions ≤ maxMentions
 
 -- it holds some reading and block
-pub record Sound (texts bind : List ℕ) (c : Counts) (o : Open) : Type 0 where
+pub record SoundBlock (texts bind : List ℕ) (c : Counts) (o : Open) : Type 0 where
   pub log : List Logged
   pub reading : Reading
   pub block : Block

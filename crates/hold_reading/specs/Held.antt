@@ -13,11 +13,11 @@ use Rattle.spec.specs.Statements.{Block, noBlock, ruleBlock, buildBlock, Outcom
 use Rattle.spec.specs.Manifest.{withRule, withStep}
 use Rattle.spec.specs.Graph.{stepAt}
 use Rattle.arena.specs.Columns.{Lies}
-use Rattle.hold_names.specs.Table.{Holds as NamesHold}
-use Rattle.hold_bindings.specs.declared.Found.the-variants.{At}
+use Rattle.hold_names.specs.Table.{HoldsNames}
+use Rattle.hold_bindings.specs.declared.FoundEntry.the-variants.{At}
 use Rattle.hold_bindings.specs.Log.{Logged, ofFile, ofRules, ofStep, entryAt, boundBy, rulesOf, newestRule, Owned}
-use Rattle.hold_bindings.specs.Held.{Holds as BindingsHold, valuesIn}
-use Rattle.hold_columns.specs.Tables.{Holds as TablesHold}
+use Rattle.hold_bindings.specs.Held.{HoldsBindings, valuesIn}
+use Rattle.hold_columns.specs.Tables.{HoldsColumns}
 use Rattle.hold_reading.specs.declared.Counts.{Counts}
 use Rattle.hold_reading.specs.declared.Open.{Open}
 use Rattle.hold_reading.specs.declared.Open.the-variants.{Nothing, Rule as OpenRule, Step as OpenStep}
@@ -39,7 +39,7 @@ pub data Opens (log : List Logged) : Block → Open → Type 0 where
 
 -- the table of bindings holds the reading's variables, rules and blocks
 pub record Bound (log : List Logged) (texts bind : List ℕ) (c : Counts) (rd : Reading) : Type 0 where
-  pub held : BindingsHold log texts bind (c .entries)
+  pub held : HoldsBindings log texts bind (c .entries)
   pub vars : rd .vars ≡ boundBy ofFile log
   pub rules : rd .rules ≡ rulesOf log
   pub blocks : (s : ℕ) → s < length (rd .steps) → stepAt (rd .steps) s .block ≡ boundBy (ofStep s) log
@@ -73,7 +73,7 @@ pub record Graphed (log : List Logged) (graph : List ℕ) (c : Counts) (rd : Rea
   pub made : List ℕ
   pub ruleOf : List ℕ
   pub lies : Lies capacities graph (mentions ∷ ends ∷ phony ∷ made ∷ ruleOf ∷ rd .defaults ∷ [])
-  pub tables : TablesHold (rd .steps) (length (rd .files)) mentions ends phony made
+  pub tables : HoldsColumns (rd .steps) (length (rd .files)) mentions ends phony made
   pub ruled-all : length ruleOf ≡ length (rd .steps)
   pub ruled : (s : ℕ) → s < length (rd .steps) → Ruled log (stepAt (rd .steps) s .rule) (getD ruleOf s 0)
   pub paths-counted : c .paths ≡ length mentions
@@ -85,13 +85,13 @@ pub record Graphed (log : List Logged) (graph : List ℕ) (c : Counts) (rd : Rea
   pub defaults-low : (i : ℕ) → i < length (rd .defaults) → getD (rd .defaults) i 0 < length (rd .files)
 
 -- all that is held of a reading
-pub record Holds (log : List Logged) (names fileEnds texts bind graph : List ℕ) (c : Counts) (rd : Reading) : Type 0 where
-  pub named : NamesHold names fileEnds (c .files) (rd .files)
+pub record HoldsReading (log : List Logged) (names index texts bind graph : List ℕ) (c : Counts) (rd : Reading) : Type 0 where
+  pub named : HoldsNames names index (c .files) (rd .files)
   pub bound : Bound log texts bind c rd
   pub graphed : Graphed log graph c rd
 
 -- an outcome and an answer agree: what goes on is held, a refusal is the same and says nothing of the buffers
-pub data Agrees (names fileEnds texts bind graph : List ℕ) : Outcome → LineAnswer → Type 0 where
-  goes : {log : List Logged} {rd : Reading} {b : Block} {c : Counts} {o : Open} → Holds log names fileEnds texts bind graph c (joined rd b) → Opens log b o
-      → Agrees names fileEnds texts bind graph (goesOn rd b) (Goes c o)
-  refuses : {r : Refusal} → Agrees names fileEnds texts bind graph (refused r) (Refused r)
+pub data Agrees (names index texts bind graph : List ℕ) : Outcome → LineAnswer → Type 0 where
+  goes : {log : List Logged} {rd : Reading} {b : Block} {c : Counts} {o : Open} → HoldsReading log names index texts bind graph c (joined rd b) → Opens log b o
+      → Agrees names index texts bind graph (goesOn rd b) (Goes c o)
+  refuses : {r : Refusal} → Agrees names index texts bind graph (refused r) (Refused r)

@@ -13,7 +13,7 @@ use Rattle.spec.specs.Basics.{among}
 use Rattle.spec.specs.Limits.{maxName}
 use Rattle.spec.specs.Reading.{Rule, Reading, isPhony, declared, hasKey}
 use Rattle.spec.specs.Statements.{ruleKey}
-use Rattle.hold_bindings.specs.declared.Found.the-variants.{At}
+use Rattle.hold_bindings.specs.declared.FoundEntry.the-variants.{At}
 use Rattle.hold_bindings.specs.Log.{Logged, ofRules, ofKeys, newest, isAt, newestRule, rulesOf}
 use Rattle.hold_bindings.proofs.Lookups.{declared-newest, key-newest}
 use Rattle.hold_reading.specs.declared.Counts.{Counts}

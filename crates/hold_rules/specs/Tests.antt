@@ -4,11 +4,11 @@ use mathlib.Core.Bool.{Bool, not, _||_}
 use mathlib.Core.List.{List}
 use Rattle.spec.specs.Statements.{ruleKey}
 use Rattle.hold_bindings.specs.Log.{Logged, ofKeys, newest, isAt}
-use Rattle.hold_bindings.specs.Held.{Sound}
+use Rattle.hold_bindings.specs.Held.{SoundBindings}
 
 -- a table whose entry this is
 pub record OfRule (texts bind : List ℕ) (count entry : ℕ) : Type 0 where
-  pub table : Sound texts bind count
+  pub table : SoundBindings texts bind count
   pub below : entry < count
 
 -- does the rule declared at an entry have this key

@@ -13,7 +13,7 @@ pub struct Reader<'a> {
 }
 
 // Where a line's bytes end, whether a newline ends them, and where the next line starts.
-pub struct Span {
+pub struct LineBounds {
     pub end: usize,
     pub ended: bool,
     pub next: usize,
@@ -55,7 +55,7 @@ pub fn moved<'a>(r: Reader<'a>, place: usize) -> Reader<'a>
 }
 
 // The line that starts at the place reached.
-pub fn next_line<'a>(r: Reader<'a>) -> Span
+pub fn next_line<'a>(r: Reader<'a>) -> LineBounds
     requires { ⌜ r .cursor < length (now (r .manifest)) ⌝ }
     ensures { λ s. ⌜ LineSpan (now (r .entry .manifest)) (r .entry .cursor) s ⌝ }
 {
@@ -63,17 +63,17 @@ pub fn next_line<'a>(r: Reader<'a>) -> Span
 }
 
 // The line that starts at a place of a slice.
-fn line_at(m: &[u8], place: usize) -> Span
+fn line_at(m: &[u8], place: usize) -> LineBounds
     requires { ⌜ place < length (now m) ⌝ }
     ensures { λ r. ⌜ LineSpan (now (m .entry)) place r ⌝ }
 {
     match line_end(m, place) {
-        LineEnd::Ended(e) => Span {
+        LineEnd::Ended(e) => LineBounds {
             end: e,
             ended: true,
             next: e + 1,
         },
-        LineEnd::Open => Span {
+        LineEnd::Open => LineBounds {
             end: m.len(),
             ended: false,
             next: m.len(),
@@ -96,7 +96,7 @@ pub fn left_from(m: &[u8], from: usize) -> usize
     left(moved(start(m), from))
 }
 
-pub fn line_from(m: &[u8], from: usize) -> Span
+pub fn line_from(m: &[u8], from: usize) -> LineBounds
     requires { ⌜ from < length (now m) ⌝ }
     ensures { λ r. ⌜ LineSpan (now (m .entry)) from r ⌝ }
 {

@@ -8,16 +8,16 @@ use Rattle.scan_dollars.specs.declared.Escape.{Escape}
 use Rattle.scan_dollars.specs.declared.Escape.the-variants.{Byte, Join, Name, Bad}
 use Rattle.scan_dollars.specs.declared.After.{After}
 use Rattle.scan_dollars.specs.declared.After.the-variants.{To, Bad as Unsound}
-use Rattle.scan_dollars.specs.Element.{Element, literal, joins, wrong, element, restOf, Found, FoundName, Tells, Passed, PastAt}
+use Rattle.scan_dollars.specs.Element.{Element, literal, joins, wrong, element, restOf, FoundElement, FoundName, Tells, Passed, PastAt}
 
 -- ---- `dollar`
 
 module _ (s : List ℕ) (at : ℕ) (x : Element) (r : Escape) (t : Tells s at x r) where
-  pub tells-byte : {b n : ℕ} → r ≡ Byte b n → Found s at n x (literal b (drop n s))
+  pub tells-byte : {b n : ℕ} → r ≡ Byte b n → FoundElement s at n x (literal b (drop n s))
   unfolding Tells
   tells-byte e = rw e at t
 
-  pub tells-join : {n : ℕ} → r ≡ Join n → Found s at n x (joins (drop n s))
+  pub tells-join : {n : ℕ} → r ≡ Join n → FoundElement s at n x (joins (drop n s))
   unfolding Tells
   tells-join e = rw e at t
 

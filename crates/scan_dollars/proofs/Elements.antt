@@ -19,7 +19,7 @@ use Rattle.spec.specs.Forms.{nameOf, afterName}
 use Rattle.scan_classes.proofs.Sorted.{sorted}
 use Rattle.scan_dollars.specs.declared.Escape.{Escape}
 use Rattle.scan_dollars.specs.declared.Escape.the-variants.{Byte, Join, Name, Bad}
-use Rattle.scan_dollars.specs.Element.{Element, literal, joins, names, wrong, braced, element, restOf, Found, FoundName, Tells, Passed}
+use Rattle.scan_dollars.specs.Element.{Element, literal, joins, names, wrong, braced, element, restOf, FoundElement, FoundName, Tells, Passed}
 use Rattle.scan_tokens.proofs.Places.{at-cons, at-end, not-empty}
 use Rattle.scan_tokens.proofs.Names.{part-name}
 
@@ -108,12 +108,12 @@ module _ (s : List ℕ) {at k : ℕ} (h : at < length s) (c : k ≡ classOf (get
   unfolding byClass
   brace-begins r p f = tells-from s at (at + 1) _ _ r (omega arith) (here ∙ rw p) f
 
-  pub join-begins : {n : ℕ} → k ≡ 4 → Reads (afterRun isSpace) s (at + 1) n → Found s at n (element (drop at s)) (joins (drop n s))
+  pub join-begins : {n : ℕ} → k ≡ 4 → Reads (afterRun isSpace) s (at + 1) n → FoundElement s at n (element (drop at s)) (joins (drop n s))
   unfolding byClass
   join-begins p a =
       record { forward = omega (arith, a .forward); within = a .within; is = here ∙ rw (p, a .rest) }
 
-  pub byte-begins : eqb k 5 || eqb k 3 || eqb k 6 ≡ true → Found s at (at + 1) (element (drop at s)) (literal (getD s at 0) (drop (at + 1) s))
+  pub byte-begins : eqb k 5 || eqb k 3 || eqb k 6 ≡ true → FoundElement s at (at + 1) (element (drop at s)) (literal (getD s at 0) (drop (at + 1) s))
   unfolding byClass
   byte-begins p = record { forward = omega arith; within = omega arith; is = here ∙ rw p }
 
@@ -123,11 +123,11 @@ module _ (s : List ℕ) {at k : ℕ} (h : at < length s) (c : k ≡ classOf (get
 
 -- ---- what follows, whatever it is
 
-pub passed-byte : {s : List ℕ} {at b n : ℕ} → Found s at n (element (drop at s)) (literal b (drop n s)) → Passed s at n
+pub passed-byte : {s : List ℕ} {at b n : ℕ} → FoundElement s at n (element (drop at s)) (literal b (drop n s)) → Passed s at n
 unfolding restOf
 passed-byte f = record { forward = f .forward; within = f .within; rest = ap restOf (f .is) }
 
-pub passed-join : {s : List ℕ} {at n : ℕ} → Found s at n (element (drop at s)) (joins (drop n s)) → Passed s at n
+pub passed-join : {s : List ℕ} {at n : ℕ} → FoundElement s at n (element (drop at s)) (joins (drop n s)) → Passed s at n
 unfolding restOf
 passed-join f = record { forward = f .forward; within = f .within; rest = ap restOf (f .is) }
 

@@ -51,7 +51,7 @@ restOf (names n s) = some s
 restOf wrong = none
 
 -- What an answer tells of x, which begins at place `at`: what it is, and where the bytes after it start.
-pub record Found (s : List ℕ) (at next : ℕ) (x y : Element) : Type 0 where
+pub record FoundElement (s : List ℕ) (at next : ℕ) (x y : Element) : Type 0 where
   pub forward : at ≤ next
   pub within : next ≤ length s
   pub is : x ≡ y
@@ -59,11 +59,11 @@ pub record Found (s : List ℕ) (at next : ℕ) (x y : Element) : Type 0 where
 pub record FoundName (s : List ℕ) (at from to next : ℕ) (x : Element) : Type 0 where
   pub ordered : from ≤ to
   pub before : to ≤ next
-  pub found : Found s at next x (names (part s from to) (drop next s))
+  pub found : FoundElement s at next x (names (part s from to) (drop next s))
 
 unfoldable pub Tells : List ℕ → ℕ → Element → Escape → Type 0
-Tells s at x (Byte b next) = Found s at next x (literal b (drop next s))
-Tells s at x (Join next) = Found s at next x (joins (drop next s))
+Tells s at x (Byte b next) = FoundElement s at next x (literal b (drop next s))
+Tells s at x (Join next) = FoundElement s at next x (joins (drop next s))
 Tells s at x (Name from to next) = FoundName s at from to next x
 Tells s at x Bad = x ≡ wrong
 

@@ -15,8 +15,8 @@ use Rattle.spec.specs.Basics.{among}
 use Rattle.spec.specs.Limits.{maxPath, maxTargets}
 use Rattle.spec.specs.Reading.{numberOf}
 use Rattle.spec.specs.Targets.{Target, targetsFrom, targetsOf, malformed, badLength, badName, firstBad, badTarget}
-use Rattle.scan_targets.specs.declared.Next.{Next}
-use Rattle.scan_targets.specs.declared.Next.the-variants.{End, Bad, Name}
+use Rattle.scan_targets.specs.declared.NextTarget.{NextTarget}
+use Rattle.scan_targets.specs.declared.NextTarget.the-variants.{End, Bad, Name}
 use Rattle.scan_targets.specs.Next.{other, nextIn}
 use Rattle.scan_targets.proofs.Runs.{clash, left-none, left-one, runs-to, bad-empty, bad-long, good-length, length-good, form-short}
 
@@ -150,7 +150,7 @@ good-first : (files : List (List ℕ)) (x : Target) (l : List Target) → badNam
 unfolding firstBad
 good-first files x l h = rw h
 
-module _ {files : List (List ℕ)} {t : List ℕ} {from : ℕ} {done : List ℕ} (w : Walking files t from done) {r : Next} (n : r ≡ nextIn (namesFrom t from)) where
+module _ {files : List (List ℕ)} {t : List ℕ} {from : ℕ} {done : List ℕ} (w : Walking files t from done) {r : NextTarget} (n : r ≡ nextIn (namesFrom t from)) where
   pub walk-end : r ≡ End → (badTarget files t ≡ none) × (numbersIn files (targetsOf t) ≡ done)
   unfolding firstBad
   walk-end e =

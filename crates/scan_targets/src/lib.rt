@@ -10,7 +10,7 @@ use spec::limits::PATH;
 use spec::limits::TARGETS;
 
 // What stands at a place where a name may start.
-pub enum Next {
+pub enum NextTarget {
     // No name: the list ends.
     End,
     // A name that is empty or too long.
@@ -33,23 +33,23 @@ pub fn bad_form(t: &[u8]) -> bool
 }
 
 // The name that starts at `from`: it is the part from there to the place that is returned, and the next one starts after that.
-pub fn name_at(t: &[u8], from: usize) -> Next
+pub fn name_at(t: &[u8], from: usize) -> NextTarget
     ensures { λ r. ⌜ r ≡ nextIn (targetsFrom from from [] (drop from (now (t .entry)))) ⌝ }
 {
     if t.len() < from {
-        return Next::End;
+        return NextTarget::End;
     }
     let end = line_end(t, from);
     if t.len() <= end {
-        return Next::End;
+        return NextTarget::End;
     }
     if end - from < 1 {
-        return Next::Bad;
+        return NextTarget::Bad;
     }
     if PATH < end - from {
-        return Next::Bad;
+        return NextTarget::Bad;
     }
-    Next::Name(end)
+    NextTarget::Name(end)
 }
 
 // The place of the first newline from `from` on, or the length.

@@ -10,7 +10,7 @@ use lib.ListN.{length, getD}
 use borrow.Author.Count.{below-more}
 use Rattle.lists.specs.Tests.{differ}
 use Rattle.lists.specs.Members.{in-at, place}
-use Rattle.hold_columns.specs.Tables.{startIn, Placed, Sound}
+use Rattle.hold_columns.specs.Tables.{startIn, Placed, SoundColumns}
 use Rattle.graph_plan.specs.Plan.{PlanAsked, PlansGraph}
 use Rattle.spec.specs.declared.PlanAnswer.{PlanAnswer}
 use Rattle.spec.specs.Answers.{planSays}
@@ -95,23 +95,23 @@ place-ends r z = holds-so (λ s b. r .placed s (omega arith))
 -- ---- the tables
 
 module _ {mentions ends made : List ℕ} {n : ℕ} where
-  pub steps-fail : 512 < n → Decides (Sound n mentions ends made) false
+  pub steps-fail : 512 < n → Decides (SoundColumns n mentions ends made) false
   steps-fail z = fails-so (λ p. omega (arith, p .few-steps))
 
-  pub files-fail : 1024 < length made → Decides (Sound n mentions ends made) false
+  pub files-fail : 1024 < length made → Decides (SoundColumns n mentions ends made) false
   files-fail z = fails-so (λ p. omega (arith, p .few-files))
 
-  pub many-fail : 4096 < length mentions → Decides (Sound n mentions ends made) false
+  pub many-fail : 4096 < length mentions → Decides (SoundColumns n mentions ends made) false
   many-fail z = fails-so (λ p. omega (arith, p .few-mentions))
 
-  pub mentions-fail : {a : Bool} → Decides (Below mentions (length made)) a → a ≡ false → Decides (Sound n mentions ends made) false
+  pub mentions-fail : {a : Bool} → Decides (Below mentions (length made)) a → a ≡ false → Decides (SoundColumns n mentions ends made) false
   mentions-fail d e = fails-so (λ p. d .no e (λ i z. p .low (getD mentions i 0) (in-at mentions i z)))
 
-  pub makers-fail : {b : Bool} → Decides (Below made (n + 1)) b → b ≡ false → Decides (Sound n mentions ends made) false
+  pub makers-fail : {b : Bool} → Decides (Below made (n + 1)) b → b ≡ false → Decides (SoundColumns n mentions ends made) false
   makers-fail d e = fails-so (λ p. d .no e (λ i z. omega (arith, p .makers i z)))
 
   pub sound-so : {a b c : Bool} → n ≤ 512 → length made ≤ 1024 → length mentions ≤ 4096 → Decides (Below mentions (length made)) a → a ≡ true → Decides (Below made (n + 1)) b → b ≡ true
-      → Decides (AllPlaced mentions ends n) c → Decides (Sound n mentions ends made) c
+      → Decides (AllPlaced mentions ends n) c → Decides (SoundColumns n mentions ends made) c
   sound-so x y z p e q g d = record {
     yes = λ w. record {
       placed = d .yes w;
@@ -133,13 +133,13 @@ module _ {mentions ends phony made times defaults targets list : List ℕ} where
   pub times-fail : (length times ≡ length made → ⊥) → Decides (PlanAsked mentions ends phony made times defaults targets list) false
   times-fail z = fails-so (λ p. z (p .asked .timed))
 
-  pub tables-fail : {a : Bool} → Decides (Sound (length phony) mentions ends made) a → a ≡ false → Decides (PlanAsked mentions ends phony made times defaults targets list) false
+  pub tables-fail : {a : Bool} → Decides (SoundColumns (length phony) mentions ends made) a → a ≡ false → Decides (PlanAsked mentions ends phony made times defaults targets list) false
   tables-fail d e = fails-so (λ p. d .no e (p .asked .sound))
 
   pub defaults-fail : {b : Bool} → Decides (Below defaults (length made)) b → b ≡ false → Decides (PlanAsked mentions ends phony made times defaults targets list) false
   defaults-fail d e = fails-so (λ p. d .no e (p .defaults-low))
 
-  pub asked-so : {a b c : Bool} → 512 ≤ length list → length times ≡ length made → Decides (Sound (length phony) mentions ends made) a → a ≡ true → Decides (Below defaults (length made)) b → b ≡ true
+  pub asked-so : {a b c : Bool} → 512 ≤ length list → length times ≡ length made → Decides (SoundColumns (length phony) mentions ends made) a → a ≡ true → Decides (Below defaults (length made)) b → b ≡ true
       → Decides (Below targets (length made)) c → Decides (PlanAsked mentions ends phony made times defaults targets list) c
   asked-so z t s e d g h = record {
     yes = λ w. record { asked = record { sound = s .yes e; timed = t; room = z }; defaults-low = d .yes g; targets-low = h .yes w };

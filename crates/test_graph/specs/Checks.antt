@@ -6,7 +6,7 @@ use mathlib.Core.List.{List}
 use lib.ListN.{length, getD}
 use Rattle.spec.specs.Reading.{Step}
 use Rattle.spec.specs.Promises.{PlanMeets}
-use Rattle.hold_columns.specs.Tables.{Holds}
+use Rattle.hold_columns.specs.Tables.{HoldsColumns}
 use Rattle.graph_stale.specs.Judge.{timeAt}
 use Rattle.graph_plan.specs.Plan.{planGraph, PlanAsked}
 use Rattle.answers.specs.declared.Numbers.{Numbers}
@@ -32,6 +32,6 @@ unsound = record { number = 255; value = 0 }
 
 -- The plan of whatever steps the tables hold; or, where no plan can be asked of the tables, 255 and the list as it was.
 pub record Answers (mentions ends phony made times defaults targets list : List ℕ) (r : Numbers) (exit : List ℕ) : Type 0 where
-  pub planned : PlanAsked mentions ends phony made times defaults targets list → (steps : List Step) (files : ℕ) → Holds steps files mentions ends phony made
+  pub planned : PlanAsked mentions ends phony made times defaults targets list → (steps : List Step) (files : ℕ) → HoldsColumns steps files mentions ends phony made
       → PlanMeets (planGraph steps files (timeAt times) defaults targets) list (said r) exit
   pub refused : (PlanAsked mentions ends phony made times defaults targets list → ⊥) → (r ≡ unsound) × (exit ≡ list)

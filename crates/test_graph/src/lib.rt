@@ -2,7 +2,7 @@
 ghost use mathlib.Core.Path.{_≡_};
 ghost use Prim.Native.Nat.{ℕ, _+_, _*_, _≤_, _<_};
 ghost use lib.ListN.{length};
-ghost use Rattle.hold_columns.specs.Tables.{startIn, Placed, Sound};
+ghost use Rattle.hold_columns.specs.Tables.{startIn, Placed, SoundColumns};
 ghost use Rattle.graph_plan.specs.Plan.{PlanAsked};
 ghost use Rattle.test_graph.specs.Checks.{Decides, Below, Rising, Answers};
 use answers::Numbers;
@@ -80,7 +80,7 @@ fn all_placed(mentions: &[u32], ends: &[u32], n: usize) -> bool
 
 // Are all numbers of the tables in range.
 fn is_sound(mentions: &[u32], ends: &[u32], phony: &[u32], made: &[u32]) -> bool
-    ensures { λ r. ⌜ Decides (Sound (length (now (phony .entry))) (now (mentions .entry)) (now (ends .entry)) (now (made .entry))) r ⌝ }
+    ensures { λ r. ⌜ Decides (SoundColumns (length (now (phony .entry))) (now (mentions .entry)) (now (ends .entry)) (now (made .entry))) r ⌝ }
 {
     if STEPS < phony.len() {
         return false;

@@ -17,33 +17,33 @@ use Rattle.apply_manifest.specs.Manifests.{Roomy, IsRead}
 use Rattle.test_manifest.specs.declared.ReadNumbers.{ReadNumbers}
 use Rattle.test_manifest.specs.Numbers.{bare, inNumbers, Judges, Reads}
 
-module _ {names ends texts bind graph word : List ℕ} where
-  lacks : (Roomy classes names ends texts bind graph word → ⊥) → Judges names ends texts bind graph word false
+module _ {names index texts bind graph word : List ℕ} where
+  lacks : (Roomy classes names index texts bind graph word → ⊥) → Judges names index texts bind graph word false
   lacks n = record { enough = λ e. differ e refl; lacking = λ e. n }
 
-  pub few-names : length names < 60000 → Judges names ends texts bind graph word false
+  pub few-names : length names < 60000 → Judges names index texts bind graph word false
   few-names h = lacks (λ p. omega (arith, p .room .names-room))
 
-  pub many-names : 4294967295 < length names → Judges names ends texts bind graph word false
+  pub many-names : 4294967295 < length names → Judges names index texts bind graph word false
   many-names h = lacks (λ p. omega (arith, p .names-small))
 
-  pub few-ends : length ends < 3072 → Judges names ends texts bind graph word false
+  pub few-ends : length index < 3072 → Judges names index texts bind graph word false
   few-ends h = lacks (λ p. omega (arith, p .numbers-room))
 
-  pub few-texts : length texts < 133728 → Judges names ends texts bind graph word false
+  pub few-texts : length texts < 133728 → Judges names index texts bind graph word false
   few-texts h = lacks (λ p. omega (arith, p .texts-room))
 
-  pub few-rows : length bind < 4608 → Judges names ends texts bind graph word false
+  pub few-rows : length bind < 4608 → Judges names index texts bind graph word false
   few-rows h = lacks (λ p. omega (arith, p .bind-room))
 
-  pub few-columns : length graph < 61440 → Judges names ends texts bind graph word false
+  pub few-columns : length graph < 61440 → Judges names index texts bind graph word false
   few-columns h = lacks (λ p. omega (arith, p .room .scratch))
 
-  pub short-word : length word < 60000 → Judges names ends texts bind graph word false
+  pub short-word : length word < 60000 → Judges names index texts bind graph word false
   short-word h = lacks (λ p. omega (arith, p .room .word-room))
 
-  pub has-room : 60000 ≤ length names → length names ≤ 4294967295 → 3072 ≤ length ends → 133728 ≤ length texts → 4608 ≤ length bind → 61440 ≤ length graph
-      → 60000 ≤ length word → Judges names ends texts bind graph word true
+  pub has-room : 60000 ≤ length names → length names ≤ 4294967295 → 3072 ≤ length index → 133728 ≤ length texts → 4608 ≤ length bind → 61440 ≤ length graph
+      → 60000 ≤ length word → Judges names index texts bind graph word true
   has-room n s f x b g w = record {
     enough = λ e. record {
       table = refl;
@@ -56,19 +56,19 @@ module _ {names ends texts bind graph word : List ℕ} where
     lacking = λ e. differ refl e;
   }
 
-module _ {m names ends texts bind graph word : List ℕ} {b : Bool} (j : Judges names ends texts bind graph word b) where
-  pub too-small : {r : ReadNumbers} → b ≡ false → r ≡ bare 255 0 → Reads m names ends texts bind graph word r names ends texts bind graph word
+module _ {m names index texts bind graph word : List ℕ} {b : Bool} (j : Judges names index texts bind graph word b) where
+  pub too-small : {r : ReadNumbers} → b ≡ false → r ≡ bare 255 0 → Reads m names index texts bind graph word r names index texts bind graph word
   too-small e q = record {
     roomy = λ p. absurd (j .lacking e p);
     small = λ n. (q, record { names-stay = refl; ends-stay = refl; texts-stay = refl; bind-stay = refl; graph-stay = refl; word-stay = refl });
   }
 
-  pub has-read : (a : ReadAnswer) {r : ReadNumbers} {names′ ends′ texts′ bind′ graph′ word′ : List ℕ} → b ≡ true → IsRead m names′ ends′ texts′ bind′ graph′ a → r ≡ inNumbers a
-      → Reads m names ends texts bind graph word r names′ ends′ texts′ bind′ graph′ word′
+  pub has-read : (a : ReadAnswer) {r : ReadNumbers} {names′ index′ texts′ bind′ graph′ word′ : List ℕ} → b ≡ true → IsRead m names′ index′ texts′ bind′ graph′ a → r ≡ inNumbers a
+      → Reads m names index texts bind graph word r names′ index′ texts′ bind′ graph′ word′
   has-read a e i q = record { roomy = λ p. record { answer = a; read = i; says = q }; small = λ n. absurd (n (j .enough e)) }
 
 -- the table that is lent is the table of classes
-pub lent : {t names ends texts bind graph word : List ℕ} → t ≡ classes → Roomy classes names ends texts bind graph word → Roomy t names ends texts bind graph word
+pub lent : {t names index texts bind graph word : List ℕ} → t ≡ classes → Roomy classes names index texts bind graph word → Roomy t names index texts bind graph word
 lent e r = record { table = e; room = r .room; names-small = r .names-small; numbers-room = r .numbers-room; texts-room = r .texts-room; bind-room = r .bind-room }
 
 -- the numbers of an answer

@@ -33,26 +33,26 @@ inNumbers (Accepted c) =
 inNumbers (Refused r) = bare (refusalSays r .number) (refusalSays r .value)
 
 -- a test that is true exactly where the buffers have room for any manifest
-pub record Judges (names ends texts bind graph word : List ℕ) (r : Bool) : Type 0 where
-  pub enough : r ≡ true → Roomy classes names ends texts bind graph word
-  pub lacking : r ≡ false → Roomy classes names ends texts bind graph word → ⊥
+pub record Judges (names index texts bind graph word : List ℕ) (r : Bool) : Type 0 where
+  pub enough : r ≡ true → Roomy classes names index texts bind graph word
+  pub lacking : r ≡ false → Roomy classes names index texts bind graph word → ⊥
 
 -- the manifest has been read into the buffers, or refused, and the numbers say which
-pub record ReadAs (m : List ℕ) (r : ReadNumbers) (names ends texts bind graph : List ℕ) : Type 0 where
+pub record ReadAs (m : List ℕ) (r : ReadNumbers) (names index texts bind graph : List ℕ) : Type 0 where
   pub answer : ReadAnswer
-  pub read : IsRead m names ends texts bind graph answer
+  pub read : IsRead m names index texts bind graph answer
   pub says : r ≡ inNumbers answer
 
 -- buffers as they were
-pub record Untouched (names ends texts bind graph word names′ ends′ texts′ bind′ graph′ word′ : List ℕ) : Type 0 where
+pub record Untouched (names index texts bind graph word names′ index′ texts′ bind′ graph′ word′ : List ℕ) : Type 0 where
   pub names-stay : names′ ≡ names
-  pub ends-stay : ends′ ≡ ends
+  pub ends-stay : index′ ≡ index
   pub texts-stay : texts′ ≡ texts
   pub bind-stay : bind′ ≡ bind
   pub graph-stay : graph′ ≡ graph
   pub word-stay : word′ ≡ word
 
 -- What the reader answers; or, where a buffer has no room for some manifest, 255 and the buffers as they were.
-pub record Reads (m names ends texts bind graph word : List ℕ) (r : ReadNumbers) (names′ ends′ texts′ bind′ graph′ word′ : List ℕ) : Type 0 where
-  pub roomy : Roomy classes names ends texts bind graph word → ReadAs m r names′ ends′ texts′ bind′ graph′
-  pub small : (Roomy classes names ends texts bind graph word → ⊥) → (r ≡ bare 255 0) × Untouched names ends texts bind graph word names′ ends′ texts′ bind′ graph′ word′
+pub record Reads (m names index texts bind graph word : List ℕ) (r : ReadNumbers) (names′ index′ texts′ bind′ graph′ word′ : List ℕ) : Type 0 where
+  pub roomy : Roomy classes names index texts bind graph word → ReadAs m r names′ index′ texts′ bind′ graph′
+  pub small : (Roomy classes names index texts bind graph word → ⊥) → (r ≡ bare 255 0) × Untouched names index texts bind graph word names′ index′ texts′ bind′ graph′ word′

@@ -30,13 +30,13 @@ pub struct ReadNumbers {
 // Have the buffers room for any manifest.
 fn is_roomy(
     names: &[u8],
-    ends: &[u32],
+    index: &[u32],
     texts: &[u8],
     bind: &[u32],
     graph: &[u32],
     word: &[u8],
 ) -> bool
-    ensures { λ r. ⌜ Judges (now (names .entry)) (now (ends .entry)) (now (texts .entry)) (now (bind .entry)) (now (graph .entry)) (now (word .entry)) r ⌝ }
+    ensures { λ r. ⌜ Judges (now (names .entry)) (now (index .entry)) (now (texts .entry)) (now (bind .entry)) (now (graph .entry)) (now (word .entry)) r ⌝ }
 {
     if names.len() < WRITTEN {
         return false;
@@ -44,7 +44,7 @@ fn is_roomy(
     if 4294967295 < names.len() {
         return false;
     }
-    if ends.len() < NUMBERS {
+    if index.len() < NUMBERS {
         return false;
     }
     if texts.len() < TEXTS {
@@ -110,17 +110,17 @@ fn in_numbers(a: ReadAnswer) -> ReadNumbers
 pub extern "C" fn kestrenyo_read(
     manifest: &[u8],
     names: &mut [u8],
-    ends: &mut [u32],
+    index: &mut [u32],
     texts: &mut [u8],
     bind: &mut [u32],
     graph: &mut [u32],
     word: &mut [u8],
 ) -> ReadNumbers
-    ensures { λ r. ⌜ Reads (now (manifest .entry)) (now (names .entry)) (now (ends .entry)) (now (texts .entry)) (now (bind .entry)) (now (graph .entry)) (now (word .entry)) r (now (names .exit)) (now (ends .exit)) (now (texts .exit)) (now (bind .exit)) (now (graph .exit)) (now (word .exit)) ⌝ }
+    ensures { λ r. ⌜ Reads (now (manifest .entry)) (now (names .entry)) (now (index .entry)) (now (texts .entry)) (now (bind .entry)) (now (graph .entry)) (now (word .entry)) r (now (names .exit)) (now (index .exit)) (now (texts .exit)) (now (bind .exit)) (now (graph .exit)) (now (word .exit)) ⌝ }
 {
-    if !is_roomy(names, ends, texts, bind, graph, word) {
+    if !is_roomy(names, index, texts, bind, graph, word) {
         return uncounted(255, 0);
     }
     let t = table();
-    in_numbers(read(&t, manifest, names, ends, texts, bind, graph, word))
+    in_numbers(read(&t, manifest, names, index, texts, bind, graph, word))
 }

@@ -23,12 +23,12 @@ use Rattle.scan_lines.specs.declared.LineKind.the-variants.{Comment, Blank, Ind
 use Rattle.scan_dollars.specs.Element.{element, restOf, Passed}
 use Rattle.scan_raw.specs.Texts.{PathEnds, PathBad, PathsStop, PathNext, PathsBad, placeOf}
 use Rattle.scan_lines.specs.Endings.{LineEnded, LineOpen, kindOf}
-use Rattle.scan_targets.specs.declared.Next.{Next}
-use Rattle.scan_targets.specs.declared.Next.the-variants.{End, Bad, Name}
+use Rattle.scan_targets.specs.declared.NextTarget.{NextTarget}
+use Rattle.scan_targets.specs.declared.NextTarget.the-variants.{End, Bad, Name}
 use Rattle.scan_targets.specs.Next.{nextIn}
-use Rattle.hold_names.specs.declared.Found.{Found}
+use Rattle.hold_names.specs.declared.FoundName.{FoundName}
 use Rattle.hold_names.specs.declared.Added.{Added}
-use Rattle.hold_names.specs.Table.{Finds, Adds}
+use Rattle.hold_names.specs.Table.{FindsName, AddsName}
 use Rattle.test_scan.specs.Scanners.{orNone, placeAfter, restNumber, dollarNumber, pathCut, pathNumber, pathsNumber, endNumber, kindNumber}
 use Rattle.test_scan.specs.Targets.{targetNumber}
 use Rattle.test_scan.specs.Names.{foundNumber, addedNumber, FindsNumber, AddsNumber}
@@ -167,7 +167,7 @@ module _ (m : List ℕ) {r : FirstBad} (a : placeOf r ≡ badByte newline 0 m) w
 
 -- ---- targets
 
-unfoldable pub numberOfNext : Next → ℕ
+unfoldable pub numberOfNext : NextTarget → ℕ
 numberOfNext End = 0
 numberOfNext Bad = 1
 numberOfNext (Name e) = e + 1
@@ -178,16 +178,16 @@ targets [] = refl
 targets (t ∷ ts) =
     split (badLength (t .name)) (λ (a : badLength (t .name) ≡ true). rw a) (λ (a : badLength (t .name) ≡ false). rw a)
 
-pub target : (l : List Target) {x y : Next} → x ≡ nextIn l → x ≡ y → numberOfNext y ≡ targetNumber l
+pub target : (l : List Target) {x y : NextTarget} → x ≡ nextIn l → x ≡ y → numberOfNext y ≡ targetNumber l
 target l a e = ap numberOfNext (sym e ∙ a) ∙ targets l
 
 -- ---- names
 
-pub finds-number : {names ends : List ℕ} {count : ℕ} {p : List ℕ} {r : Found} {n : ℕ} → Finds names ends count p r → n ≡ foundNumber r → FindsNumber names ends count p n
+pub finds-number : {names index : List ℕ} {count : ℕ} {p : List ℕ} {r : FoundName} {n : ℕ} → FindsName names index count p r → n ≡ foundNumber r → FindsNumber names index count p n
 finds-number f e = record { answer = λ files h. e ∙ ap foundNumber (f .answer files h) }
 
-pub adds-number : {names ends : List ℕ} {count : ℕ} {p names′ ends′ : List ℕ} {r : Added} {n : ℕ}
-    → Adds names ends count p names′ ends′ r → n ≡ addedNumber r → AddsNumber names ends count p names′ ends′ n
+pub adds-number : {names index : List ℕ} {count : ℕ} {p names′ index′ : List ℕ} {r : Added} {n : ℕ}
+    → AddsName names index count p names′ index′ r → n ≡ addedNumber r → AddsNumber names index count p names′ index′ n
 adds-number a e =
     record {
       answer = λ files h. e ∙ ap addedNumber (a .answer files h);

@@ -4,7 +4,7 @@ ghost use mathlib.Core.List.{[]};
 ghost use lib.ListN.{drop};
 ghost use Rattle.spec.specs.Targets.{malformed, targetsFrom};
 ghost use Rattle.test_scan.specs.Targets.{targetNumber};
-use scan_targets::Next;
+use scan_targets::NextTarget;
 
 // Whether the list is too long or its last name is unended.
 #[no_mangle]
@@ -20,8 +20,8 @@ pub extern "C" fn kestrenyo_target_at(list: &[u8], from: usize) -> usize
     ensures { λ r. ⌜ r ≡ targetNumber (targetsFrom from from [] (drop from (now (list .entry)))) ⌝ }
 {
     match scan_targets::name_at(list, from) {
-        Next::End => 0,
-        Next::Bad => 1,
-        Next::Name(end) => end + 1,
+        NextTarget::End => 0,
+        NextTarget::Bad => 1,
+        NextTarget::Name(end) => end + 1,
     }
 }

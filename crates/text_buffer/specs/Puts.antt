@@ -4,7 +4,7 @@ use mathlib.Core.List.{List, [], _∷_, _++_, map}
 use mathlib.Core.Path.{_≡_}
 use lib.ListN.{length, take, getD}
 use Rattle.spec.specs.Limits.{maxText}
-use Rattle.hold_names.specs.Table.{Sound}
+use Rattle.hold_names.specs.Table.{SoundNames}
 
 -- the buffer has room for a longest text, which is written up to this place
 pub record Open (buffer : List ℕ) (place : ℕ) : Type 0 where
@@ -35,13 +35,13 @@ headed c zero n = n
 headed c (suc i) n = c ∷ n
 
 -- what writing a file's name asks
-pub record NameAsk (names ends : List ℕ) (count f : ℕ) (buffer : List ℕ) (place : ℕ) : Type 0 where
-  pub named : Sound names ends count
+pub record NameAsk (names index : List ℕ) (count f : ℕ) (buffer : List ℕ) (place : ℕ) : Type 0 where
+  pub named : SoundNames names index count
   pub low : f < count
   pub free : Open buffer place
 
 -- what writing the names of a list of files asks
-pub record FilesAsk (names ends : List ℕ) (count : ℕ) (fs buffer : List ℕ) (place : ℕ) : Type 0 where
-  pub named : Sound names ends count
+pub record FilesAsk (names index : List ℕ) (count : ℕ) (fs buffer : List ℕ) (place : ℕ) : Type 0 where
+  pub named : SoundNames names index count
   pub low : (i : ℕ) → i < length fs → getD fs i 0 < count
   pub free : Open buffer place

@@ -4,7 +4,7 @@ ghost use mathlib.Core.List.{List, [], _∷_};
 ghost use Prim.Native.Nat.{ℕ, _<_};
 ghost use lib.ListN.{length, getD};
 ghost use Rattle.spec.specs.Text.{joinedBy};
-ghost use Rattle.hold_names.specs.Table.{Holds};
+ghost use Rattle.hold_names.specs.Table.{HoldsNames};
 ghost use Rattle.text_buffer.specs.Puts.{Open, Puts, NameAsk, FilesAsk, headed, namesIn};
 use hold_names::name;
 use slices::bytes::copy_at;
@@ -37,22 +37,22 @@ pub fn put_byte(buffer: &mut [u8], place: usize, b: u8) -> usize
 // Writes a file's name.
 fn put_name(
     names: &[u8],
-    ends: &[u32],
+    index: &[u32],
     count: usize,
     f: usize,
     buffer: &mut [u8],
     place: usize,
 ) -> usize
-    requires { ⌜ NameAsk (now names) (now ends) count f (now buffer) place ⌝ }
-    ensures { λ r. ⌜ ((files : List (List ℕ)) → Holds (now (names .entry)) (now (ends .entry)) count files → Puts (now (buffer .entry)) place (getD files f []) (now (buffer .exit)) r) ⌝ }
+    requires { ⌜ NameAsk (now names) (now index) count f (now buffer) place ⌝ }
+    ensures { λ r. ⌜ ((files : List (List ℕ)) → HoldsNames (now (names .entry)) (now (index .entry)) count files → Puts (now (buffer .entry)) place (getD files f []) (now (buffer .exit)) r) ⌝ }
 {
-    put(buffer, place, name(names, ends, count, f))
+    put(buffer, place, name(names, index, count, f))
 }
 
 // Writes the name of file i of a list, behind the separator unless it is the first.
 fn put_next(
     names: &[u8],
-    ends: &[u32],
+    index: &[u32],
     count: usize,
     fs: &[u32],
     i: usize,
@@ -60,37 +60,37 @@ fn put_next(
     buffer: &mut [u8],
     place: usize,
 ) -> usize
-    requires { ⌜ (i < length (now fs)) × FilesAsk (now names) (now ends) count (now fs) (now buffer) place ⌝ }
-    ensures { λ r. ⌜ ((files : List (List ℕ)) → Holds (now (names .entry)) (now (ends .entry)) count files → Puts (now (buffer .entry)) place (headed separator i (getD files (getD (now (fs .entry)) i 0) [])) (now (buffer .exit)) r) ⌝ }
+    requires { ⌜ (i < length (now fs)) × FilesAsk (now names) (now index) count (now fs) (now buffer) place ⌝ }
+    ensures { λ r. ⌜ ((files : List (List ℕ)) → HoldsNames (now (names .entry)) (now (index .entry)) count files → Puts (now (buffer .entry)) place (headed separator i (getD files (getD (now (fs .entry)) i 0) [])) (now (buffer .exit)) r) ⌝ }
 {
     let f = at(fs, i);
     if i == 0 {
-        return put_name(names, ends, count, f, buffer, place);
+        return put_name(names, index, count, f, buffer, place);
     }
     let n = put_byte(buffer, place, separator);
     if TEXT < n {
         return n;
     }
-    put_name(names, ends, count, f, buffer, n)
+    put_name(names, index, count, f, buffer, n)
 }
 
 // Writes the names of files, "joined by one space (`$in_newline` by a newline), names as they are".
 pub fn put_files(
     names: &[u8],
-    ends: &[u32],
+    index: &[u32],
     count: usize,
     fs: &[u32],
     separator: u8,
     buffer: &mut [u8],
     place: usize,
 ) -> usize
-    requires { ⌜ FilesAsk (now names) (now ends) count (now fs) (now buffer) place ⌝ }
-    ensures { λ r. ⌜ ((files : List (List ℕ)) → Holds (now (names .entry)) (now (ends .entry)) count files → Puts (now (buffer .entry)) place (joinedBy separator (namesIn files (now (fs .entry)))) (now (buffer .exit)) r) ⌝ }
+    requires { ⌜ FilesAsk (now names) (now index) count (now fs) (now buffer) place ⌝ }
+    ensures { λ r. ⌜ ((files : List (List ℕ)) → HoldsNames (now (names .entry)) (now (index .entry)) count files → Puts (now (buffer .entry)) place (joinedBy separator (namesIn files (now (fs .entry)))) (now (buffer .exit)) r) ⌝ }
 {
     let mut n = place;
     let mut i = 0;
     while i < fs.len() {
-        n = put_next(names, ends, count, fs, i, separator, buffer, n);
+        n = put_next(names, index, count, fs, i, separator, buffer, n);
         if TEXT < n {
             return n;
         }

@@ -7,7 +7,7 @@ use Rattle.lists.specs.Parts.{part, length-part, getD-part}
 use Rattle.spec.specs.Bytes.{space, newline}
 use Rattle.spec.specs.Reading.{Step, Reading}
 use Rattle.spec.specs.Text.{joinedBy, namesOf, asIs, ofRule}
-use Rattle.hold_names.specs.Table.{Holds}
+use Rattle.hold_names.specs.Table.{HoldsNames}
 use Rattle.hold_bindings.specs.Log.{Logged, entryAt}
 use Rattle.text_lookup.specs.declared.Asked.{Asked}
 use Rattle.text_lookup.specs.declared.Source.{Source}
@@ -24,8 +24,8 @@ use Rattle.text_expansion.specs.Asks.{FilesAsk, PlainAsk, WritesPlain}
 
 -- ---- files
 
-pub part-ask : {names ends graph buffer : List ℕ} {a : Asked} {from to : ℕ} {d : Draft} → FilesAsk names ends graph a from to buffer d
-    → output.FilesAsk names ends (a .files) (part graph from to) buffer (d .at)
+pub part-ask : {names index graph buffer : List ℕ} {a : Asked} {from to : ℕ} {d : Draft} → FilesAsk names index graph a from to buffer d
+    → output.FilesAsk names index (a .files) (part graph from to) buffer (d .at)
 part-ask {graph = graph} {from = from} {to = to} w =
     let f = w .files in
     record {
@@ -41,10 +41,10 @@ part-ask {graph = graph} {from = from} {to = to} w =
 as-is-one : {x v : List ℕ} → asIs x ≡ asIs v → x ≡ v
 as-is-one e = cc
 
-module _ {names ends texts bind graph before after : List ℕ} {a : Asked} {source : Source} {d r : Draft} where
+module _ {names index texts bind graph before after : List ℕ} {a : Asked} {source : Source} {d r : Draft} where
   plainly : (x : Reading → Step → List Logged → List ℕ) → ((rd : Reading) (s : Step) (log : List Logged) → meaning rd s log source ≡ asIs (x rd s log))
-      → ((log : List Logged) (rd : Reading) (s : Step) → Here names ends texts bind graph a log rd s → Writes before d (x rd s log) after r)
-      → WritesPlain names ends texts bind graph a source before d after r
+      → ((log : List Logged) (rd : Reading) (s : Step) → Here names index texts bind graph a log rd s → Writes before d (x rd s log) after r)
+      → WritesPlain names index texts bind graph a source before d after r
   plainly x e p =
       record {
         writes = λ log rd s h v q text k.
@@ -54,36 +54,36 @@ module _ {names ends texts bind graph before after : List ℕ} {a : Asked} {sour
 
   -- files of the step between two places
   plain-files : (c from to : ℕ) (l : Step → List ℕ) → ((rd : Reading) (s : Step) (log : List Logged) → meaning rd s log source ≡ asIs (joinedBy c (namesOf rd (l s))))
-      → ((rd : Reading) (s : Step) → Files names ends graph a rd s → part graph from to ≡ l s)
-      → ((files : List (List ℕ)) → Holds names ends (a .files) files → Writes before d (joinedBy c (namesIn files (part graph from to))) after r)
-      → WritesPlain names ends texts bind graph a source before d after r
+      → ((rd : Reading) (s : Step) → Files names index graph a rd s → part graph from to ≡ l s)
+      → ((files : List (List ℕ)) → HoldsNames names index (a .files) files → Writes before d (joinedBy c (namesIn files (part graph from to))) after r)
+      → WritesPlain names index texts bind graph a source before d after r
   unfolding namesOf
   plain-files c from to l e q w = plainly (λ rd s log. joinedBy c (namesOf rd (l s))) e (λ log rd s h. rw (← (q rd s (h .files))) (w (rd .files) (h .files .named)))
 
-  pub plain-inputs : source ≡ Inputs → ((files : List (List ℕ)) → Holds names ends (a .files) files → Writes before d (joinedBy space (namesIn files (part graph (a .ins) (a .rest)))) after r)
-      → WritesPlain names ends texts bind graph a source before d after r
+  pub plain-inputs : source ≡ Inputs → ((files : List (List ℕ)) → HoldsNames names index (a .files) files → Writes before d (joinedBy space (namesIn files (part graph (a .ins) (a .rest)))) after r)
+      → WritesPlain names index texts bind graph a source before d after r
   unfolding meaning
   plain-inputs e = plain-files space (a .ins) (a .rest) (λ s. s .ins) (λ rd s log. ap (meaning rd s log) e) (λ rd s f. f .ins)
 
-  pub plain-lines : source ≡ InputLines → ((files : List (List ℕ)) → Holds names ends (a .files) files → Writes before d (joinedBy newline (namesIn files (part graph (a .ins) (a .rest)))) after r)
-      → WritesPlain names ends texts bind graph a source before d after r
+  pub plain-lines : source ≡ InputLines → ((files : List (List ℕ)) → HoldsNames names index (a .files) files → Writes before d (joinedBy newline (namesIn files (part graph (a .ins) (a .rest)))) after r)
+      → WritesPlain names index texts bind graph a source before d after r
   unfolding meaning
   plain-lines e = plain-files newline (a .ins) (a .rest) (λ s. s .ins) (λ rd s log. ap (meaning rd s log) e) (λ rd s f. f .ins)
 
-  pub plain-outputs : source ≡ Outputs → ((files : List (List ℕ)) → Holds names ends (a .files) files → Writes before d (joinedBy space (namesIn files (part graph (a .outs) (a .ins)))) after r)
-      → WritesPlain names ends texts bind graph a source before d after r
+  pub plain-outputs : source ≡ Outputs → ((files : List (List ℕ)) → HoldsNames names index (a .files) files → Writes before d (joinedBy space (namesIn files (part graph (a .outs) (a .ins)))) after r)
+      → WritesPlain names index texts bind graph a source before d after r
   unfolding meaning
   plain-outputs e = plain-files space (a .outs) (a .ins) (λ s. s .outs) (λ rd s log. ap (meaning rd s log) e) (λ rd s f. f .outs)
 
-  pub plain-value : {k : ℕ} {raw : List ℕ} → PlainAsk names ends texts bind graph a source before d → source ≡ Value k → ValueOf texts bind k raw → Writes before d raw after r
-      → WritesPlain names ends texts bind graph a source before d after r
+  pub plain-value : {k : ℕ} {raw : List ℕ} → PlainAsk names index texts bind graph a source before d → source ≡ Value k → ValueOf texts bind k raw → Writes before d raw after r
+      → WritesPlain names index texts bind graph a source before d after r
   unfolding meaning
   plain-value {k} {raw} w e v p =
       plainly (λ rd s log. entryAt k log .value) (λ rd s log. ap (meaning rd s log) e)
       (λ log rd s h. rw (← (v log (a .entries) (h .scope .bound) (w .value k e .low))) p)
 
-module _ {names ends texts bind graph before : List ℕ} {a : Asked} {source : Source} {d : Draft} where
-  pub plain-text : {k : ℕ} → source ≡ Text k → WritesPlain names ends texts bind graph a source before d before d
+module _ {names index texts bind graph before : List ℕ} {a : Asked} {source : Source} {d : Draft} where
+  pub plain-text : {k : ℕ} → source ≡ Text k → WritesPlain names index texts bind graph a source before d before d
   unfolding meaning
   plain-text {k} e =
       record {
@@ -93,6 +93,6 @@ module _ {names ends texts bind graph before : List ℕ} {a : Asked} {source : S
             absurd (omega arith);
       }
 
-  pub plain-unset : source ≡ Unset → WritesPlain names ends texts bind graph a source before d before d
+  pub plain-unset : source ≡ Unset → WritesPlain names index texts bind graph a source before d before d
   unfolding meaning
   plain-unset e = plainly (λ rd s log. []) (λ rd s log. ap (meaning rd s log) e) (λ log rd s h. record { drafts = λ text k. drafted-none k })

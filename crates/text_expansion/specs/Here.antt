@@ -5,14 +5,14 @@ use mathlib.Core.Path.{_≡_}
 use lib.ListN.{length, getD}
 use Rattle.lists.specs.Parts.{part}
 use Rattle.spec.specs.Reading.{Step, Reading}
-use Rattle.hold_names.specs.Table.{Holds}
+use Rattle.hold_names.specs.Table.{HoldsNames}
 use Rattle.hold_bindings.specs.Log.{Logged}
 use Rattle.text_lookup.specs.declared.Asked.{Asked}
 use Rattle.text_lookup.specs.Scope.{Scope}
 
 -- its files: outputs, and behind them the explicit inputs, in the column of mentions that begins the graph
-pub record Files (names ends graph : List ℕ) (a : Asked) (rd : Reading) (s : Step) : Type 0 where
-  pub named : Holds names ends (a .files) (rd .files)
+pub record Files (names index graph : List ℕ) (a : Asked) (rd : Reading) (s : Step) : Type 0 where
+  pub named : HoldsNames names index (a .files) (rd .files)
   pub outs-ordered : a .outs ≤ a .ins
   pub ins-ordered : a .ins ≤ a .rest
   pub within : a .rest ≤ length graph
@@ -20,6 +20,6 @@ pub record Files (names ends graph : List ℕ) (a : Asked) (rd : Reading) (s : S
   pub ins : part graph (a .ins) (a .rest) ≡ s .ins
   pub low : (i : ℕ) → a .outs ≤ i → i < a .rest → getD graph i 0 < a .files
 
-pub record Here (names ends texts bind graph : List ℕ) (a : Asked) (log : List Logged) (rd : Reading) (s : Step) : Type 0 where
+pub record Here (names index texts bind graph : List ℕ) (a : Asked) (log : List Logged) (rd : Reading) (s : Step) : Type 0 where
   pub scope : Scope texts bind a log rd s
-  pub files : Files names ends graph a rd s
+  pub files : Files names index graph a rd s

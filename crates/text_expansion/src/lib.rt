@@ -20,7 +20,7 @@ pub mod plain;
 fn write_text(
     t: &[u8; 256],
     names: &[u8],
-    ends: &[u32],
+    index: &[u32],
     texts: &[u8],
     bind: &[u32],
     graph: &[u32],
@@ -30,8 +30,8 @@ fn write_text(
     buffer: &mut [u8],
     d: Draft,
 ) -> Draft
-    requires { ⌜ TextAsk (now t) (now names) (now ends) (now texts) (now bind) (now graph) a (now raw) depth (now buffer) d ⌝ }
-    ensures { λ r. ⌜ WritesText (now (names .entry)) (now (ends .entry)) (now (texts .entry)) (now (bind .entry)) (now (graph .entry)) a (now (raw .entry)) depth (now (buffer .entry)) d (now (buffer .exit)) r ⌝ }
+    requires { ⌜ TextAsk (now t) (now names) (now index) (now texts) (now bind) (now graph) a (now raw) depth (now buffer) d ⌝ }
+    ensures { λ r. ⌜ WritesText (now (names .entry)) (now (index .entry)) (now (texts .entry)) (now (bind .entry)) (now (graph .entry)) a (now (raw .entry)) depth (now (buffer .entry)) d (now (buffer .exit)) r ⌝ }
 {
     let mut x = d;
     let mut i = 0;
@@ -48,7 +48,7 @@ fn write_text(
                 x = write_name(
                     t,
                     names,
-                    ends,
+                    index,
                     texts,
                     bind,
                     graph,
@@ -72,7 +72,7 @@ fn write_text(
 pub fn write_name(
     t: &[u8; 256],
     names: &[u8],
-    ends: &[u32],
+    index: &[u32],
     texts: &[u8],
     bind: &[u32],
     graph: &[u32],
@@ -82,15 +82,15 @@ pub fn write_name(
     buffer: &mut [u8],
     d: Draft,
 ) -> Draft
-    requires { ⌜ NameAsk (now t) (now names) (now ends) (now texts) (now bind) (now graph) a (now name) depth (now buffer) d ⌝ }
-    ensures { λ r. ⌜ WritesName (now (names .entry)) (now (ends .entry)) (now (texts .entry)) (now (bind .entry)) (now (graph .entry)) a (now (name .entry)) depth (now (buffer .entry)) d (now (buffer .exit)) r ⌝ }
+    requires { ⌜ NameAsk (now t) (now names) (now index) (now texts) (now bind) (now graph) a (now name) depth (now buffer) d ⌝ }
+    ensures { λ r. ⌜ WritesName (now (names .entry)) (now (index .entry)) (now (texts .entry)) (now (bind .entry)) (now (graph .entry)) a (now (name .entry)) depth (now (buffer .entry)) d (now (buffer .exit)) r ⌝ }
 {
     let source = lookup(texts, bind, a, name);
     if let Source::Text(k) = source {
         return write_key(
             t,
             names,
-            ends,
+            index,
             texts,
             bind,
             graph,
@@ -102,14 +102,14 @@ pub fn write_name(
             d,
         );
     }
-    write_plain(names, ends, texts, bind, graph, a, source, buffer, d)
+    write_plain(names, index, texts, bind, graph, a, source, buffer, d)
 }
 
 // The text of a rule's key, whose raw text is entry k: where it stands already, once more, else expanded.
 fn write_key(
     t: &[u8; 256],
     names: &[u8],
-    ends: &[u32],
+    index: &[u32],
     texts: &[u8],
     bind: &[u32],
     graph: &[u32],
@@ -120,8 +120,8 @@ fn write_key(
     buffer: &mut [u8],
     d: Draft,
 ) -> Draft
-    requires { ⌜ KeyAsk (now t) (now names) (now ends) (now texts) (now bind) (now graph) a (now name) k depth (now buffer) d ⌝ }
-    ensures { λ r. ⌜ WritesKey (now (names .entry)) (now (ends .entry)) (now (texts .entry)) (now (bind .entry)) (now (graph .entry)) a (now (name .entry)) k depth (now (buffer .entry)) d (now (buffer .exit)) r ⌝ }
+    requires { ⌜ KeyAsk (now t) (now names) (now index) (now texts) (now bind) (now graph) a (now name) k depth (now buffer) d ⌝ }
+    ensures { λ r. ⌜ WritesKey (now (names .entry)) (now (index .entry)) (now (texts .entry)) (now (bind .entry)) (now (graph .entry)) a (now (name .entry)) k depth (now (buffer .entry)) d (now (buffer .exit)) r ⌝ }
 {
     let span = span_of(d, name);
     let from = span.from;
@@ -133,7 +133,7 @@ fn write_key(
     let x = write_text(
         t,
         names,
-        ends,
+        index,
         texts,
         bind,
         graph,

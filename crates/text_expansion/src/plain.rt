@@ -3,7 +3,7 @@ ghost use mathlib.Core.List.{List};
 ghost use Prim.Native.Nat.{ℕ};
 ghost use Rattle.lists.specs.Parts.{part};
 ghost use Rattle.spec.specs.Text.{joinedBy};
-ghost use Rattle.hold_names.specs.Table.{Holds};
+ghost use Rattle.hold_names.specs.Table.{HoldsNames};
 ghost use Rattle.text_buffer.specs.Puts.{namesIn};
 ghost use Rattle.text_memo.specs.Draft.{Writes};
 ghost use Rattle.text_expansion.specs.Asks.{FilesAsk, PlainAsk, WritesPlain};
@@ -18,7 +18,7 @@ use text_memo::write;
 // The names of the step's files from one place of the mentions to another.
 fn write_files(
     names: &[u8],
-    ends: &[u32],
+    index: &[u32],
     graph: &[u32],
     a: Asked,
     from: usize,
@@ -27,12 +27,12 @@ fn write_files(
     buffer: &mut [u8],
     d: Draft,
 ) -> Draft
-    requires { ⌜ FilesAsk (now names) (now ends) (now graph) a from to (now buffer) d ⌝ }
-    ensures { λ r. ⌜ ((files : List (List ℕ)) → Holds (now (names .entry)) (now (ends .entry)) (a .files) files → Writes (now (buffer .entry)) d (joinedBy separator (namesIn files (part (now (graph .entry)) from to))) (now (buffer .exit)) r) ⌝ }
+    requires { ⌜ FilesAsk (now names) (now index) (now graph) a from to (now buffer) d ⌝ }
+    ensures { λ r. ⌜ ((files : List (List ℕ)) → HoldsNames (now (names .entry)) (now (index .entry)) (a .files) files → Writes (now (buffer .entry)) d (joinedBy separator (namesIn files (part (now (graph .entry)) from to))) (now (buffer .exit)) r) ⌝ }
 {
     let n = put_files(
         names,
-        ends,
+        index,
         a.files,
         &graph[from..to],
         separator,
@@ -45,7 +45,7 @@ fn write_files(
 // Whatever a name stands for, but for a rule's text: "`$in` is the explicit inputs", "`$out` the outputs".
 pub fn write_plain(
     names: &[u8],
-    ends: &[u32],
+    index: &[u32],
     texts: &[u8],
     bind: &[u32],
     graph: &[u32],
@@ -54,16 +54,16 @@ pub fn write_plain(
     buffer: &mut [u8],
     d: Draft,
 ) -> Draft
-    requires { ⌜ PlainAsk (now names) (now ends) (now texts) (now bind) (now graph) a source (now buffer) d ⌝ }
-    ensures { λ r. ⌜ WritesPlain (now (names .entry)) (now (ends .entry)) (now (texts .entry)) (now (bind .entry)) (now (graph .entry)) a source (now (buffer .entry)) d (now (buffer .exit)) r ⌝ }
+    requires { ⌜ PlainAsk (now names) (now index) (now texts) (now bind) (now graph) a source (now buffer) d ⌝ }
+    ensures { λ r. ⌜ WritesPlain (now (names .entry)) (now (index .entry)) (now (texts .entry)) (now (bind .entry)) (now (graph .entry)) a source (now (buffer .entry)) d (now (buffer .exit)) r ⌝ }
 {
     let outs = a.outs;
     let ins = a.ins;
     let rest = a.rest;
     match source {
-        Source::Inputs => write_files(names, ends, graph, a, ins, rest, b' ', buffer, d),
-        Source::InputLines => write_files(names, ends, graph, a, ins, rest, b'\n', buffer, d),
-        Source::Outputs => write_files(names, ends, graph, a, outs, ins, b' ', buffer, d),
+        Source::Inputs => write_files(names, index, graph, a, ins, rest, b' ', buffer, d),
+        Source::InputLines => write_files(names, index, graph, a, ins, rest, b'\n', buffer, d),
+        Source::Outputs => write_files(names, index, graph, a, outs, ins, b' ', buffer, d),
         Source::Value(k) => write(buffer, d, value(texts, bind, k)),
         Source::Text(_) => d,
         Source::Unset => d,

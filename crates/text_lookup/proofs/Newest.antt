@@ -10,10 +10,10 @@ use Rattle.lists.specs.Text.{bytes}
 use Rattle.lists.specs.Bytes.{eqBytes}
 use Rattle.spec.specs.Reading.{find, fileVar, orEmpty}
 use Rattle.spec.specs.Text.{asIs, ofStep, orRule, orBlock, orStep, lookup}
-use Rattle.hold_bindings.specs.declared.Found.{Found}
-use Rattle.hold_bindings.specs.declared.Found.the-variants.{At, Missing}
+use Rattle.hold_bindings.specs.declared.FoundEntry.{FoundEntry}
+use Rattle.hold_bindings.specs.declared.FoundEntry.the-variants.{At, Missing}
 use Rattle.hold_bindings.specs.Log.{Logged, ofFile, ofKeys, ofStep as ofBlock, entryAt, newest, valueOf, boundBy}
-use Rattle.hold_bindings.specs.Held.{Holds}
+use Rattle.hold_bindings.specs.Held.{HoldsBindings}
 use Rattle.hold_bindings.proofs.Lookups.{newest-below, find-newest}
 use Rattle.text_lookup.specs.declared.Asked.{Asked}
 use Rattle.text_lookup.specs.declared.Source.{Source}
@@ -21,23 +21,23 @@ use Rattle.text_lookup.specs.declared.Source.the-variants.{Inputs, Input
 use Rattle.text_lookup.specs.Scope.{InScope, meaning, fromFile, fromRule, fromBlock, There, Looks}
 
 -- f is the newest entry of a name for an owner
-module _ (o : ℕ) (n : List ℕ) (a : Asked) {texts bind : List ℕ} {f : Found} (q : (log : List Logged) → Holds log texts bind (a .entries) → f ≡ newest o n log) where
+module _ (o : ℕ) (n : List ℕ) (a : Asked) {texts bind : List ℕ} {f : FoundEntry} (q : (log : List Logged) → HoldsBindings log texts bind (a .entries) → f ≡ newest o n log) where
   pub entry-there : {k : ℕ} → InScope texts bind a → f ≡ At k → There texts bind a k
   entry-there {k} w e =
       let b : k < length (w .log) = newest-below o n (w .log) k (sym (q (w .log) (w .scope .bound)) ∙ e) in
       let m : k < a .entries = omega (arith, w .scope .bound .rows .counted) in
       record { entry = record { log = w .log; count = a .entries; held = w .scope .bound; below = m }; low = m }
 
-  entry-found : {k : ℕ} (log : List Logged) → Holds log texts bind (a .entries) → f ≡ At k → find n (boundBy o log) ≡ some (entryAt k log .value)
+  entry-found : {k : ℕ} (log : List Logged) → HoldsBindings log texts bind (a .entries) → f ≡ At k → find n (boundBy o log) ≡ some (entryAt k log .value)
   unfolding valueOf
   entry-found {k} log h e = find-newest o n log ∙ rw (sym (q log h) ∙ e)
 
-  entry-missing : (log : List Logged) → Holds log texts bind (a .entries) → f ≡ Missing → find n (boundBy o log) ≡ none
+  entry-missing : (log : List Logged) → HoldsBindings log texts bind (a .entries) → f ≡ Missing → find n (boundBy o log) ≡ none
   unfolding valueOf
   entry-missing log h e = find-newest o n log ∙ rw (sym (q log h) ∙ e)
 
-module _ (n : List ℕ) {texts bind : List ℕ} {a : Asked} {f : Found} where
-  module _ (q : (log : List Logged) → Holds log texts bind (a .entries) → f ≡ newest ofFile n log) where
+module _ (n : List ℕ) {texts bind : List ℕ} {a : Asked} {f : FoundEntry} where
+  module _ (q : (log : List Logged) → HoldsBindings log texts bind (a .entries) → f ≡ newest ofFile n log) where
     pub file-found : {k : ℕ} → InScope texts bind a → f ≡ At k → Looks texts bind a (fromFile n) (Value k)
     unfolding meaning orRule fileVar
     file-found {k} w e =
@@ -56,7 +56,7 @@ module _ (n : List ℕ) {texts bind : List ℕ} {a : Asked} {f : Found} where
           text = λ j d. let z : _≡_ {A = ℕ} 0 1 = cc in absurd (omega arith);
         }
 
-  module _ (q : (log : List Logged) → Holds log texts bind (a .entries) → f ≡ newest (ofKeys (a .rule)) n log) where
+  module _ (q : (log : List Logged) → HoldsBindings log texts bind (a .entries) → f ≡ newest (ofKeys (a .rule)) n log) where
     pub rule-found : {k : ℕ} → InScope texts bind a → f ≡ At k → Looks texts bind a (fromRule n) (Text k)
     unfolding meaning orBlock orRule
     rule-found {k} w e =
@@ -76,7 +76,7 @@ module _ (n : List ℕ) {texts bind : List ℕ} {a : Asked} {f : Found} where
           text = l .text;
         }
 
-  module _ (q : (log : List Logged) → Holds log texts bind (a .entries) → f ≡ newest (ofBlock (a .step)) n log) where
+  module _ (q : (log : List Logged) → HoldsBindings log texts bind (a .entries) → f ≡ newest (ofBlock (a .step)) n log) where
     pub block-found : {k : ℕ} → InScope texts bind a → f ≡ At k → Looks texts bind a (fromBlock n) (Value k)
     unfolding meaning orStep orBlock
     block-found {k} w e =

@@ -8,7 +8,7 @@ use Rattle.spec.specs.Reading.{Step, Reading, find, keysOf}
 use Rattle.spec.specs.Text.{asIs, ofRule, ofStep, orRule, orBlock, orStep, lookup}
 use Rattle.scan_classes.specs.Table.{classes}
 use Rattle.hold_bindings.specs.Log.{Logged, entryAt}
-use Rattle.hold_bindings.specs.Held.{Holds}
+use Rattle.hold_bindings.specs.Held.{HoldsBindings}
 use Rattle.text_references.specs.Begins.{Ready}
 use Rattle.text_lookup.specs.declared.Asked.{Asked}
 use Rattle.text_lookup.specs.declared.Source.{Source}
@@ -30,7 +30,7 @@ module _ (rd : Reading) (s : Step) (n : List ℕ) where
 
 -- the value of an entry as the table gives it
 abbrev pub ValueOf : List ℕ → List ℕ → ℕ → List ℕ → Type 0
-ValueOf texts bind k raw = (log : List Logged) (count : ℕ) → Holds log texts bind count → k < count → raw ≡ entryAt k log .value
+ValueOf texts bind k raw = (log : List Logged) (count : ℕ) → HoldsBindings log texts bind count → k < count → raw ≡ entryAt k log .value
 
 module _ {texts bind : List ℕ} {a : Asked} {k : ℕ} (h : There texts bind a k) {raw : List ℕ} (v : ValueOf texts bind k raw) where
   is-raw : {log : List Logged} {rd : Reading} {s : Step} → Scope texts bind a log rd s → raw ≡ entryAt k log .value

@@ -9,14 +9,14 @@ use Rattle.spec.specs.Reading.{Step, Reading, keysOf}
 use Rattle.spec.specs.Sound.{SoundKeys}
 use Rattle.spec.specs.Text.{joinedBy, namesOf, Found, asIs, ofRule, orRule, orBlock, orStep}
 use Rattle.hold_bindings.specs.Log.{Logged, ofFile, ofKeys, ofStep, entryAt, boundBy}
-use Rattle.hold_bindings.specs.Held.{maxEntries, Holds, HasEntry}
+use Rattle.hold_bindings.specs.Held.{maxEntries, HoldsBindings, HasEntry}
 use Rattle.text_lookup.specs.declared.Asked.{Asked}
 use Rattle.text_lookup.specs.declared.Source.{Source}
 use Rattle.text_lookup.specs.declared.Source.the-variants.{Inputs, InputLines, Outputs, Value, Text, Unset}
 
 -- The table of bindings holds the scope of this step of a reading.
 pub record Scope (texts bind : List ℕ) (a : Asked) (log : List Logged) (rd : Reading) (s : Step) : Type 0 where
-  pub bound : Holds log texts bind (a .entries)
+  pub bound : HoldsBindings log texts bind (a .entries)
   pub vars : rd .vars ≡ boundBy ofFile log
   pub block : s .block ≡ boundBy (ofStep (a .step)) log
   pub keys : keysOf (s .rule) (rd .rules) ≡ boundBy (ofKeys (a .rule)) log

@@ -2,7 +2,7 @@
 ghost use Rattle.spec.specs.Text.{lookup};
 ghost use Rattle.text_lookup.specs.Scope.{InScope, Looks, fromFile, fromRule, fromBlock};
 use byteorder::equal;
-use hold_bindings::Found;
+use hold_bindings::FoundEntry;
 use hold_bindings::newest;
 
 // The step that is asked for: its number, the entry of its rule's declaration in the table of bindings, how many entries and files there are, and where
@@ -36,8 +36,8 @@ fn of_file(texts: &[u8], bind: &[u32], a: Asked, name: &[u8]) -> Source
     ensures { λ r. ⌜ Looks (now (texts .entry)) (now (bind .entry)) a (fromFile (now (name .entry))) r ⌝ }
 {
     match newest(texts, bind, a.entries, 0, name) {
-        Found::At(k) => Source::Value(k),
-        Found::Missing => Source::Unset,
+        FoundEntry::At(k) => Source::Value(k),
+        FoundEntry::Missing => Source::Unset,
     }
 }
 
@@ -47,8 +47,8 @@ fn of_rule(texts: &[u8], bind: &[u32], a: Asked, name: &[u8]) -> Source
     ensures { λ r. ⌜ Looks (now (texts .entry)) (now (bind .entry)) a (fromRule (now (name .entry))) r ⌝ }
 {
     match newest(texts, bind, a.entries, 2 + 2 * a.rule, name) {
-        Found::At(k) => Source::Text(k),
-        Found::Missing => of_file(texts, bind, a, name),
+        FoundEntry::At(k) => Source::Text(k),
+        FoundEntry::Missing => of_file(texts, bind, a, name),
     }
 }
 
@@ -58,8 +58,8 @@ fn of_block(texts: &[u8], bind: &[u32], a: Asked, name: &[u8]) -> Source
     ensures { λ r. ⌜ Looks (now (texts .entry)) (now (bind .entry)) a (fromBlock (now (name .entry))) r ⌝ }
 {
     match newest(texts, bind, a.entries, 3 + 2 * a.step, name) {
-        Found::At(k) => Source::Value(k),
-        Found::Missing => of_rule(texts, bind, a, name),
+        FoundEntry::At(k) => Source::Value(k),
+        FoundEntry::Missing => of_rule(texts, bind, a, name),
     }
 }
 

@@ -15,7 +15,7 @@ use Rattle.lists.specs.Runs.{isNot, run, afterRun, Reads, part-run}
 use Rattle.spec.specs.Bytes.{dollar}
 use Rattle.spec.specs.Dollars.{badDollar, pieces, byte}
 use Rattle.spec.specs.Dollars as rules
-use Rattle.scan_dollars.specs.Element.{literal, joins, wrong, element, restOf, Found, FoundName}
+use Rattle.scan_dollars.specs.Element.{literal, joins, wrong, element, restOf, FoundElement, FoundName}
 use Rattle.scan_raw.proofs.Pieces.{pieces-byte, pieces-literal, pieces-join, pieces-name, sound-not-bad}
 use Rattle.expand_parts.proofs.Raw.{sound-run, literal-here, plain-forward, dollar-here, sound-here, sound-next}
 use Rattle.text_references.specs.declared.Piece.{Piece}
@@ -48,7 +48,7 @@ module _ (raw : List ℕ) (i : ℕ) (h : i < length raw) (s : badDollar (drop i 
   -- ---- what a `$` begins
 
   module _ (d : getD raw i 0 ≡ dollar) where
-    pub literal-begins : {b n : ℕ} → Found raw (i + 1) n (element (drop (i + 1) raw)) (literal b (drop n raw)) → Begins raw i (Bytes (i + 1) (i + 2) n)
+    pub literal-begins : {b n : ℕ} → FoundElement raw (i + 1) n (element (drop (i + 1) raw)) (literal b (drop n raw)) → Begins raw i (Bytes (i + 1) (i + 2) n)
     unfolding Begins plainly restOf
     literal-begins {b} {n} f =
         let l : drop (i + 1) raw ≡ b ∷ drop n raw = literal-here (drop (i + 1) raw) (f .is) in
@@ -65,7 +65,7 @@ module _ (raw : List ℕ) (i : ℕ) (h : i < length raw) (s : badDollar (drop i 
           gives = ap pieces (dollar-here raw i h s d) ∙ pieces-literal (drop (i + 1) raw) (f .is) ∙ sym (rw p);
         }
 
-    pub join-begins : {n : ℕ} → Found raw (i + 1) n (element (drop (i + 1) raw)) (joins (drop n raw)) → Begins raw i (Bytes n n n)
+    pub join-begins : {n : ℕ} → FoundElement raw (i + 1) n (element (drop (i + 1) raw)) (joins (drop n raw)) → Begins raw i (Bytes n n n)
     unfolding Begins plainly restOf
     join-begins {n} f =
         record {

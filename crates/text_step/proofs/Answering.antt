@@ -23,7 +23,7 @@ use Rattle.spec.specs.TextAsk.{text, noText, wantedName, textOfStep}
 use Rattle.spec.specs.Sound.{SoundRules}
 use Rattle.hold_bindings.specs.Log.{Logged}
 use Rattle.hold_reading.specs.declared.Counts.{Counts}
-use Rattle.hold_reading.specs.Held.{Bound, Graphed, Holds}
+use Rattle.hold_reading.specs.Held.{Bound, Graphed, HoldsReading}
 use Rattle.text_lookup.specs.declared.Asked.{Asked}
 use Rattle.text_lookup.specs.Scope.{Scope}
 use Rattle.text_buffer.specs.Puts.{Puts}
@@ -69,18 +69,18 @@ meets-text {before} {after} {exit} {s} {n} p h e =
 
 -- ---- one step
 
-module _ {t names ends texts bind graph before : List ℕ} {a : Asked} (wanted : Wanted) (k : ℕ) (w : StepAsk t names ends texts bind graph a before) {b : Bool}
+module _ {t names index texts bind graph before : List ℕ} {a : Asked} (wanted : Wanted) (k : ℕ) (w : StepAsk t names index texts bind graph a before) {b : Bool}
     (q : (log : List Logged) (rd : Reading) (s : Step) → Scope texts bind a log rd s → b ≡ leadsBack rd s deep [] (wantedName wanted)) where
-  pub in-endless : {exit : List ℕ} → b ≡ true → exit ≡ zeroed before 0 (length before) → TextIn names ends texts bind graph a k wanted before exit (Refused (EndlessText k))
+  pub in-endless : {exit : List ℕ} → b ≡ true → exit ≡ zeroed before 0 (length before) → TextIn names index texts bind graph a k wanted before exit (Refused (EndlessText k))
   unfolding textOfIn
   in-endless {exit} e z = record { meets = λ log rd s h. rw (sym (q log rd s (h .scope)) ∙ e) (meets-endless k before before refl z) }
 
   module _ (e : b ≡ false) where
-    pub wants : WholeAsk t names ends texts bind graph a (wantedName wanted) before
+    pub wants : WholeAsk t names index texts bind graph a (wantedName wanted) before
     wants = record { asked = w; ended = sym (q (w .log) (w .reading) (w .step) (w .here .scope)) ∙ e }
 
-    module _ {after : List ℕ} {n : ℕ} (p : WritesWhole names ends texts bind graph a (wantedName wanted) before after n) {exit : List ℕ} where
-      pub in-long : maxText < n → exit ≡ zeroed after 0 (length after) → TextIn names ends texts bind graph a k wanted before exit (Refused (LongText k))
+    module _ {after : List ℕ} {n : ℕ} (p : WritesWhole names index texts bind graph a (wantedName wanted) before after n) {exit : List ℕ} where
+      pub in-long : maxText < n → exit ≡ zeroed after 0 (length after) → TextIn names index texts bind graph a k wanted before exit (Refused (LongText k))
       unfolding textOfIn
       in-long h z =
           record {
@@ -91,7 +91,7 @@ module _ {t names ends texts bind graph before : List ℕ} {a : Asked} (wanted :
                 rw (f, g) (meets-long k before after (x .long) z);
           }
 
-      pub in-text : n ≤ maxText → exit ≡ zeroed after n (length after) → TextIn names ends texts bind graph a k wanted before exit (Written n)
+      pub in-text : n ≤ maxText → exit ≡ zeroed after n (length after) → TextIn names index texts bind graph a k wanted before exit (Written n)
       unfolding textOfIn
       in-text h z =
           record {
@@ -105,20 +105,20 @@ module _ {t names ends texts bind graph before : List ℕ} {a : Asked} (wanted :
 
 -- ---- the ask
 
-module _ {t names ends texts bind graph before : List ℕ} {c : Counts} (w : TextAsk t names ends texts bind graph c before) where
+module _ {t names index texts bind graph before : List ℕ} {c : Counts} (w : TextAsk t names index texts bind graph c before) where
   pub reads : Reads texts bind graph c
   reads = record { log = w .log; reading = w .reading; bound = w .holds .bound; graphed = w .holds .graphed }
 
   pub no-command : {step : ℕ} (wanted : Wanted) {exit : List ℕ}
       → ((log : List Logged) (rd : Reading) → Bound log texts bind c rd → Graphed log graph c rd → leb (length (rd .steps)) step || isPhony (stepAt (rd .steps) step .rule) ≡ true)
-      → exit ≡ zeroed before 0 (length before) → TextOf names ends texts bind graph c step wanted before exit (Refused (NoCommand step))
+      → exit ≡ zeroed before 0 (length before) → TextOf names index texts bind graph c step wanted before exit (Refused (NoCommand step))
   unfolding textOfStep
   no-command {step} wanted q z =
       record { meets = λ log rd h. rw (q log rd (h .bound) (h .graphed)) (meets-none step before before refl z) }
 
 -- the step that was picked, in any reading
-module _ {names ends texts bind graph : List ℕ} {c : Counts} {step : ℕ} {a : Asked} (p : Picks texts bind graph c step a) where
-  pub picked-here : {log : List Logged} {rd : Reading} → Holds log names ends texts bind graph c rd → SoundRules rd → Here names ends texts bind graph a log rd (stepAt (rd .steps) step)
+module _ {names index texts bind graph : List ℕ} {c : Counts} {step : ℕ} {a : Asked} (p : Picks texts bind graph c step a) where
+  pub picked-here : {log : List Logged} {rd : Reading} → HoldsReading log names index texts bind graph c rd → SoundRules rd → Here names index texts bind graph a log rd (stepAt (rd .steps) step)
   picked-here {log} {rd} h y =
       let x = p .picked log rd (h .bound) (h .graphed) in
       record {
@@ -144,7 +144,7 @@ module _ {names ends texts bind graph : List ℕ} {c : Counts} {step : ℕ} {a :
             };
       }
 
-  pub step-asked : {t before : List ℕ} → TextAsk t names ends texts bind graph c before → StepAsk t names ends texts bind graph a before
+  pub step-asked : {t before : List ℕ} → TextAsk t names index texts bind graph c before → StepAsk t names index texts bind graph a before
   step-asked w =
       record {
         table = w .table;
@@ -155,8 +155,8 @@ module _ {names ends texts bind graph : List ℕ} {c : Counts} {step : ℕ} {a :
         here = picked-here (w .holds) (w .sound);
       }
 
-  pub step-text : {t before exit : List ℕ} {wanted : Wanted} {r : TextAnswer} → TextAsk t names ends texts bind graph c before → TextIn names ends texts bind graph a step wanted before exit r
-      → TextOf names ends texts bind graph c step wanted before exit r
+  pub step-text : {t before exit : List ℕ} {wanted : Wanted} {r : TextAnswer} → TextAsk t names index texts bind graph c before → TextIn names index texts bind graph a step wanted before exit r
+      → TextOf names index texts bind graph c step wanted before exit r
   unfolding textOfStep textOfIn
   step-text w q =
       record {

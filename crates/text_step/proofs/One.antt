@@ -8,7 +8,7 @@ use lib.Seq.{ext-getD}
 use Rattle.spec.specs.Reading.{Reading}
 use Rattle.spec.specs.Sound.{SoundRules}
 use Rattle.hold_bindings.specs.Log.{Logged, noEntry, entryAt, rulesOf}
-use Rattle.hold_bindings.specs.Held.{Holds}
+use Rattle.hold_bindings.specs.Held.{HoldsBindings}
 use Rattle.hold_bindings.proofs.Entries.{row-at}
 use Rattle.hold_reading.specs.declared.Counts.{Counts}
 use Rattle.hold_reading.specs.Held.{Bound}
@@ -16,7 +16,7 @@ use Rattle.hold_reading.specs.Held.{Bound}
 same-logged : (a b : Logged) → a .owner ≡ b .owner → a .name ≡ b .name → a .value ≡ b .value → a ≡ b
 same-logged a b p q r = λ i. record { owner = p i; name = q i; value = r i }
 
-module _ {texts bind : List ℕ} {count : ℕ} {l m : List Logged} (a : Holds l texts bind count) (b : Holds m texts bind count) where
+module _ {texts bind : List ℕ} {count : ℕ} {l m : List Logged} (a : HoldsBindings l texts bind count) (b : HoldsBindings m texts bind count) where
   same-entry : (k : ℕ) → k < count → entryAt k l ≡ entryAt k m
   same-entry k h =
       let x = row-at l k a h in

@@ -19,10 +19,10 @@ use Rattle.arena.proofs.Laws.{lies-column, lies-read}
 use Rattle.hold_columns.specs.Tables.{outsIn, startIn}
 use Rattle.hold_columns.proofs.Places.{start-zero, start-suc, read-ins, read-ins-placed}
 use Rattle.hold_columns.proofs.Held.{held-outs, held-sound}
-use Rattle.hold_bindings.specs.declared.Found.{Found}
-use Rattle.hold_bindings.specs.declared.Found.the-variants.{At, Missing}
+use Rattle.hold_bindings.specs.declared.FoundEntry.{FoundEntry}
+use Rattle.hold_bindings.specs.declared.FoundEntry.the-variants.{At, Missing}
 use Rattle.hold_bindings.specs.Log.{Logged, ofRules, ofKeys, entryAt, isNamed, newest, keysAt, boundBy}
-use Rattle.hold_bindings.specs.Held.{Holds, HasEntry, Sound}
+use Rattle.hold_bindings.specs.Held.{HoldsBindings, HasEntry, SoundBindings}
 use Rattle.hold_bindings.proofs.Lookups.{newest-below, entry-kept, entry-newest, keys-newest}
 use Rattle.hold_reading.specs.declared.Counts.{Counts}
 use Rattle.hold_reading.specs.Held.{capacities, Ruled, phony, declared, Bound, Graphed}
@@ -58,12 +58,12 @@ module _ {texts bind : List ℕ} {count k : ℕ} where
   pub rule-entry : HasRule texts bind count k → HasEntry texts bind k
   rule-entry w = record { log = w .log; count = count; held = w .held; below = w .below }
 
-  pub rule-table : HasRule texts bind count k → Sound texts bind count
+  pub rule-table : HasRule texts bind count k → SoundBindings texts bind count
   rule-table w = record { log = w .log; held = w .held }
 
-  module _ (w : HasRule texts bind count k) {name : List ℕ} (v : (log : List Logged) (n : ℕ) → Holds log texts bind n → k < n → name ≡ entryAt k log .name) {f : Found}
-      (q : (log : List Logged) → Holds log texts bind count → f ≡ newest ofRules name log) where
-    found : (log : List Logged) → Holds log texts bind count → newest ofRules (entryAt k log .name) log ≡ f
+  module _ (w : HasRule texts bind count k) {name : List ℕ} (v : (log : List Logged) (n : ℕ) → HoldsBindings log texts bind n → k < n → name ≡ entryAt k log .name) {f : FoundEntry}
+      (q : (log : List Logged) → HoldsBindings log texts bind count → f ≡ newest ofRules name log) where
+    found : (log : List Logged) → HoldsBindings log texts bind count → newest ofRules (entryAt k log .name) log ≡ f
     found log h = sym (q log h ∙ rw (v log count h (w .below)))
 
     pub declares-at : {j : ℕ} → f ≡ At j → Declares texts bind count k j

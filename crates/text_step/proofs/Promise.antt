@@ -21,7 +21,7 @@ use Rattle.spec.proofs.Manifests.{of-reading, accepted-sound}
 use Rattle.scan_classes.specs.Table.{classes}
 use Rattle.hold_bindings.specs.Log.{Logged}
 use Rattle.hold_reading.specs.declared.Counts.{Counts}
-use Rattle.hold_reading.specs.Held.{Holds}
+use Rattle.hold_reading.specs.Held.{HoldsReading}
 use Rattle.text_step.specs.Asks.{TextAsk, TextOf}
 
 module _ (manifest before : List ℕ) (h : maxText ≤ length before) where
@@ -29,12 +29,12 @@ module _ (manifest before : List ℕ) (h : maxText ≤ length before) where
   enough = le-ltb (length before) maxText h
 
   -- a manifest that was read
-  module _ {log : List Logged} {names ends texts bind graph : List ℕ} {c : Counts} {rd : Reading} (e : readManifest manifest ≡ accepted rd)
-      (k : Holds log names ends texts bind graph c rd) where
-    pub text-asked : {t : List ℕ} → t ≡ classes → TextAsk t names ends texts bind graph c before
+  module _ {log : List Logged} {names index texts bind graph : List ℕ} {c : Counts} {rd : Reading} (e : readManifest manifest ≡ accepted rd)
+      (k : HoldsReading log names index texts bind graph c rd) where
+    pub text-asked : {t : List ℕ} → t ≡ classes → TextAsk t names index texts bind graph c before
     text-asked q = record { table = q; room = h; log = log; reading = rd; holds = k; sound = accepted-sound manifest rd e }
 
-    pub text-promised : {step : ℕ} {wanted : Wanted} {r : TextAnswer} {after : List ℕ} → TextOf names ends texts bind graph c step wanted before after r
+    pub text-promised : {step : ℕ} {wanted : Wanted} {r : TextAnswer} {after : List ℕ} → TextOf names index texts bind graph c step wanted before after r
         → TextPromise manifest step wanted before r after
     unfolding textAsk textRead
     text-promised p = rw (enough, e) (p .meets log rd k)

@@ -44,8 +44,8 @@ blank-remembers text buffer h =
 shallow : (rd : Reading) (s : Step) (n : List ℕ) → leadsBack rd s deep [] n ≡ false → goesDeep rd s deep n ≡ false
 shallow rd s n e = sym (leads-back-deep rd s n) ∙ e
 
-module _ {t names ends texts bind graph name buffer : List ℕ} {a : Asked} (w : WholeAsk t names ends texts bind graph a name buffer) where
-  pub whole-asked : NameAsk t names ends texts bind graph a name 4 buffer blank
+module _ {t names index texts bind graph name buffer : List ℕ} {a : Asked} (w : WholeAsk t names index texts bind graph a name buffer) where
+  pub whole-asked : NameAsk t names index texts bind graph a name 4 buffer blank
   whole-asked =
       let q = w .asked in
       record {
@@ -55,22 +55,22 @@ module _ {t names ends texts bind graph name buffer : List ℕ} {a : Asked} (w :
         shallow = shallow (q .reading) (q .step) name (w .ended);
       }
 
-  pub whole-written : {after : List ℕ} {r : Draft} → WritesName names ends texts bind graph a name 4 buffer blank after r → WritesWhole names ends texts bind graph a name buffer after (r .at)
+  pub whole-written : {after : List ℕ} {r : Draft} → WritesName names index texts bind graph a name 4 buffer blank after r → WritesWhole names index texts bind graph a name buffer after (r .at)
   whole-written p =
       record {
         writes = λ log rd s h q. p .writes log rd s h (shallow rd s name q) (blank-remembers (textOf rd s deep) buffer (w .asked .room)) .puts;
       }
 
 -- a name by its bytes
-module _ {t names ends texts bind graph buffer : List ℕ} {a : Asked} {name n : List ℕ} (w : WholeAsk t names ends texts bind graph a name buffer) (e : name ≡ n) where
-  pub wanted-asked : WholeAsk t names ends texts bind graph a n buffer
+module _ {t names index texts bind graph buffer : List ℕ} {a : Asked} {name n : List ℕ} (w : WholeAsk t names index texts bind graph a name buffer) (e : name ≡ n) where
+  pub wanted-asked : WholeAsk t names index texts bind graph a n buffer
   wanted-asked = rw e at w
 
-  pub wanted-written : {after : List ℕ} {r : ℕ} → WritesWhole names ends texts bind graph a n buffer after r → WritesWhole names ends texts bind graph a name buffer after r
+  pub wanted-written : {after : List ℕ} {r : ℕ} → WritesWhole names index texts bind graph a n buffer after r → WritesWhole names index texts bind graph a name buffer after r
   wanted-written p = rw e p
 
 -- ---- what the functions ask
 
-module _ {t names ends texts bind graph buffer : List ℕ} {a : Asked} (w : StepAsk t names ends texts bind graph a buffer) where
+module _ {t names index texts bind graph buffer : List ℕ} {a : Asked} (w : StepAsk t names index texts bind graph a buffer) where
   pub leads-asked : depth.Asks t texts bind a
   leads-asked = record { table = w .table; within = record { log = w .log; reading = w .reading; step = w .step; scope = w .here .scope } }

@@ -19,28 +19,28 @@ use Rattle.spec.specs.TextAsk.{TextOutcome, text, noText, wantedName, textOfSte
 use Rattle.scan_classes.specs.Table.{classes}
 use Rattle.hold_bindings.specs.Log.{Logged}
 use Rattle.hold_reading.specs.declared.Counts.{Counts}
-use Rattle.hold_reading.specs.Held.{Holds}
+use Rattle.hold_reading.specs.Held.{HoldsReading}
 use Rattle.text_lookup.specs.declared.Asked.{Asked}
 use Rattle.text_buffer.specs.Puts.{Puts}
 use Rattle.text_expansion.specs.Here.{Here}
 
 -- ------------------------------------------------------------------ one step
 
-pub record StepAsk (t names ends texts bind graph : List ℕ) (a : Asked) (buffer : List ℕ) : Type 0 where
+pub record StepAsk (t names index texts bind graph : List ℕ) (a : Asked) (buffer : List ℕ) : Type 0 where
   pub table : t ≡ classes
   pub room : maxText ≤ length buffer
   pub log : List Logged
   pub reading : Reading
   pub step : Step
-  pub here : Here names ends texts bind graph a log reading step
+  pub here : Here names index texts bind graph a log reading step
 
 -- the same, for the text of a name that is not endless
-pub record WholeAsk (t names ends texts bind graph : List ℕ) (a : Asked) (name buffer : List ℕ) : Type 0 where
-  pub asked : StepAsk t names ends texts bind graph a buffer
+pub record WholeAsk (t names index texts bind graph : List ℕ) (a : Asked) (name buffer : List ℕ) : Type 0 where
+  pub asked : StepAsk t names index texts bind graph a buffer
   pub ended : leadsBack (asked .reading) (asked .step) deep [] name ≡ false
 
-pub record WritesWhole (names ends texts bind graph : List ℕ) (a : Asked) (name before after : List ℕ) (r : ℕ) : Type 0 where
-  pub writes : (log : List Logged) (rd : Reading) (s : Step) → Here names ends texts bind graph a log rd s → leadsBack rd s deep [] name ≡ false
+pub record WritesWhole (names index texts bind graph : List ℕ) (a : Asked) (name before after : List ℕ) (r : ℕ) : Type 0 where
+  pub writes : (log : List Logged) (rd : Reading) (s : Step) → Here names index texts bind graph a log rd s → leadsBack rd s deep [] name ≡ false
       → Puts before 0 (textOf rd s deep name) after r
 
 -- "16, 17 for a text", once 18 is out
@@ -51,21 +51,21 @@ textOfIn k n rd s =
     ifB (ltb maxText (length (textOf rd s deep n))) (λ _. noText (LongText k)) λ _.
     text (textOf rd s deep n)
 
-pub record TextIn (names ends texts bind graph : List ℕ) (a : Asked) (k : ℕ) (wanted : Wanted) (before after : List ℕ) (r : TextAnswer) : Type 0 where
-  pub meets : (log : List Logged) (rd : Reading) (s : Step) → Here names ends texts bind graph a log rd s → TextMeets (textOfIn k (wantedName wanted) rd s) before (textSays r) after
+pub record TextIn (names index texts bind graph : List ℕ) (a : Asked) (k : ℕ) (wanted : Wanted) (before after : List ℕ) (r : TextAnswer) : Type 0 where
+  pub meets : (log : List Logged) (rd : Reading) (s : Step) → Here names index texts bind graph a log rd s → TextMeets (textOfIn k (wantedName wanted) rd s) before (textSays r) after
 
 -- ------------------------------------------------------------------ the ask
 
 -- Some reading is held, as a manifest gives it, and the buffer is long enough.
-pub record TextAsk (t names ends texts bind graph : List ℕ) (c : Counts) (buffer : List ℕ) : Type 0 where
+pub record TextAsk (t names index texts bind graph : List ℕ) (c : Counts) (buffer : List ℕ) : Type 0 where
   pub table : t ≡ classes
   pub room : maxText ≤ length buffer
   pub log : List Logged
   pub reading : Reading
-  pub holds : Holds log names ends texts bind graph c reading
+  pub holds : HoldsReading log names index texts bind graph c reading
   pub sound : SoundRules reading
 
 -- The answer and the whole buffer are what document 01 says, whatever reading is held.
-pub record TextOf (names ends texts bind graph : List ℕ) (c : Counts) (step : ℕ) (wanted : Wanted) (before after : List ℕ) (r : TextAnswer) : Type 0 where
-  pub meets : (log : List Logged) (rd : Reading) → Holds log names ends texts bind graph c rd
+pub record TextOf (names index texts bind graph : List ℕ) (c : Counts) (step : ℕ) (wanted : Wanted) (before after : List ℕ) (r : TextAnswer) : Type 0 where
+  pub meets : (log : List Logged) (rd : Reading) → HoldsReading log names index texts bind graph c rd
       → TextMeets (textOfStep step (wantedName wanted) rd) before (textSays r) after

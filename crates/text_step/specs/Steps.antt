@@ -10,9 +10,9 @@ use Rattle.lists.specs.Parts.{part}
 use Rattle.spec.specs.Limits.{maxSteps}
 use Rattle.spec.specs.Reading.{Reading, isPhony, keysOf}
 use Rattle.spec.specs.Graph.{stepAt}
-use Rattle.hold_bindings.specs.declared.Found.the-variants.{At}
+use Rattle.hold_bindings.specs.declared.FoundEntry.the-variants.{At}
 use Rattle.hold_bindings.specs.Log.{Logged, ofRules, ofKeys, entryAt, newest, boundBy}
-use Rattle.hold_bindings.specs.Held.{maxEntries, Holds}
+use Rattle.hold_bindings.specs.Held.{maxEntries, HoldsBindings}
 use Rattle.hold_reading.specs.declared.Counts.{Counts}
 use Rattle.arena.specs.Columns.{startOf}
 use Rattle.hold_reading.specs.Held.{Bound, capacities, Graphed}
@@ -24,13 +24,13 @@ use Rattle.text_step.specs.declared.StepAsked.the-variants.{NoCommand, S
 
 pub record HasRule (texts bind : List ℕ) (count k : ℕ) : Type 0 where
   pub log : List Logged
-  pub held : Holds log texts bind count
+  pub held : HoldsBindings log texts bind count
   pub below : k < count
   pub owner : entryAt k log .owner ≡ ofRules
 
 -- Entry r is the newest declaration of the name that entry k declares.
 pub record Declares (texts bind : List ℕ) (count k r : ℕ) : Type 0 where
-  pub newest : (log : List Logged) → Holds log texts bind count → entryAt k log .owner ≡ ofRules → newest ofRules (entryAt k log .name) log ≡ At r
+  pub newest : (log : List Logged) → HoldsBindings log texts bind count → entryAt k log .owner ≡ ofRules → newest ofRules (entryAt k log .name) log ≡ At r
 
 -- ------------------------------------------------------------------ its files
 

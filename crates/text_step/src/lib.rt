@@ -26,7 +26,7 @@ pub enum StepAsked {
 fn write_whole(
     t: &[u8; 256],
     names: &[u8],
-    ends: &[u32],
+    index: &[u32],
     texts: &[u8],
     bind: &[u32],
     graph: &[u32],
@@ -34,8 +34,8 @@ fn write_whole(
     name: &[u8],
     buffer: &mut [u8],
 ) -> usize
-    requires { ⌜ WholeAsk (now t) (now names) (now ends) (now texts) (now bind) (now graph) a (now name) (now buffer) ⌝ }
-    ensures { λ r. ⌜ WritesWhole (now (names .entry)) (now (ends .entry)) (now (texts .entry)) (now (bind .entry)) (now (graph .entry)) a (now (name .entry)) (now (buffer .entry)) (now (buffer .exit)) r ⌝ }
+    requires { ⌜ WholeAsk (now t) (now names) (now index) (now texts) (now bind) (now graph) a (now name) (now buffer) ⌝ }
+    ensures { λ r. ⌜ WritesWhole (now (names .entry)) (now (index .entry)) (now (texts .entry)) (now (bind .entry)) (now (graph .entry)) a (now (name .entry)) (now (buffer .entry)) (now (buffer .exit)) r ⌝ }
 {
     let none = Span { from: 1, to: 0 };
     let d = Draft {
@@ -44,7 +44,7 @@ fn write_whole(
         description: none,
         generator: none,
     };
-    let x = write_name(t, names, ends, texts, bind, graph, a, name, 4, buffer, d);
+    let x = write_name(t, names, index, texts, bind, graph, a, name, 4, buffer, d);
     x.at
 }
 
@@ -52,7 +52,7 @@ fn write_whole(
 fn write_wanted(
     t: &[u8; 256],
     names: &[u8],
-    ends: &[u32],
+    index: &[u32],
     texts: &[u8],
     bind: &[u32],
     graph: &[u32],
@@ -60,16 +60,16 @@ fn write_wanted(
     wanted: Wanted,
     buffer: &mut [u8],
 ) -> usize
-    requires { ⌜ WholeAsk (now t) (now names) (now ends) (now texts) (now bind) (now graph) a (wantedName wanted) (now buffer) ⌝ }
-    ensures { λ r. ⌜ WritesWhole (now (names .entry)) (now (ends .entry)) (now (texts .entry)) (now (bind .entry)) (now (graph .entry)) a (wantedName wanted) (now (buffer .entry)) (now (buffer .exit)) r ⌝ }
+    requires { ⌜ WholeAsk (now t) (now names) (now index) (now texts) (now bind) (now graph) a (wantedName wanted) (now buffer) ⌝ }
+    ensures { λ r. ⌜ WritesWhole (now (names .entry)) (now (index .entry)) (now (texts .entry)) (now (bind .entry)) (now (graph .entry)) a (wantedName wanted) (now (buffer .entry)) (now (buffer .exit)) r ⌝ }
 {
     match wanted {
-        Wanted::Command => write_whole(t, names, ends, texts, bind, graph, a, b"command", buffer),
+        Wanted::Command => write_whole(t, names, index, texts, bind, graph, a, b"command", buffer),
         Wanted::Description => {
             write_whole(
                 t,
                 names,
-                ends,
+                index,
                 texts,
                 bind,
                 graph,
@@ -85,7 +85,7 @@ fn write_wanted(
 fn text_in(
     t: &[u8; 256],
     names: &[u8],
-    ends: &[u32],
+    index: &[u32],
     texts: &[u8],
     bind: &[u32],
     graph: &[u32],
@@ -94,14 +94,14 @@ fn text_in(
     wanted: Wanted,
     buffer: &mut [u8],
 ) -> TextAnswer
-    requires { ⌜ StepAsk (now t) (now names) (now ends) (now texts) (now bind) (now graph) a (now buffer) ⌝ }
-    ensures { λ r. ⌜ TextIn (now (names .entry)) (now (ends .entry)) (now (texts .entry)) (now (bind .entry)) (now (graph .entry)) a step wanted (now (buffer .entry)) (now (buffer .exit)) r ⌝ }
+    requires { ⌜ StepAsk (now t) (now names) (now index) (now texts) (now bind) (now graph) a (now buffer) ⌝ }
+    ensures { λ r. ⌜ TextIn (now (names .entry)) (now (index .entry)) (now (texts .entry)) (now (bind .entry)) (now (graph .entry)) a step wanted (now (buffer .entry)) (now (buffer .exit)) r ⌝ }
 {
     if leads_back(t, texts, bind, a, wanted) {
         zero_from(buffer, 0);
         return TextAnswer::Refused(Refusal::EndlessText(step));
     }
-    let n = write_wanted(t, names, ends, texts, bind, graph, a, wanted, buffer);
+    let n = write_wanted(t, names, index, texts, bind, graph, a, wanted, buffer);
     if TEXT < n {
         zero_from(buffer, 0);
         return TextAnswer::Refused(Refusal::LongText(step));
@@ -114,7 +114,7 @@ fn text_in(
 pub fn text_of(
     t: &[u8; 256],
     names: &[u8],
-    ends: &[u32],
+    index: &[u32],
     texts: &[u8],
     bind: &[u32],
     graph: &[u32],
@@ -123,14 +123,14 @@ pub fn text_of(
     wanted: Wanted,
     buffer: &mut [u8],
 ) -> TextAnswer
-    requires { ⌜ TextAsk (now t) (now names) (now ends) (now texts) (now bind) (now graph) c (now buffer) ⌝ }
-    ensures { λ r. ⌜ TextOf (now (names .entry)) (now (ends .entry)) (now (texts .entry)) (now (bind .entry)) (now (graph .entry)) c step wanted (now (buffer .entry)) (now (buffer .exit)) r ⌝ }
+    requires { ⌜ TextAsk (now t) (now names) (now index) (now texts) (now bind) (now graph) c (now buffer) ⌝ }
+    ensures { λ r. ⌜ TextOf (now (names .entry)) (now (index .entry)) (now (texts .entry)) (now (bind .entry)) (now (graph .entry)) c step wanted (now (buffer .entry)) (now (buffer .exit)) r ⌝ }
 {
     match asked(texts, bind, graph, c, step) {
         StepAsked::NoCommand => {
             zero_from(buffer, 0);
             TextAnswer::Refused(Refusal::NoCommand(step))
         }
-        StepAsked::Step(a) => text_in(t, names, ends, texts, bind, graph, a, step, wanted, buffer),
+        StepAsked::Step(a) => text_in(t, names, index, texts, bind, graph, a, step, wanted, buffer),
     }
 }

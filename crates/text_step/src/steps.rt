@@ -3,7 +3,7 @@ ghost use mathlib.Core.Path.{_≡_};
 ghost use Prim.Native.Nat.{_<_};
 ghost use Rattle.text_step.specs.Steps.{HasRule, Declares, outputsFrom, InGraph, PickAsk, Picks, Reads, Asks};
 use crate::StepAsked;
-use hold_bindings::Found;
+use hold_bindings::FoundEntry;
 use hold_bindings::name;
 use hold_bindings::newest;
 use hold_reading::Counts;
@@ -23,8 +23,8 @@ fn declaration(texts: &[u8], bind: &[u32], count: usize, k: usize) -> usize
     ensures { λ r. ⌜ Declares (now (texts .entry)) (now (bind .entry)) count k r ⌝ }
 {
     match newest(texts, bind, count, 1, name(texts, bind, k)) {
-        Found::At(j) => j,
-        Found::Missing => k,
+        FoundEntry::At(j) => j,
+        FoundEntry::Missing => k,
     }
 }
 

@@ -14,10 +14,10 @@ use Rattle.apply_defaults.proofs.add_sound.Statement.{statement}
 use Rattle.apply_defaults.proofs.add_sound.Tie as tie
 
 abbrev Inv-loop : tie.InvT-loop
-Inv-loop t start l at names ends texts bind graph₀ word₀ d₀ i₀ graph word d i = (length graph ≡ length graph₀) × (length word ≡ length word₀) × Adding l names ends texts bind graph₀ d₀ start at graph d i
+Inv-loop t start l at names index texts bind graph₀ word₀ d₀ i₀ graph word d i = (length graph ≡ length graph₀) × (length word ≡ length word₀) × Adding l names index texts bind graph₀ d₀ start at graph d i
 
 abbrev μ-loop : tie.MeasureT-loop
-μ-loop t start l at names ends texts bind graph₀ word₀ d₀ i₀ graph word d i = length l - i
+μ-loop t start l at names index texts bind graph₀ word₀ d₀ i₀ graph word d i = length l - i
 
 -- the path of this turn
 next : (s : tie.After-known-told Inv-loop μ-loop) → PathNext (now (s .before .before .before .before .before .before .before .before .before .before .before .before .args .l)) (s .before .before .before .before .loop .i) (s .before .from .given .0 .0) (s .before .from .given .0 .1 .0)

@@ -5,7 +5,7 @@ use native.Mathlib.Omega.{arith}
 use borrow.Author.Needs.{needs}
 use denote.Ref.{now}
 use lib.ListN.{length}
-use Rattle.hold_reading.specs.Held.{Holds}
+use Rattle.hold_reading.specs.Held.{HoldsReading}
 use Rattle.spec.specs.Reading.{isMade}
 use Rattle.scan_raw.specs.Texts.{PathNext}
 use Rattle.apply_empty_paths.specs.Walk.{pathOf}
@@ -17,10 +17,10 @@ use Rattle.apply_earlier_outputs.proofs.has_made.Statement.{statement}
 use Rattle.apply_earlier_outputs.proofs.has_made.Tie as tie
 
 abbrev Inv-loop : tie.InvT-loop
-Inv-loop t l start names ends texts bind graph word₀ c wanted i₀ word i = (length word ≡ length word₀) × Looked (λ log rd. Holds log names ends texts bind graph c rd) (λ rd raw. sameBool wanted (isMade (pathOf rd raw) rd)) l start i
+Inv-loop t l start names index texts bind graph word₀ c wanted i₀ word i = (length word ≡ length word₀) × Looked (λ log rd. HoldsReading log names index texts bind graph c rd) (λ rd raw. sameBool wanted (isMade (pathOf rd raw) rd)) l start i
 
 abbrev μ-loop : tie.MeasureT-loop
-μ-loop t l start names ends texts bind graph word₀ c wanted i₀ word i = length l - i
+μ-loop t l start names index texts bind graph word₀ c wanted i₀ word i = length l - i
 
 -- the path of this turn
 next : (s : tie.After-known-told Inv-loop μ-loop) → PathNext (now (s .before .before .before .before .before .before .before .before .before .before .before .before .args .l)) (s .before .before .before .before .loop .i) (s .before .from .given .0 .0) (s .before .from .given .0 .1 .0)

@@ -8,11 +8,11 @@ use Rattle.apply_manifest.proofs.read_from_top.Statement.{statement}
 use Rattle.apply_manifest.proofs.read_from_top.Tie as tie
 
 abbrev Inv-loop : tie.InvT-loop
-Inv-loop t m names₀ ends₀ texts₀ bind₀ graph₀ word₀ c₀ block₀ i₀ names ends texts bind graph word c block i =
-    Same names₀ ends₀ texts₀ bind₀ graph₀ word₀ names ends texts bind graph word × Turning m names ends texts bind graph c block i
+Inv-loop t m names₀ index₀ texts₀ bind₀ graph₀ word₀ c₀ block₀ i₀ names index texts bind graph word c block i =
+    Same names₀ index₀ texts₀ bind₀ graph₀ word₀ names index texts bind graph word × Turning m names index texts bind graph c block i
 
 abbrev μ-loop : tie.MeasureT-loop
-μ-loop t m names₀ ends₀ texts₀ bind₀ graph₀ word₀ c₀ block₀ i₀ names ends texts bind graph word c block i = length m - i
+μ-loop t m names₀ index₀ texts₀ bind₀ graph₀ word₀ c₀ block₀ i₀ names index texts bind graph word c block i = length m - i
 
 top-requires : tie.Need-top-requires Inv-loop μ-loop
 top-requires c κs = search needs

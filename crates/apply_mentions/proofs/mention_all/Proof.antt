@@ -10,10 +10,10 @@ use Rattle.apply_mentions.proofs.mention_all.Statement.{statement}
 use Rattle.apply_mentions.proofs.mention_all.Tie as tie
 
 abbrev Inv-loop : tie.InvT-loop
-Inv-loop t l at names₀ ends₀ texts bind graph₀ word₀ i₀ d₀ names ends graph word i d = Passing t l at names₀ ends₀ texts bind graph₀ word₀ d₀ names ends graph word i d
+Inv-loop t l at names₀ index₀ texts bind graph₀ word₀ i₀ d₀ names index graph word i d = Passing t l at names₀ index₀ texts bind graph₀ word₀ d₀ names index graph word i d
 
 abbrev μ-loop : tie.MeasureT-loop
-μ-loop t l at names₀ ends₀ texts bind graph₀ word₀ i₀ d₀ names ends graph word i d = length l - i
+μ-loop t l at names₀ index₀ texts bind graph₀ word₀ i₀ d₀ names index graph word i d = length l - i
 
 loop-holds : tie.Need-loop-holds Inv-loop μ-loop
 loop-holds c = pass-begin (c .before .before .before .before .before .before .before .pre)

@@ -2,7 +2,7 @@
 use mathlib.Core.Path.{subst}
 use borrow.Author.Needs.{needs}
 use denote.Ref.{now}
-use Rattle.hold_reading.specs.Binds.{Sound}
+use Rattle.hold_reading.specs.Binds.{SoundBlock}
 use Rattle.hold_reading.specs.declared.Open.{Open}
 use Rattle.apply_rules.proofs.Outcomes.{of-rule, closed-none, closed-step, closed-rule, closed-bare}
 use Rattle.apply_rules.proofs.close.Statement.{statement}
@@ -17,7 +17,7 @@ enum-known-block c = search needs
 has-command-requires : tie.Need-has-command-requires
 has-command-requires c κs =
     let a = c .before .before .before .before .before .args in
-    of-rule (subst (λ (o : Open). Sound (now (a .texts)) (now (a .bind)) (a .c) o) (c .before .block .given .1) (c .before .before .before .before .before .pre))
+    of-rule (subst (λ (o : Open). SoundBlock (now (a .texts)) (now (a .bind)) (a .c) o) (c .before .block .given .1) (c .before .before .before .before .before .pre))
 
 enum-told-2 : tie.Need-enum-told-2
 enum-told-2 c = search needs

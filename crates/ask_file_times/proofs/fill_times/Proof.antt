@@ -6,10 +6,10 @@ use Rattle.ask_file_times.proofs.fill_times.Statement.{statement}
 use Rattle.ask_file_times.proofs.fill_times.Tie as tie
 
 abbrev Inv-loop : tie.InvT-loop
-Inv-loop card names ends count times₀ f₀ times f = Filling card names ends count times₀ f times
+Inv-loop card names index count times₀ f₀ times f = Filling card names index count times₀ f times
 
 abbrev μ-loop : tie.MeasureT-loop
-μ-loop card names ends count times₀ f₀ times f = count - f
+μ-loop card names index count times₀ f₀ times f = count - f
 
 loop-holds : tie.Need-loop-holds Inv-loop μ-loop
 loop-holds c = fill-begin (c .before .before .before .before .pre)

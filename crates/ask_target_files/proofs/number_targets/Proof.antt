@@ -9,10 +9,10 @@ use Rattle.ask_target_files.proofs.number_targets.Statement.{statement}
 use Rattle.ask_target_files.proofs.number_targets.Tie as tie
 
 abbrev Inv-loop : tie.InvT-loop
-Inv-loop targets names ends count out₀ from₀ n₀ out from n = Walked targets names ends count out₀ from n out
+Inv-loop targets names index count out₀ from₀ n₀ out from n = Walked targets names index count out₀ from n out
 
 abbrev μ-loop : tie.MeasureT-loop
-μ-loop targets names ends count out₀ from₀ n₀ out from n = length targets + 1 - from
+μ-loop targets names index count out₀ from₀ n₀ out from n = length targets + 1 - from
 
 bad-form-requires : tie.Need-bad-form-requires Inv-loop μ-loop
 bad-form-requires c κs = search needs

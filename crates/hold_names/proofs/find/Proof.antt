@@ -8,10 +8,10 @@ use Rattle.hold_names.proofs.find.Statement.{statement}
 use Rattle.hold_names.proofs.find.Tie as tie
 
 abbrev Inv-loop : tie.InvT-loop
-Inv-loop names ends count path j₀ j = Finding names ends count path j
+Inv-loop names index count path j₀ j = Finding names index count path j
 
 abbrev μ-loop : tie.MeasureT-loop
-μ-loop names ends count path j₀ j = j
+μ-loop names index count path j₀ j = j
 
 bucket-requires : tie.Need-bucket-requires Inv-loop μ-loop
 bucket-requires c κs = search needs

@@ -15,38 +15,38 @@ mul-head c = search needs
 slice-read-head : tie.Need-slice-read-head
 slice-read-head c = search needs
 
-cast-ends : tie.Need-cast-ends
-cast-ends c = search needs
+cast-index : tie.Need-cast-index
+cast-index c = search needs
 
-mul-ends : tie.Need-mul-ends
-mul-ends c = search needs
+mul-index : tie.Need-mul-index
+mul-index c = search needs
 
-slice-write-ends : tie.Need-slice-write-ends
-slice-write-ends c = search needs
+slice-write-index : tie.Need-slice-write-index
+slice-write-index c = search needs
 
-add-ends : tie.Need-add-ends
-add-ends c = search needs
+add-index : tie.Need-add-index
+add-index c = search needs
 
-mul-ends-2 : tie.Need-mul-ends-2
-mul-ends-2 c = search needs
+mul-index-2 : tie.Need-mul-index-2
+mul-index-2 c = search needs
 
-slice-write-ends-2 : tie.Need-slice-write-ends-2
-slice-write-ends-2 c = simp length-set (omega (arith, c .before .pre))
+slice-write-index-2 : tie.Need-slice-write-index-2
+slice-write-index-2 c = simp length-set (omega (arith, c .before .pre))
 
-add-ends-2 : tie.Need-add-ends-2
-add-ends-2 c = search needs
+add-index-2 : tie.Need-add-index-2
+add-index-2 c = search needs
 
-cast-ends-2 : tie.Need-cast-ends-2
-cast-ends-2 c = search needs
+cast-index-2 : tie.Need-cast-index-2
+cast-index-2 c = search needs
 
-add-ends-3 : tie.Need-add-ends-3
-add-ends-3 c = search needs
+add-index-3 : tie.Need-add-index-3
+add-index-3 c = search needs
 
-mul-ends-3 : tie.Need-mul-ends-3
-mul-ends-3 c = search needs
+mul-index-3 : tie.Need-mul-index-3
+mul-index-3 c = search needs
 
-slice-write-ends-3 : tie.Need-slice-write-ends-3
-slice-write-ends-3 c = simp length-set (omega (arith, c .before .pre))
+slice-write-index-3 : tie.Need-slice-write-index-3
+slice-write-index-3 c = simp length-set (omega (arith, c .before .pre))
 
 same-length : tie.Need-same-length
 same-length c = search needs
@@ -62,16 +62,16 @@ link-spec =
     add-head
     mul-head
     slice-read-head
-    cast-ends
-    mul-ends
-    slice-write-ends
-    add-ends
-    mul-ends-2
-    slice-write-ends-2
-    add-ends-2
-    cast-ends-2
-    add-ends-3
-    mul-ends-3
-    slice-write-ends-3
+    cast-index
+    mul-index
+    slice-write-index
+    add-index
+    mul-index-2
+    slice-write-index-2
+    add-index-2
+    cast-index-2
+    add-index-3
+    mul-index-3
+    slice-write-index-3
     same-length
     returns)

@@ -37,12 +37,12 @@ use denote.Triple.Walked.{says, needs, Stays, stay-none, stay-none-slice, walkOf
 use denote.Exit.{yes}
 use denote.Triple.Clauses.{ensured, lasts}
 use Rattle.scan_cursor.specs.Spans.{LineSpan}
-use Rattle.scan_cursor.specs.declared.Span.{Span}
+use Rattle.scan_cursor.specs.declared.LineBounds.{LineBounds}
 use Rattle.scan_cursor.specs.declared.Reader.{Reader}
 use Rattle.scan_cursor.proofs.Reader as T
 use Rattle.scan_cursor.proofs.Reader.Laws as T′
-use Rattle.scan_cursor.proofs.Span as S
-use Rattle.scan_cursor.proofs.Span.Laws as S′
+use Rattle.scan_cursor.proofs.LineBounds as S
+use Rattle.scan_cursor.proofs.LineBounds.Laws as S′
 use Rattle.scan_cursor.proofs.start as start
 use Rattle.scan_cursor.proofs.start.Symbol as start-def
 use Rattle.scan_cursor.proofs.start.Symbol.{name as #scan-cursor·start}
@@ -137,16 +137,16 @@ module _ {M : Type 1} (𝓤 : URA M) (H : Heap 𝓤) (A : Atoms 𝓤) (W : Given
   goes-next : (p : Reader) (u : Val) → p .cursor < length (now (p .manifest)) → ent 𝓤 (⋆ 𝓤 H A (‵ (B (κ, tt) .own p (u ∷ [])) ∷ (‵ (flft κ q) ⊛ ‵ ftrue) ∷ [])) (Next 𝓤 H A mem run .pre (to-next p u))
   goes-next p u in-it = qed W (‵ (B (κ, tt) .own p (u ∷ [])) ∷ (‵ (flft κ q) ⊛ ‵ ftrue) ∷ []) ∵ says ! in-it $ nothing ! $ move ! (1 ∷ 0 ∷ []) $ fjoin ! $ move ! (1 ∷ 0 ∷ []) $ frame ! $ done !
 
-  abbrev Found : Reader → Span → Type 0
+  abbrev Found : Reader → LineBounds → Type 0
   Found p t = LineSpan (now (p .manifest)) (p .cursor) t
 
-  next-said : (p : Reader) (t : Span) → ent 𝓤 (ensured 𝓤 H A next.ended (next.clauses 𝓤 H A mem run) (κ, tt) (p, tt) tt t) (fact 𝓤 (Found p t))
+  next-said : (p : Reader) (t : LineBounds) → ent 𝓤 (ensured 𝓤 H A next.ended (next.clauses 𝓤 H A mem run) (κ, tt) (p, tt) tt t) (fact 𝓤 (Found p t))
   next-said p t = exE 𝓤 _ (λ ws. snd∗ 𝓤 (sem 𝓤 H A (lasts next.ended (κ, tt) (p, tt) ws)) (fact 𝓤 (Found p t)))
 
-  found : (x : RefT (List ℕ)) (i : ℕ) (t : Span) → x ≡ s → i ≡ n → LineSpan (now x) i t → LineSpan (now s) n t
+  found : (x : RefT (List ℕ)) (i : ℕ) (t : LineBounds) → x ≡ s → i ≡ n → LineSpan (now x) i t → LineSpan (now s) n t
   found x i t e f h = rw (e, f) at h
 
-  exits : (t : Span) (u : Val) → LineSpan (now s) n t → ent 𝓤 (⋆ 𝓤 H A (‵ (S.the-row .own t (u ∷ [])) ∷ (‵ (flft κ q) ⊛ ‵ ftrue) ∷ ‵ Own ∷ [])) (Post u)
+  exits : (t : LineBounds) (u : Val) → LineSpan (now s) n t → ent 𝓤 (⋆ 𝓤 H A (‵ (S.the-row .own t (u ∷ [])) ∷ (‵ (flft κ q) ⊛ ‵ ftrue) ∷ ‵ Own ∷ [])) (Post u)
   exits t u e =
       qed W (‵ (S.the-row .own t (u ∷ [])) ∷ (‵ (flft κ q) ⊛ ‵ ftrue) ∷ ‵ Own ∷ []) ∵
       suffices ! _ (ends-at 𝓤 H A line.ended stayed (line.clauses 𝓤 H A mem run) W (((κ, tt), (q, tt), tt, (s, (n, tt)), at), tt) u t (tt, (tt, tt)) (tt, (tt, tt))) $ says ! e $
@@ -175,7 +175,7 @@ module _ {M : Type 1} (𝓤 : URA M) (H : Heap 𝓤) (A : Atoms 𝓤) (W : Given
         land ! (from ! (stop !)) (init ! 5 refl (LL.lawful (T.the-type αᵉ) (T′.the-laws αᵉ) 𝓤 H A W .typed p _ is′ .0)) $
         use2 W (raw (Next 𝓤 H A mem run .pre (to-next p u′))) (goes-next p u′ (asks (p .manifest) (p .cursor) (e′ .0 ∙ e .0) (e′ .1))) $
         calls-at ! fm (Next 𝓤 H A mem run) known-next (to-next p u′) (and-then ! (load ! (from ! (stop !)) (look ! 4 refl)) (no-more !)) (λ u″.
-        use1 W (later (some (λ (t : Span). ((‵ (flft κ q) ⊛ ‵ ftrue) ⊛ ‵ (S.the-row .own t (u″ ∷ []))) ⊛ raw (ensured 𝓤 H A next.ended (next.clauses 𝓤 H A mem run) (κ, tt) (p, tt) tt t)))) (id⊢ 𝓤 _) $ await ! tt $ pick ! (λ t.
+        use1 W (later (some (λ (t : LineBounds). ((‵ (flft κ q) ⊛ ‵ ftrue) ⊛ ‵ (S.the-row .own t (u″ ∷ []))) ⊛ raw (ensured 𝓤 H A next.ended (next.clauses 𝓤 H A mem run) (κ, tt) (p, tt) tt t)))) (id⊢ 𝓤 _) $ await ! tt $ pick ! (λ t.
         split ! $ move ! (1 ∷ []) $ use1 W (raw (fact 𝓤 (Found p t))) (next-said p t) $ heard ! (Found p t) (λ e″. split ! $ move ! (1 ∷ []) $
         -- [the result; the token; what m owns; _4; …; _3; …; _2; …; _1; …; room for _0; …]
         peeks ! S.the-row (Is S.the-row) (shows 𝓤 H A S.the-row) t (u″ ∷ []) (λ is″.

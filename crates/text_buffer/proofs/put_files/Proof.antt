@@ -7,10 +7,10 @@ use Rattle.text_buffer.proofs.put_files.Statement.{statement}
 use Rattle.text_buffer.proofs.put_files.Tie as tie
 
 abbrev Inv-loop : tie.InvT-loop
-Inv-loop names ends count fs separator buffer₀ place n₀ i₀ buffer n i = Joining names ends count fs separator buffer₀ place buffer n i
+Inv-loop names index count fs separator buffer₀ place n₀ i₀ buffer n i = Joining names index count fs separator buffer₀ place buffer n i
 
 abbrev μ-loop : tie.MeasureT-loop
-μ-loop names ends count fs separator buffer₀ place n₀ i₀ buffer n i = length fs - i
+μ-loop names index count fs separator buffer₀ place n₀ i₀ buffer n i = length fs - i
 
 loop-holds : tie.Need-loop-holds Inv-loop μ-loop
 loop-holds c = join-begin (c .before .before .before .before .args .separator) (c .before .before .before .before .pre)

@@ -147,10 +147,10 @@ write-name-returns-2 : (t : ℕ) → write-name-lts.Need-returns-2 (write-name-c
 write-name-returns-2 t c = plain-written (c .before .before .before .before .before .before .before .before .before .before .before .before .before .pre .1) (c .before .before .before .before .before .lookup .ensures) (c .before .before .write-plain .ensures) (no-text _ (c .before .before .before .before .match .keys2))
 
 abbrev write-text-Inv-loop : write-text-lts.InvT-loop
-write-text-Inv-loop t names ends texts bind graph a raw depth buffer₀ x₀ i₀ buffer x i = Writing t names ends texts bind graph a raw depth buffer₀ x₀ buffer x i
+write-text-Inv-loop t names index texts bind graph a raw depth buffer₀ x₀ i₀ buffer x i = Writing t names index texts bind graph a raw depth buffer₀ x₀ buffer x i
 
 abbrev write-text-μ-loop : write-text-lts.MeasureT-loop
-write-text-μ-loop t names ends texts bind graph a raw depth buffer₀ x₀ i₀ buffer x i = length raw - i
+write-text-μ-loop t names index texts bind graph a raw depth buffer₀ x₀ i₀ buffer x i = length raw - i
 
 write-text-loop-holds : (t : ℕ) → write-text-lts.Need-loop-holds (write-text-calls t) (write-text-at t) write-text.Post write-text-Inv-loop write-text-μ-loop
 write-text-loop-holds t c = write-begin (c .before .before .before .before .before .before .before .pre .1)
