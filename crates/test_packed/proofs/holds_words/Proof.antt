@@ -2,8 +2,8 @@
 use Prim.Native.Nat.{_-_, _≤_}
 use lib.ListN.{length}
 use borrow.Author.Needs.{needs}
-use Rattle.cases.proofs.holds_words.Statement.{statement}
-use Rattle.cases.proofs.holds_words.Tie as tie
+use Rattle.test_packed.proofs.holds_words.Statement.{statement}
+use Rattle.test_packed.proofs.holds_words.Tie as tie
 
 abbrev Inv-loop : tie.InvT-loop
 Inv-loop list bytes n i₀ i = i ≤ length list

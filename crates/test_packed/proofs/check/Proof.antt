@@ -3,8 +3,8 @@ use Prim.Native.Nat.{_-_, _≤_}
 use mathlib.Core.Path.{_≡_}
 use lib.ListN.{length}
 use borrow.Author.Needs.{needs}
-use Rattle.cases.proofs.check.Statement.{statement}
-use Rattle.cases.proofs.check.Tie as tie
+use Rattle.test_packed.proofs.check.Statement.{statement}
+use Rattle.test_packed.proofs.check.Tie as tie
 
 abbrev Inv-loop : tie.InvT-loop
 Inv-loop fd count n is-plan list buf bytes₀ yes₀ i₀ bytes yes' i = (i ≤ count) × (length bytes ≡ length bytes₀)

@@ -2,8 +2,8 @@
 use mathlib.Core.Path.{refl}
 use Rattle.lists.specs.Tests.{differ}
 use borrow.Author.Needs.{needs}
-use Rattle.cases.proofs.is_sound.Statement.{statement}
-use Rattle.cases.proofs.is_sound.Tie as tie
+use Rattle.test_packed.proofs.is_sound.Statement.{statement}
+use Rattle.test_packed.proofs.is_sound.Tie as tie
 
 returns : tie.Need-returns
 returns c = λ e. differ e refl

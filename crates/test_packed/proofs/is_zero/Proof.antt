@@ -2,8 +2,8 @@
 use Prim.Native.Nat.{_-_, _≤_}
 use lib.ListN.{length}
 use borrow.Author.Needs.{needs}
-use Rattle.cases.proofs.is_zero.Statement.{statement}
-use Rattle.cases.proofs.is_zero.Tie as tie
+use Rattle.test_packed.proofs.is_zero.Statement.{statement}
+use Rattle.test_packed.proofs.is_zero.Tie as tie
 
 abbrev Inv-loop : tie.InvT-loop
 Inv-loop buf i₀ i = i ≤ length buf

@@ -4,8 +4,8 @@ use denote.Ref.{now}
 use lib.Seq.{length-take-le}
 use Rattle.lists.specs.Tests.{differ}
 use borrow.Author.Needs.{needs}
-use Rattle.cases.proofs.read_part.Statement.{statement}
-use Rattle.cases.proofs.read_part.Tie as tie
+use Rattle.test_packed.proofs.read_part.Statement.{statement}
+use Rattle.test_packed.proofs.read_part.Tie as tie
 
 returns : tie.Need-returns
 returns c = λ e. differ e refl

@@ -3,8 +3,8 @@ use mathlib.Core.Path.{sym}
 use borrow.Author.Tests.{not-false}
 use lib.Seq.{length-take-le}
 use borrow.Author.Needs.{needs}
-use Rattle.cases.proofs.meets.Statement.{statement}
-use Rattle.cases.proofs.meets.Tie as tie
+use Rattle.test_packed.proofs.meets.Statement.{statement}
+use Rattle.test_packed.proofs.meets.Tie as tie
 
 read-expected-requires : tie.Need-read-expected-requires
 read-expected-requires c κs = search needs

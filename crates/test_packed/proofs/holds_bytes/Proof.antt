@@ -3,8 +3,8 @@ use mathlib.Core.Path.{sym}
 use denote.Ref.{now}
 use lib.Seq.{length-take-le}
 use borrow.Author.Needs.{needs}
-use Rattle.cases.proofs.holds_bytes.Statement.{statement}
-use Rattle.cases.proofs.holds_bytes.Tie as tie
+use Rattle.test_packed.proofs.holds_bytes.Statement.{statement}
+use Rattle.test_packed.proofs.holds_bytes.Tie as tie
 
 returns : tie.Need-returns
 returns c = search needs
