@@ -6,41 +6,45 @@ use spec::PlanAnswer;
 use spec::Refusal;
 use spec::TextAnswer;
 
-// A refusal's number and its place; or 0 and the count that a plan or a text gives.
-#[repr(C)]
+// A refusal's number, whether its place stands in a text, and its place; or 0 and the count that a plan or a text gives.
 pub struct Numbers {
     pub number: usize,
+    pub text: bool,
     pub value: usize,
 }
 
-fn pair(number: usize, value: usize) -> Numbers
-    ensures { λ x. ⌜ said x ≡ saying number value ⌝ }
+fn told(number: usize, text: bool, value: usize) -> Numbers
+    ensures { λ x. ⌜ said x ≡ saying number text value ⌝ }
 {
-    Numbers { number, value }
+    Numbers {
+        number,
+        text,
+        value,
+    }
 }
 
 pub fn of_refusal(r: Refusal) -> Numbers
     ensures { λ x. ⌜ said x ≡ refusalSays r ⌝ }
 {
     match r {
-        Refusal::ShortBuffer => pair(1, 0),
-        Refusal::LongManifest => pair(2, 0),
-        Refusal::BadByte(p) => pair(3, p),
-        Refusal::BadLine(p) => pair(4, p),
-        Refusal::BadDollar(p) => pair(5, p),
-        Refusal::NotYet(p) => pair(6, p),
-        Refusal::BadRule(p) => pair(7, p),
-        Refusal::BadPath(p) => pair(8, p),
-        Refusal::OverLimit(p) => pair(9, p),
-        Refusal::BadVersion(p) => pair(10, p),
-        Refusal::BadCard => pair(11, 0),
-        Refusal::BadTarget(p) => pair(12, p),
-        Refusal::NoRoot => pair(13, 0),
-        Refusal::Circle(n) => pair(14, n),
-        Refusal::MissingSource(f) => pair(15, f),
-        Refusal::EndlessText(s) => pair(16, s),
-        Refusal::LongText(s) => pair(17, s),
-        Refusal::NoCommand(s) => pair(18, s),
+        Refusal::ShortBuffer => told(1, false, 0),
+        Refusal::LongManifest => told(2, false, 0),
+        Refusal::BadByte(p) => told(3, true, p),
+        Refusal::BadLine(p) => told(4, true, p),
+        Refusal::BadDollar(p) => told(5, true, p),
+        Refusal::NotYet(p) => told(6, true, p),
+        Refusal::BadRule(p) => told(7, true, p),
+        Refusal::BadPath(p) => told(8, true, p),
+        Refusal::OverLimit(p) => told(9, true, p),
+        Refusal::BadVersion(p) => told(10, true, p),
+        Refusal::BadCard => told(11, false, 0),
+        Refusal::BadTarget(p) => told(12, false, p),
+        Refusal::NoRoot => told(13, false, 0),
+        Refusal::Circle(n) => told(14, false, n),
+        Refusal::MissingSource(f) => told(15, false, f),
+        Refusal::EndlessText(s) => told(16, false, s),
+        Refusal::LongText(s) => told(17, false, s),
+        Refusal::NoCommand(s) => told(18, false, s),
     }
 }
 
@@ -48,7 +52,7 @@ pub fn of_plan(a: PlanAnswer) -> Numbers
     ensures { λ x. ⌜ said x ≡ planSays a ⌝ }
 {
     match a {
-        PlanAnswer::Listed(n) => pair(0, n),
+        PlanAnswer::Listed(n) => told(0, false, n),
         PlanAnswer::Refused(r) => of_refusal(r),
     }
 }
@@ -57,7 +61,7 @@ pub fn of_text(a: TextAnswer) -> Numbers
     ensures { λ x. ⌜ said x ≡ textSays a ⌝ }
 {
     match a {
-        TextAnswer::Written(n) => pair(0, n),
+        TextAnswer::Written(n) => told(0, false, n),
         TextAnswer::Refused(r) => of_refusal(r),
     }
 }

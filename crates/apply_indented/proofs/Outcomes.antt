@@ -44,7 +44,7 @@ module _ (l : Line) {from to at : ℕ} (s : SoundBinding l (cutIndented (l .text
   value-asks a =
       record {
         table = a .cut .table;
-        short = rw (part-to-end (l .text) at) (omega (arith, a .cut .near, length-drop at (l .text)));
+        short = rw (part-to-end (l .text) at) (omega (arith, a .cut .short, length-drop at (l .text)));
         dollars = rw (part-to-end (l .text) at) (s .dollars);
         room = a .room;
         sound = a .sound;

@@ -69,7 +69,7 @@ module _ {m names index texts bind graph : List ℕ} {c : Counts} {o : Open} {i 
   turn-asks {s = s} a e l =
       let r = a .roomy .room in
       record {
-        cut = record { table = a .roomy .table; near = rw (length-part m i (s .end) (l .within)) (omega (arith, a .short, l .forward, l .within)) };
+        cut = record { table = a .roomy .table; near = rw (length-part m i (s .end) (l .within)) (omega (arith, a .short, l .forward, l .within)); short = rw (length-part m i (s .end) (l .within)) (omega (arith, a .short, l .forward, l .within)) };
         room =
             record {
               names-room = rw (e .names-same) (r .names-room);

@@ -105,7 +105,7 @@ wrong-read l w = refused-met (λ rd b. w _)
 
 module _ (l : Line) {t names index texts bind graph word : List ℕ} {c : Counts} (a : LineAsks t (l .start) (l .text) names index texts bind graph word c Nothing) where
   short : length (l .text) ≤ 49152
-  short = omega (arith, a .cut .near)
+  short = a .cut .short
 
   pub build-asks : {p : BuildPlaces} → (l .ended ≡ true) × BuildAt (l .text) (cutStatement (l .text)) p → BuildAsks t (l .text) names index texts bind graph word c p
   build-asks s =

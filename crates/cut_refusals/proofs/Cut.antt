@@ -7,7 +7,7 @@ use native.Mathlib.Omega.{arith}
 use lib.ListN.{length}
 use Rattle.spec.specs.declared.Refusal.{Refusal}
 use Rattle.spec.specs.declared.Refusal.the-variants.{BadLine}
-use Rattle.spec.specs.Limits.{maxManifest}
+use Rattle.spec.specs.Limits.{maxPlace}
 use Rattle.spec.specs.Lines.{Line}
 use Rattle.spec.specs.Forms.{cutStatement, cutIndented, Cut, fits, Form}
 use Rattle.spec.specs.Statements.{refused}
@@ -27,7 +27,7 @@ use Rattle.cut_refusals.proofs.Dollars.{Sound}
 
 -- ---- a fault, and a line that is not ended
 
-pub fault-near : {A : Type 0} (start : ℕ) (l : List ℕ) {x : Cut A} (f : Fault) → start + length l ≤ maxManifest → Fails l x f → Near start f
+pub fault-near : {A : Type 0} (start : ℕ) (l : List ℕ) {x : Cut A} (f : Fault) → start + length l ≤ maxPlace → Fails l x f → Near start f
 unfolding Within Near
 fault-near start l NoForm h e = tt
 fault-near start l (BadDollar p) h e = omega (arith, e .within)

@@ -7,7 +7,7 @@ use mathlib.Core.Path.{_≡_}
 use lib.ListN.{length, drop}
 use Rattle.spec.specs.declared.Refusal.{Refusal}
 use Rattle.spec.specs.declared.Refusal.the-variants.{BadLine, BadDollar, NotYet}
-use Rattle.spec.specs.Limits.{maxManifest}
+use Rattle.spec.specs.Limits.{maxManifest, maxPlace}
 use Rattle.spec.specs.Lines.{Line}
 use Rattle.spec.specs.Dollars.{badDollar}
 use Rattle.spec.specs.Forms.{Cut, Form, cutStatement, cutIndented}
@@ -30,17 +30,18 @@ refusalOf start NoForm = BadLine start
 refusalOf start (WrongDollar p) = BadDollar (start + p)
 refusalOf start Later = NotYet start
 
--- its place lies in a manifest
+-- its place lies in what is read
 unfoldable pub Near : ℕ → Fault → Type 0
 Near start NoForm = Unit {0}
-Near start (WrongDollar p) = start + p ≤ maxManifest
+Near start (WrongDollar p) = start + p ≤ maxPlace
 Near start Later = Unit {0}
 
 -- ---- cuts
 
 pub record CutAsks (t : List ℕ) (start : ℕ) (l : List ℕ) : Type 0 where
   pub table : t ≡ classes
-  pub near : start + length l ≤ maxManifest
+  pub near : start + length l ≤ maxPlace
+  pub short : length l ≤ maxManifest
 
 -- the line's fault in its bytes, or that the manifest ends inside it, whatever its form would do
 abbrev pub Wrong : Line → Cut Form → Refusal → Type 0

@@ -4,7 +4,7 @@ ghost use lib.ListN.{length};
 ghost use Rattle.spec.specs.PlanAsk.{planAsk};
 ghost use Rattle.spec.specs.TextAsk.{textAsk};
 ghost use Rattle.spec.specs.Promises.{PlanMeets, TextMeets};
-ghost use Rattle.answers.specs.Numbers.{said};
+ghost use Rattle.kestrenyo.specs.Tells.{Tells, TellsNumbers};
 ghost use Rattle.kestrenyo.specs.Wants.{wantedOf};
 use answers::Numbers;
 use answers::of_plan;
@@ -13,6 +13,22 @@ use asks::plan;
 use asks::text;
 use spec::Wanted;
 
+// A refusal's number and its place; or 0 and the count that a plan or a text gives.
+#[repr(C)]
+pub struct Said {
+    pub number: usize,
+    pub value: usize,
+}
+
+fn in_two(n: Numbers) -> Said
+    ensures { λ r. ⌜ TellsNumbers n r ⌝ }
+{
+    Said {
+        number: n.number,
+        value: n.value,
+    }
+}
+
 // The plan ask: 0 and the number of steps listed, or a refusal's number and place.
 #[no_mangle]
 pub extern "C" fn kestrenyo_plan(
@@ -20,10 +36,10 @@ pub extern "C" fn kestrenyo_plan(
     card: &[u8],
     targets: &[u8],
     list: &mut [u32],
-) -> Numbers
-    ensures { λ r. ⌜ PlanMeets (planAsk (now (manifest .entry)) (now (card .entry)) (now (targets .entry)) (length (now (list .entry)))) (now (list .entry)) (said r) (now (list .exit)) ⌝ }
+) -> Said
+    ensures { λ r. ⌜ Tells (λ said. PlanMeets (planAsk (now (manifest .entry)) (now (card .entry)) (now (targets .entry)) (length (now (list .entry)))) (now (list .entry)) said (now (list .exit))) r ⌝ }
 {
-    of_plan(plan(manifest, card, targets, list))
+    in_two(of_plan(plan(manifest, card, targets, list)))
 }
 
 // What a number asks for.
@@ -43,8 +59,8 @@ pub extern "C" fn kestrenyo_text(
     step: usize,
     wanted: usize,
     buffer: &mut [u8],
-) -> Numbers
-    ensures { λ r. ⌜ TextMeets (textAsk (now (manifest .entry)) step (wantedOf wanted) (length (now (buffer .entry)))) (now (buffer .entry)) (said r) (now (buffer .exit)) ⌝ }
+) -> Said
+    ensures { λ r. ⌜ Tells (λ said. TextMeets (textAsk (now (manifest .entry)) step (wantedOf wanted) (length (now (buffer .entry)))) (now (buffer .entry)) said (now (buffer .exit))) r ⌝ }
 {
-    of_text(text(manifest, step, wanted_of(wanted), buffer))
+    in_two(of_text(text(manifest, step, wanted_of(wanted), buffer)))
 }

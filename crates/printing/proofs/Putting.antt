@@ -100,10 +100,10 @@ spaced-end {steps} {d} {e} {at} {m} {i} h p =
     rw z (rw y at (p .puts))
 
 -- "refused N at P"
-pub refused-law : (s : ℕ) (t : ℕ) {d e f : List ℕ} {m r : ℕ} → PutsUpTo 28 (worded (bytes "refused ") s) d 0 e m → PutsUpTo 24 (worded (bytes " at ") t) e m f r
-    → PutsUpTo 52 (refusedText (record { number = s; value = t })) d 0 f r
+pub refused-law : (s : Said) {d e f : List ℕ} {m r : ℕ} → PutsUpTo 28 (worded (bytes "refused ") (s .number)) d 0 e m → PutsUpTo 24 (worded (bytes " at ") (s .value)) e m f r
+    → PutsUpTo 52 (refusedText s) d 0 f r
 unfolding refusedText
-refused-law s t p q = up-to-then p q
+refused-law s p q = up-to-then p q
 
 pub head-law : (k n : ℕ) {d e f g : List ℕ} {i j r : ℕ} → PutsUpTo 21 (worded (bytes "[") k) d 0 e i → PutsUpTo 21 (worded (bytes "/") n) e i f j → Puts (bytes "] ") f j g r
     → PutsUpTo 44 (headOf k n) d 0 g r

@@ -97,6 +97,7 @@ pub fn say_circle(line: &mut [u8], circle: &[u32]) -> usize
         line,
         Numbers {
             number: 14,
+            text: false,
             value: circle.len(),
         },
     );

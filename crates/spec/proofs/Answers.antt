@@ -1,10 +1,13 @@
 -- The table of section "When the planner says no": each row's number, in its order, and its place.
-use Prim.Native.Nat.{ℕ}
+use Prim.Native.Nat.{ℕ, _≤_}
+use mathlib.Core.Bool.{true, false}
+use lib.ListN.{length}
+use borrow.Author.Tests.{le-leb}
 use mathlib.Core.Path.{_≡_, refl}
 use mathlib.Core.List.{List, [], _∷_, map}
 use Rattle.spec.specs.declared.Refusal.{Refusal}
 use Rattle.spec.specs.declared.Refusal.the-variants.{ShortBuffer, LongManifest, BadByte, BadLine, BadDollar, NotYet, BadRule, BadPath, OverLimit, BadVersion, BadCard, BadTarget, NoRoot, Circle, MissingSource, EndlessText, LongText, NoCommand}
-use Rattle.spec.specs.Answers.{numberOfRefusal, placeOfRefusal}
+use Rattle.spec.specs.Answers.{numberOfRefusal, placeOfRefusal, standsInText, refusalSays, Place, inText, spot, placed}
 
 abbrev rows : ℕ → List Refusal
 rows p =
@@ -17,3 +20,13 @@ numbers p = refl
 pub places : (p : ℕ) → map placeOfRefusal (rows p) ≡ 0 ∷ 0 ∷ p ∷ p ∷ p ∷ p ∷ p ∷ p ∷ p ∷ p ∷ 0 ∷ p ∷ 0 ∷ p ∷ p ∷ p ∷ p ∷ p ∷ []
 unfolding placeOfRefusal
 places p = refl
+
+pub in-texts : (p : ℕ) → map standsInText (rows p) ≡
+    false ∷ false ∷ true ∷ true ∷ true ∷ true ∷ true ∷ true ∷ true ∷ true ∷ false ∷ false ∷ false ∷ false ∷ false ∷ false ∷ false ∷ false ∷ []
+unfolding standsInText
+in-texts p = refl
+
+-- where one text was read, a place in it is its offset in that text
+pub one-text : (m : List ℕ) (r : Refusal) → standsInText r ≡ true → placeOfRefusal r ≤ length m → placed (m ∷ []) (refusalSays r) ≡ inText 0 (placeOfRefusal r)
+unfolding placed refusalSays spot
+one-text m r e h = rw (e, le-leb (placeOfRefusal r) (length m) h) refl

@@ -1,5 +1,10 @@
 -- The answers of the two asks as document 01's numbers and values.
-use Prim.Native.Nat.{ℕ}
+use Prim.Native.Nat.{ℕ, suc, _-_}
+use mathlib.Core.Bool.{Bool, true, false}
+use mathlib.Core.List.{List, [], _∷_}
+use lib.Dec.{leb}
+use lib.ListN.{length}
+use Rattle.lists.specs.Tests.{ifB}
 use Rattle.spec.specs.declared.PlanAnswer.{PlanAnswer}
 use Rattle.spec.specs.declared.PlanAnswer.the-variants.{Listed, Refused as PlanRefused}
 use Rattle.spec.specs.declared.TextAnswer.{TextAnswer}
@@ -49,21 +54,63 @@ placeOfRefusal (EndlessText s) = s
 placeOfRefusal (LongText s) = s
 placeOfRefusal (NoCommand s) = s
 
--- what an answer says: a refusal's number with its place, or 0 with the count that a plan or a text gives
+-- Does the place stand in a text that was read: the offset of a byte or of a line's start (3 to 10). Any other place is a number by itself.
+unfoldable pub standsInText : Refusal → Bool
+standsInText ShortBuffer = false
+standsInText LongManifest = false
+standsInText (BadByte p) = true
+standsInText (BadLine p) = true
+standsInText (BadDollar p) = true
+standsInText (NotYet p) = true
+standsInText (BadRule p) = true
+standsInText (BadPath p) = true
+standsInText (OverLimit p) = true
+standsInText (BadVersion p) = true
+standsInText BadCard = false
+standsInText (BadTarget p) = false
+standsInText NoRoot = false
+standsInText (Circle n) = false
+standsInText (MissingSource f) = false
+standsInText (EndlessText s) = false
+standsInText (LongText s) = false
+standsInText (NoCommand s) = false
+
+-- what an answer says: a refusal's number with its place, and whether that stands in a text; or 0 with the count that a plan or a text gives
 pub record Said : Type 0 where
   pub number : ℕ
+  pub text : Bool
   pub value : ℕ
 
 unfoldable pub refusalSays : Refusal → Said
-unfolding numberOfRefusal placeOfRefusal
-refusalSays r = record { number = numberOfRefusal r; value = placeOfRefusal r }
+unfolding numberOfRefusal standsInText placeOfRefusal
+refusalSays r = record { number = numberOfRefusal r; text = standsInText r; value = placeOfRefusal r }
 
 unfoldable pub planSays : PlanAnswer → Said
 unfolding refusalSays
-planSays (Listed n) = record { number = 0; value = n }
+planSays (Listed n) = record { number = 0; text = false; value = n }
 planSays (PlanRefused r) = refusalSays r
 
 unfoldable pub textSays : TextAnswer → Said
 unfolding refusalSays
-textSays (Written n) = record { number = 0; value = n }
+textSays (Written n) = record { number = 0; text = false; value = n }
 textSays (TextRefused r) = refusalSays r
+
+-- ------------------------------------------------------------------ places in texts
+
+-- a place: a number by itself, or an offset in one of the texts that were read
+pub data Place : Type 0 where
+  plain : ℕ → Place
+  inText : ℕ → ℕ → Place
+
+abbrev nextText : Place → Place
+nextText (plain n) = plain n
+nextText (inText k p) = inText (suc k) p
+
+-- The texts are laid end to end with one place between two, so that one number is a place in all of them and the end of one is no place of the next.
+unfoldable pub spot : List (List ℕ) → ℕ → Place
+spot [] p = plain p
+spot (t ∷ ts) p = ifB (leb p (length t)) (λ _. inText 0 p) (λ _. nextText (spot ts (p - suc (length t))))
+
+unfoldable pub placed : List (List ℕ) → Said → Place
+unfolding spot
+placed texts s = ifB (s .text) (λ _. spot texts (s .value)) (λ _. plain (s .value))

@@ -1,5 +1,5 @@
 -- Every limit of document 01, once; that of the numbers of a version is `inRange` of the crate version.
-use Prim.Native.Nat.{ℕ}
+use Prim.Native.Nat.{ℕ, _+_}
 
 -- "Limits: 512 steps, 1,024 files, 128 rules, 1,024 bindings, 4,096 path mentions; declared names 64 bytes, paths 255, values 2,048;
 -- all paths and values read so far 60,000 bytes together."
@@ -33,6 +33,10 @@ maxWritten = 60000
 -- "manifest over 49,152 bytes"
 abbrev pub maxManifest : ℕ
 maxManifest = 49152
+
+-- the highest place in texts of so many bytes together, 64 of them at most, laid end to end with one place between two
+abbrev pub maxPlace : ℕ
+maxPlace = maxManifest + 63
 
 -- "n is at most 1,024, the card at most 49,152 bytes", "time 1 to 2^63 - 1"
 abbrev pub maxRecords : ℕ

@@ -1,6 +1,7 @@
 -- What the two asks promise, for every input: the answer, and every number of the lent buffer.
 use Prim.Native.Nat.{ℕ, _-_}
 use mathlib.Core.List.{List, [], _++_}
+use mathlib.Core.Bool.{false}
 use mathlib.Core.Path.{_≡_}
 use lib.Dec.{eqb}
 use lib.ListN.{length, replicate}
@@ -31,11 +32,11 @@ pub record Is (said : Said) (exit : List ℕ) (right : Said) (left : List ℕ) :
 
 -- an answer: "their count"
 abbrev pub counts : ℕ → Said
-counts n = record { number = 0; value = n }
+counts n = record { number = 0; text = false; value = n }
 
 -- 14, with "the circle's length" as its place
 abbrev pub refused14 : ℕ → Said
-refused14 n = record { number = 14; value = n }
+refused14 n = record { number = 14; text = false; value = n }
 
 -- "14 writes the circle's steps": the one outcome that is left open, "any circle as described above will do, and the place is the length of the one written"
 pub record Shows (steps : List Step) (targets lent : List ℕ) (said : Said) (exit : List ℕ) : Type 0 where

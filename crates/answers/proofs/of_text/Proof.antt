@@ -8,8 +8,8 @@ use Rattle.answers.proofs.of_text.Tie as tie
 enum-known-a : tie.Need-enum-known-a
 enum-known-a c = search needs
 
-pair-requires : tie.Need-pair-requires
-pair-requires c κs = search needs
+told-requires : tie.Need-told-requires
+told-requires c κs = search needs
 
 enum-known-a-2 : tie.Need-enum-known-a-2
 enum-known-a-2 c = search needs
@@ -19,7 +19,7 @@ of-refusal-requires c κs = search needs
 
 returns : tie.Need-returns
 unfolding textSays
-returns c = c .pair .ensures ∙ ap textSays (sym (c .before .before .a .given .1))
+returns c = c .told .ensures ∙ ap textSays (sym (c .before .before .a .given .1))
 
 returns-2 : tie.Need-returns-2
 unfolding textSays
@@ -28,4 +28,4 @@ returns-2 c = c .of-refusal .ensures ∙ ap textSays (sym (c .before .before .a2
 pub of-text-spec : {M : Type 1} → statement M
 of-text-spec =
     tie.close
-    (tie.spec enum-known-a pair-requires enum-known-a-2 of-refusal-requires returns returns-2)
+    (tie.spec enum-known-a told-requires enum-known-a-2 of-refusal-requires returns returns-2)

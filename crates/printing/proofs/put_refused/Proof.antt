@@ -1,6 +1,7 @@
 -- `printing::put_refused` meets its contract.
 use Rattle.printing.proofs.Putting.{refused-law}
 use borrow.Author.Needs.{needs}
+use Rattle.answers.specs.Numbers.{said}
 use Rattle.printing.proofs.put_refused.Statement.{statement}
 use Rattle.printing.proofs.put_refused.Tie as tie
 
@@ -20,7 +21,7 @@ same-length : tie.Need-same-length
 same-length c = search needs
 
 returns : tie.Need-returns
-returns c = refused-law (c .before .before .before .before .before .before .before .before .before .before .before .args .n .number) (c .before .before .before .before .before .before .before .before .before .before .before .args .n .value) (c .before .before .before .before .before .before .before .put-worded .ensures) (c .before .before .put-worded2 .ensures)
+returns c = refused-law (said (c .before .before .before .before .before .before .before .before .before .before .before .args .n)) (c .before .before .before .before .before .before .before .put-worded .ensures) (c .before .before .put-worded2 .ensures)
 
 pub put-refused-spec : {M : Type 1} → statement M
 put-refused-spec =
