@@ -1,7 +1,6 @@
 //! Asks that are meant to be slow: what a manifest of 49,152 bytes can make a reader or a planner do most often.
 
-use second::ask::Ask;
-use second::{card, limits, shapes, Wanted};
+use second::{card, limits, shapes, Ask, Lent, Wanted};
 
 /// A slow ask and what makes it so.
 pub struct Slow {
@@ -18,21 +17,21 @@ pub fn all() -> Vec<Slow> {
     all.extend(graphs());
     all.extend(texts());
     for slow in &all {
-        assert!(slow.ask.manifest().len() <= limits::MANIFEST, "{}", slow.name);
+        assert!(slow.ask.lent.manifest.len() <= limits::MANIFEST, "{}", slow.name);
     }
     all
 }
 
 fn plan(name: &'static str, manifest: Vec<u8>) -> Slow {
-    with_card(name, manifest, card::write(&[]), Vec::new())
+    Slow { name, ask: Ask::plan(Lent::manifest(manifest)) }
 }
 
 fn with_card(name: &'static str, manifest: Vec<u8>, card: Vec<u8>, targets: Vec<u8>) -> Slow {
-    Slow { name, ask: Ask::Plan { manifest, card, targets, list_len: limits::LIST } }
+    Slow { name, ask: Ask::plan(Lent { manifest, card, targets }) }
 }
 
 fn text(name: &'static str, manifest: Vec<u8>) -> Slow {
-    Slow { name, ask: Ask::Text { manifest, step: 0, wanted: Wanted::Command, buf_len: limits::TEXT } }
+    Slow { name, ask: Ask::text(manifest, 0, Wanted::Command) }
 }
 
 /// As many of these as fit between the two.

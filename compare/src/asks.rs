@@ -1,52 +1,13 @@
 //! The two asks whole, from lent bytes to the filled buffer: the proved planner's answers judged by the second planner's.
 
 use kestrenyo::lent::{self, Said};
-use second::ask::{Answer, Ask};
 use second::generate::{self, damage};
+use second::graph::Start;
+use second::kind::Kind;
 use second::rng::Rng;
-use second::{limits, manifest, naive, targets, PlanAnswer, Refusal, TextAnswer, Wanted};
+use second::{limits, manifest, naive, targets, Answer, Ask, Lent, Question, Refusal, Wanted};
 use std::collections::BTreeMap;
-use std::fmt::{self, Debug, Display, Formatter};
-
-/// The kind of an answer, to count.
-#[derive(Debug, Clone, Copy, PartialEq, Eq, PartialOrd, Ord)]
-pub enum Kind {
-    List,
-    EmptyList,
-    Text,
-    EmptyText,
-    Refused(u8),
-}
-
-impl Kind {
-    pub fn of(answer: &Answer) -> Self {
-        match answer {
-            Answer::Plan(PlanAnswer::List(steps)) if steps.is_empty() => Kind::EmptyList,
-            Answer::Plan(PlanAnswer::List(_)) => Kind::List,
-            Answer::Plan(PlanAnswer::Circle(_)) => Kind::Refused(14),
-            Answer::Text(TextAnswer::Text(text)) if text.is_empty() => Kind::EmptyText,
-            Answer::Text(TextAnswer::Text(_)) => Kind::Text,
-            Answer::Plan(PlanAnswer::Refused(refusal)) | Answer::Text(TextAnswer::Refused(refusal)) => Kind::Refused(refusal.number),
-        }
-    }
-
-    /// All kinds, in order.
-    pub fn all() -> impl Iterator<Item = Kind> {
-        [Kind::List, Kind::EmptyList, Kind::Text, Kind::EmptyText].into_iter().chain((1..=18).map(Kind::Refused))
-    }
-}
-
-impl Display for Kind {
-    fn fmt(&self, f: &mut Formatter) -> fmt::Result {
-        match self {
-            Kind::List => f.pad("list"),
-            Kind::EmptyList => f.pad("empty list"),
-            Kind::Text => f.pad("text"),
-            Kind::EmptyText => f.pad("empty text"),
-            Kind::Refused(number) => f.pad(&format!("refused {number}")),
-        }
-    }
-}
+use std::fmt::Debug;
 
 /// Asks by the kind of their answer.
 pub type Counts = BTreeMap<Kind, u64>;
@@ -116,7 +77,8 @@ fn told(holds: bool, otherwise: impl FnOnce() -> String) -> Result<(), String> {
     }
 }
 
-fn says(said: Said, number: u8, value: usize) -> Result<(), String> {
+fn says(said: Said, answer: &Answer) -> Result<(), String> {
+    let (number, value) = answer.numbers();
     let right = Said { number: usize::from(number), value };
     told(said == right, || format!("said {} {} and not {number} {value}", said.number, said.value))
 }
@@ -129,14 +91,15 @@ pub enum Ours {
 }
 
 pub fn ours(ask: &Ask) -> Ours {
-    match ask {
-        Ask::Plan { manifest, card, targets, list_len } => {
-            let mut list = Buffer::new(*list_len);
+    let Lent { manifest, card, targets } = &ask.lent;
+    match ask.question {
+        Question::Plan { list_len } => {
+            let mut list = Buffer::new(list_len);
             Ours::Plan(lent::plan(manifest, card, targets, list.lent()), list)
         }
-        Ask::Text { manifest, step, wanted, buf_len } => {
-            let mut buffer = Buffer::new(*buf_len);
-            Ours::Text(lent::text(manifest, *step, asked(*wanted), buffer.lent()), buffer)
+        Question::Text { step, wanted, buf_len } => {
+            let mut buffer = Buffer::new(buf_len);
+            Ours::Text(lent::text(manifest, step, asked(wanted), buffer.lent()), buffer)
         }
     }
 }
@@ -153,21 +116,21 @@ pub fn asked(wanted: Wanted) -> kestrenyo::Wanted {
 /// asked.
 pub fn judge(ask: &Ask, ours: &Ours, theirs: &Answer) -> Result<(), String> {
     match (ours, theirs) {
-        (Ours::Plan(said, list), Answer::Plan(PlanAnswer::List(steps))) => {
-            says(*said, 0, steps.len())?;
+        (Ours::Plan(said, list), Answer::Circle(_)) => circle(ask, *said, list),
+        (Ours::Plan(said, list), Answer::List(steps)) => {
+            says(*said, theirs)?;
             list.holds(steps)
         }
-        (Ours::Plan(said, list), Answer::Plan(PlanAnswer::Circle(_))) => circle(ask, *said, list),
-        (Ours::Plan(said, list), Answer::Plan(PlanAnswer::Refused(refusal))) => {
-            says(*said, refusal.number, refusal.place)?;
+        (Ours::Plan(said, list), Answer::Refused(refusal)) => {
+            says(*said, theirs)?;
             list.after(*refusal)
         }
-        (Ours::Text(said, buffer), Answer::Text(TextAnswer::Text(text))) => {
-            says(*said, 0, text.len())?;
+        (Ours::Text(said, buffer), Answer::Text(text)) => {
+            says(*said, theirs)?;
             buffer.holds(text)
         }
-        (Ours::Text(said, buffer), Answer::Text(TextAnswer::Refused(refusal))) => {
-            says(*said, refusal.number, refusal.place)?;
+        (Ours::Text(said, buffer), Answer::Refused(refusal)) => {
+            says(*said, theirs)?;
             buffer.after(*refusal)
         }
         _ => Err("the answer is to another ask".into()),
@@ -183,10 +146,10 @@ fn circle(ask: &Ask, said: Said, list: &Buffer<u32>) -> Result<(), String> {
 
 /// Whether these are needed steps, each having an input made by the next, the last by the first, none twice.
 fn is_true(ask: &Ask, circle: &[u32]) -> bool {
-    let Ask::Plan { manifest, targets, .. } = ask else { return false };
-    let Ok(read) = manifest::read(manifest) else { return false };
-    let Ok(targets) = targets::read(targets, |name| read.files.number(name)) else { return false };
-    let needed = naive::needed(&read.graph, &naive::roots(&read.graph, &targets, &read.defaults));
+    let Ok(read) = manifest::read(&ask.lent.manifest) else { return false };
+    let Ok(targets) = targets::read(&ask.lent.targets, |name| read.files.number(name)) else { return false };
+    let start = Start { times: Vec::new(), targets, defaults: read.defaults };
+    let needed = naive::needed(&read.graph, &naive::roots(&read.graph, &start));
     naive::is_circle(&read.graph, &needed, circle)
 }
 
@@ -204,11 +167,11 @@ const TEXTS: usize = 24;
 pub fn asks(seed: u64) -> Vec<Ask> {
     let first = if seed.is_multiple_of(2) { generate::ask(seed) } else { generate::small_ask(seed) };
     let rng = &mut Rng::new(!seed);
+    let manifest = first.lent.manifest.clone();
     let mut asks = vec![first];
-    match &asks[0] {
-        Ask::Plan { manifest, .. } => {
-            let manifest = manifest.clone();
-            if let Answer::Plan(PlanAnswer::List(mut steps)) = asks[0].answer() {
+    match asks[0].question {
+        Question::Plan { .. } => {
+            if let Answer::List(mut steps) = asks[0].answer() {
                 while steps.len() > TEXTS {
                     steps.swap_remove(rng.below(steps.len()));
                 }
@@ -216,11 +179,9 @@ pub fn asks(seed: u64) -> Vec<Ask> {
                 asks.extend(steps.iter().flat_map(|&step| texts(&manifest, step as usize)));
             }
         }
-        Ask::Text { manifest, step, .. } => {
-            let (manifest, step) = (manifest.clone(), *step);
+        Question::Text { step, .. } => {
             asks.extend(texts(&manifest, step));
-            let (card, targets) = (damage::card(rng, &manifest), damage::targets(rng, &manifest));
-            asks.push(Ask::Plan { manifest, card, targets, list_len: limits::LIST });
+            asks.push(Ask::plan(generate::plan_lent(rng, manifest)));
         }
     }
     asks
@@ -228,8 +189,7 @@ pub fn asks(seed: u64) -> Vec<Ask> {
 
 /// Both texts of a step.
 fn texts(manifest: &[u8], step: usize) -> [Ask; 2] {
-    let text = |wanted| Ask::Text { manifest: manifest.to_vec(), step, wanted, buf_len: limits::TEXT };
-    [text(Wanted::Command), text(Wanted::Description)]
+    [Wanted::Command, Wanted::Description].map(|wanted| Ask::text(manifest, step, wanted))
 }
 
 /// Runs so many asks, from the seed on; counts them, or stops at the first on which the planners differ. `progress` is called

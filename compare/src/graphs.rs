@@ -1,6 +1,6 @@
 //! The proved plan of a read graph.
 
-use second::graph::Graph;
+use second::graph::{Graph, Start};
 
 #[repr(C)]
 struct PlanNumbers {
@@ -62,8 +62,9 @@ impl Tables {
 }
 
 /// Plans the tables, the list buffer being filled.
-pub fn plan(tables: &Tables, times: &[u64], defaults: &[u32], targets: &[u32], list: &mut [u32]) -> Said {
+pub fn plan(tables: &Tables, start: &Start, list: &mut [u32]) -> Said {
     let Tables { mentions, ends, phony, made } = tables;
+    let Start { times, targets, defaults } = start;
     // SAFETY: the function is total, reads the slices and writes the list alone.
     let said = unsafe {
         kestrenyo_plan_graph(

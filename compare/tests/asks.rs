@@ -2,10 +2,10 @@
 //! `cargo run --release --bin differ SEED COUNT` runs millions.
 
 use compare::adversary;
-use compare::asks::{asks, compare, judge, ours, run, Kind, Ours};
+use compare::asks::{asks, compare, judge, ours, run, Ours};
 use compare::minimise::minimise;
-use second::ask::{Answer, Ask};
-use second::PlanAnswer;
+use second::kind::Kind;
+use second::{Answer, Ask, Lent};
 
 const ASKS: u64 = 200_000;
 
@@ -18,7 +18,7 @@ fn asks_agree() {
     let (count, from) = (setting("ASKS", ASKS), setting("FROM", 0));
     let counts = run(from, count, |_| ()).unwrap_or_else(|(ask, difference)| {
         let ask = minimise(ask, |ask| compare(ask).is_err());
-        panic!("{difference}\n{ask}\n{}", String::from_utf8_lossy(ask.manifest()))
+        panic!("{difference}\n{ask}\n{}", String::from_utf8_lossy(&ask.lent.manifest))
     });
     println!("{counts:?}");
     for kind in Kind::all() {
@@ -92,10 +92,10 @@ fn asks_take_no_more_stack() {
 /// The smaller ask keeps what it was made smaller for, and little else.
 #[test]
 fn asks_are_minimised() {
-    let is_list = |ask: &Ask| matches!(ask.answer(), Answer::Plan(PlanAnswer::List(steps)) if !steps.is_empty());
-    let ask = some(Kind::List).find(|ask| ask.manifest().len() > 100).expect("a list");
+    let is_list = |ask: &Ask| matches!(ask.answer(), Answer::List(steps) if !steps.is_empty());
+    let ask = some(Kind::List).find(|ask| ask.lent.manifest.len() > 100).expect("a list");
     let least = minimise(ask, is_list);
-    assert!(is_list(&least) && least.manifest().len() < 40, "{least}");
-    let Ask::Plan { targets, card, .. } = least else { panic!("no plan") };
+    assert!(is_list(&least) && least.lent.manifest.len() < 40, "{least}");
+    let Lent { targets, card, .. } = least.lent;
     assert!(targets.is_empty() && card.len() <= 40, "{} {}", targets.len(), card.len());
 }

@@ -2,10 +2,11 @@
 //! manifest. `MANIFESTS` in the environment runs another number of manifests, from seed `FROM` on; `LONG_LINES` another number of those with many outputs.
 
 use compare::readings::{Binding, Buffers, Numbers, Reading, LENGTHS};
+use second::cases::{self, Expected};
 use second::generate::{ask, damage, draft::Draft, edges, small_ask};
 use second::manifest::{self, Key, Manifest};
 use second::rng::Rng;
-use second::Refusal;
+use second::{Answer, Refusal};
 use std::collections::BTreeMap;
 
 const MANIFESTS: u64 = 120_000;
@@ -18,8 +19,8 @@ fn setting(name: &str, otherwise: u64) -> u64 {
 fn manifest(seed: u64) -> Vec<u8> {
     let rng = &mut Rng::new(seed);
     let mut manifest = match seed % 16 {
-        0..=5 => return small_ask(seed).manifest().to_vec(),
-        6..=9 => return ask(seed).manifest().to_vec(),
+        0..=5 => return small_ask(seed).lent.manifest,
+        6..=9 => return ask(seed).lent.manifest,
         10 => return edges::full(rng),
         11 => edges::small(rng),
         12 => too_much(rng),
@@ -73,7 +74,7 @@ fn long_line(rng: &mut Rng) -> Vec<u8> {
 
 /// The numbers that answer a refusal.
 fn refused(refusal: Refusal) -> Numbers {
-    Numbers { number: refusal.number.into(), place: refusal.place, ..Numbers::default() }
+    Numbers { number: refusal.number.into(), place: refusal.place.value(), ..Numbers::default() }
 }
 
 /// The numbers that answer an accepted manifest, from what the second planner read and our bindings' values.
@@ -167,20 +168,17 @@ fn long_lines_agree() {
 
 #[test]
 fn cases_agree() {
-    let cases = second::cases::read(&second::cases::files(&second::cases::folder()).unwrap()).unwrap();
+    let cases = cases::read(&cases::files(&cases::folder()).unwrap()).unwrap();
     let mut buffers = Buffers::default();
     let mut refusals: BTreeMap<usize, u64> = BTreeMap::new();
     for case in &cases {
-        compare(&mut buffers, &case.manifest);
-        for (_, answer) in &case.asks {
-            let Some((number, place)) = answer.strip_prefix("refused ").and_then(|refusal| refusal.split_once(" at ")) else {
-                continue;
-            };
-            let (number, place) = (number.parse().unwrap(), place.parse().unwrap());
-            if (2..=10).contains(&number) {
-                let said = buffers.read(&case.manifest);
-                assert_eq!((said.number, said.place), (number, place), "{} {}", case.origin, case.name);
-                *refusals.entry(number).or_default() += 1;
+        compare(&mut buffers, &case.lent.manifest);
+        for (_, expected) in &case.asks {
+            if let Expected::One(Answer::Refused(refusal @ Refusal { number: 2..=10, .. })) = expected {
+                let said = buffers.read(&case.lent.manifest);
+                let refused = (usize::from(refusal.number), refusal.place.value());
+                assert_eq!((said.number, said.place), refused, "{} {}", case.origin, case.name);
+                *refusals.entry(said.number).or_default() += 1;
             }
         }
     }

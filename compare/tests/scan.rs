@@ -204,7 +204,7 @@ fn words_agree() {
 
 /// The check under 3, as the second planner's reading gives it.
 fn faulty(bytes: &[u8]) -> Option<usize> {
-    manifest::read(bytes).err().filter(|refusal| refusal.number == 3).map(|refusal| refusal.place)
+    manifest::read(bytes).err().filter(|refusal| refusal.number == 3).map(|refusal| refusal.place.value())
 }
 
 /// The paths of a list, cut one by one, and where it ends.
@@ -305,7 +305,7 @@ fn manifests_agree() {
                 let length = length(rng);
                 bytes(rng, length)
             }
-            _ => generate::ask(seed).manifest().to_vec(),
+            _ => generate::ask(seed).lent.manifest,
         };
         if rng.chance(15) && !manifest.is_empty() {
             let at = rng.below(manifest.len());

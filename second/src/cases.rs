@@ -1,22 +1,14 @@
 //! The case files of `/cases`: their reader, and the comparison of the second planner with them.
 //! The format is described in `cases/README.md`.
 
-use crate::program::output;
-use crate::{card, plan, text, Refusal, TextAnswer, Wanted};
+use crate::wire::{self, Steps};
+use crate::{card, limits, program, Answer, Ask, Lent, Place, Question, Refusal, Wanted};
 use std::collections::HashMap;
+use std::fmt::{self, Display, Formatter};
 use std::fs;
 use std::ops::Range;
 use std::panic::{catch_unwind, AssertUnwindSafe};
 use std::path::{Path, PathBuf};
-
-/// What is asked in a case.
-#[derive(Debug, Clone, Copy, PartialEq, Eq)]
-pub enum Ask {
-    Plan,
-    Text(usize, Wanted),
-    /// What the program writes.
-    Program,
-}
 
 #[derive(Debug, Clone)]
 pub struct Case {
@@ -25,184 +17,131 @@ pub struct Case {
     pub origin: String,
     /// The sentences and readings that the case tests.
     pub says: Vec<String>,
-    pub manifest: Vec<u8>,
-    pub card: Vec<u8>,
-    pub targets: Vec<u8>,
-    pub list_len: usize,
-    pub buf_len: usize,
-    /// Each ask with the line of its expected answer.
-    pub asks: Vec<(Ask, String)>,
+    pub lent: Lent,
+    /// What is asked of that, with the expected answers.
+    pub asks: Vec<(Question, Expected)>,
+    /// What the program writes, if the case gives it.
+    pub prints: Option<Vec<u8>>,
 }
 
 impl Case {
-    /// An ask with all that it lends, as the line that other tools read.
-    pub fn line(&self, ask: Ask) -> String {
-        let [manifest, card, targets] =
-            [&self.manifest, &self.card, &self.targets].map(|bytes| hex(bytes));
-        match ask {
-            Ask::Plan => format!("plan {manifest} {card} {targets} {}", self.list_len),
-            Ask::Text(step, wanted) => {
-                format!("text {manifest} {step} {} {}", show_wanted(wanted), self.buf_len)
+    /// One of the case's questions with all that it lends.
+    pub fn ask(&self, question: Question) -> Ask {
+        Ask { lent: self.lent.clone(), question }
+    }
+}
+
+/// The answers that a case expects: one alone but for circles.
+#[derive(Debug, Clone, PartialEq, Eq)]
+pub enum Expected {
+    One(Answer),
+    /// Any of these circles, begun at any of its steps.
+    Circles(Vec<Vec<u32>>),
+}
+
+impl Expected {
+    /// All answers that are right.
+    pub fn answers(&self) -> Vec<Answer> {
+        match self {
+            Expected::One(answer) => vec![answer.clone()],
+            Expected::Circles(circles) => circles.iter().flat_map(|steps| begun(steps)).collect(),
+        }
+    }
+
+    pub fn allows(&self, answer: &Answer) -> bool {
+        self.answers().contains(answer)
+    }
+}
+
+/// A circle begun at each of its steps.
+fn begun(steps: &[u32]) -> Vec<Answer> {
+    let mut steps = steps.to_vec();
+    let turned = (0..steps.len()).map(|_| {
+        steps.rotate_left(1);
+        Answer::Circle(steps.clone())
+    });
+    turned.collect()
+}
+
+/// As an answer's line, with ` or` between circles.
+impl Display for Expected {
+    fn fmt(&self, f: &mut Formatter) -> fmt::Result {
+        match self {
+            Expected::One(answer) => answer.fmt(f),
+            Expected::Circles(circles) => {
+                let circles: Vec<_> =
+                    circles.iter().map(|steps| Steps(steps).to_string()).collect();
+                write!(f, "circle{}", circles.join(" or"))
             }
-            Ask::Program => format!("program {manifest} {card} {targets}"),
         }
     }
-
-    /// The second planner's answer as a line; a planner that panics has none.
-    fn answer(&self, ask: Ask) -> Option<String> {
-        let Case { manifest, card, targets, .. } = self;
-        let answer = || match ask {
-            Ask::Plan => plan(manifest, card, targets, self.list_len).to_string(),
-            Ask::Text(step, wanted) => text(manifest, step, wanted, self.buf_len).to_string(),
-            Ask::Program => TextAnswer::Text(output(manifest, card, targets)).to_string(),
-        };
-        catch_unwind(AssertUnwindSafe(answer)).ok()
-    }
-}
-
-/// Whether an answer is the expected one. For a circle that is any of those expected
-/// (`circle 0 1 or 2`), begun at any of its steps.
-pub fn allows(expected: &str, answer: &str) -> bool {
-    let circle = |line: &str| -> Vec<String> { line.split(' ').map(str::to_string).collect() };
-    match (expected.strip_prefix("circle "), answer.strip_prefix("circle ")) {
-        (Some(expected), Some(answer)) => {
-            let answer = circle(answer);
-            expected.split(" or ").map(circle).any(|mut expected| {
-                (0..expected.len()).any(|_| {
-                    expected.rotate_left(1);
-                    expected == answer
-                })
-            })
-        }
-        _ => expected == answer,
-    }
-}
-
-/// What the lent buffers hold before an ask of the packed cases.
-const BEFORE: u8 = 7;
-
-/// An answer as document 01's numbers, and what the lent buffer begins with; zeros follow.
-pub struct Answer {
-    pub number: usize,
-    pub value: usize,
-    pub bytes: Vec<u8>,
-}
-
-/// The answers that an expected line allows, to an ask with a lent buffer of `room` numbers or bytes.
-pub fn expected(line: &str, is_plan: bool, room: usize) -> Result<Vec<Answer>, String> {
-    let words = |steps: &[u32]| steps.iter().flat_map(|step| step.to_le_bytes()).collect();
-    let (word, rest) = line.split_once(' ').unwrap_or((line, ""));
-    let answer = |number, value, bytes| Answer { number, value, bytes };
-    match word {
-        "list" => {
-            let steps = steps(rest)?;
-            Ok(vec![answer(0, steps.len(), words(&steps))])
-        }
-        "circle" => {
-            let mut answers = Vec::new();
-            for circle in rest.split(" or ") {
-                let mut steps = steps(circle)?;
-                for _ in 0..steps.len() {
-                    steps.rotate_left(1);
-                    answers.push(answer(14, steps.len(), words(&steps)));
-                }
-            }
-            Ok(answers)
-        }
-        "text" => {
-            let bytes = unhex(rest);
-            Ok(vec![answer(0, bytes.len(), bytes)])
-        }
-        _ => {
-            let (refused, place) =
-                rest.split_once(" at ").ok_or(format!("`{line}` is no answer"))?;
-            let refused = number(refused)?;
-            // 1 touches nothing.
-            let untouched = match (refused, is_plan) {
-                (1, true) => words(&vec![u32::from(BEFORE); room]),
-                (1, false) => vec![BEFORE; room],
-                _ => Vec::new(),
-            };
-            Ok(vec![answer(refused, number(place)?, untouched)])
-        }
-    }
-}
-
-fn steps(words: &str) -> Result<Vec<u32>, String> {
-    words.split_whitespace().map(number).collect()
 }
 
 /// What the program may write for a case: what the case gives, or else what the second planner's
 /// program writes, with any expected circle, begun at any of its steps.
 pub fn outputs(case: &Case) -> Vec<Vec<u8>> {
-    let expected =
-        |asked: Ask| case.asks.iter().find(|(ask, _)| *ask == asked).map(|(_, line)| line);
-    if let Some(prints) = expected(Ask::Program) {
-        return vec![unhex(prints.strip_prefix("text ").unwrap_or(prints))];
+    if let Some(prints) = &case.prints {
+        return vec![prints.clone()];
     }
-    let circles = expected(Ask::Plan).and_then(|line| line.strip_prefix("circle "));
+    let circles = case.asks.iter().find(|(_, expected)| matches!(expected, Expected::Circles(_)));
     match circles {
-        Some(circles) => circles.split(" or ").flat_map(shown).collect(),
-        None => vec![output(&case.manifest, &case.card, &case.targets)],
+        Some((_, circles)) => circles.answers().iter().map(program::refused).collect(),
+        None => vec![program::output(&case.lent)],
     }
 }
 
-/// The lines for a circle, begun at each of its steps.
-fn shown(circle: &str) -> Vec<Vec<u8>> {
-    let mut steps: Vec<_> = circle.split(' ').collect();
-    let lines = (0..steps.len()).map(|_| {
-        steps.rotate_left(1);
-        format!("refused 14 at {}\ncircle {}\n", steps.len(), steps.join(" ")).into_bytes()
-    });
-    lines.collect()
-}
-
-/// What the second planner answers otherwise than expected.
+/// What the second planner answers otherwise than expected; a planner that panics answers nothing.
 pub fn check(case: &Case) -> Vec<String> {
     let mut differences = Vec::new();
-    for (ask, expected) in &case.asks {
-        let answer = case.answer(*ask).unwrap_or("nothing".to_string());
-        if !allows(expected, &answer) {
-            let Case { name, origin, .. } = case;
-            let [expected, answer] = [expected, &answer].map(|line| readable(line));
-            differences.push(format!(
-                "{name} ({origin}): {ask:?}\n  expected {expected}\n  answered {answer}"
-            ));
+    let mut differs = |asked: String, expected: String, answered: String| {
+        let Case { name, origin, .. } = case;
+        differences.push(format!(
+            "{name} ({origin}): {asked}\n  expected {expected}\n  answered {answered}"
+        ));
+    };
+    for (question, expected) in &case.asks {
+        let ask = case.ask(*question);
+        let answer = catch_unwind(AssertUnwindSafe(|| ask.answer())).ok();
+        if !answer.as_ref().is_some_and(|answer| expected.allows(answer)) {
+            let expected = match expected {
+                Expected::One(answer) => readable(answer),
+                Expected::Circles(_) => expected.to_string(),
+            };
+            let answered = answer.as_ref().map_or("nothing".to_string(), readable);
+            differs(format!("{question:?}"), expected, answered);
+        }
+    }
+    if let Some(prints) = &case.prints {
+        let written = catch_unwind(AssertUnwindSafe(|| program::output(&case.lent))).ok();
+        if written.as_ref() != Some(prints) {
+            let readable = |bytes: &Vec<u8>| format!("text {}", bytes.escape_ascii());
+            let answered = written.as_ref().map_or("nothing".to_string(), readable);
+            differs("the program".to_string(), readable(prints), answered);
         }
     }
     differences
 }
 
-/// Every plan and text ask of a case with its expected answer, one line each, for other tools; or,
-/// if wanted, those of the program instead.
-pub fn packed(case: &Case, programs: bool) -> Vec<String> {
-    let asks = case.asks.iter().filter(|(ask, _)| (*ask == Ask::Program) == programs);
-    asks.map(|(ask, expected)| format!("{} {} -> {expected}", case.name, case.line(*ask))).collect()
-}
-
-/// An answer's line with its bytes, if it has any, in readable form.
-fn readable(line: &str) -> String {
-    let bytes = line.strip_prefix("text ").map(unhex);
-    bytes.map_or(line.to_string(), |bytes| format!("text {}", bytes.escape_ascii()))
-}
-
-fn unhex(hex: &str) -> Vec<u8> {
-    let digits = hex.as_bytes().chunks_exact(2).map(String::from_utf8_lossy);
-    digits.filter_map(|two| u8::from_str_radix(&two, 16).ok()).collect()
-}
-
-fn show_wanted(wanted: Wanted) -> &'static str {
-    match wanted {
-        Wanted::Command => "command",
-        Wanted::Description => "description",
+/// An answer with its bytes, if it has any, in readable form.
+fn readable(answer: &Answer) -> String {
+    match answer {
+        Answer::Text(bytes) => format!("text {}", bytes.escape_ascii()),
+        _ => answer.to_string(),
     }
 }
 
-fn hex(bytes: &[u8]) -> String {
-    if bytes.is_empty() {
-        return "-".to_string();
-    }
-    bytes.iter().map(|byte| format!("{byte:02x}")).collect()
+/// Every ask of a case with its expected answer, one line each, for other tools.
+pub fn ask_lines(case: &Case) -> Vec<String> {
+    let line = |(question, expected): &(Question, Expected)| {
+        format!("{} {} -> {expected}", case.name, case.ask(*question))
+    };
+    case.asks.iter().map(line).collect()
+}
+
+/// What the program has to write for a case, as a line for other tools, if the case gives it.
+pub fn program_line(case: &Case) -> Option<String> {
+    let prints = Answer::Text(case.prints.clone()?);
+    Some(format!("{} program {} -> {prints}", case.name, case.lent))
 }
 
 /// The folder of the case files, beside that of the second planner.
@@ -285,7 +224,9 @@ enum Block {
 struct Draft {
     case: Case,
     has_manifest: bool,
-    prints: Option<Vec<u8>>,
+    /// The lengths of the lent buffers, which may be given after the asks.
+    list_len: usize,
+    buf_len: usize,
     /// What the pieces that may follow belong to.
     open: Option<Block>,
     mark: Option<usize>,
@@ -297,14 +238,12 @@ impl Draft {
             name: name.to_string(),
             origin,
             says: Vec::new(),
-            manifest: Vec::new(),
-            card: card::write(&[]),
-            targets: Vec::new(),
-            list_len: 512,
-            buf_len: 8192,
+            lent: Lent::manifest([]),
             asks: Vec::new(),
+            prints: None,
         };
-        Self { case, has_manifest: false, prints: None, open: None, mark: None }
+        let (list_len, buf_len) = (limits::LIST, limits::TEXT);
+        Draft { case, has_manifest: false, list_len, buf_len, open: None, mark: None }
     }
 
     fn take(&mut self, word: &str, rest: &str, earlier: &[Case]) -> Result<(), String> {
@@ -319,23 +258,21 @@ impl Draft {
             "says" => self.case.says.push(rest.to_string()),
             "reading" | "manual" => self.case.says.push(format!("{word} {rest}")),
             "manifest" => self.manifest(rest, earlier)?,
-            "card" => self.case.card = self.card(rest)?,
-            "targets" => self.case.targets = self.targets(rest)?,
-            "list-buffer" => self.case.list_len = number(rest)?,
-            "text-buffer" => self.case.buf_len = number(rest)?,
-            "plan" if self.case.asks.iter().any(|(ask, _)| *ask == Ask::Plan) => {
-                return Err("a second `plan`".to_string())
-            }
+            "card" => self.case.lent.card = self.card(rest)?,
+            "targets" => self.case.lent.targets = self.targets(rest)?,
+            "list-buffer" => self.list_len = number(rest)?,
+            "text-buffer" => self.buf_len = number(rest)?,
+            "plan" if self.has_plan() => return Err("a second `plan`".to_string()),
             "plan" => {
                 let expected = self.plan(rest)?;
-                self.case.asks.push((Ask::Plan, expected));
+                self.case.asks.push((Question::PLAN, expected));
             }
             "text" => {
                 let ask = self.text(rest)?;
                 self.case.asks.push(ask);
             }
             "prints" => {
-                self.prints.get_or_insert_default();
+                self.case.prints.get_or_insert_default();
                 self.open = Some(Block::Prints);
             }
             _ => return Err(format!("unknown word `{word}`")),
@@ -343,16 +280,23 @@ impl Draft {
         Ok(())
     }
 
+    fn has_plan(&self) -> bool {
+        self.case.asks.iter().any(|(question, _)| matches!(question, Question::Plan { .. }))
+    }
+
     fn finish(mut self) -> Result<Case, String> {
-        if let Some(prints) = self.prints {
-            self.case.asks.push((Ask::Program, TextAnswer::Text(prints).to_string()));
+        for (question, _) in &mut self.case.asks {
+            match question {
+                Question::Plan { list_len } => *list_len = self.list_len,
+                Question::Text { buf_len, .. } => *buf_len = self.buf_len,
+            }
         }
         let case = self.case;
         let missing = if !self.has_manifest {
             "manifest"
         } else if case.says.is_empty() {
             "`says`, `reading` or `manual`"
-        } else if case.asks.is_empty() {
+        } else if case.asks.is_empty() && case.prints.is_none() {
             "expected answer"
         } else {
             return Ok(case);
@@ -370,17 +314,17 @@ impl Draft {
         }
         let name = rest.strip_prefix("of ").ok_or("expected `manifest` or `manifest of NAME`")?;
         let of = earlier.iter().find(|case| case.name == name);
-        self.case.manifest =
-            of.ok_or(format!("no earlier case {name} in this file"))?.manifest.clone();
+        self.case.lent.manifest =
+            of.ok_or(format!("no earlier case {name} in this file"))?.lent.manifest.clone();
         Ok(())
     }
 
     fn piece(&mut self, source: &str, is_line: bool) -> Result<(), String> {
         let block = self.open.ok_or("a piece outside `manifest` and `prints`")?;
-        let piece = self.expanded(source, self.case.manifest.len())?.bytes;
+        let piece = self.expanded(source, self.case.lent.manifest.len())?.bytes;
         let whole = match block {
-            Block::Manifest => &mut self.case.manifest,
-            Block::Prints => self.prints.get_or_insert_default(),
+            Block::Manifest => &mut self.case.lent.manifest,
+            Block::Prints => self.case.prints.get_or_insert_default(),
         };
         whole.extend(piece);
         if is_line {
@@ -428,54 +372,51 @@ impl Draft {
         Ok(card::write(&records.collect::<Result<Vec<_>, String>>()?))
     }
 
-    /// The line of a plan's expected answer; each number in it is checked.
-    fn plan(&mut self, rest: &str) -> Result<String, String> {
+    /// The expected answer of a plan.
+    fn plan(&mut self, rest: &str) -> Result<Expected, String> {
         let line = String::from_utf8_lossy(&self.expanded(rest, 0)?.bytes).into_owned();
         let (word, rest) = line.split_once(' ').unwrap_or((&line, ""));
-        let steps = |words: &str| -> Result<String, String> {
-            let steps = words.split_whitespace().map(number::<u32>);
-            steps.map(|step| Ok(format!(" {}", step?))).collect()
-        };
         match word {
-            "list" => Ok(format!("list{}", steps(rest)?)),
+            "list" => Ok(Expected::One(Answer::List(steps(rest)?))),
             "circle" => {
                 let circles = rest.split(" or ").map(steps).collect::<Result<Vec<_>, _>>()?;
-                if circles.iter().any(String::is_empty) {
+                if circles.iter().any(Vec::is_empty) {
                     return Err("a circle has one step at least".to_string());
                 }
-                Ok(format!("circle{}", circles.join(" or")))
+                Ok(Expected::Circles(circles))
             }
-            "refused" => Ok(self.refusal(rest)?.to_string()),
+            "refused" => Ok(Expected::One(Answer::Refused(self.refusal(rest)?))),
             _ => Err(format!("expected `list`, `circle` or `refused`, not `{word}`")),
         }
     }
 
-    fn text(&mut self, rest: &str) -> Result<(Ask, String), String> {
+    fn text(&mut self, rest: &str) -> Result<(Question, Expected), String> {
         let mut words = rest.splitn(4, ' ');
         let step = number(words.next().unwrap_or(""))?;
-        let wanted = match words.next() {
-            Some("command") => Wanted::Command,
-            Some("description") => Wanted::Description,
-            _ => return Err("expected `command` or `description`".to_string()),
-        };
+        let wanted = words.next().and_then(Wanted::of);
+        let wanted = wanted.ok_or("expected `command` or `description`")?;
         let (kind, rest) = (words.next(), words.next().unwrap_or(""));
         let answer = match kind {
-            Some("=") => TextAnswer::Text(self.expanded(rest, 0)?.bytes),
-            Some("refused") => TextAnswer::Refused(self.refusal(rest)?),
+            Some("=") => Answer::Text(self.expanded(rest, 0)?.bytes),
+            Some("refused") => Answer::Refused(self.refusal(rest)?),
             _ => return Err("expected `=` or `refused`".to_string()),
         };
-        Ok((Ask::Text(step, wanted), answer.to_string()))
+        Ok((Question::text(step, wanted), Expected::One(answer)))
     }
 
     fn refusal(&self, rest: &str) -> Result<Refusal, String> {
         let (refused, place) =
             rest.split_once(" at ").ok_or("expected `refused NUMBER at PLACE`")?;
         let place = match place {
-            "@" => self.mark.ok_or("no `\\@` before this line")?,
-            _ => number(place)?,
+            "@" => Place::from(self.mark.ok_or("no `\\@` before this line")?),
+            _ => place.parse().map_err(|error: wire::Error| error.to_string())?,
         };
         Ok(Refusal { number: number(refused)?, place })
     }
+}
+
+fn steps(words: &str) -> Result<Vec<u32>, String> {
+    words.split_whitespace().map(number).collect()
 }
 
 fn number<T: std::str::FromStr>(word: &str) -> Result<T, String> {

@@ -1,6 +1,7 @@
 //! All cases of `/cases`, put to the second planner.
 
-use second::cases::{allows, check, files, folder, packed, parse, read};
+use second::cases::{ask_lines, check, files, folder, parse, program_line, read, Expected};
+use second::{Answer, Refusal};
 
 #[test]
 fn all_cases_pass() {
@@ -33,38 +34,42 @@ case two
     | no work
 ";
     let cases = parse("sample", content).unwrap();
-    assert_eq!(cases[0].manifest, b"a = 000,101,202, \n\nb\0");
+    assert_eq!(cases[0].lent.manifest, b"a = 000,101,202, \n\nb\0");
     let header = [2, 0, 0, 0, 16, 0, 0, 0, 48, 0, 0, 0, 52, 0, 0, 0];
     let records = [
         0, 0, 0, 0, 1, 0, 0, 0, 5, 0, 0, 0, 0, 0, 0, 0, 1, 0, 0, 0, 3, 0, 0, 0, 6, 0, 0, 0, 0, 0,
         0, 0,
     ];
-    assert_eq!(cases[0].card, [&header[..], &records, b"ab c"].concat());
-    assert_eq!(cases[0].targets, b"a\nb c\n");
-    assert_eq!(cases[0].asks[0].1, "refused 3 at 19");
-    assert_eq!(cases[1].manifest, cases[0].manifest);
-    assert_eq!(cases[1].card, [1, 0, 0, 0, 2]);
+    assert_eq!(cases[0].lent.card, [&header[..], &records, b"ab c"].concat());
+    assert_eq!(cases[0].lent.targets, b"a\nb c\n");
+    let marked = Expected::One(Answer::Refused(Refusal::new(3, 19)));
+    assert_eq!(cases[0].asks[0].1, marked);
+    assert_eq!(cases[1].lent.manifest, cases[0].lent.manifest);
+    assert_eq!(cases[1].lent.card, [1, 0, 0, 0, 2]);
     let (manifest, lent) = ("61203d203030302c3130312c3230322c200a0a6200", "0100000002 610a");
     assert_eq!(
-        packed(&cases[1], false),
+        ask_lines(&cases[1]),
         [
             format!("two plan {manifest} {lent} 512 -> circle 1 2 or 3"),
             format!("two text {manifest} 7 description 8192 -> text 7878"),
         ]
     );
     let program = format!("two program {manifest} {lent} -> text 6e6f20776f726b0a");
-    assert_eq!(packed(&cases[1], true), [program]);
+    assert_eq!(program_line(&cases[1]), Some(program));
+    assert_eq!(program_line(&cases[0]), None);
 }
 
 #[test]
 fn a_circle_may_begin_anywhere_but_not_turn_round() {
-    for circle in ["0 1 2", "1 2 0", "2 0 1", "3"] {
-        assert!(allows("circle 0 1 2 or 3", &format!("circle {circle}")));
+    let circles = Expected::Circles(vec![vec![0, 1, 2], vec![3]]);
+    for answer in ["circle 0 1 2", "circle 1 2 0", "circle 2 0 1", "circle 3"] {
+        assert!(circles.allows(&answer.parse().unwrap()), "{answer}");
     }
     for answer in ["circle 2 1 0", "circle 0 1", "circle 0 1 2 0", "list 3", "refused 14 at 1"] {
-        assert!(!allows("circle 0 1 2 or 3", answer));
+        assert!(!circles.allows(&answer.parse().unwrap()), "{answer}");
     }
-    assert!(allows("list 0 1", "list 0 1") && !allows("list 0 1", "list 1 0"));
+    let list = Expected::One(Answer::List(vec![0, 1]));
+    assert!(list.allows(&Answer::List(vec![0, 1])) && !list.allows(&Answer::List(vec![1, 0])));
 }
 
 #[test]

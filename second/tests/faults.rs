@@ -2,7 +2,8 @@
 //! compiled and put to all cases, and those that the edit names must notice it. So the cases are
 //! shown to tell right from wrong.
 
-use second::cases::{allows, files, folder, read, Case};
+use second::cases::{files, folder, read, Case, Expected};
+use second::Answer;
 use std::collections::BTreeMap;
 use std::fs::{self, File};
 use std::path::{Path, PathBuf};
@@ -85,7 +86,7 @@ fn faults() -> Vec<Fault> {
 }
 
 /// Modules that answer no ask: the copies are compiled without them, which takes half the time.
-const APART: [&str; 5] = ["cases", "generate", "naive", "rng", "shapes"];
+const APART: [&str; 6] = ["cases", "generate", "kind", "naive", "rng", "shapes"];
 
 fn source() -> Source {
     let mut source = Source::new();
@@ -165,30 +166,34 @@ fn answers(batch: &[Source], asks: &Path, folder: &Path) -> Vec<Vec<String>> {
     answers.chunks(answers.len() / batch.len()).map(<[String]>::to_vec).collect()
 }
 
-/// An ask's line, its expected answer and the name of its case.
+/// The line of an ask, or of a run of the program, its expected answer and the name of its case.
 struct Asked {
     line: String,
-    expected: String,
+    expected: Expected,
     case: String,
 }
 
-fn asked() -> Vec<Asked> {
-    let asked = |case: &Case| -> Vec<Asked> {
-        let asks = case.asks.iter().map(|(ask, expected)| Asked {
-            line: case.line(*ask),
-            expected: expected.clone(),
-            case: case.name.clone(),
-        });
-        asks.collect()
-    };
-    read(&files(&folder()).unwrap()).unwrap().iter().flat_map(asked).collect()
+fn asked(case: &Case) -> Vec<Asked> {
+    let asked = |line, expected| Asked { line, expected, case: case.name.clone() };
+    let asks = case.asks.iter();
+    let asks = asks.map(|(question, expected)| (case.ask(*question).to_string(), expected.clone()));
+    let program = case
+        .prints
+        .clone()
+        .map(|prints| (format!("program {}", case.lent), Expected::One(Answer::Text(prints))));
+    asks.chain(program).map(|(line, expected)| asked(line, expected)).collect()
+}
+
+/// Whether the line that a copy answered is expected; one that panics answers an empty line.
+fn is_expected(asked: &Asked, answer: &str) -> bool {
+    answer.parse().is_ok_and(|answer| asked.expected.allows(&answer))
 }
 
 /// What is wrong if a planner with this fault gives these answers.
 fn failure(fault: &Fault, asked: &[Asked], answers: &[String]) -> Option<String> {
     assert_eq!(asked.len(), answers.len(), "{}: not every ask is answered", fault.name);
     let pairs = asked.iter().zip(answers);
-    let differing = pairs.filter(|(asked, answer)| !allows(&asked.expected, answer));
+    let differing = pairs.filter(|(asked, answer)| !is_expected(asked, answer));
     let differing: Vec<_> = differing.map(|(asked, _)| asked.case.as_str()).collect();
     let silent = fault.noticed_by.iter().find(|case| !differing.contains(&case.as_str()));
     if let Some(case) = silent {
@@ -216,7 +221,8 @@ fn every_planted_fault_is_noticed() {
     let place = Path::new(env!("CARGO_TARGET_TMPDIR")).join("faults");
     let _ = fs::remove_dir_all(&place);
     fs::create_dir_all(&place).unwrap();
-    let (asked, asks) = (asked(), place.join("asks"));
+    let cases = read(&files(&folder()).unwrap()).unwrap();
+    let (asked, asks) = (cases.iter().flat_map(asked).collect::<Vec<_>>(), place.join("asks"));
     let lines: String = asked.iter().map(|asked| format!("{}\n", asked.line)).collect();
     fs::write(&asks, lines).unwrap();
 

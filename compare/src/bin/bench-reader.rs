@@ -25,7 +25,7 @@ fn main() {
             10..1_000 => 3,
             _ => 1,
         };
-        let theirs = manifest::read(manifest).map_or_else(|refusal| (usize::from(refusal.number), refusal.place), |_| (0, 0));
+        let theirs = manifest::read(manifest).map_or_else(|refusal| (usize::from(refusal.number), refusal.place.value()), |_| (0, 0));
         assert_eq!((said.number, said.place), theirs, "{name}");
         let (ours, theirs) = rounds(count, || buffers.read(manifest), || manifest::read(manifest).is_ok());
         row(&format!("{name} ({})", said.number), ours, theirs);

@@ -9,8 +9,11 @@ use compare::measure::{both, row};
 use compare::names::{Added, Names};
 use compare::scan::{self, Classes};
 use second::bytes::{class, Class};
+use second::graph::Start;
 use second::line::{self, Opening, Statement};
+use second::plan::plan_graph;
 use second::scan::Scanner;
+use second::Answer;
 use std::collections::HashMap;
 
 fn main() {
@@ -184,21 +187,17 @@ fn plans() {
     for shape in second::shapes::all(512) {
         let manifest = second::manifest::read(&shape.manifest).expect("a sound manifest");
         let tables = Tables::of(&manifest.graph);
-        for (age, card) in [("fresh", &shape.fresh), ("stale", &shape.stale)] {
+        for (age, ask) in shape.plans() {
             let mut times = vec![0; manifest.files.names.len()];
-            for (name, time) in second::card::read(card).expect("a sound card") {
+            for (name, time) in second::card::read(&ask.lent.card).expect("a sound card") {
                 times[manifest.files.number(name).expect("a mentioned file") as usize] = time;
             }
             let mut list = [0; 512];
-            let said = graphs::plan(&tables, &times, &manifest.defaults, &[], &mut list);
-            let second::PlanAnswer::List(theirs) = second::plan::plan_graph(&manifest.graph, &times, &[], &manifest.defaults) else {
-                panic!("no list")
-            };
+            let start = Start { times, targets: Vec::new(), defaults: manifest.defaults.clone() };
+            let said = graphs::plan(&tables, &start, &mut list);
+            let Ok(Answer::List(theirs)) = plan_graph(&manifest.graph, &start) else { panic!("no list") };
             assert_eq!((said.number, &list[..said.value]), (0, theirs.as_slice()));
-            let (ours, theirs) = both(
-                || graphs::plan(&tables, &times, &manifest.defaults, &[], &mut list),
-                || second::plan::plan_graph(&manifest.graph, &times, &[], &manifest.defaults),
-            );
+            let (ours, theirs) = both(|| graphs::plan(&tables, &start, &mut list), || plan_graph(&manifest.graph, &start));
             row(&format!("plan of 512 steps: {}, {age}", shape.name), ours, theirs);
         }
     }

@@ -1,9 +1,10 @@
 //! `differ SEED COUNT` runs so many asks of both planners, from a seed on, and stops at the first on which they differ: it
 //! prints the difference and the ask, made as small as it stays one. The asks of any run can be run again by their seed.
 
-use compare::asks::{compare, run, Counts, Kind};
+use compare::asks::{compare, run, Counts};
 use compare::minimise::minimise;
-use second::ask::Ask;
+use second::kind::Kind;
+use second::Ask;
 use std::process::ExitCode;
 use std::time::Instant;
 
@@ -48,5 +49,5 @@ fn show(which: &str, ask: &Ask) {
     if let Err(difference) = compare(ask) {
         println!("-- {difference}; the second planner: {}", ask.answer());
     }
-    println!("{}", String::from_utf8_lossy(ask.manifest()));
+    println!("{}", String::from_utf8_lossy(&ask.lent.manifest));
 }

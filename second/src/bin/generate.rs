@@ -2,11 +2,12 @@
 //! Usage: `generate [--small] [FIRST_SEED [COUNT]]`.
 
 use second::generate::{ask, small_ask};
+use second::Ask;
 use std::env;
 use std::io::{self, BufWriter, Write};
 
 fn main() -> io::Result<()> {
-    let mut draw: fn(u64) -> second::ask::Ask = ask;
+    let mut draw: fn(u64) -> Ask = ask;
     let mut numbers = Vec::new();
     for argument in env::args().skip(1) {
         match argument.parse() {

@@ -8,8 +8,8 @@
 //! - an answer: number and value, in two numbers, as in document 01 (0 and a count, or a refusal and its place), the number of bytes that the
 //!   lent buffer begins with, and these; zeros follow
 
-use second::cases::{expected, files, folder, read, Ask, Case};
-use second::Wanted;
+use second::cases::{files, folder, read, Case, Expected};
+use second::{Answer, Lent, Question, Wanted};
 use std::fs;
 use std::process::ExitCode;
 
@@ -30,42 +30,54 @@ fn high(value: usize) -> usize {
     value >> 32
 }
 
-fn packed_ask(case: &Case, ask: Ask, line: &str) -> Result<Vec<u8>, String> {
-    let (kind, step, room) = match ask {
-        Ask::Plan => (0, 0, case.list_len),
-        Ask::Text(step, Wanted::Command) => (1, step, case.buf_len),
-        Ask::Text(step, Wanted::Description) => (2, step, case.buf_len),
-        Ask::Program => return Err("no ask of the planner".to_string()),
+/// What the lent buffers hold before an ask.
+const BEFORE: u8 = 7;
+
+/// What the lent buffer begins with after an answer.
+fn left(question: Question, answer: &Answer) -> Vec<u8> {
+    let words = |numbers: &[u32]| numbers.iter().flat_map(|number| number.to_le_bytes()).collect();
+    match (answer, question) {
+        (Answer::List(steps) | Answer::Circle(steps), _) => words(steps),
+        (Answer::Text(bytes), _) => bytes.clone(),
+        (Answer::Refused(refusal), _) if refusal.number != 1 => Vec::new(),
+        // 1 touches nothing.
+        (_, Question::Plan { list_len }) => words(&vec![u32::from(BEFORE); list_len]),
+        (_, Question::Text { buf_len, .. }) => vec![BEFORE; buf_len],
+    }
+}
+
+fn packed_ask(question: Question, expected: &Expected) -> Result<Vec<u8>, String> {
+    let (kind, step, room) = match question {
+        Question::Plan { list_len } => (0, 0, list_len),
+        Question::Text { step, wanted: Wanted::Command, buf_len } => (1, step, buf_len),
+        Question::Text { step, wanted: Wanted::Description, buf_len } => (2, step, buf_len),
     };
-    let answers = expected(line, ask == Ask::Plan, room)?;
+    let answers = expected.answers();
     let mut packed = numbers(&[kind, low(step), high(step), room, answers.len()])?;
     for answer in answers {
-        packed.extend(numbers(&[
-            answer.number,
-            low(answer.value),
-            high(answer.value),
-            answer.bytes.len(),
-        ])?);
-        packed.extend(answer.bytes);
+        let (refused, value) = answer.numbers();
+        let left = left(question, &answer);
+        packed.extend(numbers(&[refused.into(), low(value), high(value), left.len()])?);
+        packed.extend(left);
     }
     Ok(packed)
 }
 
 fn packed_case(case: &Case) -> Result<Vec<u8>, String> {
-    let asks: Vec<_> = case.asks.iter().filter(|(ask, _)| *ask != Ask::Program).collect();
-    if asks.is_empty() {
+    if case.asks.is_empty() {
         return Ok(Vec::new());
     }
-    let parts = [case.name.as_bytes(), &case.manifest, &case.card, &case.targets];
+    let Lent { manifest, card, targets } = &case.lent;
+    let parts = [case.name.as_bytes(), manifest, card, targets];
     let ends = parts.iter().scan(0, |end, part| {
         *end += part.len();
         Some(*end)
     });
-    let head: Vec<_> = ends.chain([asks.len()]).collect();
+    let head: Vec<_> = ends.chain([case.asks.len()]).collect();
     let mut packed = numbers(&head)?;
     packed.extend(parts.concat());
-    for (ask, line) in asks {
-        packed.extend(packed_ask(case, *ask, line)?);
+    for (question, expected) in &case.asks {
+        packed.extend(packed_ask(*question, expected)?);
     }
     Ok(packed)
 }

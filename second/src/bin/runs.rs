@@ -11,13 +11,13 @@ use std::process::{Command, ExitCode};
 fn run(program: &Path, room: &Path, case: &Case, without: bool) -> Result<Option<String>, String> {
     let failed = |error: std::io::Error| format!("{}: {error}", case.name);
     fs::create_dir(room).map_err(failed)?;
-    for (name, bytes) in [("build.ninja", &case.manifest), ("times.card", &case.card)] {
+    for (name, bytes) in [("build.ninja", &case.lent.manifest), ("times.card", &case.lent.card)] {
         if !(without && bytes.is_empty()) {
             fs::write(room.join(name), bytes).map_err(failed)?;
         }
     }
     let targets = room.with_extension("targets");
-    fs::write(&targets, &case.targets).map_err(failed)?;
+    fs::write(&targets, &case.lent.targets).map_err(failed)?;
     let input = File::open(&targets).map_err(failed)?;
     let ran = Command::new(program).current_dir(room).stdin(input).output().map_err(failed)?;
     let is_right = ran.status.success() && ran.stderr.is_empty();
@@ -40,7 +40,7 @@ fn run_all(program: &Path, room: &Path) -> Result<bool, String> {
     let cases = read(&files(&folder())?)?;
     let (mut runs, mut differing) = (0, 0);
     for case in &cases {
-        let has_empty = case.manifest.is_empty() || case.card.is_empty();
+        let has_empty = case.lent.manifest.is_empty() || case.lent.card.is_empty();
         for without in if has_empty { &[false, true][..] } else { &[false] } {
             if let Some(difference) = run(program, &room.join(runs.to_string()), case, *without)? {
                 println!("{difference}");
