@@ -7,7 +7,8 @@ use second::kind::Kind;
 use second::rng::Rng;
 use second::{limits, manifest, naive, targets, Answer, Ask, Lent, Question, Refusal, Wanted};
 use std::collections::BTreeMap;
-use std::fmt::Debug;
+use std::error::Error;
+use std::fmt::{self, Debug, Display, Formatter};
 
 /// Asks by the kind of their answer.
 pub type Counts = BTreeMap<Kind, u64>;
@@ -47,20 +48,23 @@ impl<T: Filled> Buffer<T> {
     }
 
     /// Holds these and zeros beyond, and what was not lent is as before.
-    pub fn holds(&self, wanted: &[T]) -> Result<(), String> {
+    pub fn holds(&self, wanted: &[T]) -> Result<(), Difference> {
         let (lent, behind) = self.all.split_at(self.lent);
         let (shown, beyond) = lent.split_at(wanted.len().min(lent.len()));
-        told(shown == wanted, || format!("the buffer has {shown:?} and not {wanted:?}"))?;
-        told(beyond.iter().all(|&x| x == T::ZERO), || "the buffer is not zero beyond the answer".into())?;
-        told(behind.iter().all(|&x| x == T::BEFORE), || "something was written behind the buffer".into())
+        told(shown == wanted, || {
+            let [shown, wanted] = [shown, wanted].map(|numbers| format!("{numbers:?}"));
+            Difference::Shown { shown, wanted }
+        })?;
+        told(beyond.iter().all(|&x| x == T::ZERO), || Difference::NotZeroBeyond)?;
+        told(behind.iter().all(|&x| x == T::BEFORE), || Difference::WrittenBehind)
     }
 
     /// Is as it was before the ask.
-    pub fn untouched(&self) -> Result<(), String> {
-        told(self.all.iter().all(|&x| x == T::BEFORE), || "the buffer was touched".into())
+    pub fn untouched(&self) -> Result<(), Difference> {
+        told(self.all.iter().all(|&x| x == T::BEFORE), || Difference::Touched)
     }
 
-    fn after(&self, refusal: Refusal) -> Result<(), String> {
+    fn after(&self, refusal: Refusal) -> Result<(), Difference> {
         if refusal.number == 1 {
             self.untouched()
         } else {
@@ -69,7 +73,63 @@ impl<T: Filled> Buffer<T> {
     }
 }
 
-fn told(holds: bool, otherwise: impl FnOnce() -> String) -> Result<(), String> {
+/// How an answer of the proved planner differs from the second planner's.
+#[derive(Debug, Clone, PartialEq, Eq)]
+pub enum Difference {
+    Said { said: Said, right: Said },
+    /// The lent buffer begins with something else.
+    Shown { shown: String, wanted: String },
+    /// The lent buffer is not zero beyond the answer.
+    NotZeroBeyond,
+    /// What lies behind the lent buffer was written.
+    WrittenBehind,
+    /// The buffer was touched under 1.
+    Touched,
+    /// A circle is to be told, and this is no 14 or one of too many steps.
+    NoCircle(Said),
+    /// These are no circle of needed steps.
+    UntrueCircle(Vec<u32>),
+    /// The two answers are to asks of different kinds.
+    OtherAsk,
+}
+
+impl Display for Difference {
+    fn fmt(&self, f: &mut Formatter) -> fmt::Result {
+        match self {
+            Difference::Said { said, right } => {
+                let (said, right) = (Numbers(*said), Numbers(*right));
+                write!(f, "said {said} and not {right}")
+            }
+            Difference::Shown { shown, wanted } => write!(f, "the buffer has {shown} and not {wanted}"),
+            Difference::NotZeroBeyond => f.write_str("the buffer is not zero beyond the answer"),
+            Difference::WrittenBehind => f.write_str("something was written behind the buffer"),
+            Difference::Touched => f.write_str("the buffer was touched"),
+            Difference::NoCircle(said) => write!(f, "said {} of a circle", Numbers(*said)),
+            Difference::UntrueCircle(steps) => write!(f, "{steps:?} is no circle of needed steps"),
+            Difference::OtherAsk => f.write_str("the answer is to another ask"),
+        }
+    }
+}
+
+impl Error for Difference {}
+
+/// Number and value with a space between.
+struct Numbers(Said);
+
+impl Display for Numbers {
+    fn fmt(&self, f: &mut Formatter) -> fmt::Result {
+        write!(f, "{} {}", self.0.number, self.0.value)
+    }
+}
+
+/// An ask on which the planners differ.
+#[derive(Debug, Clone)]
+pub struct Differing {
+    pub ask: Ask,
+    pub difference: Difference,
+}
+
+fn told(holds: bool, otherwise: impl FnOnce() -> Difference) -> Result<(), Difference> {
     if holds {
         Ok(())
     } else {
@@ -77,10 +137,10 @@ fn told(holds: bool, otherwise: impl FnOnce() -> String) -> Result<(), String> {
     }
 }
 
-fn says(said: Said, answer: &Answer) -> Result<(), String> {
+fn says(said: Said, answer: &Answer) -> Result<(), Difference> {
     let (number, value) = answer.numbers();
     let right = Said { number: usize::from(number), value };
-    told(said == right, || format!("said {} {} and not {number} {value}", said.number, said.value))
+    told(said == right, || Difference::Said { said, right })
 }
 
 /// The proved planner's answer: what it said, and the buffer that it was lent.
@@ -114,7 +174,7 @@ pub fn asked(wanted: Wanted) -> kestrenyo::Wanted {
 
 /// How the proved planner's answer differs from the second planner's, if it does. Of a circle only that it is a true one is
 /// asked.
-pub fn judge(ask: &Ask, ours: &Ours, theirs: &Answer) -> Result<(), String> {
+pub fn judge(ask: &Ask, ours: &Ours, theirs: &Answer) -> Result<(), Difference> {
     match (ours, theirs) {
         (Ours::Plan(said, list), Answer::Circle(_)) => circle(ask, *said, list),
         (Ours::Plan(said, list), Answer::List(steps)) => {
@@ -133,14 +193,14 @@ pub fn judge(ask: &Ask, ours: &Ours, theirs: &Answer) -> Result<(), String> {
             says(*said, theirs)?;
             buffer.after(*refusal)
         }
-        _ => Err("the answer is to another ask".into()),
+        _ => Err(Difference::OtherAsk),
     }
 }
 
-fn circle(ask: &Ask, said: Said, list: &Buffer<u32>) -> Result<(), String> {
-    told(said.number == 14 && said.value <= limits::LIST, || format!("said {} {} of a circle", said.number, said.value))?;
+fn circle(ask: &Ask, said: Said, list: &Buffer<u32>) -> Result<(), Difference> {
+    told(said.number == 14 && said.value <= limits::LIST, || Difference::NoCircle(said))?;
     let shown = &list.all[..said.value];
-    told(is_true(ask, shown), || format!("{shown:?} is no circle of needed steps"))?;
+    told(is_true(ask, shown), || Difference::UntrueCircle(shown.to_vec()))?;
     list.holds(shown)
 }
 
@@ -154,7 +214,7 @@ fn is_true(ask: &Ask, circle: &[u32]) -> bool {
 }
 
 /// Asks both planners; the kind of their answer, or how they differ.
-pub fn compare(ask: &Ask) -> Result<Kind, String> {
+pub fn compare(ask: &Ask) -> Result<Kind, Difference> {
     let theirs = ask.answer();
     judge(ask, &ours(ask), &theirs).map(|()| Kind::of(&theirs))
 }
@@ -194,7 +254,7 @@ fn texts(manifest: &[u8], step: usize) -> [Ask; 2] {
 
 /// Runs so many asks, from the seed on; counts them, or stops at the first on which the planners differ. `progress` is called
 /// after each seed.
-pub fn run(seed: u64, count: u64, mut progress: impl FnMut(&Counts)) -> Result<Counts, (Ask, String)> {
+pub fn run(seed: u64, count: u64, mut progress: impl FnMut(&Counts)) -> Result<Counts, Box<Differing>> {
     let mut counts = Counts::new();
     let mut done = 0;
     for seed in seed.. {
@@ -202,7 +262,7 @@ pub fn run(seed: u64, count: u64, mut progress: impl FnMut(&Counts)) -> Result<C
             if done == count {
                 return Ok(counts);
             }
-            let kind = compare(&ask).map_err(|difference| (ask, difference))?;
+            let kind = compare(&ask).map_err(|difference| Box::new(Differing { ask, difference }))?;
             *counts.entry(kind).or_default() += 1;
             done += 1;
         }

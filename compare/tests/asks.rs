@@ -16,9 +16,9 @@ fn setting(name: &str, otherwise: u64) -> u64 {
 #[test]
 fn asks_agree() {
     let (count, from) = (setting("ASKS", ASKS), setting("FROM", 0));
-    let counts = run(from, count, |_| ()).unwrap_or_else(|(ask, difference)| {
-        let ask = minimise(ask, |ask| compare(ask).is_err());
-        panic!("{difference}\n{ask}\n{}", String::from_utf8_lossy(&ask.lent.manifest))
+    let counts = run(from, count, |_| ()).unwrap_or_else(|differing| {
+        let ask = minimise(differing.ask, |ask| compare(ask).is_err());
+        panic!("{}\n{ask}\n{}", differing.difference, String::from_utf8_lossy(&ask.lent.manifest))
     });
     println!("{counts:?}");
     for kind in Kind::all() {

@@ -3,6 +3,7 @@
 
 mod card;
 mod check;
+mod error;
 mod escapes;
 mod expected;
 mod files;
@@ -10,11 +11,12 @@ mod lines;
 mod pack;
 mod parse;
 
-pub use check::{check, outputs};
+pub use check::{check, outputs, Difference};
+pub use error::{Error, Fault, Origin};
 pub use expected::Expected;
 pub use files::{files, folder, read};
 pub use lines::{ask_lines, program_line};
-pub use pack::pack;
+pub use pack::{pack, TooGreat};
 pub use parse::parse;
 
 use crate::{Ask, Lent, Question};
@@ -23,8 +25,8 @@ use std::str::FromStr;
 #[derive(Debug, Clone)]
 pub struct Case {
     pub name: String,
-    /// File and line at which the case begins.
-    pub origin: String,
+    /// The line at which the case begins.
+    pub origin: Origin,
     /// The sentences and readings that the case tests.
     pub says: Vec<String>,
     pub lent: Lent,
@@ -41,6 +43,7 @@ impl Case {
     }
 }
 
-fn number<T: FromStr>(word: &str) -> Result<T, String> {
-    word.parse().map_err(|_| format!("`{word}` is not a number that fits here"))
+/// A number of a line.
+fn number<T: FromStr>(word: &str) -> Result<T, Fault> {
+    word.parse().map_err(|_| Fault::Number(word.to_string()))
 }

@@ -34,10 +34,10 @@ fn main() -> ExitCode {
             println!("{count} asks from seed {seed}, no difference, {} s", began.elapsed().as_secs());
             ExitCode::SUCCESS
         }
-        Err((ask, difference)) => {
-            println!("{difference}");
-            show("first", &ask);
-            show("minimised", &minimise(ask, |ask| compare(ask).is_err()));
+        Err(differing) => {
+            println!("{}", differing.difference);
+            show("first", &differing.ask);
+            show("minimised", &minimise(differing.ask, |ask| compare(ask).is_err()));
             ExitCode::FAILURE
         }
     }

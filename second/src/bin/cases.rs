@@ -3,10 +3,11 @@
 //! with `--programs`, what the program has to write.
 
 use second::cases::{ask_lines, check, files, folder, program_line, read, Case};
+use second::tool::{status, Error};
 use std::path::PathBuf;
 use std::process::ExitCode;
 
-fn run() -> Result<bool, String> {
+fn run() -> Result<bool, Error> {
     let (options, named): (Vec<_>, Vec<_>) =
         std::env::args().skip(1).partition(|word| word.starts_with("--"));
     let named: Vec<_> = named.into_iter().map(PathBuf::from).collect();
@@ -21,7 +22,7 @@ fn run() -> Result<bool, String> {
             cases.iter().filter_map(program_line).for_each(|line| println!("{line}"));
             Ok(true)
         }
-        _ => Err("the command is: cases [--packed | --programs] [FILE ..]".to_string()),
+        _ => Err(Error::Usage("cases [--packed | --programs] [FILE ..]")),
     }
 }
 
@@ -38,12 +39,5 @@ fn compare(cases: &[Case]) -> bool {
 }
 
 fn main() -> ExitCode {
-    match run() {
-        Ok(true) => ExitCode::SUCCESS,
-        Ok(false) => ExitCode::FAILURE,
-        Err(error) => {
-            eprintln!("{error}");
-            ExitCode::FAILURE
-        }
-    }
+    status(run())
 }

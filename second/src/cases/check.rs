@@ -1,7 +1,8 @@
 //! The comparison of the second planner with a case, and what a program may write for one.
 
-use super::{Case, Expected};
-use crate::{program, Answer};
+use super::{Case, Expected, Origin};
+use crate::{program, Answer, Question};
+use std::fmt::{self, Display, Formatter};
 use std::panic::{catch_unwind, AssertUnwindSafe};
 
 /// What the program may write for a case: what the case gives, or else what the second planner's
@@ -17,36 +18,57 @@ pub fn outputs(case: &Case) -> Vec<Vec<u8>> {
     }
 }
 
-/// What the second planner answers otherwise than expected; a planner that panics answers nothing.
-pub fn check(case: &Case) -> Vec<String> {
-    let mut differences = Vec::new();
-    let mut differs = |asked: String, expected: String, answered: String| {
-        let Case { name, origin, .. } = case;
-        differences.push(format!(
-            "{name} ({origin}): {asked}\n  expected {expected}\n  answered {answered}"
-        ));
+/// An answer that a case does not expect.
+#[derive(Debug, Clone, PartialEq, Eq)]
+pub struct Difference {
+    pub case: String,
+    pub origin: Origin,
+    pub asked: String,
+    pub expected: String,
+    pub answered: String,
+}
+
+impl Display for Difference {
+    fn fmt(&self, f: &mut Formatter) -> fmt::Result {
+        let Difference { case, origin, asked, expected, answered } = self;
+        write!(f, "{case} ({origin}): {asked}\n  expected {expected}\n  answered {answered}")
+    }
+}
+
+/// What the second planner answers otherwise than expected; one that panics answers nothing.
+pub fn check(case: &Case) -> Vec<Difference> {
+    let asks = case.asks.iter();
+    let asks = asks.filter_map(|(question, expected)| check_ask(case, *question, expected));
+    asks.chain(check_program(case)).collect()
+}
+
+fn check_ask(case: &Case, question: Question, expected: &Expected) -> Option<Difference> {
+    let ask = case.ask(question);
+    let answer = catch_unwind(AssertUnwindSafe(|| ask.answer())).ok();
+    if answer.as_ref().is_some_and(|answer| expected.allows(answer)) {
+        return None;
+    }
+    let expected = match expected {
+        Expected::One(answer) => readable(answer),
+        Expected::Circles(_) => expected.to_string(),
     };
-    for (question, expected) in &case.asks {
-        let ask = case.ask(*question);
-        let answer = catch_unwind(AssertUnwindSafe(|| ask.answer())).ok();
-        if !answer.as_ref().is_some_and(|answer| expected.allows(answer)) {
-            let expected = match expected {
-                Expected::One(answer) => readable(answer),
-                Expected::Circles(_) => expected.to_string(),
-            };
-            let answered = answer.as_ref().map_or("nothing".to_string(), readable);
-            differs(format!("{question:?}"), expected, answered);
-        }
+    Some(difference(case, format!("{question:?}"), expected, answer))
+}
+
+fn check_program(case: &Case) -> Option<Difference> {
+    let prints = case.prints.as_ref()?;
+    let written = catch_unwind(AssertUnwindSafe(|| program::output(&case.lent))).ok();
+    if written.as_ref() == Some(prints) {
+        return None;
     }
-    if let Some(prints) = &case.prints {
-        let written = catch_unwind(AssertUnwindSafe(|| program::output(&case.lent))).ok();
-        if written.as_ref() != Some(prints) {
-            let readable = |bytes: &Vec<u8>| format!("text {}", bytes.escape_ascii());
-            let answered = written.as_ref().map_or("nothing".to_string(), readable);
-            differs("the program".to_string(), readable(prints), answered);
-        }
-    }
-    differences
+    let expected = readable(&Answer::Text(prints.clone()));
+    Some(difference(case, "the program".to_string(), expected, written.map(Answer::Text)))
+}
+
+fn difference(case: &Case, asked: String, expected: String, answer: Option<Answer>) -> Difference {
+    let answered = answer.as_ref().map_or("nothing".to_string(), readable);
+    let (case, origin) = (case.name.clone(), case.origin.clone());
+    Difference { case, origin, asked, expected, answered }
 }
 
 /// An answer with its bytes, if it has any, in readable form.

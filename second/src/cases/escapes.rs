@@ -1,6 +1,6 @@
 //! The backslashes of a text in a case file: bytes, the mark of a place, and repeated texts.
 
-use super::number;
+use super::{number, Fault};
 use std::ops::Range;
 
 /// A text of a case file with its backslashes read.
@@ -46,7 +46,7 @@ impl Expanded {
 }
 
 /// A text with its backslashes read.
-pub fn expand(source: &str) -> Result<Expanded, String> {
+pub fn expand(source: &str) -> Result<Expanded, Fault> {
     let mut reader = Reader { source: source.as_bytes(), at: 0, out: Expanded::default() };
     while reader.at < reader.source.len() {
         reader.next(None)?;
@@ -70,18 +70,18 @@ impl Reader<'_> {
 
     /// Reads a byte or a backslash with what it begins; within a repeated text `index` is its
     /// number.
-    fn next(&mut self, index: Option<usize>) -> Result<(), String> {
+    fn next(&mut self, index: Option<usize>) -> Result<(), Fault> {
         match self.take() {
             Some(b'\\') => self.escape(index),
             Some(byte) => {
                 self.out.push(byte, true);
                 Ok(())
             }
-            None => Err("a `\\{` without its `}`".to_string()),
+            None => Err(Fault::Unclosed),
         }
     }
 
-    fn escape(&mut self, index: Option<usize>) -> Result<(), String> {
+    fn escape(&mut self, index: Option<usize>) -> Result<(), Fault> {
         match self.take() {
             Some(b'n') => self.out.push(b'\n', false),
             Some(b'r') => self.out.push(b'\r', false),
@@ -94,23 +94,23 @@ impl Reader<'_> {
             Some(b'i') => self.shown(&in_repeated(index)?.to_string()),
             Some(b'j') => self.shown(&base_36(in_repeated(index)?)?),
             Some(b'{') => self.repeated()?,
-            _ => return Err("an unknown `\\`".to_string()),
+            _ => return Err(Fault::UnknownEscape),
         }
         Ok(())
     }
 
-    fn hex(&mut self) -> Result<(), String> {
+    fn hex(&mut self) -> Result<(), Fault> {
         let digits = self.source.get(self.at..self.at + 2);
         let digits = digits.and_then(|digits| std::str::from_utf8(digits).ok());
         let byte = digits.and_then(|digits| u8::from_str_radix(digits, 16).ok());
-        self.out.push(byte.ok_or("`\\x` without two hex digits")?, false);
+        self.out.push(byte.ok_or(Fault::NoHexDigits)?, false);
         self.at += 2;
         Ok(())
     }
 
-    fn mark(&mut self) -> Result<(), String> {
+    fn mark(&mut self) -> Result<(), Fault> {
         match self.out.mark.replace(self.out.bytes.len()) {
-            Some(_) => Err("a second `\\@`".to_string()),
+            Some(_) => Err(Fault::Second("\\@")),
             None => Ok(()),
         }
     }
@@ -121,12 +121,12 @@ impl Reader<'_> {
     }
 
     /// Reads `COUNT TEXT}`.
-    fn repeated(&mut self) -> Result<(), String> {
+    fn repeated(&mut self) -> Result<(), Fault> {
         let rest = self.source.get(self.at..).unwrap_or_default();
         let digits = rest.iter().take_while(|byte| byte.is_ascii_digit()).count();
         let times: usize = number(&String::from_utf8_lossy(&rest[..digits]))?;
         if times == 0 || rest.get(digits) != Some(&b' ') {
-            return Err("expected `\\{COUNT TEXT}` with a count from 1".to_string());
+            return Err(Fault::Expected("`\\{COUNT TEXT}` with a count from 1"));
         }
         let body = self.at + digits + 1;
         for index in 0..times {
@@ -140,14 +140,14 @@ impl Reader<'_> {
     }
 }
 
-fn in_repeated(index: Option<usize>) -> Result<usize, String> {
-    Ok(index.ok_or("an index outside a repeated text")?)
+fn in_repeated(index: Option<usize>) -> Result<usize, Fault> {
+    index.ok_or(Fault::StrayIndex)
 }
 
-fn base_36(index: usize) -> Result<String, String> {
+fn base_36(index: usize) -> Result<String, Fault> {
     const DIGITS: &[u8; 36] = b"0123456789abcdefghijklmnopqrstuvwxyz";
     if index >= 36 * 36 {
-        return Err(format!("`\\j` of {index} has over two digits"));
+        return Err(Fault::LongIndex(index));
     }
     Ok([index / 36, index % 36].iter().map(|&digit| DIGITS[digit] as char).collect())
 }

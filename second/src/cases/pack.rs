@@ -10,20 +10,33 @@
 
 use super::{Case, Expected};
 use crate::{Answer, Lent, Question, Wanted};
+use std::error::Error;
+use std::fmt::{self, Display, Formatter};
 
 /// All cases, packed.
-pub fn pack(cases: &[Case]) -> Result<Vec<u8>, String> {
+pub fn pack(cases: &[Case]) -> Result<Vec<u8>, TooGreat> {
     let mut packed = cases.iter().map(packed_case).collect::<Result<Vec<_>, _>>()?.concat();
     packed.extend([0; 20]);
     Ok(packed)
 }
 
-fn number(value: usize) -> Result<[u8; 4], String> {
-    let value = u32::try_from(value).map_err(|_| format!("{value} has over four bytes"))?;
-    Ok(value.to_le_bytes())
+/// A number that four bytes have no room for, such as the length of a lent buffer.
+#[derive(Debug, Clone, Copy, PartialEq, Eq)]
+pub struct TooGreat(pub usize);
+
+impl Display for TooGreat {
+    fn fmt(&self, f: &mut Formatter) -> fmt::Result {
+        write!(f, "{} has over four bytes", self.0)
+    }
 }
 
-fn numbers(values: &[usize]) -> Result<Vec<u8>, String> {
+impl Error for TooGreat {}
+
+fn number(value: usize) -> Result<[u8; 4], TooGreat> {
+    u32::try_from(value).map(u32::to_le_bytes).map_err(|_| TooGreat(value))
+}
+
+fn numbers(values: &[usize]) -> Result<Vec<u8>, TooGreat> {
     Ok(values.iter().map(|&value| number(value)).collect::<Result<Vec<_>, _>>()?.concat())
 }
 
@@ -51,7 +64,7 @@ fn left(question: Question, answer: &Answer) -> Vec<u8> {
     }
 }
 
-fn packed_ask(question: Question, expected: &Expected) -> Result<Vec<u8>, String> {
+fn packed_ask(question: Question, expected: &Expected) -> Result<Vec<u8>, TooGreat> {
     let (kind, step, room) = match question {
         Question::Plan { list_len } => (0, 0, list_len),
         Question::Text { step, wanted: Wanted::Command, buf_len } => (1, step, buf_len),
@@ -68,7 +81,7 @@ fn packed_ask(question: Question, expected: &Expected) -> Result<Vec<u8>, String
     Ok(packed)
 }
 
-fn packed_case(case: &Case) -> Result<Vec<u8>, String> {
+fn packed_case(case: &Case) -> Result<Vec<u8>, TooGreat> {
     if case.asks.is_empty() {
         return Ok(Vec::new());
     }

@@ -1,42 +1,62 @@
 //! A case file's lines: what each word says, and the case that is made of them.
 
 use super::escapes::{expand, Expanded};
-use super::{card, number, Case, Expected};
-use crate::{limits, wire, Answer, Lent, Place, Question, Refusal, Wanted};
+use super::{card, number, Case, Error, Expected, Fault, Origin};
+use crate::{limits, Answer, Lent, Place, Question, Refusal, Wanted};
 
 /// The cases of one file's text; an error names the file and the line.
-pub fn parse(file: &str, content: &str) -> Result<Vec<Case>, String> {
-    let mut cases = Vec::new();
-    let mut draft: Option<Draft> = None;
-    for (number, line) in content.lines().enumerate() {
-        let origin = format!("{file}:{}", number + 1);
-        let at_line = |error: String| format!("{origin}: {error}");
+pub fn parse(file: &str, content: &str) -> Result<Vec<Case>, Error> {
+    let mut reader = Reader::default();
+    for (number, line) in (1..).zip(content.lines()) {
+        let origin = Origin { file: file.to_string(), line: number };
+        reader.line(line, origin)?;
+    }
+    reader.close()?;
+    Ok(reader.cases)
+}
+
+/// The cases read so far, and the one that is open.
+#[derive(Default)]
+struct Reader {
+    cases: Vec<Case>,
+    draft: Option<Draft>,
+}
+
+impl Reader {
+    fn line(&mut self, line: &str, origin: Origin) -> Result<(), Error> {
         if line.ends_with(' ') {
-            return Err(at_line("spaces at the end of a line; write \\s".to_string()));
+            return Err(Error::Line(origin, Fault::SpacesAtEnd));
         }
         let line = line.trim_start();
         if line.is_empty() || line.starts_with('#') {
-            continue;
+            return Ok(());
         }
         let (word, rest) = line.split_once(' ').unwrap_or((line, ""));
-        if word == "case" {
-            if let Some(draft) = draft.take() {
-                cases.push(draft.finish()?);
+        match &mut self.draft {
+            _ if word == "case" => self.begin(rest, origin),
+            Some(draft) => {
+                draft.take(word, rest, &self.cases).map_err(|fault| Error::Line(origin, fault))
             }
-            if rest.is_empty() || rest.contains(' ') {
-                return Err(at_line("a case has a name of one word".to_string()));
-            }
-            draft = Some(Draft::new(rest, origin));
-        } else {
-            let draft =
-                draft.as_mut().ok_or_else(|| at_line("before the first `case`".to_string()))?;
-            draft.take(word, rest, &cases).map_err(at_line)?;
+            None => Err(Error::Line(origin, Fault::BeforeFirstCase)),
         }
     }
-    if let Some(draft) = draft {
-        cases.push(draft.finish()?);
+
+    fn begin(&mut self, name: &str, origin: Origin) -> Result<(), Error> {
+        self.close()?;
+        if name.is_empty() || name.contains(' ') {
+            return Err(Error::Line(origin, Fault::CaseName));
+        }
+        self.draft = Some(Draft::new(name, origin));
+        Ok(())
     }
-    Ok(cases)
+
+    /// Closes the open case, if there is one.
+    fn close(&mut self) -> Result<(), Error> {
+        if let Some(draft) = self.draft.take() {
+            self.cases.push(draft.finish()?);
+        }
+        Ok(())
+    }
 }
 
 /// What is written piece by piece.
@@ -59,7 +79,7 @@ struct Draft {
 }
 
 impl Draft {
-    fn new(name: &str, origin: String) -> Self {
+    fn new(name: &str, origin: Origin) -> Self {
         let case = Case {
             name: name.to_string(),
             origin,
@@ -72,14 +92,14 @@ impl Draft {
         Draft { case, has_manifest: false, list_len, buf_len, open: None, mark: None }
     }
 
-    fn take(&mut self, word: &str, rest: &str, earlier: &[Case]) -> Result<(), String> {
+    fn take(&mut self, word: &str, rest: &str, earlier: &[Case]) -> Result<(), Fault> {
         if word == "|" || word == "+" {
             return self.piece(rest, word == "|");
         }
         self.open = None;
         match word {
             "says" | "reading" | "manual" if rest.is_empty() => {
-                return Err(format!("an empty `{word}`"))
+                return Err(Fault::Empty(word.to_string()))
             }
             "says" => self.case.says.push(rest.to_string()),
             "reading" | "manual" => self.case.says.push(format!("{word} {rest}")),
@@ -88,7 +108,7 @@ impl Draft {
             "targets" => self.case.lent.targets = self.targets(rest)?,
             "list-buffer" => self.list_len = number(rest)?,
             "text-buffer" => self.buf_len = number(rest)?,
-            "plan" if self.has_plan() => return Err("a second `plan`".to_string()),
+            "plan" if self.has_plan() => return Err(Fault::Second("plan")),
             "plan" => {
                 let expected = self.plan(rest)?;
                 self.case.asks.push((Question::PLAN, expected));
@@ -101,7 +121,7 @@ impl Draft {
                 self.case.prints.get_or_insert_default();
                 self.open = Some(Block::Prints);
             }
-            _ => return Err(format!("unknown word `{word}`")),
+            _ => return Err(Fault::UnknownWord(word.to_string())),
         }
         Ok(())
     }
@@ -110,7 +130,8 @@ impl Draft {
         self.case.asks.iter().any(|(question, _)| matches!(question, Question::Plan { .. }))
     }
 
-    fn finish(mut self) -> Result<Case, String> {
+    /// The case, with all that it has to have.
+    fn finish(mut self) -> Result<Case, Error> {
         for (question, _) in &mut self.case.asks {
             match question {
                 Question::Plan { list_len } => *list_len = self.list_len,
@@ -127,26 +148,27 @@ impl Draft {
         } else {
             return Ok(case);
         };
-        Err(format!("{}: the case {} has no {missing}", case.origin, case.name))
+        Err(Error::Incomplete { origin: case.origin, name: case.name, missing })
     }
 
-    fn manifest(&mut self, rest: &str, earlier: &[Case]) -> Result<(), String> {
+    fn manifest(&mut self, rest: &str, earlier: &[Case]) -> Result<(), Fault> {
         if std::mem::replace(&mut self.has_manifest, true) {
-            return Err("a second manifest".to_string());
+            return Err(Fault::Second("manifest"));
         }
         if rest.is_empty() {
             self.open = Some(Block::Manifest);
             return Ok(());
         }
-        let name = rest.strip_prefix("of ").ok_or("expected `manifest` or `manifest of NAME`")?;
+        let name = rest.strip_prefix("of ");
+        let name = name.ok_or(Fault::Expected("`manifest` or `manifest of NAME`"))?;
         let of = earlier.iter().find(|case| case.name == name);
-        self.case.lent.manifest =
-            of.ok_or(format!("no earlier case {name} in this file"))?.lent.manifest.clone();
+        let of = of.ok_or_else(|| Fault::NoEarlierCase(name.to_string()))?;
+        self.case.lent.manifest = of.lent.manifest.clone();
         Ok(())
     }
 
-    fn piece(&mut self, source: &str, is_line: bool) -> Result<(), String> {
-        let block = self.open.ok_or("a piece outside `manifest` and `prints`")?;
+    fn piece(&mut self, source: &str, is_line: bool) -> Result<(), Fault> {
+        let block = self.open.ok_or(Fault::StrayPiece)?;
         let piece = self.expanded(source, self.case.lent.manifest.len())?.bytes;
         let whole = match block {
             Block::Manifest => &mut self.case.lent.manifest,
@@ -159,7 +181,7 @@ impl Draft {
         Ok(())
     }
 
-    fn targets(&mut self, rest: &str) -> Result<Vec<u8>, String> {
+    fn targets(&mut self, rest: &str) -> Result<Vec<u8>, Fault> {
         if let Some(raw) = rest.strip_prefix("raw ") {
             return Ok(self.expanded(raw, 0)?.bytes);
         }
@@ -169,17 +191,17 @@ impl Draft {
     }
 
     /// A text with its backslashes read; a mark in it is a place counted from `start`.
-    fn expanded(&mut self, source: &str, start: usize) -> Result<Expanded, String> {
+    fn expanded(&mut self, source: &str, start: usize) -> Result<Expanded, Fault> {
         let expanded = expand(source)?;
         if let Some(mark) = expanded.mark {
             if self.mark.replace(start + mark).is_some() {
-                return Err("a second `\\@`".to_string());
+                return Err(Fault::Second("\\@"));
             }
         }
         Ok(expanded)
     }
 
-    fn card(&mut self, rest: &str) -> Result<Vec<u8>, String> {
+    fn card(&mut self, rest: &str) -> Result<Vec<u8>, Fault> {
         match rest.strip_prefix("raw ") {
             Some(pieces) => card::of_pieces(&self.expanded(pieces, 0)?),
             None => card::of_records(&self.expanded(rest, 0)?),
@@ -187,7 +209,7 @@ impl Draft {
     }
 
     /// The expected answer of a plan.
-    fn plan(&mut self, rest: &str) -> Result<Expected, String> {
+    fn plan(&mut self, rest: &str) -> Result<Expected, Fault> {
         let line = String::from_utf8_lossy(&self.expanded(rest, 0)?.bytes).into_owned();
         let (word, rest) = line.split_once(' ').unwrap_or((&line, ""));
         match word {
@@ -195,40 +217,40 @@ impl Draft {
             "circle" => {
                 let circles = rest.split(" or ").map(steps).collect::<Result<Vec<_>, _>>()?;
                 if circles.iter().any(Vec::is_empty) {
-                    return Err("a circle has one step at least".to_string());
+                    return Err(Fault::EmptyCircle);
                 }
                 Ok(Expected::Circles(circles))
             }
             "refused" => Ok(Expected::One(Answer::Refused(self.refusal(rest)?))),
-            _ => Err(format!("expected `list`, `circle` or `refused`, not `{word}`")),
+            _ => Err(Fault::Expected("`list`, `circle` or `refused`")),
         }
     }
 
-    fn text(&mut self, rest: &str) -> Result<(Question, Expected), String> {
+    fn text(&mut self, rest: &str) -> Result<(Question, Expected), Fault> {
         let mut words = rest.splitn(4, ' ');
         let step = number(words.next().unwrap_or(""))?;
         let wanted = words.next().and_then(Wanted::of);
-        let wanted = wanted.ok_or("expected `command` or `description`")?;
+        let wanted = wanted.ok_or(Fault::Expected("`command` or `description`"))?;
         let (kind, rest) = (words.next(), words.next().unwrap_or(""));
         let answer = match kind {
             Some("=") => Answer::Text(self.expanded(rest, 0)?.bytes),
             Some("refused") => Answer::Refused(self.refusal(rest)?),
-            _ => return Err("expected `=` or `refused`".to_string()),
+            _ => return Err(Fault::Expected("`=` or `refused`")),
         };
         Ok((Question::text(step, wanted), Expected::One(answer)))
     }
 
-    fn refusal(&self, rest: &str) -> Result<Refusal, String> {
-        let (refused, place) =
-            rest.split_once(" at ").ok_or("expected `refused NUMBER at PLACE`")?;
+    fn refusal(&self, rest: &str) -> Result<Refusal, Fault> {
+        let parts = rest.split_once(" at ");
+        let (refused, place) = parts.ok_or(Fault::Expected("`refused NUMBER at PLACE`"))?;
         let place = match place {
-            "@" => Place::from(self.mark.ok_or("no `\\@` before this line")?),
-            _ => place.parse().map_err(|error: wire::Error| error.to_string())?,
+            "@" => Place::from(self.mark.ok_or(Fault::NoMark)?),
+            _ => number(place)?,
         };
         Ok(Refusal { number: number(refused)?, place })
     }
 }
 
-fn steps(words: &str) -> Result<Vec<u32>, String> {
+fn steps(words: &str) -> Result<Vec<u32>, Fault> {
     words.split_whitespace().map(number).collect()
 }
