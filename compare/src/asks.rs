@@ -1,4 +1,5 @@
-//! The two asks whole, from lent bytes to the filled buffer: the proved planner's answers judged by the second planner's.
+//! The two asks whole, from lent bytes to the filled buffer: the proved planner's answers judged by
+//! the second planner's.
 
 use kestrenyo::lent::{self, Said};
 use second::generate::{self, damage};
@@ -76,9 +77,15 @@ impl<T: Filled> Buffer<T> {
 /// How an answer of the proved planner differs from the second planner's.
 #[derive(Debug, Clone, PartialEq, Eq)]
 pub enum Difference {
-    Said { said: Said, right: Said },
+    Said {
+        said: Said,
+        right: Said,
+    },
     /// The lent buffer begins with something else.
-    Shown { shown: String, wanted: String },
+    Shown {
+        shown: String,
+        wanted: String,
+    },
     /// The lent buffer is not zero beyond the answer.
     NotZeroBeyond,
     /// What lies behind the lent buffer was written.
@@ -100,7 +107,9 @@ impl Display for Difference {
                 let (said, right) = (Numbers(*said), Numbers(*right));
                 write!(f, "said {said} and not {right}")
             }
-            Difference::Shown { shown, wanted } => write!(f, "the buffer has {shown} and not {wanted}"),
+            Difference::Shown { shown, wanted } => {
+                write!(f, "the buffer has {shown} and not {wanted}")
+            }
             Difference::NotZeroBeyond => f.write_str("the buffer is not zero beyond the answer"),
             Difference::WrittenBehind => f.write_str("something was written behind the buffer"),
             Difference::Touched => f.write_str("the buffer was touched"),
@@ -172,8 +181,8 @@ pub fn asked(wanted: Wanted) -> kestrenyo::Wanted {
     }
 }
 
-/// How the proved planner's answer differs from the second planner's, if it does. Of a circle only that it is a true one is
-/// asked.
+/// How the proved planner's answer differs from the second planner's, if it does. Of a circle only
+/// that it is a true one is asked.
 pub fn judge(ask: &Ask, ours: &Ours, theirs: &Answer) -> Result<(), Difference> {
     match (ours, theirs) {
         (Ours::Plan(said, list), Answer::Circle(_)) => circle(ask, *said, list),
@@ -204,10 +213,13 @@ fn circle(ask: &Ask, said: Said, list: &Buffer<u32>) -> Result<(), Difference> {
     list.holds(shown)
 }
 
-/// Whether these are needed steps, each having an input made by the next, the last by the first, none twice.
+/// Whether these are needed steps, each having an input made by the next, the last by the first,
+/// none twice.
 fn is_true(ask: &Ask, circle: &[u32]) -> bool {
     let Ok(read) = manifest::read(&ask.lent.manifest) else { return false };
-    let Ok(targets) = targets::read(&ask.lent.targets, |name| read.files.number(name)) else { return false };
+    let Ok(targets) = targets::read(&ask.lent.targets, |name| read.files.number(name)) else {
+        return false;
+    };
     let start = Start { times: Vec::new(), targets, defaults: read.defaults };
     let needed = naive::needed(&read.graph, &naive::roots(&read.graph, &start));
     naive::is_circle(&read.graph, &needed, circle)
@@ -222,10 +234,11 @@ pub fn compare(ask: &Ask) -> Result<Kind, Difference> {
 /// At most so many texts are asked of one list.
 const TEXTS: usize = 24;
 
-/// The asks of a seed: a random one of any size or a small one; after a list the texts of its steps, after a text the other
-/// text of the step and a plan of the manifest.
+/// The asks of a seed: a random one of any size or a small one; after a list the texts of its
+/// steps, after a text the other text of the step and a plan of the manifest.
 pub fn asks(seed: u64) -> Vec<Ask> {
-    let first = if seed.is_multiple_of(2) { generate::ask(seed) } else { generate::small_ask(seed) };
+    let first =
+        if seed.is_multiple_of(2) { generate::ask(seed) } else { generate::small_ask(seed) };
     let rng = &mut Rng::new(!seed);
     let manifest = first.lent.manifest.clone();
     let mut asks = vec![first];
@@ -252,9 +265,13 @@ fn texts(manifest: &[u8], step: usize) -> [Ask; 2] {
     [Wanted::Command, Wanted::Description].map(|wanted| Ask::text(manifest, step, wanted))
 }
 
-/// Runs so many asks, from the seed on; counts them, or stops at the first on which the planners differ. `progress` is called
-/// after each seed.
-pub fn run(seed: u64, count: u64, mut progress: impl FnMut(&Counts)) -> Result<Counts, Box<Differing>> {
+/// Runs so many asks, from the seed on; counts them, or stops at the first on which the planners
+/// differ. `progress` is called after each seed.
+pub fn run(
+    seed: u64,
+    count: u64,
+    mut progress: impl FnMut(&Counts),
+) -> Result<Counts, Box<Differing>> {
     let mut counts = Counts::new();
     let mut done = 0;
     for seed in seed.. {
@@ -262,7 +279,8 @@ pub fn run(seed: u64, count: u64, mut progress: impl FnMut(&Counts)) -> Result<C
             if done == count {
                 return Ok(counts);
             }
-            let kind = compare(&ask).map_err(|difference| Box::new(Differing { ask, difference }))?;
+            let kind =
+                compare(&ask).map_err(|difference| Box::new(Differing { ask, difference }))?;
             *counts.entry(kind).or_default() += 1;
             done += 1;
         }

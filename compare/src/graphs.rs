@@ -29,8 +29,8 @@ extern "C" {
     ) -> PlanNumbers;
 }
 
-/// The number of an answer and its value: 0 and the length of the list, a refusal's number and place, or 255 for tables that
-/// no plan can be asked of.
+/// The number of an answer and its value: 0 and the length of the list, a refusal's number and
+/// place, or 255 for tables that no plan can be asked of.
 #[derive(Debug, Clone, Copy, PartialEq, Eq)]
 pub struct Said {
     pub number: usize,
@@ -56,7 +56,8 @@ impl Tables {
             }
             tables.phony.push(u32::from(step.phony));
         }
-        tables.made = graph.makers().into_iter().map(|maker| maker.map_or(0, |step| step + 1)).collect();
+        tables.made =
+            graph.makers().into_iter().map(|maker| maker.map_or(0, |step| step + 1)).collect();
         tables
     }
 }

@@ -1,5 +1,6 @@
-//! Safe functions over the static libraries of the proved crates. Nothing checks these declarations against the Rattle
-//! sources, so they are few; slices pass as a pointer and a length. The two asks are those of the crate `kestrenyo`.
+//! Safe functions over the static libraries of the proved crates. Nothing checks these declarations
+//! against the Rattle sources, so they are few; slices pass as a pointer and a length. The two asks
+//! are those of the crate `kestrenyo`.
 
 pub mod adversary;
 pub mod asks;

@@ -1,8 +1,10 @@
-//! Makes an ask smaller as long as something holds of it: lines, card records and target names are dropped, then bytes.
+//! Makes an ask smaller as long as something holds of it: lines, card records and target names are
+//! dropped, then bytes.
 
 use second::{card, limits, Ask, Question};
 
-/// The ask with as little left as `holds` allows to drop part by part. `holds` is true of the ask given.
+/// The ask with as little left as `holds` allows to drop part by part. `holds` is true of the ask
+/// given.
 pub fn minimise(mut ask: Ask, holds: impl Fn(&Ask) -> bool) -> Ask {
     loop {
         let before = ask.clone();
@@ -52,7 +54,9 @@ fn by_lines(mut ask: Ask, part: Part, holds: &impl Fn(&Ask) -> bool) -> Ask {
 fn by_records(mut ask: Ask, part: Part, holds: &impl Fn(&Ask) -> bool) -> Ask {
     let bytes = part(&mut ask).clone();
     let smaller = match card::read(&bytes) {
-        Ok(records) => card::write(&dropped(records, |records| holds(&with(&ask, part, card::write(records))))),
+        Ok(records) => {
+            card::write(&dropped(records, |records| holds(&with(&ask, part, card::write(records)))))
+        }
         Err(_) => dropped(bytes, |bytes| holds(&with(&ask, part, bytes.to_vec()))),
     };
     with(&ask, part, smaller)
@@ -63,7 +67,8 @@ fn lines(bytes: &[u8]) -> Vec<Vec<u8>> {
     bytes.split_inclusive(|&byte| byte == b'\n').map(<[u8]>::to_vec).collect()
 }
 
-/// The parts that are left when run after run of them is dropped, shorter and shorter ones, as long as `holds` allows it.
+/// The parts that are left when run after run of them is dropped, shorter and shorter ones, as long
+/// as `holds` allows it.
 fn dropped<T: Clone>(mut parts: Vec<T>, holds: impl Fn(&[T]) -> bool) -> Vec<T> {
     let mut run = parts.len();
     while run > 0 {

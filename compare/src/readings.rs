@@ -2,7 +2,8 @@
 
 use second::graph::{Graph, Step};
 
-/// What is answered: 0, 0 and how much the buffers hold; a refusal's number and place; or 255 where a buffer is too short.
+/// What is answered: 0, 0 and how much the buffers hold; a refusal's number and place; or 255 where
+/// a buffer is too short.
 #[repr(C)]
 #[derive(Debug, Clone, Copy, Default, PartialEq, Eq)]
 pub struct Numbers {
@@ -99,7 +100,8 @@ impl Buffers {
         self.bindings(numbers, &mut reading);
         self.steps(numbers, &mut reading);
         reading.defaults = self.column(8_192, numbers.defaults).to_vec();
-        reading.makers = self.column(6_656, numbers.files).iter().map(|&maker| maker.checked_sub(1)).collect();
+        reading.makers =
+            self.column(6_656, numbers.files).iter().map(|&maker| maker.checked_sub(1)).collect();
         reading
     }
 
@@ -114,7 +116,8 @@ impl Buffers {
         ends.map(|end| &self.names[std::mem::replace(&mut start, end)..end]).collect()
     }
 
-    /// The table of bindings: file variables, rules with their keys, and the lines of blocks, by their owners.
+    /// The table of bindings: file variables, rules with their keys, and the lines of blocks, by
+    /// their owners.
     fn bindings<'b>(&'b self, numbers: &Numbers, reading: &mut Reading<'b>) {
         reading.blocks = vec![Vec::new(); numbers.steps];
         let mut rule_at = vec![None; numbers.entries];
@@ -147,7 +150,8 @@ impl Buffers {
     fn steps(&self, numbers: &Numbers, reading: &mut Reading) {
         let mentions = self.column(0, numbers.paths);
         let mut start = 0;
-        let mut part = |end: u32| mentions[std::mem::replace(&mut start, end as usize)..end as usize].to_vec();
+        let mut part =
+            |end: u32| mentions[std::mem::replace(&mut start, end as usize)..end as usize].to_vec();
         let ends = self.column(4_096, 4 * numbers.steps).chunks_exact(4);
         for (ends, &phony) in ends.zip(self.column(6_144, numbers.steps)) {
             assert!(phony < 2, "phony or not: {phony}");

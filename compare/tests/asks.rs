@@ -1,5 +1,5 @@
-//! Both asks, whole, against the second planner's. `ASKS` in the environment runs another number of asks, from seed `FROM` on;
-//! `cargo run --release --bin differ SEED COUNT` runs millions.
+//! Both asks, whole, against the second planner's. `ASKS` in the environment runs another number of
+//! asks, from seed `FROM` on; `cargo run --release --bin differ SEED COUNT` runs millions.
 
 use compare::adversary;
 use compare::asks::{asks, compare, judge, ours, run, Ours};
@@ -80,10 +80,14 @@ fn circles_are_true_ones() {
     }
 }
 
-/// A thread with no more stack than an ask is said to take, and 16 KiB for what asks it, comes through all of these.
+/// A thread with no more stack than an ask is said to take, and 16 KiB for what asks it, comes
+/// through all of these.
 #[test]
 fn asks_take_no_more_stack() {
-    let asks: Vec<Ask> = (0..1_000).flat_map(asks).chain(adversary::all().into_iter().map(|slow| slow.ask)).collect();
+    let asks: Vec<Ask> = (0..1_000)
+        .flat_map(asks)
+        .chain(adversary::all().into_iter().map(|slow| slow.ask))
+        .collect();
     let thread = std::thread::Builder::new().stack_size(kestrenyo::STACK + (16 << 10));
     let asked = thread.spawn(move || asks.iter().map(ours).count()).expect("a thread");
     assert!(asked.join().expect("no panic") > 1_000);

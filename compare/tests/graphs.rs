@@ -1,5 +1,6 @@
-//! The proved plan of a read graph against the second planner's planning and against its naive transcription of the rules.
-//! `GRAPHS` in the environment runs another number of graphs, from seed `FROM` on.
+//! The proved plan of a read graph against the second planner's planning and against its naive
+//! transcription of the rules. `GRAPHS` in the environment runs another number of graphs, from seed
+//! `FROM` on.
 
 use compare::graphs::{plan, Said, Tables};
 use second::generate::graphs::{graph_ask, GraphAsk};
@@ -50,7 +51,11 @@ fn compare(ask: &GraphAsk) -> &'static str {
         }
         _ => {
             shown(&list, 0);
-            if number == 13 { "13" } else { "15" }
+            if number == 13 {
+                "13"
+            } else {
+                "15"
+            }
         }
     }
 }

@@ -1,5 +1,6 @@
-//! The proved reader against the second planner's reading: answers, places, and all that the buffers hold of an accepted
-//! manifest. `MANIFESTS` in the environment runs another number of manifests, from seed `FROM` on; `LONG_LINES` another number of those with many outputs.
+//! The proved reader against the second planner's reading: answers, places, and all that the
+//! buffers hold of an accepted manifest. `MANIFESTS` in the environment runs another number of
+//! manifests, from seed `FROM` on; `LONG_LINES` another number of those with many outputs.
 
 use compare::readings::{Binding, Buffers, Numbers, Reading, LENGTHS};
 use second::cases::{self, Expected};
@@ -15,7 +16,8 @@ fn setting(name: &str, otherwise: u64) -> u64 {
     std::env::var(name).map_or(otherwise, |value| value.parse().expect("a number"))
 }
 
-/// A manifest of any kind; the edges of limits, and damaged bytes, are more frequent than among the random asks.
+/// A manifest of any kind; the edges of limits, and damaged bytes, are more frequent than among the
+/// random asks.
 fn manifest(seed: u64) -> Vec<u8> {
     let rng = &mut Rng::new(seed);
     let mut manifest = match seed % 16 {
@@ -42,19 +44,27 @@ fn too_much(rng: &mut Rng) -> Vec<u8> {
 
 /// A manifest that requires a version, mostly a sound one.
 fn versions(rng: &mut Rng) -> Vec<u8> {
-    let number = |rng: &mut Rng| rng.pick(&["0", "1", "1", "01", "12", "13", "14", "4294967296", "", "x"]);
+    let number =
+        |rng: &mut Rng| rng.pick(&["0", "1", "1", "01", "12", "13", "14", "4294967296", "", "x"]);
     let version: Vec<&str> = (0..rng.between(1, 4)).map(|_| number(rng)).collect();
     let mut manifest = format!("ninja_required_version = {}\n", version.join(".")).into_bytes();
     manifest.extend(Draft::new(rng).mixed(200));
     manifest
 }
 
-/// Some bindings, many of them bound again, and a line of many outputs that refer to them: some outputs are spelt differently and yet the same.
+/// Some bindings, many of them bound again, and a line of many outputs that refer to them: some
+/// outputs are spelt differently and yet the same.
 fn long_line(rng: &mut Rng) -> Vec<u8> {
-    let name = |rng: &mut Rng| format!("{}{}", rng.pick(&["a", "b", "ab", "a.b", "a-"]), rng.below(40));
+    let name =
+        |rng: &mut Rng| format!("{}{}", rng.pick(&["a", "b", "ab", "a.b", "a-"]), rng.below(40));
     let mut manifest = String::new();
     for _ in 0..rng.between(0, 200) {
-        manifest += &format!("{}={}{}\n", name(rng), rng.pick(&["", "x", "y", "xy", "yx", "xxxxxxxxx"]), rng.below(3));
+        manifest += &format!(
+            "{}={}{}\n",
+            name(rng),
+            rng.pick(&["", "x", "y", "xy", "yx", "xxxxxxxxx"]),
+            rng.below(3)
+        );
     }
     manifest += "build";
     let most = rng.between(1, 12);
@@ -77,11 +87,20 @@ fn refused(refusal: Refusal) -> Numbers {
     Numbers { number: refusal.number.into(), place: refusal.place.value(), ..Numbers::default() }
 }
 
-/// The numbers that answer an accepted manifest, from what the second planner read and our bindings' values.
+/// The numbers that answer an accepted manifest, from what the second planner read and our
+/// bindings' values.
 fn counts(theirs: &Manifest, ours: &Reading) -> Numbers {
-    let parts = theirs.graph.steps.iter().flat_map(|step| [&step.outputs, &step.explicit, &step.implicit, &step.order_only]);
+    let parts = theirs
+        .graph
+        .steps
+        .iter()
+        .flat_map(|step| [&step.outputs, &step.explicit, &step.implicit, &step.order_only]);
     let paths: Vec<u32> = parts.flatten().copied().collect();
-    let path_bytes: usize = paths.iter().chain(&theirs.defaults).map(|&file| theirs.files.names[file as usize].len()).sum();
+    let path_bytes: usize = paths
+        .iter()
+        .chain(&theirs.defaults)
+        .map(|&file| theirs.files.names[file as usize].len())
+        .sum();
     let keys = ours.rules.iter().flat_map(|rule| &rule.keys);
     let bindings = ours.variables.iter().chain(keys).chain(ours.blocks.iter().flatten());
     let values: Vec<usize> = bindings.map(|(_, value)| value.len()).collect();
@@ -103,7 +122,10 @@ fn counts(theirs: &Manifest, ours: &Reading) -> Numbers {
 
 /// All tables of an accepted manifest are the same.
 fn compare_tables(ours: &Reading, theirs: &Manifest, shown: &str) {
-    assert!(ours.files.iter().copied().eq(theirs.files.names.iter().map(|name| &**name)), "files of {shown}");
+    assert!(
+        ours.files.iter().copied().eq(theirs.files.names.iter().map(|name| &**name)),
+        "files of {shown}"
+    );
     assert_eq!(ours.graph, theirs.graph, "{shown}");
     assert_eq!(ours.makers, theirs.graph.makers(), "{shown}");
     assert_eq!(ours.defaults, theirs.defaults, "{shown}");
@@ -111,7 +133,11 @@ fn compare_tables(ours: &Reading, theirs: &Manifest, shown: &str) {
     assert_eq!(standing, theirs.variables().collect(), "{shown}");
     assert_eq!(ours.rules.len() + 1, theirs.rules.len(), "{shown}");
     for (rule, raw) in ours.rules.iter().zip(&theirs.rules[1..]) {
-        let keys = [(Key::Command, "command"), (Key::Description, "description"), (Key::Generator, "generator")];
+        let keys = [
+            (Key::Command, "command"),
+            (Key::Description, "description"),
+            (Key::Generator, "generator"),
+        ];
         let theirs = keys.iter().filter_map(|&(key, name)| Some((name.as_bytes(), raw.text(key)?)));
         let mut ours = rule.keys.clone();
         ours.sort();
@@ -121,7 +147,8 @@ fn compare_tables(ours: &Reading, theirs: &Manifest, shown: &str) {
         let rule = ours.rule_of[step].map_or(&b"phony"[..], |rule| ours.rules[rule].name);
         assert_eq!(ours.rule_of[step].map_or(0, |rule| rule + 1), scope.rule, "{shown}");
         assert_eq!(theirs.rule_number(rule), Some(scope.rule), "{shown}");
-        let block: Vec<Binding> = scope.bindings.iter().map(|(name, value)| (*name, &**value)).collect();
+        let block: Vec<Binding> =
+            scope.bindings.iter().map(|(name, value)| (*name, &**value)).collect();
         assert_eq!(ours.blocks[step], block, "{shown}");
     }
 }
@@ -151,7 +178,11 @@ fn manifests_agree() {
         *answers.entry(compare(&mut buffers, &manifest(seed))).or_default() += 1;
     }
     println!("{manifests} manifests, by answer: {answers:?}");
-    assert_eq!(answers.keys().copied().collect::<Vec<_>>(), [0, 2, 3, 4, 5, 6, 7, 8, 9, 10], "{answers:?}");
+    assert_eq!(
+        answers.keys().copied().collect::<Vec<_>>(),
+        [0, 2, 3, 4, 5, 6, 7, 8, 9, 10],
+        "{answers:?}"
+    );
     assert!(answers.values().all(|&count| count > manifests / 200), "{answers:?}");
 }
 
@@ -174,7 +205,9 @@ fn cases_agree() {
     for case in &cases {
         compare(&mut buffers, &case.lent.manifest);
         for (_, expected) in &case.asks {
-            if let Expected::One(Answer::Refused(refusal @ Refusal { number: 2..=10, .. })) = expected {
+            if let Expected::One(Answer::Refused(refusal @ Refusal { number: 2..=10, .. })) =
+                expected
+            {
                 let said = buffers.read(&case.lent.manifest);
                 let refused = (usize::from(refusal.number), refusal.place.value());
                 assert_eq!((said.number, said.place), refused, "{} {}", case.origin, case.name);
@@ -183,7 +216,11 @@ fn cases_agree() {
         }
     }
     println!("{} cases, by refusal: {refusals:?}", cases.len());
-    assert_eq!(refusals.keys().copied().collect::<Vec<_>>(), [2, 3, 4, 5, 6, 7, 8, 9, 10], "{refusals:?}");
+    assert_eq!(
+        refusals.keys().copied().collect::<Vec<_>>(),
+        [2, 3, 4, 5, 6, 7, 8, 9, 10],
+        "{refusals:?}"
+    );
 }
 
 #[test]

@@ -10,7 +10,8 @@ use std::collections::BinaryHeap;
 /// Plans a manifest, which has been read, with what else is lent.
 pub fn plan(manifest: &Manifest, lent: &Lent) -> Result<Answer, Refusal> {
     let files = &manifest.files;
-    // A file not listed is missing and has time 0; names that no line mentions are fine (reading 23).
+    // A file not listed is missing and has time 0; names that no line mentions are fine
+    // (reading 23).
     let mut times = vec![0; files.names.len()];
     for (name, time) in card::read(&lent.card)? {
         if let Some(file) = files.number(name) {

@@ -1,5 +1,5 @@
-//! Both asks, whole, of the proved planner against the second planner's, in one process: median and minimum of an ask, and the
-//! ratios of both. The buffers that an ask lends are made before.
+//! Both asks, whole, of the proved planner against the second planner's, in one process: median and
+//! minimum of an ask, and the ratios of both. The buffers that an ask lends are made before.
 
 use compare::adversary;
 use compare::asks::{asked, compare};
@@ -32,7 +32,9 @@ fn plans() {
 
 fn texts() {
     for shape in shapes::all(limits::STEPS) {
-        let asks: Vec<Ask> = (0..limits::STEPS).map(|step| Ask::text(shape.manifest.clone(), step, Wanted::Command)).collect();
+        let asks: Vec<Ask> = (0..limits::STEPS)
+            .map(|step| Ask::text(shape.manifest.clone(), step, Wanted::Command))
+            .collect();
         for ask in &asks {
             compare(ask).unwrap_or_else(|difference| panic!("{}: {difference}", shape.name));
         }
@@ -40,7 +42,14 @@ fn texts() {
         let mut our_step = (0..limits::STEPS).cycle();
         let mut their_ask = asks.iter().cycle();
         let (ours, theirs) = both(
-            || lent::text(&shape.manifest, our_step.next().expect("a step"), kestrenyo::Wanted::Command, &mut buffer),
+            || {
+                lent::text(
+                    &shape.manifest,
+                    our_step.next().expect("a step"),
+                    kestrenyo::Wanted::Command,
+                    &mut buffer,
+                )
+            },
             || their_ask.next().expect("a step").answer(),
         );
         row(&format!("text of one of 512 steps: {}", shape.name), ours, theirs);

@@ -1,7 +1,7 @@
 //! Runs the program on every case, in a folder with its `build.ninja` and `times.card` and with its
-//! targets on standard input, and compares what it writes. The command is: runs PROGRAM. What a case
-//! does not give (`prints`) is what the second planner's program writes. A file without bytes is
-//! once empty and once not there.
+//! targets on standard input, and compares what it writes. The command is: runs PROGRAM. What a
+//! case does not give (`prints`) is what the second planner's program writes. A file without bytes
+//! is once empty and once not there.
 
 use second::cases::{files, folder, outputs, read, Case};
 use second::tool::{status, Error};

@@ -5,8 +5,8 @@
 //!   many asks follow, those bytes, and the asks; the last one has only zeros
 //! - an ask: 0 for a plan, 1 for a command, 2 for a description; the step, in two numbers; the
 //!   length of the lent buffer; how many answers are right, and these
-//! - an answer: number and value, in two numbers, as in document 01 (0 and a count, or a refusal and
-//!   its place), the number of bytes that the lent buffer begins with, and these; zeros follow
+//! - an answer: number and value, in two numbers, as in document 01 (0 and a count, or a refusal
+//!   and its place), the number of bytes that the lent buffer begins with, and these; zeros follow
 
 use super::{Case, Expected};
 use crate::{Answer, Lent, Question, Wanted};
