@@ -4,14 +4,11 @@
 use compare::adversary;
 use compare::asks::{asks, compare, judge, ours, run, Ours};
 use compare::minimise::minimise;
+use compare::settings::setting;
 use second::kind::Kind;
 use second::{Answer, Ask, Lent};
 
 const ASKS: u64 = 200_000;
-
-fn setting(name: &str, otherwise: u64) -> u64 {
-    std::env::var(name).map_or(otherwise, |value| value.parse().expect("a number"))
-}
 
 #[test]
 fn asks_agree() {

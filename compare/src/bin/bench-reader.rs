@@ -1,9 +1,9 @@
-//! The proved reader against the second planner's reading: on the large shapes, and on manifests
-//! that are made to take long. The buffers are made once and nothing is cleared before a call. A
-//! word behind the command runs only what has it in its name.
+//! The proved reader of manifests against the second planner's: on the large shapes, and on
+//! manifests that are made to take long. The buffers are made once and nothing is cleared before a
+//! call. A word behind the command runs only what has it in its name.
 
+use compare::manifest::Buffers;
 use compare::measure::{rounds, row};
-use compare::readings::Buffers;
 use second::manifest;
 use std::fmt::Write;
 use std::time::{Duration, Instant};

@@ -1,11 +1,11 @@
-//! The proved leaves and the plan of a read graph against the second planner's own: median and
-//! minimum of a call, and the ratios of both. Nothing is cleared before a call but the name table.
-//! Where the linker puts a short loop can double its time, so run it with aligned loops too, which
-//! gives the second planner its best: `RUSTFLAGS="-C llvm-args=-align-loops=64" cargo run --release
-//! --target-dir target/aligned --bin bench`.
+//! The proved scanners, name table, card and plan of a graph against the second planner's own:
+//! median and minimum of a call, and the ratios of both. Nothing is cleared before a call but the
+//! name table. Where the linker puts a short loop can double its time, so run it with aligned loops
+//! too, which gives the second planner its best: `RUSTFLAGS="-C llvm-args=-align-loops=64" cargo
+//! run --release --target-dir target/aligned --bin bench`.
 
 use compare::card::{self, Card};
-use compare::graphs::{self, Tables};
+use compare::graph::{self, Tables};
 use compare::measure::{both, row};
 use compare::names::{Added, Names};
 use compare::scan::{self, Classes};
@@ -218,13 +218,13 @@ fn plans() {
             }
             let mut list = [0; 512];
             let start = Start { times, targets: Vec::new(), defaults: manifest.defaults.clone() };
-            let said = graphs::plan(&tables, &start, &mut list);
+            let said = graph::plan(&tables, &start, &mut list);
             let Ok(Answer::List(theirs)) = plan_graph(&manifest.graph, &start) else {
                 panic!("no list")
             };
             assert_eq!((said.number, &list[..said.value]), (0, theirs.as_slice()));
             let (ours, theirs) = both(
-                || graphs::plan(&tables, &start, &mut list),
+                || graph::plan(&tables, &start, &mut list),
                 || plan_graph(&manifest.graph, &start),
             );
             row(&format!("plan of 512 steps: {}, {age}", shape.name), ours, theirs);

@@ -1,8 +1,9 @@
-//! The proved reader against the second planner's reading: answers, places, and all that the
+//! The proved reader of manifests against the second planner's: answers, places, and all that the
 //! buffers hold of an accepted manifest. `MANIFESTS` in the environment runs another number of
 //! manifests, from seed `FROM` on; `LONG_LINES` another number of those with many outputs.
 
-use compare::readings::{Binding, Buffers, Numbers, Reading, LENGTHS};
+use compare::manifest::{Accepted, Binding, Buffers, Numbers, LENGTHS};
+use compare::settings::setting;
 use second::cases::{self, Expected};
 use second::generate::{ask, damage, draft::Draft, edges, small_ask};
 use second::manifest::{self, Key, Manifest};
@@ -11,10 +12,6 @@ use second::{Answer, Refusal};
 use std::collections::BTreeMap;
 
 const MANIFESTS: u64 = 120_000;
-
-fn setting(name: &str, otherwise: u64) -> u64 {
-    std::env::var(name).map_or(otherwise, |value| value.parse().expect("a number"))
-}
 
 /// A manifest of any kind; the edges of limits, and damaged bytes, are more frequent than among the
 /// random asks.
@@ -89,7 +86,7 @@ fn refused(refusal: Refusal) -> Numbers {
 
 /// The numbers that answer an accepted manifest, from what the second planner read and our
 /// bindings' values.
-fn counts(theirs: &Manifest, ours: &Reading) -> Numbers {
+fn counts(theirs: &Manifest, ours: &Accepted) -> Numbers {
     let parts = theirs
         .graph
         .steps
@@ -121,7 +118,7 @@ fn counts(theirs: &Manifest, ours: &Reading) -> Numbers {
 }
 
 /// All tables of an accepted manifest are the same.
-fn compare_tables(ours: &Reading, theirs: &Manifest, shown: &str) {
+fn compare_tables(ours: &Accepted, theirs: &Manifest, shown: &str) {
     assert!(
         ours.files.iter().copied().eq(theirs.files.names.iter().map(|name| &**name)),
         "files of {shown}"
@@ -161,7 +158,7 @@ fn compare(buffers: &mut Buffers, manifest: &[u8]) -> usize {
         Err(refusal) => assert_eq!(numbers, refused(refusal), "{shown}"),
         Ok(theirs) => {
             assert_eq!((numbers.number, numbers.place), (0, 0), "{shown}");
-            let ours = buffers.reading(&numbers);
+            let ours = buffers.accepted(&numbers);
             compare_tables(&ours, &theirs, shown);
             assert_eq!(numbers, counts(&theirs, &ours), "{shown}");
         }

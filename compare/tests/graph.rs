@@ -1,8 +1,10 @@
-//! The proved plan of a read graph against the second planner's planning and against its naive
+//! The proved plan of a graph against the second planner's planning and against its naive
 //! transcription of the rules. `GRAPHS` in the environment runs another number of graphs, from seed
 //! `FROM` on.
 
-use compare::graphs::{plan, Said, Tables};
+use compare::graph::{plan, Tables};
+use compare::settings::setting;
+use kestrenyo::lent::Said;
 use second::generate::graphs::{graph_ask, GraphAsk};
 use second::graph::Start;
 use second::naive;
@@ -12,10 +14,6 @@ use second::Answer;
 use std::collections::BTreeMap;
 
 const GRAPHS: u64 = 200_000;
-
-fn setting(name: &str, otherwise: u64) -> u64 {
-    std::env::var(name).map_or(otherwise, |value| value.parse().expect("a number"))
-}
 
 /// The list buffer's numbers up to `length`, where all beyond are zero.
 fn shown(list: &[u32], length: usize) -> &[u32] {

@@ -1,12 +1,7 @@
-//! The proved plan of a read graph.
+//! The proved plan of a graph.
 
+use kestrenyo::lent::Said;
 use second::graph::{Graph, Start};
-
-#[repr(C)]
-struct PlanNumbers {
-    number: usize,
-    value: usize,
-}
 
 extern "C" {
     fn kestrenyo_plan_graph(
@@ -26,15 +21,7 @@ extern "C" {
         targets_len: usize,
         list: *mut u32,
         list_len: usize,
-    ) -> PlanNumbers;
-}
-
-/// The number of an answer and its value: 0 and the length of the list, a refusal's number and
-/// place, or 255 for tables that no plan can be asked of.
-#[derive(Debug, Clone, Copy, PartialEq, Eq)]
-pub struct Said {
-    pub number: usize,
-    pub value: usize,
+    ) -> Said;
 }
 
 /// A graph as the columns that planning works on.
@@ -62,12 +49,13 @@ impl Tables {
     }
 }
 
-/// Plans the tables, the list buffer being filled.
+/// Plans the tables, the list buffer being filled. It says what the plan ask would, or 255 for
+/// tables that no plan can be asked of.
 pub fn plan(tables: &Tables, start: &Start, list: &mut [u32]) -> Said {
     let Tables { mentions, ends, phony, made } = tables;
     let Start { times, targets, defaults } = start;
     // SAFETY: the function is total, reads the slices and writes the list alone.
-    let said = unsafe {
+    unsafe {
         kestrenyo_plan_graph(
             mentions.as_ptr(),
             mentions.len(),
@@ -86,6 +74,5 @@ pub fn plan(tables: &Tables, start: &Start, list: &mut [u32]) -> Said {
             list.as_mut_ptr(),
             list.len(),
         )
-    };
-    Said { number: said.number, value: said.value }
+    }
 }
