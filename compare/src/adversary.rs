@@ -1,7 +1,7 @@
-//! Asks that are meant to be slow: what a manifest of 49,152 bytes can make a reader or a planner do most often.
+//! Asks that are meant to be slow: what a manifest of 49,152 bytes can make a reader or a planner
+//! do most often.
 
-use second::ask::Ask;
-use second::{card, limits, shapes, Wanted};
+use second::{card, limits, shapes, Ask, Lent, Wanted};
 
 /// A slow ask and what makes it so.
 pub struct Slow {
@@ -18,21 +18,21 @@ pub fn all() -> Vec<Slow> {
     all.extend(graphs());
     all.extend(texts());
     for slow in &all {
-        assert!(slow.ask.manifest().len() <= limits::MANIFEST, "{}", slow.name);
+        assert!(slow.ask.lent.manifest.len() <= limits::MANIFEST, "{}", slow.name);
     }
     all
 }
 
 fn plan(name: &'static str, manifest: Vec<u8>) -> Slow {
-    with_card(name, manifest, card::write(&[]), Vec::new())
+    Slow { name, ask: Ask::plan(Lent::manifest(manifest)) }
 }
 
 fn with_card(name: &'static str, manifest: Vec<u8>, card: Vec<u8>, targets: Vec<u8>) -> Slow {
-    Slow { name, ask: Ask::Plan { manifest, card, targets, list_len: limits::LIST } }
+    Slow { name, ask: Ask::plan(Lent { manifest, card, targets }) }
 }
 
 fn text(name: &'static str, manifest: Vec<u8>) -> Slow {
-    Slow { name, ask: Ask::Text { manifest, step: 0, wanted: Wanted::Command, buf_len: limits::TEXT } }
+    Slow { name, ask: Ask::text(manifest, 0, Wanted::Command) }
 }
 
 /// As many of these as fit between the two.
@@ -73,9 +73,15 @@ fn many_bindings() -> String {
 fn bindings() -> Vec<Slow> {
     let many = many_bindings();
     vec![
-        plan("1,024 bindings, 23,000 unset names in a value", filled(&format!("{many}w="), "$u", "\n")),
+        plan(
+            "1,024 bindings, 23,000 unset names in a value",
+            filled(&format!("{many}w="), "$u", "\n"),
+        ),
         plan("  in an output", filled(&format!("{many}build a"), "$u", ": phony\n")),
-        plan("  in the only default", filled(&format!("{many}build a: phony\ndefault a"), "$u", "\n")),
+        plan(
+            "  in the only default",
+            filled(&format!("{many}build a: phony\ndefault a"), "$u", "\n"),
+        ),
     ]
 }
 
@@ -89,7 +95,9 @@ fn one_bucket() -> Vec<Vec<u8>> {
 fn strings(length: u32) -> impl Iterator<Item = Vec<u8>> {
     const LETTERS: &[u8] = b"abcdefghijklmnopqrstuvwxyz0123456789ABCDEFGHIJKLMNOPQRSTUVWXYZ";
     let count = LETTERS.len() as u64;
-    (0..count.pow(length)).map(move |number| (0..length).map(|place| LETTERS[(number / count.pow(place) % count) as usize]).collect())
+    (0..count.pow(length)).map(move |number| {
+        (0..length).map(|place| LETTERS[(number / count.pow(place) % count) as usize]).collect()
+    })
 }
 
 fn files() -> Vec<Slow> {
@@ -99,11 +107,17 @@ fn files() -> Vec<Slow> {
     sorted.sort();
     let card = card::write(&sorted);
     let manifest = words("build a: phony", borrowed().skip(1).cycle().take(4_095), "\n");
-    let targets: Vec<u8> = borrowed().skip(1).flat_map(|path| [path, b"\n"].concat()).take(4_095 / 5 * 5).collect();
+    let targets: Vec<u8> =
+        borrowed().skip(1).flat_map(|path| [path, b"\n"].concat()).take(4_095 / 5 * 5).collect();
     let long: Vec<Vec<u8>> = (0..180).map(|number| format!("{number:0255}").into_bytes()).collect();
     let records: Vec<(&[u8], u64)> = long.iter().map(|name| (name.as_slice(), 5)).collect();
     vec![
-        with_card("1,024 files of one bucket, 4,096 mentions", manifest.clone(), card.clone(), Vec::new()),
+        with_card(
+            "1,024 files of one bucket, 4,096 mentions",
+            manifest.clone(),
+            card.clone(),
+            Vec::new(),
+        ),
         with_card("  and 819 targets", manifest, card, targets),
         with_card(
             "180 files of 255 bytes that differ at their ends",
@@ -119,34 +133,75 @@ fn outputs() -> Vec<Slow> {
     let many = "v=\n".repeat(1_023);
     let front = format!("w={}\nx={}\n", "y".repeat(128), "$w".repeat(16));
     // so many references to the oldest binding, then what tells the outputs apart
-    let referring = |count: usize| short.iter().map(move |tail| [b"$x".repeat(count - 1).as_slice(), b"${x}", tail].concat()).collect::<Vec<_>>();
+    let referring = |count: usize| {
+        short
+            .iter()
+            .map(move |tail| [b"$x".repeat(count - 1).as_slice(), b"${x}", tail].concat())
+            .collect::<Vec<_>>()
+    };
     let (once, often) = (referring(1), referring(8));
     vec![
-        plan("13,000 outputs in a line, all different", words("build", short.iter().map(Vec::as_slice), ": phony\n")),
-        plan("  in falling order", words("build", short.iter().rev().map(Vec::as_slice), ": phony\n")),
-        plan("outputs of one front of 2,048 bytes", words(&format!("{front}build"), once.iter().map(Vec::as_slice), ": phony\n")),
-        plan("outputs of 8 references each behind 1,023 bindings", words(&format!("x=y\n{many}build"), often.iter().map(Vec::as_slice), ": phony\n")),
+        plan(
+            "13,000 outputs in a line, all different",
+            words("build", short.iter().map(Vec::as_slice), ": phony\n"),
+        ),
+        plan(
+            "  in falling order",
+            words("build", short.iter().rev().map(Vec::as_slice), ": phony\n"),
+        ),
+        plan(
+            "outputs of one front of 2,048 bytes",
+            words(&format!("{front}build"), once.iter().map(Vec::as_slice), ": phony\n"),
+        ),
+        plan(
+            "outputs of 8 references each behind 1,023 bindings",
+            words(&format!("x=y\n{many}build"), often.iter().map(Vec::as_slice), ": phony\n"),
+        ),
     ]
 }
 
 fn graphs() -> Vec<Slow> {
-    let reversed: String = (0..512).map(|step| format!("build o{step}: r o{}\n", step + 1)).collect();
+    let reversed: String =
+        (0..512).map(|step| format!("build o{step}: r o{}\n", step + 1)).collect();
     let dense: String = (0..512)
         .map(|step| {
-            let inputs: Vec<String> = (1..=7).map(|far| format!("o{}", (step + far * far).min(512))).collect();
+            let inputs: Vec<String> =
+                (1..=7).map(|far| format!("o{}", (step + far * far).min(512))).collect();
             format!("build o{step}: r {}\n", inputs.join(" "))
         })
         .collect();
     let circle = reversed.replace("build o511: r o512", "build o511: r o0");
-    let rules: String = (0..128).map(|rule| format!("rule r{rule:03}\n  command = c\n  description = d\n")).collect();
+    let rules: String = (0..128)
+        .map(|rule| format!("rule r{rule:03}\n  command = c\n  description = d\n"))
+        .collect();
     let used: String = (0..512).map(|step| format!("build o{step}: r000 o512\n")).collect();
     let rule = "rule r\n  command = c\n";
     let source = card::write(&[(b"o512", 5)]);
     vec![
-        with_card("a chain of 512, the last step first", format!("{rule}{reversed}").into_bytes(), source.clone(), Vec::new()),
-        with_card("512 steps with 7 inputs, the last step first", format!("{rule}{dense}").into_bytes(), source.clone(), Vec::new()),
-        with_card("a circle of 512", format!("{rule}{circle}").into_bytes(), source.clone(), b"o7\n".to_vec()),
-        with_card("512 steps by the first of 128 rules", format!("{rules}{used}").into_bytes(), source.clone(), Vec::new()),
+        with_card(
+            "a chain of 512, the last step first",
+            format!("{rule}{reversed}").into_bytes(),
+            source.clone(),
+            Vec::new(),
+        ),
+        with_card(
+            "512 steps with 7 inputs, the last step first",
+            format!("{rule}{dense}").into_bytes(),
+            source.clone(),
+            Vec::new(),
+        ),
+        with_card(
+            "a circle of 512",
+            format!("{rule}{circle}").into_bytes(),
+            source.clone(),
+            b"o7\n".to_vec(),
+        ),
+        with_card(
+            "512 steps by the first of 128 rules",
+            format!("{rules}{used}").into_bytes(),
+            source.clone(),
+            Vec::new(),
+        ),
         with_card("2,048 targets", b"build a: phony\n".to_vec(), source, b"a\n".repeat(2_048)),
     ]
 }
@@ -156,16 +211,17 @@ fn texts() -> Vec<Slow> {
     let unset = "$u".repeat(1_024);
     let inner = "$generator".repeat(204);
     let outer = "$description".repeat(170);
+    let nested = format!("{outer}\n  description = {inner}\n  generator = {unset}");
     let files: Vec<String> = (0..1_000).map(|number| format!("{number}")).collect();
     let all = files.join(" ");
-    let wide = shapes::fan(512);
+    let of = |command: &str, inputs: &str| {
+        format!("rule r\n  command = {command}\nbuild a: r{inputs}\n").into_bytes()
+    };
+    let behind_many = |command: &str| [many.as_bytes(), &of(command, "")].concat();
     vec![
-        text("a text of 1,024 unset names, 1,000 bindings", format!("{many}rule r\n  command = {unset}\nbuild a: r\n").into_bytes()),
-        text(
-            "a text of texts of texts of unset names",
-            format!("{many}rule r\n  command = {outer}\n  description = {inner}\n  generator = {unset}\nbuild a: r\n").into_bytes(),
-        ),
-        text("a text of 680 times 1,000 files (17)", format!("rule r\n  command = {}\nbuild a: r {all}\n", "$in".repeat(680)).into_bytes()),
-        text("the first text of a fan of 512", wide.manifest),
+        text("a text of 1,024 unset names, 1,000 bindings", behind_many(&unset)),
+        text("a text of texts of texts of unset names", behind_many(&nested)),
+        text("a text of 680 times 1,000 files (17)", of(&"$in".repeat(680), &format!(" {all}"))),
+        text("the first text of a fan of 512", shapes::fan(512).manifest),
     ]
 }

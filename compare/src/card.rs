@@ -2,8 +2,18 @@
 
 extern "C" {
     fn kestrenyo_card_sound(card: *const u8, card_len: usize) -> bool;
-    fn kestrenyo_card_time(card: *const u8, card_len: usize, name: *const u8, name_len: usize) -> u64;
-    fn kestrenyo_card_lookup(card: *const u8, card_len: usize, name: *const u8, name_len: usize) -> u64;
+    fn kestrenyo_card_time(
+        card: *const u8,
+        card_len: usize,
+        name: *const u8,
+        name_len: usize,
+    ) -> u64;
+    fn kestrenyo_card_lookup(
+        card: *const u8,
+        card_len: usize,
+        name: *const u8,
+        name_len: usize,
+    ) -> u64;
 }
 
 /// Whether a card breaks no rule.

@@ -1,13 +1,16 @@
-//! Safe functions over the static libraries of the proved crates. Nothing checks these declarations against the Rattle
-//! sources, so they are few; slices pass as a pointer and a length. The two asks are those of the crate `kestrenyo`.
+//! The proved crates beside the second planner, as static libraries: `kestrenyo` with the two asks,
+//! `test_scan` (modules `scan`, `card`, `targets`, `names`), `test_manifest` (`manifest`) and
+//! `test_graph` (`graph`). Nothing checks these declarations against the Rattle sources, so they
+//! are few; slices pass as a pointer and a length.
 
 pub mod adversary;
 pub mod asks;
 pub mod card;
-pub mod graphs;
+pub mod graph;
+pub mod manifest;
 pub mod measure;
 pub mod minimise;
 pub mod names;
-pub mod readings;
 pub mod scan;
+pub mod settings;
 pub mod targets;

@@ -1,4 +1,5 @@
-//! How the benchmarks measure: rounds of each side in turn, in one process; the median and the minimum are told.
+//! How the benchmarks measure: rounds of each side in turn, in one process; the median and the
+//! minimum are told.
 
 use std::hint::black_box;
 use std::time::{Duration, Instant};
@@ -20,13 +21,18 @@ fn sorted(mut times: Vec<Duration>) -> Times {
     Times { median: times[times.len() / 2], least: times[0] }
 }
 
-/// Measures two functions against each other, a call of each in every round; slow ones in fewer rounds.
+/// Measures two functions against each other, a call of each in every round; slow ones in fewer
+/// rounds.
 pub fn both<A, B>(ours: impl FnMut() -> A, theirs: impl FnMut() -> B) -> (Times, Times) {
     rounds(ROUNDS, ours, theirs)
 }
 
 /// The same in so many rounds at most.
-pub fn rounds<A, B>(rounds: usize, mut ours: impl FnMut() -> A, mut theirs: impl FnMut() -> B) -> (Times, Times) {
+pub fn rounds<A, B>(
+    rounds: usize,
+    mut ours: impl FnMut() -> A,
+    mut theirs: impl FnMut() -> B,
+) -> (Times, Times) {
     let (mut a, mut b) = (Vec::new(), Vec::new());
     let started = Instant::now();
     while a.is_empty() || a.len() < rounds && started.elapsed() < LONGEST {

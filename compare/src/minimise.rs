@@ -1,15 +1,17 @@
-//! Makes an ask smaller as long as something holds of it: lines, card records and target names are dropped, then bytes.
+//! Makes an ask smaller as long as something holds of it: lines, card records and target names are
+//! dropped, then bytes.
 
-use second::ask::Ask;
-use second::{card, limits};
+use second::{card, limits, Ask, Question};
 
-/// The ask with as little left as `holds` allows to drop part by part. `holds` is true of the ask given.
+/// The ask with as little left as `holds` allows to drop part by part. `holds` is true of the ask
+/// given.
 pub fn minimise(mut ask: Ask, holds: impl Fn(&Ask) -> bool) -> Ask {
     loop {
         let before = ask.clone();
-        ask = lengths(ask, &holds);
-        ask = manifest(ask, &holds);
-        ask = around(ask, &holds);
+        ask = question(ask, &holds);
+        ask = by_lines(ask, |ask| &mut ask.lent.manifest, &holds);
+        ask = by_lines(ask, |ask| &mut ask.lent.targets, &holds);
+        ask = by_records(ask, |ask| &mut ask.lent.card, &holds);
         if ask == before {
             return ask;
         }
@@ -17,56 +19,47 @@ pub fn minimise(mut ask: Ask, holds: impl Fn(&Ask) -> bool) -> Ask {
 }
 
 /// The least buffer that will do, and the lowest step.
-fn lengths(ask: Ask, holds: &impl Fn(&Ask) -> bool) -> Ask {
-    let mut tries = vec![with_buffer(&ask, limits::LIST, limits::TEXT)];
-    if let Ask::Text { step, .. } = &ask {
-        tries.extend((0..*step).map(|lower| with_step(&ask, lower)));
-    }
-    tries.into_iter().find(|smaller| holds(smaller)).unwrap_or(ask)
-}
-
-fn with_buffer(ask: &Ask, list: usize, text: usize) -> Ask {
-    let mut ask = ask.clone();
-    match &mut ask {
-        Ask::Plan { list_len, .. } => *list_len = list,
-        Ask::Text { buf_len, .. } => *buf_len = text,
-    }
-    ask
-}
-
-fn with_step(ask: &Ask, lower: usize) -> Ask {
-    let mut ask = ask.clone();
-    if let Ask::Text { step, .. } = &mut ask {
-        *step = lower;
-    }
-    ask
-}
-
-fn with_manifest(ask: &Ask, bytes: Vec<u8>) -> Ask {
-    let mut ask = ask.clone();
-    match &mut ask {
-        Ask::Plan { manifest, .. } | Ask::Text { manifest, .. } => *manifest = bytes,
-    }
-    ask
-}
-
-fn manifest(ask: Ask, holds: &impl Fn(&Ask) -> bool) -> Ask {
-    let lines = dropped(lines(ask.manifest()), |lines| holds(&with_manifest(&ask, lines.concat())));
-    let bytes = dropped(lines.concat(), |bytes| holds(&with_manifest(&ask, bytes.to_vec())));
-    with_manifest(&ask, bytes)
-}
-
-/// The card and the targets of a plan.
-fn around(ask: Ask, holds: &impl Fn(&Ask) -> bool) -> Ask {
-    let Ask::Plan { manifest, card, targets, list_len } = ask else { return ask };
-    let ask = |card: Vec<u8>, targets: Vec<u8>| Ask::Plan { manifest: manifest.clone(), card, targets, list_len };
-    let names = dropped(lines(&targets), |names| holds(&ask(card.clone(), names.concat())));
-    let targets = dropped(names.concat(), |bytes| holds(&ask(card.clone(), bytes.to_vec())));
-    let card = match card::read(&card) {
-        Ok(records) => card::write(&dropped(records, |records| holds(&ask(card::write(records), targets.clone())))),
-        Err(_) => dropped(card, |bytes| holds(&ask(bytes.to_vec(), targets.clone()))),
+fn question(ask: Ask, holds: &impl Fn(&Ask) -> bool) -> Ask {
+    let with = |question| Ask { question, ..ask.clone() };
+    let tries = match ask.question {
+        Question::Plan { .. } => vec![Question::PLAN],
+        Question::Text { step, wanted, buf_len } => {
+            let least = Question::Text { step, wanted, buf_len: limits::TEXT };
+            let lower = (0..step).map(|step| Question::Text { step, wanted, buf_len });
+            [least].into_iter().chain(lower).collect()
+        }
     };
-    ask(card, targets)
+    let smaller = tries.into_iter().map(with).find(|smaller| holds(smaller));
+    smaller.unwrap_or(ask)
+}
+
+/// A part of an ask that is lent.
+type Part = fn(&mut Ask) -> &mut Vec<u8>;
+
+fn with(ask: &Ask, part: Part, bytes: Vec<u8>) -> Ask {
+    let mut ask = ask.clone();
+    *part(&mut ask) = bytes;
+    ask
+}
+
+/// Drops lines of a part, then bytes.
+fn by_lines(mut ask: Ask, part: Part, holds: &impl Fn(&Ask) -> bool) -> Ask {
+    let lines = lines(part(&mut ask));
+    let lines = dropped(lines, |lines| holds(&with(&ask, part, lines.concat())));
+    let bytes = dropped(lines.concat(), |bytes| holds(&with(&ask, part, bytes.to_vec())));
+    with(&ask, part, bytes)
+}
+
+/// Drops records of a part that is a card, or bytes where it is no sound one.
+fn by_records(mut ask: Ask, part: Part, holds: &impl Fn(&Ask) -> bool) -> Ask {
+    let bytes = part(&mut ask).clone();
+    let smaller = match card::read(&bytes) {
+        Ok(records) => {
+            card::write(&dropped(records, |records| holds(&with(&ask, part, card::write(records)))))
+        }
+        Err(_) => dropped(bytes, |bytes| holds(&with(&ask, part, bytes.to_vec()))),
+    };
+    with(&ask, part, smaller)
 }
 
 /// Lines with their newlines.
@@ -74,7 +67,8 @@ fn lines(bytes: &[u8]) -> Vec<Vec<u8>> {
     bytes.split_inclusive(|&byte| byte == b'\n').map(<[u8]>::to_vec).collect()
 }
 
-/// The parts that are left when run after run of them is dropped, shorter and shorter ones, as long as `holds` allows it.
+/// The parts that are left when run after run of them is dropped, shorter and shorter ones, as long
+/// as `holds` allows it.
 fn dropped<T: Clone>(mut parts: Vec<T>, holds: impl Fn(&[T]) -> bool) -> Vec<T> {
     let mut run = parts.len();
     while run > 0 {

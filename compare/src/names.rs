@@ -32,8 +32,8 @@ pub enum Added {
     Full,
 }
 
-/// The two buffers and the count of names. They hold a table from the start, with no name, and `kestrenyo_names_add`
-/// leaves one: that is what the two functions ask.
+/// The two buffers and the count of names. They hold a table from the start, with no name, and
+/// `kestrenyo_names_add` leaves one: that is what the two functions ask.
 pub struct Names {
     names: Vec<u8>,
     ends: Vec<u32>,
@@ -58,7 +58,15 @@ impl Names {
         let number = unsafe {
             let (names, names_len) = (names.as_ptr(), names.len());
             let (ends, ends_len) = (ends.as_ptr(), ends.len());
-            kestrenyo_names_find(names, names_len, ends, ends_len, self.count, path.as_ptr(), path.len())
+            kestrenyo_names_find(
+                names,
+                names_len,
+                ends,
+                ends_len,
+                self.count,
+                path.as_ptr(),
+                path.len(),
+            )
         };
         number.checked_sub(1)
     }
@@ -69,7 +77,15 @@ impl Names {
         let number = unsafe {
             let (names, names_len) = (names.as_mut_ptr(), names.len());
             let (ends, ends_len) = (ends.as_mut_ptr(), ends.len());
-            kestrenyo_names_add(names, names_len, ends, ends_len, self.count, path.as_ptr(), path.len())
+            kestrenyo_names_add(
+                names,
+                names_len,
+                ends,
+                ends_len,
+                self.count,
+                path.as_ptr(),
+                path.len(),
+            )
         };
         match number {
             0 => Added::Full,

@@ -55,7 +55,7 @@ pub fn paths(line: &[u8], from: usize) -> Result<usize, usize> {
 }
 
 fn stop(number: usize) -> Result<usize, usize> {
-    if number % 2 == 0 {
+    if number.is_multiple_of(2) {
         Ok(number / 2)
     } else {
         Err(number / 2)
@@ -83,7 +83,8 @@ pub fn line_end(manifest: &[u8], from: usize) -> Option<usize> {
     (number > 0).then_some(number)
 }
 
-/// The kind of a line that is given without the newline that ends it: 0 comment, 1 blank, 2 indented, 3 statement.
+/// The kind of a line that is given without the newline that ends it: 0 comment, 1 blank, 2
+/// indented, 3 statement.
 pub fn line_kind(line: &[u8]) -> u8 {
     unsafe { kestrenyo_line_kind(line.as_ptr(), line.len()) }
 }

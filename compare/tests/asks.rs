@@ -1,24 +1,21 @@
-//! Both asks, whole, against the second planner's. `ASKS` in the environment runs another number of asks, from seed `FROM` on;
-//! `cargo run --release --bin differ SEED COUNT` runs millions.
+//! Both asks, whole, against the second planner's. `ASKS` in the environment runs another number of
+//! asks, from seed `FROM` on; `cargo run --release --bin differ SEED COUNT` runs millions.
 
 use compare::adversary;
-use compare::asks::{asks, compare, judge, ours, run, Kind, Ours};
+use compare::asks::{asks, compare, judge, ours, run, Ours};
 use compare::minimise::minimise;
-use second::ask::{Answer, Ask};
-use second::PlanAnswer;
+use compare::settings::setting;
+use second::kind::Kind;
+use second::{Answer, Ask, Lent};
 
 const ASKS: u64 = 200_000;
-
-fn setting(name: &str, otherwise: u64) -> u64 {
-    std::env::var(name).map_or(otherwise, |value| value.parse().expect("a number"))
-}
 
 #[test]
 fn asks_agree() {
     let (count, from) = (setting("ASKS", ASKS), setting("FROM", 0));
-    let counts = run(from, count, |_| ()).unwrap_or_else(|(ask, difference)| {
-        let ask = minimise(ask, |ask| compare(ask).is_err());
-        panic!("{difference}\n{ask}\n{}", String::from_utf8_lossy(ask.manifest()))
+    let counts = run(from, count, |_| ()).unwrap_or_else(|differing| {
+        let ask = minimise(differing.ask, |ask| compare(ask).is_err());
+        panic!("{}\n{ask}\n{}", differing.difference, String::from_utf8_lossy(&ask.lent.manifest))
     });
     println!("{counts:?}");
     for kind in Kind::all() {
@@ -80,10 +77,14 @@ fn circles_are_true_ones() {
     }
 }
 
-/// A thread with no more stack than an ask is said to take, and 16 KiB for what asks it, comes through all of these.
+/// A thread with no more stack than an ask is said to take, and 16 KiB for what asks it, comes
+/// through all of these.
 #[test]
 fn asks_take_no_more_stack() {
-    let asks: Vec<Ask> = (0..1_000).flat_map(asks).chain(adversary::all().into_iter().map(|slow| slow.ask)).collect();
+    let asks: Vec<Ask> = (0..1_000)
+        .flat_map(asks)
+        .chain(adversary::all().into_iter().map(|slow| slow.ask))
+        .collect();
     let thread = std::thread::Builder::new().stack_size(kestrenyo::STACK + (16 << 10));
     let asked = thread.spawn(move || asks.iter().map(ours).count()).expect("a thread");
     assert!(asked.join().expect("no panic") > 1_000);
@@ -92,10 +93,10 @@ fn asks_take_no_more_stack() {
 /// The smaller ask keeps what it was made smaller for, and little else.
 #[test]
 fn asks_are_minimised() {
-    let is_list = |ask: &Ask| matches!(ask.answer(), Answer::Plan(PlanAnswer::List(steps)) if !steps.is_empty());
-    let ask = some(Kind::List).find(|ask| ask.manifest().len() > 100).expect("a list");
+    let is_list = |ask: &Ask| matches!(ask.answer(), Answer::List(steps) if !steps.is_empty());
+    let ask = some(Kind::List).find(|ask| ask.lent.manifest.len() > 100).expect("a list");
     let least = minimise(ask, is_list);
-    assert!(is_list(&least) && least.manifest().len() < 40, "{least}");
-    let Ask::Plan { targets, card, .. } = least else { panic!("no plan") };
+    assert!(is_list(&least) && least.lent.manifest.len() < 40, "{least}");
+    let Lent { targets, card, .. } = least.lent;
     assert!(targets.is_empty() && card.len() <= 40, "{} {}", targets.len(), card.len());
 }

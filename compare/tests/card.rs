@@ -1,4 +1,5 @@
-//! The proved card against the second planner's, on cards that are sound, damaged in a field, or random.
+//! The proved card against the second planner's, on cards that are sound, damaged in a field, or
+//! random.
 
 use compare::card;
 use second::rng::Rng;
@@ -33,7 +34,8 @@ fn records(rng: &mut Rng) -> Vec<(Vec<u8>, u64)> {
 /// A card with, at times, a field or a byte changed, bytes added or cut.
 fn draw(rng: &mut Rng) -> (Vec<u8>, Vec<(Vec<u8>, u64)>) {
     let records = records(rng);
-    let lent: Vec<(&[u8], u64)> = records.iter().map(|(name, time)| (name.as_slice(), *time)).collect();
+    let lent: Vec<(&[u8], u64)> =
+        records.iter().map(|(name, time)| (name.as_slice(), *time)).collect();
     let mut card = second::card::write(&lent);
     if rng.chance(40) {
         for _ in 0..rng.between(1, 3) {
@@ -68,10 +70,14 @@ fn cards_agree() {
         wanted.push(Vec::new());
         wanted.extend(drawn.iter().take(20).map(|(name, _)| name.clone()));
         for name in wanted {
-            let time = listed.iter().find(|(listed, _)| *listed == name).map_or(0, |(_, time)| *time);
+            let time =
+                listed.iter().find(|(listed, _)| *listed == name).map_or(0, |(_, time)| *time);
             assert_eq!(card::time(&card, &name), time, "seed {seed}: {name:?}");
             looked_up += 1;
         }
     }
-    assert!(sound > 20_000 && damaged > 10_000 && looked_up > 200_000, "{sound} {damaged} {looked_up}");
+    assert!(
+        sound > 20_000 && damaged > 10_000 && looked_up > 200_000,
+        "{sound} {damaged} {looked_up}"
+    );
 }

@@ -22,7 +22,8 @@ fn tables_agree() {
         let mut map: HashMap<Vec<u8>, usize> = HashMap::new();
         let mut written = 0;
         for turn in 0..if long { 1_500 } else { 60 } {
-            let path = if long && rng.chance(80) { format!("{turn}").into_bytes() } else { path(rng) };
+            let path =
+                if long && rng.chance(80) { format!("{turn}").into_bytes() } else { path(rng) };
             let known = map.get(&path).copied();
             assert_eq!(names.find(&path), known, "seed {seed}");
             let room = map.len() < 1_024 && written + path.len() <= bytes;
@@ -47,5 +48,8 @@ fn tables_agree() {
             assert_eq!(names.find(path), Some(number), "seed {seed}");
         }
     }
-    assert!(old > 50_000 && new > 50_000 && full > 20_000 && missing > 50_000, "{old} {new} {full} {missing}");
+    assert!(
+        old > 50_000 && new > 50_000 && full > 20_000 && missing > 50_000,
+        "{old} {new} {full} {missing}"
+    );
 }

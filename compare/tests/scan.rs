@@ -1,4 +1,5 @@
-//! The proved scanners against the second planner's, on random lines and on manifests that are sound or damaged.
+//! The proved scanners against the second planner's, on random lines and on manifests that are
+//! sound or damaged.
 
 use compare::scan;
 use second::bytes::{class, Class};
@@ -34,7 +35,8 @@ fn length(rng: &mut Rng) -> usize {
     }
 }
 
-/// The part of some bytes that is one line from place 0 on: up to the first newline that no `$` takes along.
+/// The part of some bytes that is one line from place 0 on: up to the first newline that no `$`
+/// takes along.
 fn body_end(bytes: &[u8]) -> Option<usize> {
     let mut at = 0;
     while at < bytes.len() {
@@ -64,7 +66,10 @@ fn tokens(seed: u64, rng: &mut Rng, bytes: &[u8]) {
     }
     let past = bytes.len() + 1 + rng.below(3);
     let end = bytes.len();
-    assert_eq!([scan::spaces(bytes, past), scan::gap(bytes, past), scan::name(bytes, past)], [end; 3]);
+    assert_eq!(
+        [scan::spaces(bytes, past), scan::gap(bytes, past), scan::name(bytes, past)],
+        [end; 3]
+    );
     assert_eq!([scan::path(bytes, past), scan::paths(bytes, past)], [Ok(end); 2]);
     assert_eq!([scan::line_end(bytes, past), scan::dollar(bytes, past)], [None; 2]);
 }
@@ -99,8 +104,8 @@ struct Seen {
     open: usize,
 }
 
-/// What stands in a line behind its first byte, which is no `#`. Where the line's dollars are sound, its end is that of the
-/// value that the second planner reads.
+/// What stands in a line behind its first byte, which is no `#`. Where the line's dollars are
+/// sound, its end is that of the value that the second planner reads.
 fn body(seed: u64, manifest: &[u8], seen: &mut Seen) {
     let end = body_end(manifest);
     assert_eq!(scan::line_end(manifest, 0), end.map(|end| end + 1), "seed {seed}");
@@ -168,15 +173,18 @@ fn lines_agree() {
         bytes.push(b'\n');
         body(seed, &bytes, &mut seen);
     }
-    let all = [seen.sound_paths, seen.bad_paths, seen.sound_lists, seen.bad_lists, seen.sound_values, seen.bad_values, seen.open];
+    let all = [
+        seen.sound_paths, seen.bad_paths, seen.sound_lists, seen.bad_lists, seen.sound_values,
+        seen.bad_values, seen.open,
+    ];
     assert!(all.iter().all(|&count| count > 5_000), "{all:?}");
 }
 
 #[test]
 fn words_agree() {
     const WORDS_OF_NOTE: [&[u8]; 15] = [
-        b"", b"rule", b"build", b"default", b"pool", b"include", b"subninja", b"depfile", b"deps", b"dyndep", b"msvc_deps_prefix", b"restat", b"rspfile", b"rspfile_content",
-        b"command",
+        b"", b"rule", b"build", b"default", b"pool", b"include", b"subninja", b"depfile", b"deps",
+        b"dyndep", b"msvc_deps_prefix", b"restat", b"rspfile", b"rspfile_content", b"command",
     ];
     let mut refused = [0; 7];
     for seed in 0..WORDS {
@@ -191,7 +199,8 @@ fn words_agree() {
                 _ => word.truncate(at),
             }
         }
-        let number = |read: Result<(), second::Refusal>| read.map_or_else(|refusal| refusal.number, |()| 0);
+        let number =
+            |read: Result<(), second::Refusal>| read.map_or_else(|refusal| refusal.number, |()| 0);
         let rule = [b"rule ", &word[..], b"\n"].concat();
         assert_eq!(scan::rule_word(&word), number(line::statement(&rule, 0).map(drop)), "{word:?}");
         let key = [b" ", &word[..], b" = x\n"].concat();
@@ -204,7 +213,10 @@ fn words_agree() {
 
 /// The check under 3, as the second planner's reading gives it.
 fn faulty(bytes: &[u8]) -> Option<usize> {
-    manifest::read(bytes).err().filter(|refusal| refusal.number == 3).map(|refusal| refusal.place)
+    manifest::read(bytes)
+        .err()
+        .filter(|refusal| refusal.number == 3)
+        .map(|refusal| refusal.place.value())
 }
 
 /// The paths of a list, cut one by one, and where it ends.
@@ -274,7 +286,9 @@ fn lines(seed: u64, manifest: &[u8], counts: &mut [usize; 4]) {
         let end = scan::line_end(manifest, start);
         let line = &manifest[start..end.map_or(manifest.len(), |end| end - 1)];
         let opening = line::opening(manifest, start);
-        let kind = [Opening::Comment, Opening::Blank, Opening::Indented, Opening::Plain].iter().position(|&kind| kind == opening);
+        let kind = [Opening::Comment, Opening::Blank, Opening::Indented, Opening::Plain]
+            .iter()
+            .position(|&kind| kind == opening);
         assert_eq!(Some(usize::from(scan::line_kind(line))), kind, "seed {seed} at {start}");
         counts[usize::from(scan::line_kind(line))] += 1;
         let next = match opening {
@@ -305,7 +319,7 @@ fn manifests_agree() {
                 let length = length(rng);
                 bytes(rng, length)
             }
-            _ => generate::ask(seed).manifest().to_vec(),
+            _ => generate::ask(seed).lent.manifest,
         };
         if rng.chance(15) && !manifest.is_empty() {
             let at = rng.below(manifest.len());
@@ -321,5 +335,8 @@ fn manifests_agree() {
             lines(seed, &manifest, &mut counts);
         }
     }
-    assert!(counts.iter().all(|&count| count > 3_000) && sound > 20_000 && damaged > 5_000, "{counts:?} {sound} {damaged}");
+    assert!(
+        counts.iter().all(|&count| count > 3_000) && sound > 20_000 && damaged > 5_000,
+        "{counts:?} {sound} {damaged}"
+    );
 }

@@ -29,7 +29,8 @@ fn list(rng: &mut Rng) -> Vec<u8> {
     list
 }
 
-/// The names of a list that is sound, or the place of its 12 where every name is one that the manifest mentions.
+/// The names of a list that is sound, or the place of its 12 where every name is one that the
+/// manifest mentions.
 fn read(list: &[u8]) -> Result<Vec<&[u8]>, usize> {
     if targets::malformed(list) {
         return Err(0);
@@ -64,7 +65,11 @@ fn lists_agree() {
                 sound += 1;
             }
             (ours, theirs) => {
-                assert_eq!(ours.map(drop).map_err(|place| Refusal::new(12, place)), theirs.map(drop), "seed {seed}: {list:?}");
+                assert_eq!(
+                    ours.map(drop).map_err(|place| Refusal::new(12, place)),
+                    theirs.map(drop),
+                    "seed {seed}: {list:?}"
+                );
                 bad += 1;
                 bad_names += usize::from(!targets::malformed(&list));
             }

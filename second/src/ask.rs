@@ -1,108 +1,101 @@
-//! An ask of either kind as one value, and the plain line in which tools hand asks and answers on.
+//! An ask as one value: what is lent to the planner, and what it is asked.
 
-use crate::{plan, text, PlanAnswer, TextAnswer, Wanted};
-use std::fmt::{self, Display, Formatter};
+use crate::{card, limits, manifest, plan, text, Answer, Refusal};
 
 /// An ask with all that it lends.
 #[derive(Debug, Clone, PartialEq, Eq)]
-pub enum Ask {
-    Plan { manifest: Vec<u8>, card: Vec<u8>, targets: Vec<u8>, list_len: usize },
-    Text { manifest: Vec<u8>, step: usize, wanted: Wanted, buf_len: usize },
+pub struct Ask {
+    pub lent: Lent,
+    pub question: Question,
 }
 
-/// The answer to an ask.
+/// The bytes that are lent to be read. A text is answered from the manifest alone.
 #[derive(Debug, Clone, PartialEq, Eq)]
-pub enum Answer {
-    Plan(PlanAnswer),
-    Text(TextAnswer),
+pub struct Lent {
+    pub manifest: Vec<u8>,
+    pub card: Vec<u8>,
+    pub targets: Vec<u8>,
+}
+
+/// What is asked, and how much room is lent for the answer.
+#[derive(Debug, Clone, Copy, PartialEq, Eq)]
+pub enum Question {
+    /// The steps to run; `list_len` is the length of the lent list buffer, in numbers.
+    Plan { list_len: usize },
+    /// A text of a step; `buf_len` is the length of the lent text buffer, in bytes.
+    Text { step: usize, wanted: Wanted, buf_len: usize },
+}
+
+/// Which of a step's texts is wanted.
+#[derive(Debug, Clone, Copy, PartialEq, Eq)]
+pub enum Wanted {
+    Command,
+    Description,
+}
+
+impl Lent {
+    /// A manifest alone: the card of no files, and no targets.
+    pub fn manifest(manifest: impl Into<Vec<u8>>) -> Self {
+        Lent { manifest: manifest.into(), card: card::write(&[]), targets: Vec::new() }
+    }
+}
+
+impl Question {
+    /// A plan, with the least list buffer that will do.
+    pub const PLAN: Question = Question::Plan { list_len: limits::LIST };
+
+    /// A text of a step, with the least text buffer that will do.
+    pub fn text(step: usize, wanted: Wanted) -> Self {
+        Question::Text { step, wanted, buf_len: limits::TEXT }
+    }
+
+    fn lends_too_little(self) -> bool {
+        match self {
+            Question::Plan { list_len } => list_len < limits::LIST,
+            Question::Text { buf_len, .. } => buf_len < limits::TEXT,
+        }
+    }
+}
+
+impl Wanted {
+    /// The name that is looked up for the text.
+    pub fn name(self) -> &'static str {
+        match self {
+            Wanted::Command => "command",
+            Wanted::Description => "description",
+        }
+    }
+
+    /// What is wanted by this name.
+    pub fn of(name: &str) -> Option<Self> {
+        [Wanted::Command, Wanted::Description].into_iter().find(|wanted| wanted.name() == name)
+    }
 }
 
 impl Ask {
-    pub fn manifest(&self) -> &[u8] {
-        match self {
-            Ask::Plan { manifest, .. } | Ask::Text { manifest, .. } => manifest,
-        }
+    /// A plan of what is lent, with the least list buffer that will do.
+    pub fn plan(lent: Lent) -> Self {
+        Ask { lent, question: Question::PLAN }
+    }
+
+    /// A text of a step of this manifest, with the least text buffer that will do.
+    pub fn text(manifest: impl Into<Vec<u8>>, step: usize, wanted: Wanted) -> Self {
+        Ask { lent: Lent::manifest(manifest), question: Question::text(step, wanted) }
     }
 
     /// The second planner's answer.
     pub fn answer(&self) -> Answer {
-        match self {
-            Ask::Plan { manifest, card, targets, list_len } => {
-                Answer::Plan(plan(manifest, card, targets, *list_len))
-            }
-            Ask::Text { manifest, step, wanted, buf_len } => {
-                Answer::Text(text(manifest, *step, *wanted, *buf_len))
-            }
-        }
+        self.answer_or_refusal().unwrap_or_else(Answer::Refused)
     }
-}
 
-/// `plan MANIFEST CARD TARGETS LISTLEN` or `text MANIFEST STEP command|description BUFLEN`, bytes
-/// in hex.
-impl Display for Ask {
-    fn fmt(&self, f: &mut Formatter) -> fmt::Result {
-        match self {
-            Ask::Plan { manifest, card, targets, list_len } => {
-                write!(f, "plan {} {} {} {list_len}", Hex(manifest), Hex(card), Hex(targets))
-            }
-            Ask::Text { manifest, step, wanted, buf_len } => {
-                let wanted = match wanted {
-                    Wanted::Command => "command",
-                    Wanted::Description => "description",
-                };
-                write!(f, "text {} {step} {wanted} {buf_len}", Hex(manifest))
+    fn answer_or_refusal(&self) -> Result<Answer, Refusal> {
+        Refusal::when(self.question.lends_too_little(), 1, 0)?;
+        let manifest = manifest::read(&self.lent.manifest)?;
+        match self.question {
+            Question::Plan { .. } => plan::plan(&manifest, &self.lent),
+            Question::Text { step, wanted, .. } => {
+                text::text(&manifest, step, wanted).map(Answer::Text)
             }
         }
-    }
-}
-
-impl Display for Answer {
-    fn fmt(&self, f: &mut Formatter) -> fmt::Result {
-        match self {
-            Answer::Plan(answer) => answer.fmt(f),
-            Answer::Text(answer) => answer.fmt(f),
-        }
-    }
-}
-
-/// `list 0 3 1`, `circle 0 1` or `refused 4 at 17`.
-impl Display for PlanAnswer {
-    fn fmt(&self, f: &mut Formatter) -> fmt::Result {
-        match self {
-            PlanAnswer::List(steps) => write!(f, "list{}", Numbers(steps)),
-            PlanAnswer::Circle(steps) => write!(f, "circle{}", Numbers(steps)),
-            PlanAnswer::Refused(refusal) => refusal.fmt(f),
-        }
-    }
-}
-
-/// `text 6363`, `text -` for an empty one, or `refused 4 at 17`.
-impl Display for TextAnswer {
-    fn fmt(&self, f: &mut Formatter) -> fmt::Result {
-        match self {
-            TextAnswer::Text(bytes) => write!(f, "text {}", Hex(bytes)),
-            TextAnswer::Refused(refusal) => refusal.fmt(f),
-        }
-    }
-}
-
-/// Numbers, each after a space.
-struct Numbers<'a>(&'a [u32]);
-
-impl Display for Numbers<'_> {
-    fn fmt(&self, f: &mut Formatter) -> fmt::Result {
-        self.0.iter().try_for_each(|number| write!(f, " {number}"))
-    }
-}
-
-/// Bytes in hex, `-` for none.
-struct Hex<'a>(&'a [u8]);
-
-impl Display for Hex<'_> {
-    fn fmt(&self, f: &mut Formatter) -> fmt::Result {
-        if self.0.is_empty() {
-            return f.write_str("-");
-        }
-        self.0.iter().try_for_each(|byte| write!(f, "{byte:02x}"))
     }
 }

@@ -6,10 +6,9 @@ pub mod draft;
 pub mod edges;
 pub mod graphs;
 
-use crate::ask::Ask;
 use crate::limits;
 use crate::rng::Rng;
-use crate::Wanted;
+use crate::{Ask, Lent, Question, Wanted};
 use draft::Draft;
 
 /// The most bytes of a small ask's manifest.
@@ -91,18 +90,23 @@ fn around(rng: &mut Rng, kind: Kind, manifest: Vec<u8>) -> Ask {
     if rng.chance(texts) {
         let step = damage::step(rng, &manifest);
         let wanted = if rng.chance(60) { Wanted::Command } else { Wanted::Description };
-        let buf_len = lent(rng, limits::TEXT);
-        Ask::Text { manifest, step, wanted, buf_len }
+        let buf_len = buffer(rng, limits::TEXT);
+        Ask { lent: Lent::manifest(manifest), question: Question::Text { step, wanted, buf_len } }
     } else {
-        let card = damage::card(rng, &manifest);
-        let targets = damage::targets(rng, &manifest);
-        let list_len = lent(rng, limits::LIST);
-        Ask::Plan { manifest, card, targets, list_len }
+        let lent = plan_lent(rng, manifest);
+        Ask { lent, question: Question::Plan { list_len: buffer(rng, limits::LIST) } }
     }
 }
 
+/// A manifest with a card and targets for a plan of it.
+pub fn plan_lent(rng: &mut Rng, manifest: Vec<u8>) -> Lent {
+    let card = damage::card(rng, &manifest);
+    let targets = damage::targets(rng, &manifest);
+    Lent { manifest, card, targets }
+}
+
 /// The length of a lent buffer, mostly the least that will do.
-fn lent(rng: &mut Rng, least: usize) -> usize {
+fn buffer(rng: &mut Rng, least: usize) -> usize {
     match rng.below(80) {
         0 => least - 1,
         1 => 0,

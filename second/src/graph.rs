@@ -17,6 +17,16 @@ pub struct Step {
     pub phony: bool,
 }
 
+/// What a plan of a graph starts from.
+#[derive(Debug, Clone, Default, PartialEq, Eq)]
+pub struct Start {
+    /// The card's time of each file, 0 if missing.
+    pub times: Vec<u64>,
+    /// No targets means the defaults, and without those every output that is no step's input.
+    pub targets: Vec<u32>,
+    pub defaults: Vec<u32>,
+}
+
 impl Step {
     /// The inputs whose age counts.
     pub fn dated_inputs(&self) -> impl Iterator<Item = u32> + '_ {

@@ -1,36 +1,30 @@
 //! The section "Needed and stale" of document 01 transcribed sentence by sentence, by brute force,
 //! to compare the planning with. It shares nothing with it but the graph.
 
-use crate::graph::{Graph, Step};
-use crate::Refusal;
+use crate::graph::{Graph, Start, Step};
+use crate::{Answer, Refusal};
 use std::collections::BTreeSet;
-
-/// What the sentences say of a graph; of a circle only that there is one.
-#[derive(Debug, Clone, PartialEq, Eq)]
-pub enum Verdict {
-    Refused(Refusal),
-    NoOrder,
-    List(Vec<u32>),
-}
 
 type Steps = BTreeSet<u32>;
 
-/// The verdict on a graph with the card's times, targets and defaults.
-pub fn plan(graph: &Graph, card: &[u64], targets: &[u32], defaults: &[u32]) -> Verdict {
-    let targets = roots(graph, targets, defaults);
+/// What the sentences say of a graph. There is no answer where the needed steps have no order: any
+/// true circle of theirs will do then.
+pub fn plan(graph: &Graph, start: &Start) -> Option<Answer> {
+    let card = &start.times;
+    let targets = roots(graph, start);
     if !graph.steps.is_empty() && targets.is_empty() {
-        return Verdict::Refused(Refusal::new(13, 0));
+        return Some(Answer::Refused(Refusal::new(13, 0)));
     }
     let needed = needed(graph, &targets);
     if !has_order(graph, &needed) {
-        return Verdict::NoOrder;
+        return None;
     }
     if let Some(file) = sources(graph, &targets, &needed).into_iter().find(|&f| missing(card, f)) {
-        return Verdict::Refused(Refusal::new(15, file as usize));
+        return Some(Answer::Refused(Refusal::new(15, file as usize)));
     }
     let stale = stale(graph, card, &needed);
     let commands = stale.into_iter().filter(|&step| !at(graph, step).phony).collect();
-    Verdict::List(list(graph, &commands))
+    Some(Answer::List(list(graph, &commands)))
 }
 
 /// Whether these are one or more needed steps, none twice, each having an input made by the next,
@@ -45,12 +39,12 @@ pub fn is_circle(graph: &Graph, needed: &Steps, circle: &[u32]) -> bool {
 }
 
 /// "Empty list: the defaults; without defaults, every output that is no step's input."
-pub fn roots(graph: &Graph, targets: &[u32], defaults: &[u32]) -> Vec<u32> {
-    if !targets.is_empty() {
-        return targets.to_vec();
+pub fn roots(graph: &Graph, start: &Start) -> Vec<u32> {
+    if !start.targets.is_empty() {
+        return start.targets.clone();
     }
-    if !defaults.is_empty() {
-        return defaults.to_vec();
+    if !start.defaults.is_empty() {
+        return start.defaults.clone();
     }
     let is_input = |file| graph.steps.iter().any(|step| step.inputs().any(|input| input == file));
     (0..graph.files as u32)

@@ -1,49 +1,48 @@
 //! Planning: roots, needed steps, circle or order, needed sources, staleness and the list;
 //! refusals 11 to 15 in their order.
 
-use crate::graph::{Graph, Step};
+use crate::graph::{Graph, Start, Step};
 use crate::manifest::Manifest;
-use crate::{card, targets, PlanAnswer, Refusal};
+use crate::{card, targets, Answer, Lent, Refusal};
 use std::cmp::Reverse;
 use std::collections::BinaryHeap;
 
-/// Plans a manifest with a time card and a target list.
-pub fn plan(manifest: &Manifest, card: &[u8], targets: &[u8]) -> Result<PlanAnswer, Refusal> {
+/// Plans a manifest, which has been read, with what else is lent.
+pub fn plan(manifest: &Manifest, lent: &Lent) -> Result<Answer, Refusal> {
     let files = &manifest.files;
-    // A file not listed is missing and has time 0; names that no line mentions are fine (reading 23).
+    // A file not listed is missing and has time 0; names that no line mentions are fine
+    // (reading 23).
     let mut times = vec![0; files.names.len()];
-    for (name, time) in card::read(card)? {
+    for (name, time) in card::read(&lent.card)? {
         if let Some(file) = files.number(name) {
             times[file as usize] = time;
         }
     }
-    let targets = targets::read(targets, |name| files.number(name))?;
-    Ok(plan_graph(&manifest.graph, &times, &targets, &manifest.defaults))
+    let targets = targets::read(&lent.targets, |name| files.number(name))?;
+    let defaults = manifest.defaults.clone();
+    plan_graph(&manifest.graph, &Start { times, targets, defaults })
 }
 
-/// Plans the graph. `times` holds the card's time of each file, 0 if missing; no `targets` means
-/// the defaults, and without those every output that is no step's input.
-pub fn plan_graph(graph: &Graph, times: &[u64], targets: &[u32], defaults: &[u32]) -> PlanAnswer {
-    let roots = match roots(graph, targets, defaults) {
-        Ok(roots) => roots,
-        Err(refusal) => return PlanAnswer::Refused(refusal),
-    };
-    let planner = Planner { graph, makers: graph.makers(), times };
+/// Plans the graph.
+pub fn plan_graph(graph: &Graph, start: &Start) -> Result<Answer, Refusal> {
+    let roots = roots(graph, start)?;
+    let planner = Planner { graph, makers: graph.makers(), times: &start.times };
     let order = match planner.order(&roots) {
         Ok(order) => order,
-        Err(circle) => return PlanAnswer::Circle(circle),
+        Err(circle) => return Ok(Answer::Circle(circle)),
     };
     if let Some(file) = planner.missing_source(&roots, &order) {
-        return PlanAnswer::Refused(Refusal::new(15, file as usize));
+        return Err(Refusal::new(15, file as usize));
     }
     let stale = planner.stale(&order);
-    PlanAnswer::List(planner.list(&order, &stale))
+    Ok(Answer::List(planner.list(&order, &stale)))
 }
 
 /// The files to bring up to date: refusal 13 if there are steps but no such file.
-fn roots(graph: &Graph, targets: &[u32], defaults: &[u32]) -> Result<Vec<u32>, Refusal> {
-    if let Some(given) = [targets, defaults].into_iter().find(|files| !files.is_empty()) {
-        return Ok(given.to_vec());
+fn roots(graph: &Graph, start: &Start) -> Result<Vec<u32>, Refusal> {
+    let given = [&start.targets, &start.defaults];
+    if let Some(given) = given.into_iter().find(|files| !files.is_empty()) {
+        return Ok(given.clone());
     }
     // "No step's input": of any kind and of any step, its own included (reading 25).
     let mut is_input = vec![false; graph.files];

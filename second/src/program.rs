@@ -3,26 +3,27 @@
 use crate::manifest::{self, Manifest};
 use crate::plan::plan;
 use crate::text::text;
-use crate::{PlanAnswer, Refusal, Wanted};
+use crate::{Answer, Lent, Refusal, Wanted};
 
 /// What the program writes for these files and targets.
-pub fn output(manifest: &[u8], card: &[u8], targets: &[u8]) -> Vec<u8> {
-    let written = lines(manifest, card, targets);
-    written.unwrap_or_else(|refusal| format!("{refusal}\n").into_bytes())
+pub fn output(lent: &Lent) -> Vec<u8> {
+    lines(lent).unwrap_or_else(|refusal| refused(&Answer::Refused(refusal)))
 }
 
-fn lines(manifest: &[u8], card: &[u8], targets: &[u8]) -> Result<Vec<u8>, Refusal> {
-    let manifest = manifest::read(manifest)?;
-    let answer = plan(&manifest, card, targets)?;
-    match &answer {
-        PlanAnswer::List(list) if list.is_empty() => Ok(b"no work\n".to_vec()),
-        PlanAnswer::List(list) => commands(&manifest, list),
-        PlanAnswer::Circle(circle) => {
-            let refusal = Refusal::new(14, circle.len());
-            Ok(format!("{refusal}\n{answer}\n").into_bytes())
-        }
-        PlanAnswer::Refused(refusal) => Err(*refusal),
+fn lines(lent: &Lent) -> Result<Vec<u8>, Refusal> {
+    let manifest = manifest::read(&lent.manifest)?;
+    match plan(&manifest, lent)? {
+        Answer::List(list) if list.is_empty() => Ok(b"no work\n".to_vec()),
+        Answer::List(list) => commands(&manifest, &list),
+        answer => Ok(refused(&answer)),
     }
+}
+
+/// The line for a refusal, and after a 14 that of its circle.
+pub fn refused(answer: &Answer) -> Vec<u8> {
+    let refusal = answer.refusal().map(|refusal| format!("{refusal}\n"));
+    let circle = matches!(answer, Answer::Circle(_)).then(|| format!("{answer}\n"));
+    refusal.into_iter().chain(circle).collect::<String>().into_bytes()
 }
 
 /// A line for each listed step. Texts are all checked, in list order, before any is written.

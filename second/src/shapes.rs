@@ -1,7 +1,7 @@
 //! Graph shapes to measure planning on: a chain, a fan and a lattice, each with a card by which
 //! all steps are fresh and one by which all are stale.
 
-use crate::card;
+use crate::{card, Ask, Lent};
 
 /// A manifest of one shape, and its two cards.
 pub struct Shape {
@@ -9,6 +9,16 @@ pub struct Shape {
     pub manifest: Vec<u8>,
     pub fresh: Vec<u8>,
     pub stale: Vec<u8>,
+}
+
+impl Shape {
+    /// The plans by either card, with what they find the steps to be.
+    pub fn plans(&self) -> [(&'static str, Ask); 2] {
+        [("fresh", &self.fresh), ("stale", &self.stale)].map(|(age, card)| {
+            let (manifest, card) = (self.manifest.clone(), card.clone());
+            (age, Ask::plan(Lent { manifest, card, targets: Vec::new() }))
+        })
+    }
 }
 
 /// The width of a lattice, and how many steps of the layer before each of its steps takes.
@@ -84,16 +94,15 @@ fn times(files: &[String], sources: u64) -> Vec<u8> {
 #[cfg(test)]
 mod tests {
     use super::*;
-    use crate::{limits, plan, PlanAnswer};
+    use crate::{limits, Answer};
 
     #[test]
     fn all_steps_are_fresh_or_stale() {
         for steps in [1, 2, 17, limits::STEPS] {
             for shape in all(steps) {
-                let list = |card: &[u8]| plan(&shape.manifest, card, b"", limits::LIST);
-                assert_eq!(list(&shape.fresh), PlanAnswer::List(vec![]), "{}", shape.name);
-                let stale = PlanAnswer::List((0..steps as u32).collect());
-                assert_eq!(list(&shape.stale), stale, "{}", shape.name);
+                let lists = shape.plans().map(|(_, ask)| ask.answer());
+                let stale = (0..steps as u32).collect();
+                assert_eq!(lists, [vec![], stale].map(Answer::List), "{}", shape.name);
             }
         }
     }

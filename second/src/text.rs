@@ -9,10 +9,7 @@ use crate::{Refusal, Wanted};
 pub fn text(manifest: &Manifest, step: usize, wanted: Wanted) -> Result<Vec<u8>, Refusal> {
     let commands = manifest.graph.steps.get(step).filter(|step| !step.phony);
     Refusal::when(commands.is_none(), 18, step)?;
-    let name: &[u8] = match wanted {
-        Wanted::Command => b"command",
-        Wanted::Description => b"description",
-    };
+    let name = wanted.name().as_bytes();
     let lookup = Lookup::new(manifest, step);
     Refusal::when(lookup.leads_back(name, &mut [Visit::None; Key::COUNT]), 16, step)?;
     let mut text = Text::default();

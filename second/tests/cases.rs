@@ -1,13 +1,18 @@
 //! All cases of `/cases`, put to the second planner.
 
-use second::cases::{allows, check, files, folder, packed, parse, read};
+use second::cases::{ask_lines, check, files, folder, pack, parse, program_line, read};
+use second::cases::{Error, Expected, Fault, TooGreat};
+use second::{Answer, Refusal};
+use std::fs;
+use std::path::Path;
 
 #[test]
 fn all_cases_pass() {
     let cases = read(&files(&folder()).unwrap()).unwrap();
     assert!(cases.len() >= 300, "only {} cases", cases.len());
     let differences: Vec<_> = cases.iter().flat_map(check).collect();
-    assert!(differences.is_empty(), "{}", differences.join("\n"));
+    let shown: Vec<_> = differences.iter().map(|difference| difference.to_string()).collect();
+    assert!(differences.is_empty(), "{}", shown.join("\n"));
 }
 
 #[test]
@@ -33,50 +38,138 @@ case two
     | no work
 ";
     let cases = parse("sample", content).unwrap();
-    assert_eq!(cases[0].manifest, b"a = 000,101,202, \n\nb\0");
+    assert_eq!(cases[0].lent.manifest, b"a = 000,101,202, \n\nb\0");
     let header = [2, 0, 0, 0, 16, 0, 0, 0, 48, 0, 0, 0, 52, 0, 0, 0];
     let records = [
         0, 0, 0, 0, 1, 0, 0, 0, 5, 0, 0, 0, 0, 0, 0, 0, 1, 0, 0, 0, 3, 0, 0, 0, 6, 0, 0, 0, 0, 0,
         0, 0,
     ];
-    assert_eq!(cases[0].card, [&header[..], &records, b"ab c"].concat());
-    assert_eq!(cases[0].targets, b"a\nb c\n");
-    assert_eq!(cases[0].asks[0].1, "refused 3 at 19");
-    assert_eq!(cases[1].manifest, cases[0].manifest);
-    assert_eq!(cases[1].card, [1, 0, 0, 0, 2]);
+    assert_eq!(cases[0].lent.card, [&header[..], &records, b"ab c"].concat());
+    assert_eq!(cases[0].lent.targets, b"a\nb c\n");
+    let marked = Expected::One(Answer::Refused(Refusal::new(3, 19)));
+    assert_eq!(cases[0].asks[0].1, marked);
+    assert_eq!(cases[1].lent.manifest, cases[0].lent.manifest);
+    assert_eq!(cases[1].lent.card, [1, 0, 0, 0, 2]);
     let (manifest, lent) = ("61203d203030302c3130312c3230322c200a0a6200", "0100000002 610a");
     assert_eq!(
-        packed(&cases[1], false),
+        ask_lines(&cases[1]),
         [
             format!("two plan {manifest} {lent} 512 -> circle 1 2 or 3"),
             format!("two text {manifest} 7 description 8192 -> text 7878"),
         ]
     );
     let program = format!("two program {manifest} {lent} -> text 6e6f20776f726b0a");
-    assert_eq!(packed(&cases[1], true), [program]);
+    assert_eq!(program_line(&cases[1]), Some(program));
+    assert_eq!(program_line(&cases[0]), None);
 }
 
 #[test]
 fn a_circle_may_begin_anywhere_but_not_turn_round() {
-    for circle in ["0 1 2", "1 2 0", "2 0 1", "3"] {
-        assert!(allows("circle 0 1 2 or 3", &format!("circle {circle}")));
+    let circles = Expected::Circles(vec![vec![0, 1, 2], vec![3]]);
+    for answer in ["circle 0 1 2", "circle 1 2 0", "circle 2 0 1", "circle 3"] {
+        assert!(circles.allows(&answer.parse().unwrap()), "{answer}");
     }
     for answer in ["circle 2 1 0", "circle 0 1", "circle 0 1 2 0", "list 3", "refused 14 at 1"] {
-        assert!(!allows("circle 0 1 2 or 3", answer));
+        assert!(!circles.allows(&answer.parse().unwrap()), "{answer}");
     }
-    assert!(allows("list 0 1", "list 0 1") && !allows("list 0 1", "list 1 0"));
+    let list = Expected::One(Answer::List(vec![0, 1]));
+    assert!(list.allows(&Answer::List(vec![0, 1])) && !list.allows(&Answer::List(vec![1, 0])));
 }
 
 #[test]
 fn errors_name_file_and_line() {
     for (content, error) in [
         ("says x", "f:1: before the first `case`"),
+        ("case a b", "f:1: a case has a name of one word"),
         ("case a\n\nspeaks", "f:3: unknown word `speaks`"),
-        ("case a\nmanifest\n| \\q", "f:3: an unknown `\\`"),
-        ("case a\nmanifest\n| x\nplan refused 4 at @", "f:4: no `\\@` before this line"),
-        ("case a\nmanifest\nplan list", "f:1: the case a has no `says`, `reading` or `manual`"),
+        ("case a\nsays", "f:2: an empty `says`"),
         ("case a\nsays x\nmanifest\nplan list \n", "f:4: spaces at the end of a line; write \\s"),
+        ("case a\nmanifest\nplan list", "f:1: the case a has no `says`, `reading` or `manual`"),
+        ("case a\nsays x", "f:1: the case a has no manifest"),
+        ("case a\nsays x\nmanifest\ncase b", "f:1: the case a has no expected answer"),
     ] {
-        assert_eq!(parse("f", content).unwrap_err(), error);
+        assert_eq!(parse("f", content).unwrap_err().to_string(), error);
     }
+}
+
+/// The lines of a case that come after its manifest, and what is wrong with the last one.
+#[test]
+fn faults_of_lines() {
+    let expected = |what| Fault::Expected(what);
+    let number = |word: &str| Fault::Number(word.to_string());
+    for (lines, fault) in [
+        ("manifest", Fault::Second("manifest")),
+        ("plan list\nplan list", Fault::Second("plan")),
+        ("targets raw \\@\ncard \\@a 1", Fault::Second("\\@")),
+        ("targets raw \\@\\@", Fault::Second("\\@")),
+        ("targets a\n| x", Fault::StrayPiece),
+        ("plan refused 4 at @", Fault::NoMark),
+        ("plan refused 4", expected("`refused NUMBER at PLACE`")),
+        ("plan refused x at 0", number("x")),
+        ("plan refused 4 at x", number("x")),
+        ("plan steps 1", expected("`list`, `circle` or `refused`")),
+        ("plan list 4294967296", number("4294967296")),
+        ("plan circle", Fault::EmptyCircle),
+        ("plan circle 1 or  or 2", Fault::EmptyCircle),
+        ("text 0 generator = x", expected("`command` or `description`")),
+        ("text 0 command x", expected("`=` or `refused`")),
+        ("text x command = x", number("x")),
+        ("list-buffer x", number("x")),
+        ("card a", expected("`NAME TIME` between commas")),
+        ("card a x", number("x")),
+        ("card raw x", expected("`WIDTH:NUMBER` or `=TEXT`")),
+        ("card raw 2:1", Fault::Width(2)),
+        ("card raw 1:256", Fault::TooWide { value: 256, width: 1 }),
+        ("targets \\q", Fault::UnknownEscape),
+        ("targets a\\", Fault::UnknownEscape),
+        ("targets \\x0", Fault::NoHexDigits),
+        ("targets \\i", Fault::StrayIndex),
+        ("targets \\{1297 \\j}", Fault::LongIndex(1296)),
+        ("targets \\{2 x", Fault::Unclosed),
+        ("targets \\{0 x}", expected("`\\{COUNT TEXT}` with a count from 1")),
+        ("targets \\{2x}", expected("`\\{COUNT TEXT}` with a count from 1")),
+    ] {
+        let content = format!("case a\nmanifest\n{lines}\n");
+        match parse("f", &content) {
+            Err(Error::Line(origin, found)) => {
+                assert_eq!(found, fault, "{lines}");
+                assert_eq!(origin.line, content.lines().count(), "{lines}");
+            }
+            other => panic!("{lines}: {other:?}"),
+        }
+    }
+    let missing = parse("f", "case a\nmanifest of b").unwrap_err();
+    assert_eq!(missing.to_string(), "f:2: no earlier case b in this file");
+    let form = parse("f", "case a\nmanifest b").unwrap_err();
+    assert_eq!(form.to_string(), "f:2: expected `manifest` or `manifest of NAME`");
+}
+
+#[test]
+fn files_that_are_no_cases() {
+    let room = Path::new(env!("CARGO_TARGET_TMPDIR")).join("cases");
+    fs::create_dir_all(&room).unwrap();
+    let paths = ["one.cases", "other.cases", "none"].map(|name| room.join(name));
+    let (written, missing) = paths.split_at(2);
+    for path in written {
+        fs::write(path, "# c\ncase a\n  says x\n  manifest\n  plan list\n").unwrap();
+    }
+    assert_eq!(files(&room).unwrap(), written);
+    assert_eq!(read(&written[..1]).unwrap().len(), 1);
+    let taken = read(written).unwrap_err().to_string();
+    assert_eq!(taken, "other.cases:2: the name a is taken at one.cases:2");
+    let is_missing =
+        |error: &Error| matches!(error, Error::Unreadable(path, _) if *path == missing[0]);
+    assert!(files(&missing[0]).is_err_and(|error| is_missing(&error)));
+    assert!(read(missing).is_err_and(|error| is_missing(&error)));
+    fs::remove_dir_all(&room).unwrap();
+}
+
+#[test]
+fn packed_numbers_have_four_bytes() {
+    let case = |length: usize| {
+        let case = format!("case a\nsays x\nmanifest\nlist-buffer {length}\nplan list\n");
+        parse("f", &case).unwrap()
+    };
+    assert!(pack(&case(0xffff_ffff)).is_ok());
+    assert_eq!(pack(&case(0x1_0000_0000)), Err(TooGreat(0x1_0000_0000)));
 }

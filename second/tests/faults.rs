@@ -2,8 +2,11 @@
 //! compiled and put to all cases, and those that the edit names must notice it. So the cases are
 //! shown to tell right from wrong.
 
-use second::cases::{allows, files, folder, read, Case};
+use second::cases::{files, folder, read, Case, Expected};
+use second::Answer;
 use std::collections::BTreeMap;
+use std::error::Error;
+use std::fmt::{self, Display, Formatter};
 use std::fs::{self, File};
 use std::path::{Path, PathBuf};
 use std::process::Command;
@@ -34,36 +37,70 @@ struct Edit {
 /// Source files by their path in `src`.
 type Source = BTreeMap<PathBuf, String>;
 
-impl Fault {
-    fn parse(name: String, content: &str) -> Fault {
-        let mut fault = Fault { name, ..Fault::default() };
-        for line in content.lines() {
-            if let Some(names) = line.strip_prefix("noticed by ") {
-                fault.noticed_by.extend(names.split(' ').map(str::to_string));
-            } else if let Some(file) = line.strip_prefix("in ") {
-                fault.edits.push(Edit { file: file.to_string(), ..Edit::default() });
-            } else if !line.starts_with('#') {
-                let edit = fault.edits.last_mut().expect("`in FILE` stands before a replaced text");
-                match line.split_at(1) {
-                    ("-", old) => edit.old.push(old.to_string()),
-                    ("+", new) => edit.new.push(new.to_string()),
-                    _ => panic!("{}: not understood: {line}", fault.name),
-                }
-            }
+/// Why a fault can't be planted.
+#[derive(Debug)]
+enum Misfit {
+    /// A line of the fault's file, counted from 1, has no form.
+    Line(usize),
+    /// It names no case that notices it.
+    Unnoticed,
+    /// There is no such source file.
+    NoFile(String),
+    /// The old text does not stand in its file once.
+    Times { file: String, times: usize, old: String },
+}
+
+impl Display for Misfit {
+    fn fmt(&self, f: &mut Formatter) -> fmt::Result {
+        match self {
+            Misfit::Line(line) => write!(f, "line {line} is not understood"),
+            Misfit::Unnoticed => write!(f, "it names no case"),
+            Misfit::NoFile(file) => write!(f, "there is no file {file}"),
+            Misfit::Times { file, times, old } => write!(f, "{file} has {times} times:\n{old}"),
         }
-        assert!(!fault.noticed_by.is_empty(), "{}: it names no case", fault.name);
-        fault
+    }
+}
+
+impl Error for Misfit {}
+
+impl Fault {
+    fn parse(name: String, content: &str) -> Result<Fault, Misfit> {
+        let mut fault = Fault { name, ..Fault::default() };
+        for (number, line) in (1..).zip(content.lines()) {
+            fault.line(line).ok_or(Misfit::Line(number))?;
+        }
+        if fault.noticed_by.is_empty() {
+            return Err(Misfit::Unnoticed);
+        }
+        Ok(fault)
+    }
+
+    /// Takes a line; `in FILE` stands before a replaced text.
+    fn line(&mut self, line: &str) -> Option<()> {
+        if let Some(names) = line.strip_prefix("noticed by ") {
+            self.noticed_by.extend(names.split(' ').map(str::to_string));
+        } else if let Some(file) = line.strip_prefix("in ") {
+            self.edits.push(Edit { file: file.to_string(), ..Edit::default() });
+        } else if let Some(old) = line.strip_prefix('-') {
+            self.edits.last_mut()?.old.push(old.to_string());
+        } else if let Some(new) = line.strip_prefix('+') {
+            self.edits.last_mut()?.new.push(new.to_string());
+        } else if !line.starts_with('#') {
+            return None;
+        }
+        Some(())
     }
 
     /// Plants the fault; an old text must stand in its file exactly once.
-    fn plant(&self, source: &Source) -> Result<Source, String> {
+    fn plant(&self, source: &Source) -> Result<Source, Misfit> {
         let mut source = source.clone();
         for Edit { file, old, new } in &self.edits {
-            let content = source.get_mut(Path::new(file)).ok_or(format!("no file {file}"))?;
+            let content = source.get_mut(Path::new(file));
+            let content = content.ok_or_else(|| Misfit::NoFile(file.clone()))?;
             let old = old.join("\n");
             let times = content.matches(&old).count();
             if times != 1 {
-                return Err(format!("{}: {file} has {times} times:\n{old}", self.name));
+                return Err(Misfit::Times { file: file.clone(), times, old });
             }
             *content = content.replace(&old, &new.join("\n"));
         }
@@ -80,12 +117,17 @@ fn faults() -> Vec<Fault> {
     let is_edit = |path: &PathBuf| path.extension().is_some_and(|ending| ending == "edit");
     let mut paths: Vec<_> = paths.filter(is_edit).collect();
     paths.sort();
-    let name = |path: &Path| path.file_stem().unwrap().to_string_lossy().into_owned();
-    paths.iter().map(|path| Fault::parse(name(path), &fs::read_to_string(path).unwrap())).collect()
+    paths.iter().map(|path| fault(path)).collect()
+}
+
+fn fault(path: &Path) -> Fault {
+    let name = path.file_stem().unwrap().to_string_lossy().into_owned();
+    let fault = Fault::parse(name, &fs::read_to_string(path).unwrap());
+    fault.unwrap_or_else(|misfit| panic!("{}: {misfit}", path.display()))
 }
 
 /// Modules that answer no ask: the copies are compiled without them, which takes half the time.
-const APART: [&str; 5] = ["cases", "generate", "naive", "rng", "shapes"];
+const APART: [&str; 7] = ["cases", "generate", "kind", "naive", "rng", "shapes", "tool"];
 
 fn source() -> Source {
     let mut source = Source::new();
@@ -165,30 +207,34 @@ fn answers(batch: &[Source], asks: &Path, folder: &Path) -> Vec<Vec<String>> {
     answers.chunks(answers.len() / batch.len()).map(<[String]>::to_vec).collect()
 }
 
-/// An ask's line, its expected answer and the name of its case.
+/// The line of an ask, or of a run of the program, its expected answer and the name of its case.
 struct Asked {
     line: String,
-    expected: String,
+    expected: Expected,
     case: String,
 }
 
-fn asked() -> Vec<Asked> {
-    let asked = |case: &Case| -> Vec<Asked> {
-        let asks = case.asks.iter().map(|(ask, expected)| Asked {
-            line: case.line(*ask),
-            expected: expected.clone(),
-            case: case.name.clone(),
-        });
-        asks.collect()
-    };
-    read(&files(&folder()).unwrap()).unwrap().iter().flat_map(asked).collect()
+fn asked(case: &Case) -> Vec<Asked> {
+    let asked = |line, expected| Asked { line, expected, case: case.name.clone() };
+    let asks = case.asks.iter();
+    let asks = asks.map(|(question, expected)| (case.ask(*question).to_string(), expected.clone()));
+    let program = case
+        .prints
+        .clone()
+        .map(|prints| (format!("program {}", case.lent), Expected::One(Answer::Text(prints))));
+    asks.chain(program).map(|(line, expected)| asked(line, expected)).collect()
+}
+
+/// Whether the line that a copy answered is expected; one that panics answers an empty line.
+fn is_expected(asked: &Asked, answer: &str) -> bool {
+    answer.parse().is_ok_and(|answer| asked.expected.allows(&answer))
 }
 
 /// What is wrong if a planner with this fault gives these answers.
 fn failure(fault: &Fault, asked: &[Asked], answers: &[String]) -> Option<String> {
     assert_eq!(asked.len(), answers.len(), "{}: not every ask is answered", fault.name);
     let pairs = asked.iter().zip(answers);
-    let differing = pairs.filter(|(asked, answer)| !allows(&asked.expected, answer));
+    let differing = pairs.filter(|(asked, answer)| !is_expected(asked, answer));
     let differing: Vec<_> = differing.map(|(asked, _)| asked.case.as_str()).collect();
     let silent = fault.noticed_by.iter().find(|case| !differing.contains(&case.as_str()));
     if let Some(case) = silent {
@@ -207,16 +253,20 @@ fn every_planted_fault_is_noticed() {
     // The copy without a fault: no case may differ.
     faults.push(Fault::default());
     let source = source();
-    let (planted, misfits): (Vec<_>, Vec<_>) =
-        faults.iter().map(|fault| fault.plant(&source)).partition(Result::is_ok);
-    let misfits: Vec<_> = misfits.into_iter().filter_map(Result::err).collect();
-    assert!(misfits.is_empty(), "old texts must stand once:\n{}", misfits.join("\n"));
-    let planted: Vec<_> = planted.into_iter().filter_map(Result::ok).collect();
+    let (mut planted, mut misfits) = (Vec::new(), Vec::new());
+    for fault in &faults {
+        match fault.plant(&source) {
+            Ok(source) => planted.push(source),
+            Err(misfit) => misfits.push(format!("{}: {misfit}", fault.name)),
+        }
+    }
+    assert!(misfits.is_empty(), "{}", misfits.join("\n"));
 
     let place = Path::new(env!("CARGO_TARGET_TMPDIR")).join("faults");
     let _ = fs::remove_dir_all(&place);
     fs::create_dir_all(&place).unwrap();
-    let (asked, asks) = (asked(), place.join("asks"));
+    let cases = read(&files(&folder()).unwrap()).unwrap();
+    let (asked, asks) = (cases.iter().flat_map(asked).collect::<Vec<_>>(), place.join("asks"));
     let lines: String = asked.iter().map(|asked| format!("{}\n", asked.line)).collect();
     fs::write(&asks, lines).unwrap();
 

@@ -1,61 +1,78 @@
 //! The random asks reach every refusal and every kind of answer often enough.
 
-use second::ask::{Answer, Ask};
 use second::generate::{ask, small_ask, SMALL};
-use second::{PlanAnswer, TextAnswer};
+use second::kind::Kind;
+use second::{wire, Answer, Ask, Lent, Refusal, Wanted};
 use std::collections::BTreeMap;
 
 const ASKS: u64 = 20_000;
 
-fn kind(answer: &Answer) -> String {
-    match answer {
-        Answer::Plan(PlanAnswer::List(list)) if list.is_empty() => "empty list".into(),
-        Answer::Plan(PlanAnswer::List(_)) => "list".into(),
-        Answer::Plan(PlanAnswer::Circle(_)) => "refused 14".into(),
-        Answer::Text(TextAnswer::Text(text)) if text.is_empty() => "empty text".into(),
-        Answer::Text(TextAnswer::Text(_)) => "text".into(),
-        Answer::Plan(PlanAnswer::Refused(refusal)) | Answer::Text(TextAnswer::Refused(refusal)) => {
-            format!("refused {}", refusal.number)
-        }
-    }
-}
-
 /// How often each kind of answer comes.
-fn count(draw: fn(u64) -> Ask) -> BTreeMap<String, u64> {
+fn count(draw: fn(u64) -> Ask) -> BTreeMap<Kind, u64> {
     let mut kinds = BTreeMap::new();
     for seed in 0..ASKS {
-        *kinds.entry(kind(&draw(seed).answer())).or_default() += 1;
+        *kinds.entry(Kind::of(&draw(seed).answer())).or_default() += 1;
     }
     println!("{kinds:#?}");
     kinds
 }
 
-fn check(kinds: &BTreeMap<String, u64>, refusals: impl Iterator<Item = u8>) {
-    let refusals = refusals.map(|number| format!("refused {number}"));
-    let answers = ["list", "empty list", "text", "empty text"].map(String::from);
-    for kind in refusals.chain(answers) {
+fn check(kinds: &BTreeMap<Kind, u64>, expected: impl Iterator<Item = Kind>) {
+    for kind in expected {
         assert!(kinds.get(&kind).is_some_and(|&count| count >= 20), "{kind}: {kinds:?}");
     }
 }
 
 #[test]
 fn every_answer_occurs() {
-    check(&count(ask), 1..=18);
+    check(&count(ask), Kind::all());
 }
 
 #[test]
 fn small_asks_are_small_and_reach_all_but_one_refusal() {
-    check(&count(small_ask), (1..=18).filter(|&number| number != 2));
-    assert!((0..ASKS).all(|seed| small_ask(seed).manifest().len() <= SMALL));
+    check(&count(small_ask), Kind::all().filter(|&kind| kind != Kind::Refused(2)));
+    assert!((0..ASKS).all(|seed| small_ask(seed).lent.manifest.len() <= SMALL));
 }
 
 #[test]
 fn asks_and_answers_as_lines() {
-    let ask =
-        Ask::Plan { manifest: b"\n".to_vec(), card: vec![], targets: vec![97], list_len: 512 };
-    assert_eq!(ask.to_string(), "plan 0a - 61 512");
-    assert_eq!(ask.answer().to_string(), "refused 11 at 0");
-    assert_eq!(Answer::Plan(PlanAnswer::List(vec![0, 3, 1])).to_string(), "list 0 3 1");
-    assert_eq!(Answer::Plan(PlanAnswer::Circle(vec![2])).to_string(), "circle 2");
-    assert_eq!(Answer::Text(TextAnswer::Text(vec![])).to_string(), "text -");
+    let lent = Lent { manifest: b"\n".to_vec(), card: vec![], targets: vec![97] };
+    let plan = Ask::plan(lent);
+    assert_eq!(plan.to_string(), "plan 0a - 61 512");
+    assert_eq!(plan.answer().to_string(), "refused 11 at 0");
+    let text = Ask::text(*b"\n", 7, Wanted::Description);
+    assert_eq!(text.to_string(), "text 0a 7 description 8192");
+    for ask in [plan, text].into_iter().chain((0..200).map(ask)) {
+        assert_eq!(ask.to_string().parse(), Ok(ask));
+    }
+    for (answer, line) in [
+        (Answer::List(vec![]), "list"),
+        (Answer::List(vec![0, 3, 1]), "list 0 3 1"),
+        (Answer::Circle(vec![2]), "circle 2"),
+        (Answer::Text(vec![]), "text -"),
+        (Answer::Text(b"cc".to_vec()), "text 6363"),
+        (Answer::Refused(Refusal::new(4, 17)), "refused 4 at 17"),
+    ] {
+        assert_eq!(answer.to_string(), line);
+        assert_eq!(line.parse(), Ok(answer));
+    }
+}
+
+#[test]
+fn lines_that_are_none() {
+    let form = |line: &str| wire::Error::Form(line.to_string());
+    for line in ["", "plan 0a - 61", "text 0a 7 generator 8192", "program - - -"] {
+        assert_eq!(line.parse::<Ask>(), Err(form(line)));
+    }
+    assert_eq!("plan 0a - 61 x".parse::<Ask>(), Err(wire::Error::Number("x".to_string())));
+    for hex in ["6", "6g", "+6", ""] {
+        let line = format!("plan {hex} - - 512");
+        assert_eq!(line.parse::<Ask>(), Err(wire::Error::Hex(hex.to_string())));
+    }
+    for line in ["", "circles 0", "refused 4", "refused 4 of 17", "text"] {
+        assert_eq!(line.parse::<Answer>(), Err(form(line)));
+    }
+    for line in ["list -1", "circle ", "refused 256 at 0", "refused 4 at -1"] {
+        assert!(matches!(line.parse::<Answer>(), Err(wire::Error::Number(_))), "{line}");
+    }
 }

@@ -1,7 +1,7 @@
 //! The cases that document 01 itself gives: the bench example, M1 to M10, and those the program
 //! is to run; with the exact bytes the program writes.
 
-use second::{card, plan, program, text, PlanAnswer, Refusal, TextAnswer, Wanted};
+use second::{card, program, Answer, Ask, Lent, Wanted};
 
 const BENCH: &[u8] = b"cflags = -O1
 rule cc
@@ -19,32 +19,42 @@ fn card(records: &[(&str, u64)]) -> Vec<u8> {
     card::write(&records)
 }
 
+fn lent(manifest: &[u8], records: &[(&str, u64)], targets: &str) -> Lent {
+    Lent { manifest: manifest.to_vec(), card: card(records), targets: targets.into() }
+}
+
+fn plan(manifest: &[u8], records: &[(&str, u64)], targets: &str) -> Answer {
+    Ask::plan(lent(manifest, records, targets)).answer()
+}
+
 fn list(manifest: &[u8], records: &[(&str, u64)], targets: &str) -> Vec<u32> {
-    match plan(manifest, &card(records), targets.as_bytes(), 512) {
-        PlanAnswer::List(list) => list,
+    match plan(manifest, records, targets) {
+        Answer::List(list) => list,
         other => panic!("{other:?}"),
     }
 }
 
+fn written(manifest: &[u8], records: &[(&str, u64)], targets: &str) -> Vec<u8> {
+    program::output(&lent(manifest, records, targets))
+}
+
 fn command(manifest: &[u8], step: usize) -> Vec<u8> {
-    match text(manifest, step, Wanted::Command, 8192) {
-        TextAnswer::Text(text) => text,
+    match Ask::text(manifest, step, Wanted::Command).answer() {
+        Answer::Text(text) => text,
         other => panic!("{other:?}"),
     }
 }
 
 fn refused(manifest: &[u8]) -> Option<(u8, usize)> {
-    match plan(manifest, &card(&[]), b"", 512) {
-        PlanAnswer::Refused(Refusal { number, place }) => Some((number, place)),
-        _ => None,
-    }
+    let refusal = plan(manifest, &[], "").refusal()?;
+    Some((refusal.number, refusal.place.value()))
 }
 
 #[test]
 fn bench_example() {
-    let times = card(&[("a.c", 5), ("b.c", 5), ("t.h", 9), ("a.o", 7)]);
-    let written = b"[1/2] cc -O1 -c b.c -o b.o\n[2/2] cc -O2 -c a.c -o a.o\n";
-    assert_eq!(program::output(BENCH, &times, b""), written);
+    let times = [("a.c", 5), ("b.c", 5), ("t.h", 9), ("a.o", 7)];
+    let lines = b"[1/2] cc -O1 -c b.c -o b.o\n[2/2] cc -O2 -c a.c -o a.o\n";
+    assert_eq!(written(BENCH, &times, ""), lines);
 }
 
 #[test]
@@ -53,7 +63,7 @@ fn m1_m2_ages() {
     assert_eq!(list(BENCH, &m1, ""), [1]);
     let m2 = [("a.c", 5), ("b.c", 5), ("t.h", 9), ("a.o", 9), ("b.o", 7)];
     assert_eq!(list(BENCH, &m2, ""), []);
-    assert_eq!(program::output(BENCH, &card(&m2), b""), b"no work\n");
+    assert_eq!(written(BENCH, &m2, ""), b"no work\n");
 }
 
 #[test]
@@ -71,11 +81,11 @@ fn m3_m4_m5_m6_texts() {
 #[test]
 fn m7_m8_circles() {
     let own = b"build a: phony a\n";
-    assert_eq!(plan(own, &card(&[]), b"a\n", 512), PlanAnswer::Circle(vec![0]));
-    assert_eq!(program::output(own, &card(&[]), b"a\n"), b"refused 14 at 1\ncircle 0\n");
+    assert_eq!(plan(own, &[], "a\n"), Answer::Circle(vec![0]));
+    assert_eq!(written(own, &[], "a\n"), b"refused 14 at 1\ncircle 0\n");
     let apart = b"build a: phony b\nbuild b: phony a\nbuild c: phony\n";
     assert_eq!(list(apart, &[], "c\n"), []);
-    assert_eq!(plan(apart, &card(&[]), b"b\n", 512), PlanAnswer::Circle(vec![1, 0]));
+    assert_eq!(plan(apart, &[], "b\n"), Answer::Circle(vec![1, 0]));
 }
 
 #[test]
@@ -143,19 +153,19 @@ build special.o: cc special.c
 # Subsequent build lines get the outer (original) cflags.
 build bar.o: cc bar.c
 ";
-    let sources = card(&[("foo.c", 1), ("special.c", 1), ("bar.c", 1)]);
-    let written = b"[1/3] gcc -Wall -Werror -c foo.c -o foo.o
+    let sources = [("foo.c", 1), ("special.c", 1), ("bar.c", 1)];
+    let lines = b"[1/3] gcc -Wall -Werror -c foo.c -o foo.o
 [2/3] gcc -Wall -c special.c -o special.o
 [3/3] gcc -Wall -Werror -c bar.c -o bar.o
 ";
-    assert_eq!(program::output(shadowing, &sources, b""), written);
+    assert_eq!(written(shadowing, &sources, ""), lines);
 
     let demo = b"rule demo
   command = echo \"this is a demo of $foo\"
 build out: demo
   foo = bar
 ";
-    assert_eq!(program::output(demo, &card(&[]), b""), b"[1/1] echo \"this is a demo of bar\"\n");
+    assert_eq!(written(demo, &[], ""), b"[1/1] echo \"this is a demo of bar\"\n");
 
     let joined = b"two_words_with_one_space = foo $
     bar
@@ -177,7 +187,7 @@ build $spaced/baz other$ file: r
 
     let phony = b"build foo: phony some/file/in/a/faraway/subdir/foo\n";
     let faraway = [("some/file/in/a/faraway/subdir/foo", 1)];
-    assert_eq!(program::output(phony, &card(&faraway), b"foo\n"), b"no work\n");
+    assert_eq!(written(phony, &faraway, "foo\n"), b"no work\n");
 
     let defaults = b"rule r
   command = r $out

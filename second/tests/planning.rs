@@ -1,41 +1,36 @@
 //! The planning against the naive transcription of "Needed and stale", on random small graphs.
 
 use second::generate::graphs::{graph_ask, GraphAsk};
-use second::naive::{self, Verdict};
+use second::naive;
 use second::plan::plan_graph;
 use second::rng::Rng;
-use second::PlanAnswer;
+use second::Answer;
 use std::collections::BTreeMap;
 
 const GRAPHS: u64 = 100_000;
 
 /// The outcome's kind, after checking that both planners agree on it.
 fn compare(ask: &GraphAsk) -> &'static str {
-    let GraphAsk { graph, times, targets, defaults } = ask;
-    let fast = plan_graph(graph, times, targets, defaults);
-    match naive::plan(graph, times, targets, defaults) {
-        Verdict::NoOrder => {
-            let needed = naive::needed(graph, &naive::roots(graph, targets, defaults));
-            let PlanAnswer::Circle(circle) = fast else { panic!("no circle: {ask:?}") };
+    let GraphAsk { graph, start } = ask;
+    let fast = plan_graph(graph, start).unwrap_or_else(Answer::Refused);
+    match naive::plan(graph, start) {
+        None => {
+            let needed = naive::needed(graph, &naive::roots(graph, start));
+            let Answer::Circle(circle) = fast else { panic!("no circle: {ask:?}") };
             assert!(naive::is_circle(graph, &needed, &circle), "{circle:?} {ask:?}");
             match circle.len() {
                 1 => "circle of 1",
                 _ => "circle of more",
             }
         }
-        Verdict::Refused(refusal) => {
-            assert_eq!(fast, PlanAnswer::Refused(refusal), "{ask:?}");
-            match refusal.number {
-                13 => "refused 13",
+        Some(answer) => {
+            assert_eq!(fast, answer, "{ask:?}");
+            match answer {
+                Answer::List(list) if list.is_empty() => "empty list",
+                Answer::List(list) if list.is_sorted() => "rising list",
+                Answer::List(_) => "other list",
+                Answer::Refused(refusal) if refusal.number == 13 => "refused 13",
                 _ => "refused 15",
-            }
-        }
-        Verdict::List(list) => {
-            assert_eq!(fast, PlanAnswer::List(list.clone()), "{ask:?}");
-            match list.len() {
-                0 => "empty list",
-                _ if list.is_sorted() => "rising list",
-                _ => "other list",
             }
         }
     }

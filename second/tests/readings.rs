@@ -1,12 +1,12 @@
 //! The settled readings of document 01, one test for each group of them, by their numbers.
 
 use second::manifest::{self, Manifest};
-use second::{card, plan, text, PlanAnswer, Refusal, TextAnswer, Wanted};
+use second::{card, Answer, Ask, Lent, Question, Refusal, Wanted};
 
 /// `None` if the manifest is sound, else the refusal's number and place.
 fn refused(manifest: &str) -> Option<(u8, usize)> {
     let refusal = manifest::read(manifest.as_bytes()).err()?;
-    Some((refusal.number, refusal.place))
+    Some((refusal.number, refusal.place.value()))
 }
 
 #[track_caller]
@@ -30,9 +30,9 @@ fn files(manifest: &str) -> Vec<String> {
 }
 
 fn text_of(manifest: &str, wanted: Wanted) -> Result<String, u8> {
-    match text(manifest.as_bytes(), 0, wanted, 8192) {
-        TextAnswer::Text(text) => Ok(String::from_utf8(text).unwrap()),
-        TextAnswer::Refused(refusal) => Err(refusal.number),
+    match Ask::text(manifest, 0, wanted).answer() {
+        Answer::Text(text) => Ok(String::from_utf8(text).unwrap()),
+        other => Err(other.numbers().0),
     }
 }
 
@@ -45,12 +45,17 @@ fn card(records: &[(&str, u64)]) -> Vec<u8> {
     card::write(&records)
 }
 
-fn planned(manifest: &str, records: &[(&str, u64)], targets: &str) -> PlanAnswer {
-    plan(manifest.as_bytes(), &card(records), targets.as_bytes(), 512)
+fn plan(manifest: &str, card: &[u8], targets: &str) -> Answer {
+    Ask::plan(Lent { manifest: manifest.into(), card: card.into(), targets: targets.into() })
+        .answer()
 }
 
-fn refusal(number: u8, place: usize) -> PlanAnswer {
-    PlanAnswer::Refused(Refusal { number, place })
+fn planned(manifest: &str, records: &[(&str, u64)], targets: &str) -> Answer {
+    plan(manifest, &card(records), targets)
+}
+
+fn refusal(number: u8, place: usize) -> Answer {
+    Answer::Refused(Refusal::new(number, place))
 }
 
 const R: &str = "rule r\n command = r\n";
@@ -265,11 +270,11 @@ fn reading_22_the_version_is_expanded() {
 
 #[test]
 fn reading_23_cards() {
-    let manifest = b"build a: phony b\n";
+    let manifest = "build a: phony b\n";
     let sound = card(&[("b", 5), ("ba", 5), ("c", 1)]);
-    let answer = |card: &[u8]| plan(manifest, card, b"", 512);
-    assert_eq!(answer(&sound), PlanAnswer::List(vec![]));
-    assert_eq!(answer(&card(&[("\0\n\t", u64::MAX / 2), ("b", 1)])), PlanAnswer::List(vec![]));
+    let answer = |card: &[u8]| plan(manifest, card, "");
+    assert_eq!(answer(&sound), Answer::List(vec![]));
+    assert_eq!(answer(&card(&[("\0\n\t", u64::MAX / 2), ("b", 1)])), Answer::List(vec![]));
     assert_eq!(answer(b""), refusal(11, 0));
     assert_eq!(answer(&[sound.clone(), vec![b'd']].concat()), refusal(11, 0));
     assert_eq!(answer(&sound[..sound.len() - 1]), refusal(11, 0));
@@ -296,13 +301,13 @@ fn reading_24_targets() {
     let manifest = "build a: phony b\n";
     let answer = |targets: &str| planned(manifest, &[("b", 1)], targets);
     assert_eq!(answer("\n"), refusal(12, 0));
-    assert_eq!(answer("b\n"), PlanAnswer::List(vec![]));
+    assert_eq!(answer("b\n"), Answer::List(vec![]));
     assert_eq!(planned(manifest, &[], "b\n"), refusal(15, 1));
     assert_eq!(answer("a\nc\n\n"), refusal(12, 2));
     assert_eq!(answer("a\n\nc\n"), refusal(12, 2));
     assert_eq!(answer("c\na"), refusal(12, 0));
     assert_eq!(answer(&format!("a\n{}\n", "z".repeat(256))), refusal(12, 2));
-    assert_eq!(answer(&"a\n".repeat(2048)), PlanAnswer::List(vec![]));
+    assert_eq!(answer(&"a\n".repeat(2048)), Answer::List(vec![]));
     assert_eq!(answer(&format!("{}c\n", "a\n".repeat(2048))), refusal(12, 0));
 }
 
@@ -310,31 +315,33 @@ fn reading_24_targets() {
 fn reading_25_inputs_of_any_kind() {
     assert_eq!(planned("build a: phony || a\n", &[], ""), refusal(13, 0));
     assert_eq!(planned("build a: phony | b\nbuild b: phony || a\n", &[], ""), refusal(13, 0));
-    assert_eq!(planned("\n", &[], ""), PlanAnswer::List(vec![]));
+    assert_eq!(planned("\n", &[], ""), Answer::List(vec![]));
     let phony = |inputs: &str| format!("{R}build o: r p\nbuild p: phony{inputs}\n");
-    assert_eq!(planned(&phony(""), &[("o", 5)], ""), PlanAnswer::List(vec![0]));
-    assert_eq!(planned(&phony(" || s"), &[("o", 5), ("s", 9)], ""), PlanAnswer::List(vec![]));
+    assert_eq!(planned(&phony(""), &[("o", 5)], ""), Answer::List(vec![0]));
+    assert_eq!(planned(&phony(" || s"), &[("o", 5), ("s", 9)], ""), Answer::List(vec![]));
 }
 
 #[test]
 fn reading_26_sources_and_phony_times() {
     let manifest = format!("{R}build o: r p\nbuild p: phony q\nbuild q: phony s || t\n");
     assert_eq!(planned(&manifest, &[("o", 5), ("s", 5)], ""), refusal(15, 4));
-    assert_eq!(planned(&manifest, &[("o", 5), ("s", 5), ("t", 9)], ""), PlanAnswer::List(vec![]));
-    assert_eq!(planned(&manifest, &[("o", 5), ("s", 6), ("t", 1)], ""), PlanAnswer::List(vec![0]));
+    assert_eq!(planned(&manifest, &[("o", 5), ("s", 5), ("t", 9)], ""), Answer::List(vec![]));
+    assert_eq!(planned(&manifest, &[("o", 5), ("s", 6), ("t", 1)], ""), Answer::List(vec![0]));
     let listed = [("o", 5), ("p", 4), ("s", 6), ("t", 1)];
-    assert_eq!(planned(&manifest, &listed, ""), PlanAnswer::List(vec![]));
+    assert_eq!(planned(&manifest, &listed, ""), Answer::List(vec![]));
     let newer = [("o", 5), ("p", 6), ("s", 1), ("t", 1)];
-    assert_eq!(planned(&manifest, &newer, ""), PlanAnswer::List(vec![0]));
+    assert_eq!(planned(&manifest, &newer, ""), Answer::List(vec![0]));
 }
 
 #[test]
 fn order_of_the_checks_before_the_lines() {
-    let buffer = |length: usize| plan(b"\0", b"", b"x", length);
-    assert_eq!(buffer(511), refusal(1, 0));
-    assert_eq!(buffer(512), refusal(3, 0));
-    let short = text(b"\0", 7, Wanted::Command, 8191);
-    assert_eq!(short, TextAnswer::Refused(Refusal { number: 1, place: 0 }));
+    let lent = Lent { manifest: vec![0], card: vec![], targets: b"x".to_vec() };
+    let answer = |question| Ask { lent: lent.clone(), question }.answer();
+    assert_eq!(answer(Question::Plan { list_len: 511 }), refusal(1, 0));
+    assert_eq!(answer(Question::Plan { list_len: 512 }), refusal(3, 0));
+    let text = |buf_len| Question::Text { step: 7, wanted: Wanted::Command, buf_len };
+    assert_eq!(answer(text(8191)), refusal(1, 0));
+    assert_eq!(answer(text(8192)), refusal(3, 0));
     assert_eq!(refused(&"\0".repeat(49_153)), Some((2, 0)));
     assert_eq!(refused("pool\na\t\r"), Some((3, 6)));
     assert_eq!(refused("pool\na"), Some((3, 6)));
@@ -345,9 +352,9 @@ fn order_of_the_checks_before_the_lines() {
 #[test]
 fn refusal_18() {
     for step in [1, 2, usize::MAX] {
-        let answer = text(b"build a: phony\n", step, Wanted::Command, 8192);
-        assert_eq!(answer, TextAnswer::Refused(Refusal { number: 18, place: step }));
+        let ask = Ask::text(*b"build a: phony\n", step, Wanted::Command);
+        assert_eq!(ask.answer(), refusal(18, step));
     }
-    let phony = text(b"build a: phony\n command = x\n", 0, Wanted::Command, 8192);
-    assert_eq!(phony, TextAnswer::Refused(Refusal { number: 18, place: 0 }));
+    let phony = Ask::text(*b"build a: phony\n command = x\n", 0, Wanted::Command);
+    assert_eq!(phony.answer(), refusal(18, 0));
 }

@@ -1,8 +1,9 @@
-//! The proved reader against the second planner's reading: on the large shapes, and on manifests that are made to take long.
-//! The buffers are made once and nothing is cleared before a call. A word behind the command runs only what has it in its name.
+//! The proved reader of manifests against the second planner's: on the large shapes, and on
+//! manifests that are made to take long. The buffers are made once and nothing is cleared before a
+//! call. A word behind the command runs only what has it in its name.
 
+use compare::manifest::Buffers;
 use compare::measure::{rounds, row};
-use compare::readings::Buffers;
 use second::manifest;
 use std::fmt::Write;
 use std::time::{Duration, Instant};
@@ -25,9 +26,13 @@ fn main() {
             10..1_000 => 3,
             _ => 1,
         };
-        let theirs = manifest::read(manifest).map_or_else(|refusal| (usize::from(refusal.number), refusal.place), |_| (0, 0));
+        let theirs = manifest::read(manifest).map_or_else(
+            |refusal| (usize::from(refusal.number), refusal.place.value()),
+            |_| (0, 0),
+        );
         assert_eq!((said.number, said.place), theirs, "{name}");
-        let (ours, theirs) = rounds(count, || buffers.read(manifest), || manifest::read(manifest).is_ok());
+        let (ours, theirs) =
+            rounds(count, || buffers.read(manifest), || manifest::read(manifest).is_ok());
         row(&format!("{name} ({})", said.number), ours, theirs);
         if ours.median > worst.0 {
             worst = (ours.median, name.clone());
@@ -75,16 +80,42 @@ fn hard() -> Vec<(String, Vec<u8>)> {
         lines
     });
     let mut hard: Vec<(&str, Vec<u8>)> = vec![
-        ("one line of distinct short outputs", filled("build", ":phony\n", |k| format!(" {}", short(k)))),
-        ("one line of distinct long outputs by $v", filled(&format!("{long}build"), ":phony\n", |k| format!(" {}$v", short(k)))),
-        ("outputs by $v that differ at the end", filled(&format!("{long}build"), ":phony\n", |k| format!(" ${{v}}{}", short(k)))),
-        ("one input of $v everywhere", filled(&format!("{long}build o:phony "), "\n", |_| "$v".to_string())),
+        (
+            "one line of distinct short outputs",
+            filled("build", ":phony\n", |k| format!(" {}", short(k))),
+        ),
+        (
+            "one line of distinct long outputs by $v",
+            filled(&format!("{long}build"), ":phony\n", |k| format!(" {}$v", short(k))),
+        ),
+        (
+            "outputs by $v that differ at the end",
+            filled(&format!("{long}build"), ":phony\n", |k| format!(" ${{v}}{}", short(k))),
+        ),
+        (
+            "one input of $v everywhere",
+            filled(&format!("{long}build o:phony "), "\n", |_| "$v".to_string()),
+        ),
         ("inputs of $v each", filled(&format!("{long}build o:phony"), "\n", |_| " $v".to_string())),
-        ("inputs of nothing behind $v", filled(&format!("{long}build o:phony"), " $u\n", |_| " $v".to_string())),
+        (
+            "inputs of nothing behind $v",
+            filled(&format!("{long}build o:phony"), " $u\n", |_| " $v".to_string()),
+        ),
         ("one value of $v everywhere", filled(&format!("{long}x="), "\n", |_| "$v".to_string())),
-        ("1,001 bindings, looked up by 4,095 inputs", filled(&format!("{many}build o:phony"), "\n", |k| if k < 4_095 { " $vvv" } else { " " }.to_string())),
-        ("1,001 bindings, looked up everywhere", filled(&format!("{many}build o:phony "), "\n", |_| "$vvv".to_string())),
-        ("1,001 bindings, an empty one everywhere", filled(&format!("{many}build o:phony x"), "\n", |_| "$0".to_string())),
+        (
+            "1,001 bindings, looked up by 4,095 inputs",
+            filled(&format!("{many}build o:phony"), "\n", |k| {
+                if k < 4_095 { " $vvv" } else { " " }.to_string()
+            }),
+        ),
+        (
+            "1,001 bindings, looked up everywhere",
+            filled(&format!("{many}build o:phony "), "\n", |_| "$vvv".to_string()),
+        ),
+        (
+            "1,001 bindings, an empty one everywhere",
+            filled(&format!("{many}build o:phony x"), "\n", |_| "$0".to_string()),
+        ),
         ("bindings that double", doubling()),
         ("empty lines", filled("", "", |_| "\n".to_string())),
         ("comments", filled("", "", |_| "#\n".to_string())),
@@ -93,19 +124,40 @@ fn hard() -> Vec<(String, Vec<u8>)> {
     ];
     let mut many_references = Vec::new();
     let bucket = one_bucket();
-    hard.push(("1,023 outputs in a bucket, then others", bucketed(&bucket, ":phony\n", "build", 1_023)));
+    hard.push((
+        "1,023 outputs in a bucket, then others",
+        bucketed(&bucket, ":phony\n", "build", 1_023),
+    ));
     hard.push(("defaults of 1,023 outputs in a bucket", defaults(&bucket)));
     let old = "a=\n".repeat(1_023);
     let mut falling: Vec<String> = (0..13_300).map(short).collect();
     falling.sort_by(|a, b| b.cmp(a));
-    hard.push(("outputs in falling order", filled("build", ":phony\n", |k| falling.get(k).map_or(" ".to_string(), |output| format!(" {output}")))));
-    hard.push(("outputs by an old $v that differ at the end", filled(&format!("{long}{}build", "a=\n".repeat(1_022)), ":phony\n", |k| format!(" ${{v}}{}", short(k)))));
+    hard.push((
+        "outputs in falling order",
+        filled("build", ":phony\n", |k| {
+            falling.get(k).map_or(" ".to_string(), |output| format!(" {output}"))
+        }),
+    ));
+    hard.push((
+        "outputs by an old $v that differ at the end",
+        filled(&format!("{long}{}build", "a=\n".repeat(1_022)), ":phony\n", |k| {
+            format!(" ${{v}}{}", short(k))
+        }),
+    ));
     for count in [1, 2, 4, 8, 16, 32, 64] {
         let name = format!("outputs of {count} old references");
         let front = "$v".repeat(count - 1);
-        many_references.push((name, filled(&format!("v=x\n{old}build"), ":phony\n", |k| format!(" {front}${{v}}{}", short(k)))));
+        many_references.push((
+            name,
+            filled(&format!("v=x\n{old}build"), ":phony\n", |k| {
+                format!(" {front}${{v}}{}", short(k))
+            }),
+        ));
     }
-    hard.into_iter().map(|(name, manifest)| (name.to_string(), manifest)).chain(many_references).collect()
+    hard.into_iter()
+        .map(|(name, manifest)| (name.to_string(), manifest))
+        .chain(many_references)
+        .collect()
 }
 
 /// Values that double up to the most bytes, and a path of them all.
@@ -125,11 +177,14 @@ fn bucket(name: &str) -> usize {
 /// Texts of four bytes that are, behind fifty others, all in one bucket.
 fn one_bucket() -> Vec<String> {
     let digit = |k: usize| DIGITS[k % 64] as char;
-    let texts = (0..40 << 18).map(|k| [digit(k), digit(k >> 6), digit(k >> 12), digit(k >> 18)].iter().collect::<String>());
+    let texts = (0..40 << 18).map(|k| {
+        [digit(k), digit(k >> 6), digit(k >> 12), digit(k >> 18)].iter().collect::<String>()
+    });
     texts.filter(|text| bucket(&format!("{}{text}", "x".repeat(50))) == 0).collect()
 }
 
-/// A step with so many outputs in one bucket, each of them with a long front, and another step with outputs in it.
+/// A step with so many outputs in one bucket, each of them with a long front, and another step with
+/// outputs in it.
 fn bucketed(names: &[String], back: &str, next: &str, count: usize) -> Vec<u8> {
     let front = format!("p={}\nbuild", "x".repeat(50));
     let first: String = names[..count].iter().fold(front, |line, name| line + " ${p}" + name);

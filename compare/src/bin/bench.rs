@@ -1,16 +1,20 @@
-//! The proved leaves and the plan of a read graph against the second planner's own: median and minimum of a call, and the ratios of both. Nothing is
-//! cleared before a call but the name table. Where the linker puts a
-//! short loop can double its time, so run it with aligned loops too, which gives the second planner its best:
-//! `RUSTFLAGS="-C llvm-args=-align-loops=64" cargo run --release --target-dir target/aligned --bin bench`.
+//! The proved scanners, name table, card and plan of a graph against the second planner's own:
+//! median and minimum of a call, and the ratios of both. Nothing is cleared before a call but the
+//! name table. Where the linker puts a short loop can double its time, so run it with aligned loops
+//! too, which gives the second planner its best: `RUSTFLAGS="-C llvm-args=-align-loops=64" cargo
+//! run --release --target-dir target/aligned --bin bench`.
 
 use compare::card::{self, Card};
-use compare::graphs::{self, Tables};
+use compare::graph::{self, Tables};
 use compare::measure::{both, row};
 use compare::names::{Added, Names};
 use compare::scan::{self, Classes};
 use second::bytes::{class, Class};
+use second::graph::Start;
 use second::line::{self, Opening, Statement};
+use second::plan::plan_graph;
 use second::scan::Scanner;
+use second::Answer;
 use std::collections::HashMap;
 
 fn main() {
@@ -24,14 +28,17 @@ fn main() {
 fn manifest() -> Vec<u8> {
     let mut manifest = Vec::new();
     for rule in 0..20 {
-        manifest.extend(format!("rule cc{rule}\n  command = gcc -MMD $cflags -I${{root}}/include -c $in -o $out\n  description = CC $out\n").bytes());
+        let command = "gcc -MMD $cflags -I${root}/include -c $in -o $out";
+        let keys = format!("  command = {command}\n  description = CC $out\n");
+        manifest.extend(format!("rule cc{rule}\n{keys}").bytes());
     }
     for step in 0.. {
-        let lines = format!(
-            "# step {step}\nflags{step} = -O2 -Wall $cflags\nbuild out/module{step}/file{step}.o: cc{} src/module{step}/file$ {step}.c | include/a.h \\\
-             || gen/dir{step}\n  cflags = -DSTEP={step} ${{root}}\n\n",
-            step % 20
-        );
+        let outputs = format!("out/module{step}/file{step}.o");
+        let inputs = format!("src/module{step}/file$ {step}.c | include/a.h \\|| gen/dir{step}");
+        let build = format!("build {outputs}: cc{} {inputs}", step % 20);
+        let variable = format!("flags{step} = -O2 -Wall $cflags");
+        let binding = format!("cflags = -DSTEP={step} ${{root}}");
+        let lines = format!("# step {step}\n{variable}\n{build}\n  {binding}\n\n");
         if manifest.len() + lines.len() > 49_000 {
             return manifest;
         }
@@ -52,7 +59,8 @@ fn scanners() {
     );
     row("manifest of 49 KB: the check under 3", ours, theirs);
 
-    // the second planner has no function for the end of a joined line: it reads a line's bytes as a value does
+    // the second planner has no function for the end of a joined line: it reads a line's bytes as a
+    // value does
     let their_end = |start| match line::opening(&manifest, start) {
         Opening::Comment | Opening::Blank => line::after(&manifest, start),
         Opening::Indented | Opening::Plain => {
@@ -74,7 +82,10 @@ fn scanners() {
     let (ours, theirs) = both(|| ends(&our_end), || ends(&their_end));
     row(&format!("manifest of 49 KB: {} line ends", ends(&our_end)), ours, theirs);
 
-    let long: Vec<u8> = (0..1_000).flat_map(|k| format!(" src/module{:02}/$dir/file{k:05}.c", k % 40).into_bytes()).chain(*b"\n").collect();
+    let long: Vec<u8> = (0..1_000)
+        .flat_map(|k| format!(" src/module{:02}/$dir/file{k:05}.c", k % 40).into_bytes())
+        .chain(*b"\n")
+        .collect();
     let line = &long[..long.len() - 1];
     let their_paths = || {
         let mut scan = Scanner::new(&long, 0);
@@ -103,7 +114,9 @@ fn scanners() {
     let mut start = 0;
     while start < manifest.len() {
         let value = match line::opening(&manifest, start) {
-            Opening::Indented => line::binding(&manifest, start).ok().map(|(binding, _)| binding.value),
+            Opening::Indented => {
+                line::binding(&manifest, start).ok().map(|(binding, _)| binding.value)
+            }
             Opening::Plain => match line::statement(&manifest, start).expect("a sound line").0 {
                 Statement::Variable(binding) => Some(binding.value),
                 _ => None,
@@ -115,11 +128,22 @@ fn scanners() {
     }
     let place = |value: &[u8]| value.as_ptr() as usize - manifest.as_ptr() as usize;
     let starts: Vec<usize> = values.iter().map(|value| place(value)).collect();
-    let their_values = || starts.iter().map(|&start| Scanner::new(&manifest, start).value().map_or(0, <[u8]>::len)).sum::<usize>();
+    let their_values = || {
+        starts
+            .iter()
+            .map(|&start| Scanner::new(&manifest, start).value().map_or(0, <[u8]>::len))
+            .sum::<usize>()
+    };
     let classes = Classes::new();
-    let (ours, theirs) = both(|| values.iter().filter(|value| classes.bad_dollar(value).is_none()).count(), their_values);
+    let (ours, theirs) = both(
+        || values.iter().filter(|value| classes.bad_dollar(value).is_none()).count(),
+        their_values,
+    );
     row(&format!("manifest of 49 KB: {} values", values.len()), ours, theirs);
-    let (ours, theirs) = both(|| values.iter().filter(|value| scan::bad_dollar(value).is_none()).count(), their_values);
+    let (ours, theirs) = both(
+        || values.iter().filter(|value| scan::bad_dollar(value).is_none()).count(),
+        their_values,
+    );
     row("  and a table for each", ours, theirs);
 }
 
@@ -147,7 +171,8 @@ fn names() {
     );
     row("names: 1,024 added", ours, theirs);
 
-    let map: HashMap<&[u8], usize> = paths.iter().enumerate().map(|(number, path)| (path.as_slice(), number)).collect();
+    let map: HashMap<&[u8], usize> =
+        paths.iter().enumerate().map(|(number, path)| (path.as_slice(), number)).collect();
     let (ours, theirs) = both(
         || paths.iter().filter_map(|path| table.find(path)).sum::<usize>(),
         || paths.iter().filter_map(|path| map.get(path.as_slice())).sum::<usize>(),
@@ -171,7 +196,9 @@ fn cards() {
         || names.iter().map(|name| sound.time(name)).sum::<u64>(),
         || {
             let time = |name: &Vec<u8>| {
-                listed.binary_search_by(|(listed, _)| (*listed).cmp(name)).map_or(0, |k| listed[k].1)
+                listed
+                    .binary_search_by(|(listed, _)| (*listed).cmp(name))
+                    .map_or(0, |k| listed[k].1)
             };
             names.iter().map(time).sum::<u64>()
         },
@@ -184,20 +211,21 @@ fn plans() {
     for shape in second::shapes::all(512) {
         let manifest = second::manifest::read(&shape.manifest).expect("a sound manifest");
         let tables = Tables::of(&manifest.graph);
-        for (age, card) in [("fresh", &shape.fresh), ("stale", &shape.stale)] {
+        for (age, ask) in shape.plans() {
             let mut times = vec![0; manifest.files.names.len()];
-            for (name, time) in second::card::read(card).expect("a sound card") {
+            for (name, time) in second::card::read(&ask.lent.card).expect("a sound card") {
                 times[manifest.files.number(name).expect("a mentioned file") as usize] = time;
             }
             let mut list = [0; 512];
-            let said = graphs::plan(&tables, &times, &manifest.defaults, &[], &mut list);
-            let second::PlanAnswer::List(theirs) = second::plan::plan_graph(&manifest.graph, &times, &[], &manifest.defaults) else {
+            let start = Start { times, targets: Vec::new(), defaults: manifest.defaults.clone() };
+            let said = graph::plan(&tables, &start, &mut list);
+            let Ok(Answer::List(theirs)) = plan_graph(&manifest.graph, &start) else {
                 panic!("no list")
             };
             assert_eq!((said.number, &list[..said.value]), (0, theirs.as_slice()));
             let (ours, theirs) = both(
-                || graphs::plan(&tables, &times, &manifest.defaults, &[], &mut list),
-                || second::plan::plan_graph(&manifest.graph, &times, &[], &manifest.defaults),
+                || graph::plan(&tables, &start, &mut list),
+                || plan_graph(&manifest.graph, &start),
             );
             row(&format!("plan of 512 steps: {}, {age}", shape.name), ours, theirs);
         }

@@ -1,9 +1,11 @@
-//! `differ SEED COUNT` runs so many asks of both planners, from a seed on, and stops at the first on which they differ: it
-//! prints the difference and the ask, made as small as it stays one. The asks of any run can be run again by their seed.
+//! `differ SEED COUNT` runs so many asks of both planners, from a seed on, and stops at the first
+//! on which they differ: it prints the difference and the ask, made as small as it stays one. The
+//! asks of any run can be run again by their seed.
 
-use compare::asks::{compare, run, Counts, Kind};
+use compare::asks::{compare, run, Counts};
 use compare::minimise::minimise;
-use second::ask::Ask;
+use second::kind::Kind;
+use second::Ask;
 use std::process::ExitCode;
 use std::time::Instant;
 
@@ -11,7 +13,8 @@ use std::time::Instant;
 const TOLD: u64 = 500_000;
 
 fn main() -> ExitCode {
-    let numbers: Option<Vec<u64>> = std::env::args().skip(1).map(|argument| argument.parse().ok()).collect();
+    let numbers: Option<Vec<u64>> =
+        std::env::args().skip(1).map(|argument| argument.parse().ok()).collect();
     let Some(&[seed, count]) = numbers.as_deref() else {
         eprintln!("usage: differ SEED COUNT");
         return ExitCode::from(2);
@@ -30,13 +33,16 @@ fn main() -> ExitCode {
             for kind in Kind::all() {
                 println!("{kind:10} {:9}", counts.get(&kind).unwrap_or(&0));
             }
-            println!("{count} asks from seed {seed}, no difference, {} s", began.elapsed().as_secs());
+            println!(
+                "{count} asks from seed {seed}, no difference, {} s",
+                began.elapsed().as_secs()
+            );
             ExitCode::SUCCESS
         }
-        Err((ask, difference)) => {
-            println!("{difference}");
-            show("first", &ask);
-            show("minimised", &minimise(ask, |ask| compare(ask).is_err()));
+        Err(differing) => {
+            println!("{}", differing.difference);
+            show("first", &differing.ask);
+            show("minimised", &minimise(differing.ask, |ask| compare(ask).is_err()));
             ExitCode::FAILURE
         }
     }
@@ -48,5 +54,5 @@ fn show(which: &str, ask: &Ask) {
     if let Err(difference) = compare(ask) {
         println!("-- {difference}; the second planner: {}", ask.answer());
     }
-    println!("{}", String::from_utf8_lossy(ask.manifest()));
+    println!("{}", String::from_utf8_lossy(&ask.lent.manifest));
 }

@@ -1,6 +1,6 @@
 //! Times of the plan ask on 512 steps in a chain, a fan and a lattice, fresh and stale.
 
-use second::{limits, plan, shapes, PlanAnswer};
+use second::{limits, shapes, Answer, Ask};
 use std::hint::black_box;
 use std::time::{Duration, Instant};
 
@@ -8,14 +8,11 @@ const RUNS: usize = 3_000;
 
 fn main() {
     for shape in shapes::all(limits::STEPS) {
-        for (state, card, listed) in
-            [("fresh", &shape.fresh, 0), ("stale", &shape.stale, limits::STEPS)]
-        {
-            let ask = || plan(black_box(&shape.manifest), black_box(card), b"", limits::LIST);
-            assert!(matches!(ask(), PlanAnswer::List(list) if list.len() == listed));
+        for ((age, ask), listed) in shape.plans().iter().zip([0, limits::STEPS]) {
+            assert!(matches!(ask.answer(), Answer::List(list) if list.len() == listed));
             let times = measure(ask);
             println!(
-                "{:8} {state}  median {:8.1} us  minimum {:8.1} us",
+                "{:8} {age}  median {:8.1} us  minimum {:8.1} us",
                 shape.name,
                 micros(times[RUNS / 2]),
                 micros(times[0]),
@@ -25,10 +22,10 @@ fn main() {
 }
 
 /// The times of all runs, rising.
-fn measure(ask: impl Fn() -> PlanAnswer) -> Vec<Duration> {
+fn measure(ask: &Ask) -> Vec<Duration> {
     let run = |_| {
         let start = Instant::now();
-        black_box(ask());
+        black_box(black_box(ask).answer());
         start.elapsed()
     };
     let mut times: Vec<Duration> = (0..RUNS).map(run).collect();

@@ -1,101 +1,28 @@
-//! Packs every plan and text ask of `/cases` for the proved program `cases`, into the file named; with `--check` it only tells
-//! whether that file is up to date. Every number has four bytes, the lowest first:
-//!
-//! - a case: where its name, manifest, card and target list end that follow one behind another, how many asks follow, those
-//!   bytes, and the asks; the last one has only zeros
-//! - an ask: 0 for a plan, 1 for a command, 2 for a description; the step, in two numbers; the length of the lent buffer; how many answers are
-//!   right, and these
-//! - an answer: number and value, in two numbers, as in document 01 (0 and a count, or a refusal and its place), the number of bytes that the
-//!   lent buffer begins with, and these; zeros follow
+//! Packs every plan and text ask of `/cases` for the proved program `cases`, into the file named;
+//! with `--check` it only tells whether that file is up to date.
 
-use second::cases::{expected, files, folder, read, Ask, Case};
-use second::Wanted;
+use second::cases::{files, folder, pack, read};
+use second::tool::{status, Error};
 use std::fs;
 use std::process::ExitCode;
 
-fn number(value: usize) -> Result<[u8; 4], String> {
-    let value = u32::try_from(value).map_err(|_| format!("{value} has over four bytes"))?;
-    Ok(value.to_le_bytes())
-}
-
-fn numbers(values: &[usize]) -> Result<Vec<u8>, String> {
-    Ok(values.iter().map(|&value| number(value)).collect::<Result<Vec<_>, _>>()?.concat())
-}
-
-fn low(value: usize) -> usize {
-    value % (1 << 32)
-}
-
-fn high(value: usize) -> usize {
-    value >> 32
-}
-
-fn packed_ask(case: &Case, ask: Ask, line: &str) -> Result<Vec<u8>, String> {
-    let (kind, step, room) = match ask {
-        Ask::Plan => (0, 0, case.list_len),
-        Ask::Text(step, Wanted::Command) => (1, step, case.buf_len),
-        Ask::Text(step, Wanted::Description) => (2, step, case.buf_len),
-        Ask::Program => return Err("no ask of the planner".to_string()),
-    };
-    let answers = expected(line, ask == Ask::Plan, room)?;
-    let mut packed = numbers(&[kind, low(step), high(step), room, answers.len()])?;
-    for answer in answers {
-        packed.extend(numbers(&[
-            answer.number,
-            low(answer.value),
-            high(answer.value),
-            answer.bytes.len(),
-        ])?);
-        packed.extend(answer.bytes);
-    }
-    Ok(packed)
-}
-
-fn packed_case(case: &Case) -> Result<Vec<u8>, String> {
-    let asks: Vec<_> = case.asks.iter().filter(|(ask, _)| *ask != Ask::Program).collect();
-    if asks.is_empty() {
-        return Ok(Vec::new());
-    }
-    let parts = [case.name.as_bytes(), &case.manifest, &case.card, &case.targets];
-    let ends = parts.iter().scan(0, |end, part| {
-        *end += part.len();
-        Some(*end)
-    });
-    let head: Vec<_> = ends.chain([asks.len()]).collect();
-    let mut packed = numbers(&head)?;
-    packed.extend(parts.concat());
-    for (ask, line) in asks {
-        packed.extend(packed_ask(case, *ask, line)?);
-    }
-    Ok(packed)
-}
-
-fn run() -> Result<(), String> {
+fn run() -> Result<bool, Error> {
     let words: Vec<_> = std::env::args().skip(1).collect();
     let words: Vec<_> = words.iter().map(String::as_str).collect();
     let (path, only_check) = match words[..] {
         ["--check", path] => (path, true),
         [path] => (path, false),
-        _ => return Err("the command is: pack [--check] FILE".to_string()),
+        _ => return Err(Error::Usage("pack [--check] FILE")),
     };
-    let cases = read(&files(&folder())?)?;
-    let mut packed = cases.iter().map(packed_case).collect::<Result<Vec<_>, _>>()?.concat();
-    packed.extend([0; 20]);
+    let packed = pack(&read(&files(&folder())?)?)?;
     if !only_check {
-        return fs::write(path, packed).map_err(|error| format!("{path}: {error}"));
+        fs::write(path, packed).map_err(|error| Error::File(path.into(), error))?;
+    } else if !fs::read(path).is_ok_and(|bytes| bytes == packed) {
+        return Err(Error::OutOfDate(path.into()));
     }
-    let is_up_to_date = fs::read(path).is_ok_and(|bytes| bytes == packed);
-    is_up_to_date
-        .then_some(())
-        .ok_or(format!("{path} is out of date: run `pack {path}` of second/"))
+    Ok(true)
 }
 
 fn main() -> ExitCode {
-    match run() {
-        Ok(()) => ExitCode::SUCCESS,
-        Err(error) => {
-            eprintln!("{error}");
-            ExitCode::FAILURE
-        }
-    }
+    status(run())
 }

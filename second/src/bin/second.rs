@@ -1,5 +1,6 @@
 //! The small program: plans `build.ninja` by `times.card` for the targets on standard input.
 
+use second::{program, Lent};
 use std::fs;
 use std::io::{self, Read, Write};
 
@@ -9,5 +10,5 @@ fn main() -> io::Result<()> {
     let card = fs::read("times.card").unwrap_or_default();
     let mut targets = Vec::new();
     io::stdin().read_to_end(&mut targets)?;
-    io::stdout().write_all(&second::program::output(&manifest, &card, &targets))
+    io::stdout().write_all(&program::output(&Lent { manifest, card, targets }))
 }

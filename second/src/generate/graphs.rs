@@ -1,17 +1,14 @@
 //! Random small graphs with times, targets and defaults: circles, phony chains, order-only chains,
 //! several outputs, missing files, inputs mentioned twice, inputs that are own outputs.
 
-use crate::graph::{Graph, Step};
+use crate::graph::{Graph, Start, Step};
 use crate::rng::Rng;
 
 /// A graph and what a plan of it starts from.
 #[derive(Debug, Clone)]
 pub struct GraphAsk {
     pub graph: Graph,
-    /// The card's time of each file, 0 if missing.
-    pub times: Vec<u64>,
-    pub targets: Vec<u32>,
-    pub defaults: Vec<u32>,
+    pub start: Start,
 }
 
 /// A random graph of at most `most_steps` steps.
@@ -31,7 +28,7 @@ pub fn graph_ask(rng: &mut Rng, most_steps: usize) -> GraphAsk {
     let outputs: Vec<u32> = graph.steps.iter().flat_map(|step| step.outputs.clone()).collect();
     let targets = if rng.chance(40) { some(rng, &files) } else { Vec::new() };
     let defaults = if rng.chance(40) { some(rng, &outputs) } else { Vec::new() };
-    GraphAsk { graph, times, targets, defaults }
+    GraphAsk { graph, start: Start { times, targets, defaults } }
 }
 
 /// The manifest of a graph, file `n` being named `fn`.
@@ -50,8 +47,9 @@ pub fn manifest(rng: &mut Rng, ask: &GraphAsk) -> Vec<u8> {
         }
         text.push('\n');
     }
-    if !ask.defaults.is_empty() {
-        text += &format!("default{}\n", paths(&ask.defaults));
+    let defaults = &ask.start.defaults;
+    if !defaults.is_empty() {
+        text += &format!("default{}\n", paths(defaults));
     }
     text.into_bytes()
 }

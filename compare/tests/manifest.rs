@@ -1,25 +1,25 @@
-//! The proved reader against the second planner's reading: answers, places, and all that the buffers hold of an accepted
-//! manifest. `MANIFESTS` in the environment runs another number of manifests, from seed `FROM` on; `LONG_LINES` another number of those with many outputs.
+//! The proved reader of manifests against the second planner's: answers, places, and all that the
+//! buffers hold of an accepted manifest. `MANIFESTS` in the environment runs another number of
+//! manifests, from seed `FROM` on; `LONG_LINES` another number of those with many outputs.
 
-use compare::readings::{Binding, Buffers, Numbers, Reading, LENGTHS};
+use compare::manifest::{Accepted, Binding, Buffers, Numbers, LENGTHS};
+use compare::settings::setting;
+use second::cases::{self, Expected};
 use second::generate::{ask, damage, draft::Draft, edges, small_ask};
 use second::manifest::{self, Key, Manifest};
 use second::rng::Rng;
-use second::Refusal;
+use second::{Answer, Refusal};
 use std::collections::BTreeMap;
 
 const MANIFESTS: u64 = 120_000;
 
-fn setting(name: &str, otherwise: u64) -> u64 {
-    std::env::var(name).map_or(otherwise, |value| value.parse().expect("a number"))
-}
-
-/// A manifest of any kind; the edges of limits, and damaged bytes, are more frequent than among the random asks.
+/// A manifest of any kind; the edges of limits, and damaged bytes, are more frequent than among the
+/// random asks.
 fn manifest(seed: u64) -> Vec<u8> {
     let rng = &mut Rng::new(seed);
     let mut manifest = match seed % 16 {
-        0..=5 => return small_ask(seed).manifest().to_vec(),
-        6..=9 => return ask(seed).manifest().to_vec(),
+        0..=5 => return small_ask(seed).lent.manifest,
+        6..=9 => return ask(seed).lent.manifest,
         10 => return edges::full(rng),
         11 => edges::small(rng),
         12 => too_much(rng),
@@ -41,19 +41,27 @@ fn too_much(rng: &mut Rng) -> Vec<u8> {
 
 /// A manifest that requires a version, mostly a sound one.
 fn versions(rng: &mut Rng) -> Vec<u8> {
-    let number = |rng: &mut Rng| rng.pick(&["0", "1", "1", "01", "12", "13", "14", "4294967296", "", "x"]);
+    let number =
+        |rng: &mut Rng| rng.pick(&["0", "1", "1", "01", "12", "13", "14", "4294967296", "", "x"]);
     let version: Vec<&str> = (0..rng.between(1, 4)).map(|_| number(rng)).collect();
     let mut manifest = format!("ninja_required_version = {}\n", version.join(".")).into_bytes();
     manifest.extend(Draft::new(rng).mixed(200));
     manifest
 }
 
-/// Some bindings, many of them bound again, and a line of many outputs that refer to them: some outputs are spelt differently and yet the same.
+/// Some bindings, many of them bound again, and a line of many outputs that refer to them: some
+/// outputs are spelt differently and yet the same.
 fn long_line(rng: &mut Rng) -> Vec<u8> {
-    let name = |rng: &mut Rng| format!("{}{}", rng.pick(&["a", "b", "ab", "a.b", "a-"]), rng.below(40));
+    let name =
+        |rng: &mut Rng| format!("{}{}", rng.pick(&["a", "b", "ab", "a.b", "a-"]), rng.below(40));
     let mut manifest = String::new();
     for _ in 0..rng.between(0, 200) {
-        manifest += &format!("{}={}{}\n", name(rng), rng.pick(&["", "x", "y", "xy", "yx", "xxxxxxxxx"]), rng.below(3));
+        manifest += &format!(
+            "{}={}{}\n",
+            name(rng),
+            rng.pick(&["", "x", "y", "xy", "yx", "xxxxxxxxx"]),
+            rng.below(3)
+        );
     }
     manifest += "build";
     let most = rng.between(1, 12);
@@ -73,14 +81,23 @@ fn long_line(rng: &mut Rng) -> Vec<u8> {
 
 /// The numbers that answer a refusal.
 fn refused(refusal: Refusal) -> Numbers {
-    Numbers { number: refusal.number.into(), place: refusal.place, ..Numbers::default() }
+    Numbers { number: refusal.number.into(), place: refusal.place.value(), ..Numbers::default() }
 }
 
-/// The numbers that answer an accepted manifest, from what the second planner read and our bindings' values.
-fn counts(theirs: &Manifest, ours: &Reading) -> Numbers {
-    let parts = theirs.graph.steps.iter().flat_map(|step| [&step.outputs, &step.explicit, &step.implicit, &step.order_only]);
+/// The numbers that answer an accepted manifest, from what the second planner read and our
+/// bindings' values.
+fn counts(theirs: &Manifest, ours: &Accepted) -> Numbers {
+    let parts = theirs
+        .graph
+        .steps
+        .iter()
+        .flat_map(|step| [&step.outputs, &step.explicit, &step.implicit, &step.order_only]);
     let paths: Vec<u32> = parts.flatten().copied().collect();
-    let path_bytes: usize = paths.iter().chain(&theirs.defaults).map(|&file| theirs.files.names[file as usize].len()).sum();
+    let path_bytes: usize = paths
+        .iter()
+        .chain(&theirs.defaults)
+        .map(|&file| theirs.files.names[file as usize].len())
+        .sum();
     let keys = ours.rules.iter().flat_map(|rule| &rule.keys);
     let bindings = ours.variables.iter().chain(keys).chain(ours.blocks.iter().flatten());
     let values: Vec<usize> = bindings.map(|(_, value)| value.len()).collect();
@@ -101,8 +118,11 @@ fn counts(theirs: &Manifest, ours: &Reading) -> Numbers {
 }
 
 /// All tables of an accepted manifest are the same.
-fn compare_tables(ours: &Reading, theirs: &Manifest, shown: &str) {
-    assert!(ours.files.iter().copied().eq(theirs.files.names.iter().map(|name| &**name)), "files of {shown}");
+fn compare_tables(ours: &Accepted, theirs: &Manifest, shown: &str) {
+    assert!(
+        ours.files.iter().copied().eq(theirs.files.names.iter().map(|name| &**name)),
+        "files of {shown}"
+    );
     assert_eq!(ours.graph, theirs.graph, "{shown}");
     assert_eq!(ours.makers, theirs.graph.makers(), "{shown}");
     assert_eq!(ours.defaults, theirs.defaults, "{shown}");
@@ -110,7 +130,11 @@ fn compare_tables(ours: &Reading, theirs: &Manifest, shown: &str) {
     assert_eq!(standing, theirs.variables().collect(), "{shown}");
     assert_eq!(ours.rules.len() + 1, theirs.rules.len(), "{shown}");
     for (rule, raw) in ours.rules.iter().zip(&theirs.rules[1..]) {
-        let keys = [(Key::Command, "command"), (Key::Description, "description"), (Key::Generator, "generator")];
+        let keys = [
+            (Key::Command, "command"),
+            (Key::Description, "description"),
+            (Key::Generator, "generator"),
+        ];
         let theirs = keys.iter().filter_map(|&(key, name)| Some((name.as_bytes(), raw.text(key)?)));
         let mut ours = rule.keys.clone();
         ours.sort();
@@ -120,7 +144,8 @@ fn compare_tables(ours: &Reading, theirs: &Manifest, shown: &str) {
         let rule = ours.rule_of[step].map_or(&b"phony"[..], |rule| ours.rules[rule].name);
         assert_eq!(ours.rule_of[step].map_or(0, |rule| rule + 1), scope.rule, "{shown}");
         assert_eq!(theirs.rule_number(rule), Some(scope.rule), "{shown}");
-        let block: Vec<Binding> = scope.bindings.iter().map(|(name, value)| (*name, &**value)).collect();
+        let block: Vec<Binding> =
+            scope.bindings.iter().map(|(name, value)| (*name, &**value)).collect();
         assert_eq!(ours.blocks[step], block, "{shown}");
     }
 }
@@ -133,7 +158,7 @@ fn compare(buffers: &mut Buffers, manifest: &[u8]) -> usize {
         Err(refusal) => assert_eq!(numbers, refused(refusal), "{shown}"),
         Ok(theirs) => {
             assert_eq!((numbers.number, numbers.place), (0, 0), "{shown}");
-            let ours = buffers.reading(&numbers);
+            let ours = buffers.accepted(&numbers);
             compare_tables(&ours, &theirs, shown);
             assert_eq!(numbers, counts(&theirs, &ours), "{shown}");
         }
@@ -150,7 +175,11 @@ fn manifests_agree() {
         *answers.entry(compare(&mut buffers, &manifest(seed))).or_default() += 1;
     }
     println!("{manifests} manifests, by answer: {answers:?}");
-    assert_eq!(answers.keys().copied().collect::<Vec<_>>(), [0, 2, 3, 4, 5, 6, 7, 8, 9, 10], "{answers:?}");
+    assert_eq!(
+        answers.keys().copied().collect::<Vec<_>>(),
+        [0, 2, 3, 4, 5, 6, 7, 8, 9, 10],
+        "{answers:?}"
+    );
     assert!(answers.values().all(|&count| count > manifests / 200), "{answers:?}");
 }
 
@@ -167,25 +196,28 @@ fn long_lines_agree() {
 
 #[test]
 fn cases_agree() {
-    let cases = second::cases::read(&second::cases::files(&second::cases::folder()).unwrap()).unwrap();
+    let cases = cases::read(&cases::files(&cases::folder()).unwrap()).unwrap();
     let mut buffers = Buffers::default();
     let mut refusals: BTreeMap<usize, u64> = BTreeMap::new();
     for case in &cases {
-        compare(&mut buffers, &case.manifest);
-        for (_, answer) in &case.asks {
-            let Some((number, place)) = answer.strip_prefix("refused ").and_then(|refusal| refusal.split_once(" at ")) else {
-                continue;
-            };
-            let (number, place) = (number.parse().unwrap(), place.parse().unwrap());
-            if (2..=10).contains(&number) {
-                let said = buffers.read(&case.manifest);
-                assert_eq!((said.number, said.place), (number, place), "{} {}", case.origin, case.name);
-                *refusals.entry(number).or_default() += 1;
+        compare(&mut buffers, &case.lent.manifest);
+        for (_, expected) in &case.asks {
+            if let Expected::One(Answer::Refused(refusal @ Refusal { number: 2..=10, .. })) =
+                expected
+            {
+                let said = buffers.read(&case.lent.manifest);
+                let refused = (usize::from(refusal.number), refusal.place.value());
+                assert_eq!((said.number, said.place), refused, "{} {}", case.origin, case.name);
+                *refusals.entry(said.number).or_default() += 1;
             }
         }
     }
     println!("{} cases, by refusal: {refusals:?}", cases.len());
-    assert_eq!(refusals.keys().copied().collect::<Vec<_>>(), [2, 3, 4, 5, 6, 7, 8, 9, 10], "{refusals:?}");
+    assert_eq!(
+        refusals.keys().copied().collect::<Vec<_>>(),
+        [2, 3, 4, 5, 6, 7, 8, 9, 10],
+        "{refusals:?}"
+    );
 }
 
 #[test]

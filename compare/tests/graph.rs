@@ -1,19 +1,19 @@
-//! The proved plan of a read graph against the second planner's planning and against its naive transcription of the rules.
-//! `GRAPHS` in the environment runs another number of graphs, from seed `FROM` on.
+//! The proved plan of a graph against the second planner's planning and against its naive
+//! transcription of the rules. `GRAPHS` in the environment runs another number of graphs, from seed
+//! `FROM` on.
 
-use compare::graphs::{plan, Said, Tables};
+use compare::graph::{plan, Tables};
+use compare::settings::setting;
+use kestrenyo::lent::Said;
 use second::generate::graphs::{graph_ask, GraphAsk};
-use second::naive::{self, Verdict};
+use second::graph::Start;
+use second::naive;
 use second::plan::plan_graph;
 use second::rng::Rng;
-use second::PlanAnswer;
+use second::Answer;
 use std::collections::BTreeMap;
 
 const GRAPHS: u64 = 200_000;
-
-fn setting(name: &str, otherwise: u64) -> u64 {
-    std::env::var(name).map_or(otherwise, |value| value.parse().expect("a number"))
-}
 
 /// The list buffer's numbers up to `length`, where all beyond are zero.
 fn shown(list: &[u32], length: usize) -> &[u32] {
@@ -23,33 +23,36 @@ fn shown(list: &[u32], length: usize) -> &[u32] {
 
 /// The kind of outcome, after checking that all three agree on it, and the buffer with them.
 fn compare(ask: &GraphAsk) -> &'static str {
-    let GraphAsk { graph, times, targets, defaults } = ask;
+    let GraphAsk { graph, start } = ask;
     let mut list = [7; 600];
-    let said = plan(&Tables::of(graph), times, defaults, targets, &mut list);
-    let fast = plan_graph(graph, times, targets, defaults);
-    match naive::plan(graph, times, targets, defaults) {
-        Verdict::NoOrder => {
-            assert!(matches!(fast, PlanAnswer::Circle(_)), "{ask:?}");
-            assert_eq!(said.number, 14, "{ask:?}");
-            let needed = naive::needed(graph, &naive::roots(graph, targets, defaults));
-            let circle = shown(&list, said.value);
-            assert!(naive::is_circle(graph, &needed, circle), "{circle:?} {ask:?}");
-            "circle"
-        }
-        Verdict::Refused(refusal) => {
-            assert_eq!(fast, PlanAnswer::Refused(refusal), "{ask:?}");
-            assert_eq!(said, Said { number: refusal.number as usize, value: refusal.place }, "{ask:?}");
-            shown(&list, 0);
-            if refusal.number == 13 { "13" } else { "15" }
-        }
-        Verdict::List(steps) => {
-            assert_eq!(fast, PlanAnswer::List(steps.clone()), "{ask:?}");
-            assert_eq!(said, Said { number: 0, value: steps.len() }, "{ask:?}");
+    let said = plan(&Tables::of(graph), start, &mut list);
+    let fast = plan_graph(graph, start).unwrap_or_else(Answer::Refused);
+    let Some(answer) = naive::plan(graph, start) else {
+        assert!(matches!(fast, Answer::Circle(_)), "{ask:?}");
+        assert_eq!(said.number, 14, "{ask:?}");
+        let needed = naive::needed(graph, &naive::roots(graph, start));
+        let circle = shown(&list, said.value);
+        assert!(naive::is_circle(graph, &needed, circle), "{circle:?} {ask:?}");
+        return "circle";
+    };
+    assert_eq!(fast, answer, "{ask:?}");
+    let (number, value) = answer.numbers();
+    assert_eq!(said, Said { number: number.into(), value }, "{ask:?}");
+    match answer {
+        Answer::List(steps) => {
             assert_eq!(shown(&list, said.value), steps, "{ask:?}");
             match steps.len() {
                 0 => "empty list",
                 _ if steps.is_sorted() => "rising list",
                 _ => "other list",
+            }
+        }
+        _ => {
+            shown(&list, 0);
+            if number == 13 {
+                "13"
+            } else {
+                "15"
             }
         }
     }
@@ -87,12 +90,17 @@ fn tables_out_of_range_are_answered() {
     ];
     let mut list = [7; 512];
     let unsound = Said { number: 255, value: 0 };
+    let start = Start { times: ask.start.times, ..Start::default() };
     for tables in &broken {
-        assert_eq!(plan(tables, &ask.times, &[], &[], &mut list), unsound, "{tables:?}");
+        assert_eq!(plan(tables, &start, &mut list), unsound, "{tables:?}");
     }
-    assert_eq!(plan(&sound, &ask.times[1..], &[], &[], &mut list), unsound);
-    assert_eq!(plan(&sound, &ask.times, &[files], &[], &mut list), unsound);
-    assert_eq!(plan(&sound, &ask.times, &[], &[files], &mut list), unsound);
-    assert_eq!(plan(&sound, &ask.times, &[], &[], &mut list[..511]), unsound);
+    for start in [
+        Start { times: start.times[1..].to_vec(), ..Start::default() },
+        Start { defaults: vec![files], ..start.clone() },
+        Start { targets: vec![files], ..start.clone() },
+    ] {
+        assert_eq!(plan(&sound, &start, &mut list), unsound, "{start:?}");
+    }
+    assert_eq!(plan(&sound, &start, &mut list[..511]), unsound);
     assert_eq!(list, [7; 512]);
 }

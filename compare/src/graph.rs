@@ -1,12 +1,7 @@
-//! The proved plan of a read graph.
+//! The proved plan of a graph.
 
-use second::graph::Graph;
-
-#[repr(C)]
-struct PlanNumbers {
-    number: usize,
-    value: usize,
-}
+use kestrenyo::lent::Said;
+use second::graph::{Graph, Start};
 
 extern "C" {
     fn kestrenyo_plan_graph(
@@ -26,15 +21,7 @@ extern "C" {
         targets_len: usize,
         list: *mut u32,
         list_len: usize,
-    ) -> PlanNumbers;
-}
-
-/// The number of an answer and its value: 0 and the length of the list, a refusal's number and place, or 255 for tables that
-/// no plan can be asked of.
-#[derive(Debug, Clone, Copy, PartialEq, Eq)]
-pub struct Said {
-    pub number: usize,
-    pub value: usize,
+    ) -> Said;
 }
 
 /// A graph as the columns that planning works on.
@@ -56,16 +43,19 @@ impl Tables {
             }
             tables.phony.push(u32::from(step.phony));
         }
-        tables.made = graph.makers().into_iter().map(|maker| maker.map_or(0, |step| step + 1)).collect();
+        tables.made =
+            graph.makers().into_iter().map(|maker| maker.map_or(0, |step| step + 1)).collect();
         tables
     }
 }
 
-/// Plans the tables, the list buffer being filled.
-pub fn plan(tables: &Tables, times: &[u64], defaults: &[u32], targets: &[u32], list: &mut [u32]) -> Said {
+/// Plans the tables, the list buffer being filled. It says what the plan ask would, or 255 for
+/// tables that no plan can be asked of.
+pub fn plan(tables: &Tables, start: &Start, list: &mut [u32]) -> Said {
     let Tables { mentions, ends, phony, made } = tables;
+    let Start { times, targets, defaults } = start;
     // SAFETY: the function is total, reads the slices and writes the list alone.
-    let said = unsafe {
+    unsafe {
         kestrenyo_plan_graph(
             mentions.as_ptr(),
             mentions.len(),
@@ -84,6 +74,5 @@ pub fn plan(tables: &Tables, times: &[u64], defaults: &[u32], targets: &[u32], l
             list.as_mut_ptr(),
             list.len(),
         )
-    };
-    Said { number: said.number, value: said.value }
+    }
 }

@@ -1,8 +1,9 @@
-//! The proved manifest reader: the buffers that it fills, and what they hold.
+//! The proved reader of manifests: the buffers that it fills, and what they hold.
 
 use second::graph::{Graph, Step};
 
-/// What is answered: 0, 0 and how much the buffers hold; a refusal's number and place; or 255 where a buffer is too short.
+/// What is answered: 0, 0 and how much the buffers hold; a refusal's number and place; or 255 where
+/// a buffer is too short.
 #[repr(C)]
 #[derive(Debug, Clone, Copy, Default, PartialEq, Eq)]
 pub struct Numbers {
@@ -41,7 +42,22 @@ extern "C" {
 /// The lengths that do for any manifest, in the order of the buffers.
 pub const LENGTHS: [usize; 6] = [60_000, 3_072, 133_728, 4_608, 61_440, 60_000];
 
-/// The reader's buffers. What they held before is of no matter to a reading.
+/// Where the columns of the graph's buffer start.
+mod column {
+    /// The files of the steps, list by list.
+    pub const MENTIONS: usize = 0;
+    /// Where each of a step's four lists ends.
+    pub const ENDS: usize = 4_096;
+    /// 1 for a phony step.
+    pub const PHONY: usize = 6_144;
+    /// The maker of each file and 1, or 0.
+    pub const MAKERS: usize = 6_656;
+    /// Where each step's rule is declared among the bindings and 1, or 0 for `phony`.
+    pub const RULES: usize = 7_680;
+    pub const DEFAULTS: usize = 8_192;
+}
+
+/// The reader's buffers. What they held before is of no matter to a call.
 #[derive(Clone, PartialEq, Eq)]
 pub struct Buffers {
     names: Vec<u8>,
@@ -94,13 +110,17 @@ impl Buffers {
     }
 
     /// What the buffers hold after a manifest has been accepted with these numbers.
-    pub fn reading(&self, numbers: &Numbers) -> Reading<'_> {
-        let mut reading = Reading { files: self.files(numbers), ..Reading::default() };
-        self.bindings(numbers, &mut reading);
-        self.steps(numbers, &mut reading);
-        reading.defaults = self.column(8_192, numbers.defaults).to_vec();
-        reading.makers = self.column(6_656, numbers.files).iter().map(|&maker| maker.checked_sub(1)).collect();
-        reading
+    pub fn accepted(&self, numbers: &Numbers) -> Accepted<'_> {
+        let mut accepted = Accepted { files: self.files(numbers), ..Accepted::default() };
+        self.bindings(numbers, &mut accepted);
+        self.steps(numbers, &mut accepted);
+        accepted.defaults = self.column(column::DEFAULTS, numbers.defaults).to_vec();
+        accepted.makers = self
+            .column(column::MAKERS, numbers.files)
+            .iter()
+            .map(|&maker| maker.checked_sub(1))
+            .collect();
+        accepted
     }
 
     /// The first numbers of the graph's column that starts at a place.
@@ -114,9 +134,10 @@ impl Buffers {
         ends.map(|end| &self.names[std::mem::replace(&mut start, end)..end]).collect()
     }
 
-    /// The table of bindings: file variables, rules with their keys, and the lines of blocks, by their owners.
-    fn bindings<'b>(&'b self, numbers: &Numbers, reading: &mut Reading<'b>) {
-        reading.blocks = vec![Vec::new(); numbers.steps];
+    /// The table of bindings: file variables, rules with their keys, and the lines of blocks, by
+    /// their owners.
+    fn bindings<'b>(&'b self, numbers: &Numbers, accepted: &mut Accepted<'b>) {
+        accepted.blocks = vec![Vec::new(); numbers.steps];
         let mut rule_at = vec![None; numbers.entries];
         let mut start = 0;
         for (entry, row) in self.bind.chunks_exact(3).take(numbers.entries).enumerate() {
@@ -124,34 +145,35 @@ impl Buffers {
             let (name, value) = (&self.texts[start..middle], &self.texts[middle..end]);
             start = end;
             match owner {
-                0 => reading.variables.push((name, value)),
+                0 => accepted.variables.push((name, value)),
                 1 => {
                     assert!(value.is_empty(), "a declaration with a value");
-                    rule_at[entry] = Some(reading.rules.len());
-                    reading.rules.push(Rule { name, keys: Vec::new() });
+                    rule_at[entry] = Some(accepted.rules.len());
+                    accepted.rules.push(Rule { name, keys: Vec::new() });
                 }
                 _ if owner % 2 == 0 => {
                     let rule = rule_at[owner / 2 - 1].expect("a key of a declared rule");
-                    reading.rules[rule].keys.push((name, value));
+                    accepted.rules[rule].keys.push((name, value));
                 }
-                _ => reading.blocks[owner / 2 - 1].push((name, value)),
+                _ => accepted.blocks[owner / 2 - 1].push((name, value)),
             }
         }
         let rule = |&number: &u32| match number {
             0 => None,
             _ => Some(rule_at[number as usize - 1].expect("a declared rule")),
         };
-        reading.rule_of = self.column(7_680, numbers.steps).iter().map(rule).collect();
+        accepted.rule_of = self.column(column::RULES, numbers.steps).iter().map(rule).collect();
     }
 
-    fn steps(&self, numbers: &Numbers, reading: &mut Reading) {
-        let mentions = self.column(0, numbers.paths);
+    fn steps(&self, numbers: &Numbers, accepted: &mut Accepted) {
+        let mentions = self.column(column::MENTIONS, numbers.paths);
         let mut start = 0;
-        let mut part = |end: u32| mentions[std::mem::replace(&mut start, end as usize)..end as usize].to_vec();
-        let ends = self.column(4_096, 4 * numbers.steps).chunks_exact(4);
-        for (ends, &phony) in ends.zip(self.column(6_144, numbers.steps)) {
+        let mut part =
+            |end: u32| mentions[std::mem::replace(&mut start, end as usize)..end as usize].to_vec();
+        let ends = self.column(column::ENDS, 4 * numbers.steps).chunks_exact(4);
+        for (ends, &phony) in ends.zip(self.column(column::PHONY, numbers.steps)) {
             assert!(phony < 2, "phony or not: {phony}");
-            reading.graph.steps.push(Step {
+            accepted.graph.steps.push(Step {
                 outputs: part(ends[0]),
                 explicit: part(ends[1]),
                 implicit: part(ends[2]),
@@ -159,7 +181,7 @@ impl Buffers {
                 phony: phony == 1,
             });
         }
-        reading.graph.files = numbers.files;
+        accepted.graph.files = numbers.files;
         assert_eq!(start, numbers.paths, "mentions behind the last step's");
     }
 }
@@ -176,7 +198,7 @@ pub struct Rule<'b> {
 
 /// An accepted manifest.
 #[derive(Debug, Clone, Default, PartialEq, Eq)]
-pub struct Reading<'b> {
+pub struct Accepted<'b> {
     pub files: Vec<&'b [u8]>,
     pub graph: Graph,
     pub makers: Vec<Option<u32>>,

@@ -1,0 +1,176 @@
+//! The plain lines in which tools hand asks and answers on, bytes in hex and `-` for none:
+//!
+//! - `plan MANIFEST CARD TARGETS LISTLEN`, `text MANIFEST STEP command|description BUFLEN`
+//! - `list 0 3 1`, `text 6363`, `circle 0 1`, `refused 4 at 17`
+
+use crate::{Answer, Ask, Lent, Place, Question, Refusal, Wanted};
+use std::error;
+use std::fmt::{self, Display, Formatter};
+use std::str::FromStr;
+
+/// A line, or a part of one, that can't be read.
+#[derive(Debug, Clone, PartialEq, Eq)]
+pub enum Error {
+    /// No ask or answer has this form.
+    Form(String),
+    /// No number that fits there.
+    Number(String),
+    /// No bytes in hex.
+    Hex(String),
+}
+
+impl Display for Error {
+    fn fmt(&self, f: &mut Formatter) -> fmt::Result {
+        match self {
+            Error::Form(line) => write!(f, "`{line}` is no ask or answer"),
+            Error::Number(word) => write!(f, "`{word}` is not a number that fits here"),
+            Error::Hex(word) => write!(f, "`{word}` is no bytes in hex"),
+        }
+    }
+}
+
+impl error::Error for Error {}
+
+impl Display for Ask {
+    fn fmt(&self, f: &mut Formatter) -> fmt::Result {
+        let Ask { lent, question } = self;
+        match question {
+            Question::Plan { list_len } => write!(f, "plan {lent} {list_len}"),
+            Question::Text { step, wanted, buf_len } => {
+                let manifest = Hex(&lent.manifest);
+                write!(f, "text {manifest} {step} {} {buf_len}", wanted.name())
+            }
+        }
+    }
+}
+
+impl FromStr for Ask {
+    type Err = Error;
+
+    fn from_str(line: &str) -> Result<Self, Error> {
+        let words: Vec<&str> = line.split(' ').collect();
+        match words[..] {
+            ["plan", manifest, card, targets, list_len] => Ok(Ask {
+                lent: lent(manifest, card, targets)?,
+                question: Question::Plan { list_len: number(list_len)? },
+            }),
+            ["text", manifest, step, wanted, buf_len] => {
+                let wanted = Wanted::of(wanted).ok_or_else(|| Error::Form(line.to_string()))?;
+                let (step, buf_len) = (number(step)?, number(buf_len)?);
+                let question = Question::Text { step, wanted, buf_len };
+                Ok(Ask { lent: Lent::manifest(unhex(manifest)?), question })
+            }
+            _ => Err(Error::Form(line.to_string())),
+        }
+    }
+}
+
+/// Manifest, card and targets, as a plan's line has them.
+impl Display for Lent {
+    fn fmt(&self, f: &mut Formatter) -> fmt::Result {
+        write!(f, "{} {} {}", Hex(&self.manifest), Hex(&self.card), Hex(&self.targets))
+    }
+}
+
+impl FromStr for Lent {
+    type Err = Error;
+
+    fn from_str(line: &str) -> Result<Self, Error> {
+        let words: Vec<&str> = line.split(' ').collect();
+        match words[..] {
+            [manifest, card, targets] => lent(manifest, card, targets),
+            _ => Err(Error::Form(line.to_string())),
+        }
+    }
+}
+
+fn lent(manifest: &str, card: &str, targets: &str) -> Result<Lent, Error> {
+    Ok(Lent { manifest: unhex(manifest)?, card: unhex(card)?, targets: unhex(targets)? })
+}
+
+impl Display for Answer {
+    fn fmt(&self, f: &mut Formatter) -> fmt::Result {
+        match self {
+            Answer::List(steps) => write!(f, "list{}", Steps(steps)),
+            Answer::Text(bytes) => write!(f, "text {}", Hex(bytes)),
+            Answer::Circle(steps) => write!(f, "circle{}", Steps(steps)),
+            Answer::Refused(refusal) => refusal.fmt(f),
+        }
+    }
+}
+
+impl FromStr for Answer {
+    type Err = Error;
+
+    fn from_str(line: &str) -> Result<Self, Error> {
+        let words: Vec<&str> = line.split(' ').collect();
+        match &words[..] {
+            ["list", steps @ ..] => Ok(Answer::List(numbers(steps)?)),
+            ["circle", steps @ ..] => Ok(Answer::Circle(numbers(steps)?)),
+            ["text", bytes] => Ok(Answer::Text(unhex(bytes)?)),
+            ["refused", refused, "at", place] => {
+                Ok(Answer::Refused(Refusal { number: number(refused)?, place: place.parse()? }))
+            }
+            _ => Err(Error::Form(line.to_string())),
+        }
+    }
+}
+
+impl Display for Refusal {
+    fn fmt(&self, f: &mut Formatter) -> fmt::Result {
+        write!(f, "refused {} at {}", self.number, self.place)
+    }
+}
+
+impl Display for Place {
+    fn fmt(&self, f: &mut Formatter) -> fmt::Result {
+        self.value().fmt(f)
+    }
+}
+
+impl FromStr for Place {
+    type Err = Error;
+
+    fn from_str(word: &str) -> Result<Self, Error> {
+        number::<usize>(word).map(Place::from)
+    }
+}
+
+/// Numbers of steps, each after a space.
+pub(crate) struct Steps<'a>(pub &'a [u32]);
+
+impl Display for Steps<'_> {
+    fn fmt(&self, f: &mut Formatter) -> fmt::Result {
+        self.0.iter().try_for_each(|number| write!(f, " {number}"))
+    }
+}
+
+fn number<T: FromStr>(word: &str) -> Result<T, Error> {
+    word.parse().map_err(|_| Error::Number(word.to_string()))
+}
+
+fn numbers(words: &[&str]) -> Result<Vec<u32>, Error> {
+    words.iter().map(|word| number(word)).collect()
+}
+
+/// Bytes in hex, `-` for none.
+struct Hex<'a>(&'a [u8]);
+
+impl Display for Hex<'_> {
+    fn fmt(&self, f: &mut Formatter) -> fmt::Result {
+        if self.0.is_empty() {
+            return f.write_str("-");
+        }
+        self.0.iter().try_for_each(|byte| write!(f, "{byte:02x}"))
+    }
+}
+
+fn unhex(word: &str) -> Result<Vec<u8>, Error> {
+    if word == "-" {
+        return Ok(Vec::new());
+    }
+    let digit = |byte: &u8| char::from(*byte).to_digit(16).map(|digit| digit as u8);
+    let byte = |two: &[u8]| Some(digit(two.first()?)? * 16 + digit(two.get(1)?)?);
+    let bytes: Option<Vec<u8>> = word.as_bytes().chunks(2).map(byte).collect();
+    bytes.filter(|bytes| !bytes.is_empty()).ok_or_else(|| Error::Hex(word.to_string()))
+}
