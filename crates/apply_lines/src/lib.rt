@@ -5,47 +5,55 @@ ghost use Rattle.apply_statements.specs.Asks.{LineAsks, LineMeets};
 use apply_indented::read_indented;
 use apply_rules::close;
 use apply_statements::read_file_line;
-use hold_reading::Counts;
+use hold_reading::Line;
 use hold_reading::LineAnswer;
-use hold_reading::Open;
+use hold_reading::State;
 use scan_lines::LineKind;
 use scan_lines::line_kind;
 
 // A line. A comment closes no block; "An empty line or one of spaces only closes a block."
 pub fn read_line(
     t: &[u8; 256],
-    start: usize,
+    line: Line,
     l: &[u8],
-    ended: bool,
     names: &mut [u8],
     index: &mut [u32],
     texts: &mut [u8],
     bind: &mut [u32],
     graph: &mut [u32],
     word: &mut [u8],
-    c: Counts,
-    block: Open,
+    s: State,
 ) -> LineAnswer
-    requires { ⌜ LineAsks (now t) start (now l) (now names) (now index) (now texts) (now bind) (now graph) (now word) c block ⌝ }
-    ensures { λ r. ⌜ LineMeets (now (names .entry)) (now (index .entry)) (now (texts .entry)) (now (bind .entry)) (now (graph .entry)) c block (readLine (lineOf start (now (l .entry)) ended)) (now (names .exit)) (now (index .exit)) (now (texts .exit)) (now (bind .exit)) (now (graph .exit)) r ⌝ }
+    requires { ⌜ LineAsks (now t) (line .start) (now l) (now names) (now index) (now texts) (now bind) (now graph) (now word) (s .counts) (s .open) ⌝ }
+    ensures { λ r. ⌜ LineMeets (now (names .entry)) (now (index .entry)) (now (texts .entry)) (now (bind .entry)) (now (graph .entry)) (s .counts) (s .open) (readLine (lineOf (line .start) (now (l .entry)) (line .ended))) (now (names .exit)) (now (index .exit)) (now (texts .exit)) (now (bind .exit)) (now (graph .exit)) r ⌝ }
 {
+    let c = s.counts;
+    let block = s.open;
     match line_kind(l) {
         LineKind::Comment => LineAnswer::Goes(c, block),
         LineKind::Blank => close(texts, bind, c, block),
-        LineKind::Indented => read_indented(t, start, l, ended, texts, bind, word, c, block),
+        LineKind::Indented => read_indented(
+            t,
+            line.start,
+            l,
+            line.ended,
+            texts,
+            bind,
+            word,
+            c,
+            block,
+        ),
         LineKind::Statement => read_file_line(
             t,
-            start,
+            line,
             l,
-            ended,
             names,
             index,
             texts,
             bind,
             graph,
             word,
-            c,
-            block,
+            s,
         ),
     }
 }

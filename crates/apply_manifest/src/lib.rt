@@ -4,8 +4,10 @@ use apply_lines::read_line;
 use apply_rules::close;
 use hold_names::clear;
 use hold_reading::Counts;
+use hold_reading::Line;
 use hold_reading::LineAnswer;
 use hold_reading::Open;
+use hold_reading::State;
 use scan_cursor::left_from;
 use scan_cursor::line_from;
 use scan_cursor::top;
@@ -50,19 +52,25 @@ fn read_from_top(
     while 0 < left_from(m, i) {
         let s = line_from(m, i);
         let end = s.end;
+        let line = Line {
+            start: i,
+            ended: s.ended,
+        };
+        let kept = State {
+            counts: c,
+            open: block,
+        };
         match read_line(
             t,
-            i,
+            line,
             &m[i..end],
-            s.ended,
             names,
             index,
             texts,
             bind,
             graph,
             word,
-            c,
-            block,
+            kept,
         ) {
             LineAnswer::Goes(d, o) => {
                 c = d;

@@ -10,15 +10,16 @@ use apply_variables::add_var;
 use cut_refusals::FileLine;
 use cut_refusals::cut_file_line;
 use hold_reading::Counts;
+use hold_reading::Line;
 use hold_reading::LineAnswer;
 use hold_reading::Open;
+use hold_reading::State;
 
 // A line where no block is open.
 pub fn read_statement(
     t: &[u8; 256],
-    start: usize,
+    line: Line,
     l: &[u8],
-    ended: bool,
     names: &mut [u8],
     index: &mut [u32],
     texts: &mut [u8],
@@ -27,10 +28,11 @@ pub fn read_statement(
     word: &mut [u8],
     c: Counts,
 ) -> LineAnswer
-    requires { ⌜ LineAsks (now t) start (now l) (now names) (now index) (now texts) (now bind) (now graph) (now word) c Open.Nothing ⌝ }
-    ensures { λ r. ⌜ LineMeets (now (names .entry)) (now (index .entry)) (now (texts .entry)) (now (bind .entry)) (now (graph .entry)) c Open.Nothing (readStatement (lineOf start (now (l .entry)) ended)) (now (names .exit)) (now (index .exit)) (now (texts .exit)) (now (bind .exit)) (now (graph .exit)) r ⌝ }
+    requires { ⌜ LineAsks (now t) (line .start) (now l) (now names) (now index) (now texts) (now bind) (now graph) (now word) c Open.Nothing ⌝ }
+    ensures { λ r. ⌜ LineMeets (now (names .entry)) (now (index .entry)) (now (texts .entry)) (now (bind .entry)) (now (graph .entry)) c Open.Nothing (readStatement (lineOf (line .start) (now (l .entry)) (line .ended))) (now (names .exit)) (now (index .exit)) (now (texts .exit)) (now (bind .exit)) (now (graph .exit)) r ⌝ }
 {
-    match cut_file_line(t, start, l, ended) {
+    let start = line.start;
+    match cut_file_line(t, start, l, line.ended) {
         FileLine::Rule(from, to) => start_rule(start, &l[from..to], texts, bind, c),
         FileLine::Build(p) => add_step(t, start, l, p, names, index, texts, bind, graph, word, c),
         FileLine::Default(at) => add_defaults(
@@ -63,27 +65,26 @@ pub fn read_statement(
 // A line without indent that is no comment.
 pub fn read_file_line(
     t: &[u8; 256],
-    start: usize,
+    line: Line,
     l: &[u8],
-    ended: bool,
     names: &mut [u8],
     index: &mut [u32],
     texts: &mut [u8],
     bind: &mut [u32],
     graph: &mut [u32],
     word: &mut [u8],
-    c: Counts,
-    block: Open,
+    s: State,
 ) -> LineAnswer
-    requires { ⌜ LineAsks (now t) start (now l) (now names) (now index) (now texts) (now bind) (now graph) (now word) c block ⌝ }
-    ensures { λ r. ⌜ LineMeets (now (names .entry)) (now (index .entry)) (now (texts .entry)) (now (bind .entry)) (now (graph .entry)) c block (λ rd b. andThen (close rd b) (readStatement (lineOf start (now (l .entry)) ended))) (now (names .exit)) (now (index .exit)) (now (texts .exit)) (now (bind .exit)) (now (graph .exit)) r ⌝ }
+    requires { ⌜ LineAsks (now t) (line .start) (now l) (now names) (now index) (now texts) (now bind) (now graph) (now word) (s .counts) (s .open) ⌝ }
+    ensures { λ r. ⌜ LineMeets (now (names .entry)) (now (index .entry)) (now (texts .entry)) (now (bind .entry)) (now (graph .entry)) (s .counts) (s .open) (λ rd b. andThen (close rd b) (readStatement (lineOf (line .start) (now (l .entry)) (line .ended)))) (now (names .exit)) (now (index .exit)) (now (texts .exit)) (now (bind .exit)) (now (graph .exit)) r ⌝ }
 {
+    let c = s.counts;
+    let block = s.open;
     match close(texts, bind, c, block) {
         LineAnswer::Goes(d, _) => read_statement(
             t,
-            start,
+            line,
             l,
-            ended,
             names,
             index,
             texts,

@@ -24,6 +24,18 @@ pub enum Open {
     Step,
 }
 
+// Where a line starts, and whether a newline ends it.
+pub struct Line {
+    pub start: usize,
+    pub ended: bool,
+}
+
+// What is kept from line to line beside the buffers.
+pub struct State {
+    pub counts: Counts,
+    pub open: Open,
+}
+
 // What a line does: the reading goes on, or it is refused.
 pub enum LineAnswer {
     Goes(Counts, Open),

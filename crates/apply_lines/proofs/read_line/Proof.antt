@@ -16,13 +16,13 @@ enum-told-2 : tie.Need-enum-told-2
 enum-told-2 c = search needs
 
 close-requires : tie.Need-close-requires
-close-requires c κs = between-sound (c .before .before .before .before .before .before .before .before .before .before .before .before .pre .between)
+close-requires c κs = between-sound (c .before .before .before .before .before .before .before .before .before .before .before .before .before .pre .between)
 
 enum-told-3 : tie.Need-enum-told-3
 enum-told-3 c = search needs
 
 read-indented-requires : tie.Need-read-indented-requires
-read-indented-requires c κs = indented-asks (c .before .before .before .before .before .before .before .before .before .before .before .before .before .pre)
+read-indented-requires c κs = indented-asks (c .before .before .before .before .before .before .before .before .before .before .before .before .before .before .pre)
 
 enum-told-4 : tie.Need-enum-told-4
 enum-told-4 c = search needs

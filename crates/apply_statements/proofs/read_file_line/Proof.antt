@@ -7,13 +7,13 @@ use Rattle.apply_statements.proofs.read_file_line.Statement.{statement}
 use Rattle.apply_statements.proofs.read_file_line.Tie as tie
 
 close-requires : tie.Need-close-requires
-close-requires c κs = between-sound (c .before .before .before .before .before .before .before .before .before .pre .between)
+close-requires c κs = between-sound (c .before .before .before .before .before .before .before .before .before .before .pre .between)
 
 enum-known-d : tie.Need-enum-known-d
 enum-known-d c = search needs
 
 read-statement-requires : tie.Need-read-statement-requires
-read-statement-requires c κs = closed-asks (rw (c .before .before .before .before .before .before .before .d .given .1) at (c .before .before .before .before .before .before .before .before .before .close .ensures)) (c .before .before .before .before .before .before .before .before .before .before .before .before .before .before .before .before .before .before .before .pre)
+read-statement-requires c κs = closed-asks (rw (c .before .before .before .before .before .before .before .d .given .1) at (c .before .before .before .before .before .before .before .before .before .close .ensures)) (c .before .before .before .before .before .before .before .before .before .before .before .before .before .before .before .before .before .before .before .before .pre)
 
 enum-known-r : tie.Need-enum-known-r
 enum-known-r c = search needs
