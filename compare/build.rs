@@ -1,6 +1,6 @@
 //! Links the static libraries that `rt staticlib` writes of the crates that only tests link.
 
-const LIBRARIES: [&str; 3] = ["test_scan", "test_graph", "test_manifest"];
+const LIBRARIES: [&str; 2] = ["test_scan", "test_manifest"];
 
 fn main() {
     let folder = format!("{}/../target/staticlib", env!("CARGO_MANIFEST_DIR"));

@@ -1,12 +1,11 @@
 //! The proved crates beside the second planner, as static libraries: `kestrenyo` with the two asks,
-//! `test_scan` (modules `scan`, `card`, `targets`, `names`), `test_manifest` (`manifest`) and
-//! `test_graph` (`graph`). Nothing checks these declarations against the Rattle sources, so they
-//! are few; slices pass as a pointer and a length.
+//! `test_scan` (modules `scan`, `card`, `targets`, `names`) and `test_manifest` (`manifest`). Nothing
+//! checks these declarations against the Rattle sources, so they are few; slices pass as a pointer
+//! and a length.
 
 pub mod adversary;
 pub mod asks;
 pub mod card;
-pub mod graph;
 pub mod manifest;
 pub mod measure;
 pub mod minimise;

@@ -1,60 +1,76 @@
-//! The proved plan of a graph against the second planner's planning and against its naive
-//! transcription of the rules. `GRAPHS` in the environment runs another number of graphs, from seed
-//! `FROM` on.
+//! Plans of random graphs, each written as a manifest: the proved planner's against the second
+//! planner's and against its naive transcription of the rules. `GRAPHS` in the environment runs
+//! another number of graphs, from seed `FROM` on.
 
-use compare::graph::{plan, Tables};
+use compare::asks::{judge, ours};
 use compare::settings::setting;
-use kestrenyo::lent::Said;
-use second::generate::graphs::{graph_ask, GraphAsk};
+use second::generate::graphs::{self, graph_ask, GraphAsk};
 use second::graph::Start;
-use second::naive;
-use second::plan::plan_graph;
 use second::rng::Rng;
-use second::Answer;
+use second::{card, manifest, naive, targets, Answer, Ask, Lent};
 use std::collections::BTreeMap;
 
 const GRAPHS: u64 = 200_000;
 
-/// The list buffer's numbers up to `length`, where all beyond are zero.
-fn shown(list: &[u32], length: usize) -> &[u32] {
-    assert!(list[length..].iter().all(|&number| number == 0), "beyond {length}: {list:?}");
-    &list[..length]
+/// The graph as what a plan ask lends, file `n` being named `fn`. A target that no step mentions
+/// has no place in a manifest and is left out.
+fn lent(rng: &mut Rng, ask: &GraphAsk) -> Lent {
+    let GraphAsk { graph, start } = ask;
+    let mentioned = |file: u32| {
+        let steps = &mut graph.steps.iter();
+        steps.any(|step| step.outputs.contains(&file) || step.inputs().any(|input| input == file))
+    };
+    let names: Vec<Vec<u8>> =
+        (0..start.times.len()).map(|file| format!("f{file}").into_bytes()).collect();
+    let mut records: Vec<(&[u8], u64)> =
+        names.iter().map(Vec::as_slice).zip(start.times.clone()).collect();
+    records.retain(|&(_, time)| time > 0);
+    records.sort();
+    let targets: String = start
+        .targets
+        .iter()
+        .filter(|&&file| mentioned(file))
+        .map(|file| format!("f{file}\n"))
+        .collect();
+    let manifest = graphs::manifest(rng, ask);
+    Lent { manifest, card: card::write(&records), targets: targets.into_bytes() }
+}
+
+/// What the naive transcription answers to what is lent, and none for a circle.
+fn by_the_rules(lent: &Lent) -> Option<Answer> {
+    let read = manifest::read(&lent.manifest).expect("a sound manifest");
+    let number = |name: &[u8]| read.files.number(name);
+    let mut times = vec![0; read.files.names.len()];
+    for (name, time) in card::read(&lent.card).expect("a sound card") {
+        if let Some(file) = number(name) {
+            times[file as usize] = time;
+        }
+    }
+    let targets = targets::read(&lent.targets, number).expect("targets that are mentioned");
+    naive::plan(&read.graph, &Start { times, targets, defaults: read.defaults.clone() })
 }
 
 /// The kind of outcome, after checking that all three agree on it, and the buffer with them.
-fn compare(ask: &GraphAsk) -> &'static str {
-    let GraphAsk { graph, start } = ask;
-    let mut list = [7; 600];
-    let said = plan(&Tables::of(graph), start, &mut list);
-    let fast = plan_graph(graph, start).unwrap_or_else(Answer::Refused);
-    let Some(answer) = naive::plan(graph, start) else {
-        assert!(matches!(fast, Answer::Circle(_)), "{ask:?}");
-        assert_eq!(said.number, 14, "{ask:?}");
-        let needed = naive::needed(graph, &naive::roots(graph, start));
-        let circle = shown(&list, said.value);
-        assert!(naive::is_circle(graph, &needed, circle), "{circle:?} {ask:?}");
-        return "circle";
-    };
-    assert_eq!(fast, answer, "{ask:?}");
-    let (number, value) = answer.numbers();
-    assert_eq!(said, Said { number: number.into(), value }, "{ask:?}");
-    match answer {
-        Answer::List(steps) => {
-            assert_eq!(shown(&list, said.value), steps, "{ask:?}");
-            match steps.len() {
-                0 => "empty list",
-                _ if steps.is_sorted() => "rising list",
-                _ => "other list",
-            }
-        }
-        _ => {
-            shown(&list, 0);
-            if number == 13 {
-                "13"
-            } else {
-                "15"
-            }
-        }
+fn compare(seed: u64, most_steps: usize) -> &'static str {
+    let rng = &mut Rng::new(seed);
+    let ask = graph_ask(rng, most_steps);
+    let ask = Ask::plan(lent(rng, &ask));
+    let theirs = ask.answer();
+    if let Err(difference) = judge(&ask, &ours(&ask), &theirs) {
+        panic!("seed {seed}: {difference}\n{ask}");
+    }
+    match by_the_rules(&ask.lent) {
+        None => assert!(matches!(theirs, Answer::Circle(_)), "seed {seed}: {ask}"),
+        Some(answer) => assert_eq!(answer, theirs, "seed {seed}: {ask}"),
+    }
+    match theirs {
+        Answer::Circle(_) => "circle",
+        Answer::List(steps) if steps.is_empty() => "empty list",
+        Answer::List(steps) if steps.is_sorted() => "rising list",
+        Answer::List(_) => "other list",
+        Answer::Refused(refusal) if refusal.number == 13 => "13",
+        Answer::Refused(_) => "15",
+        Answer::Text(_) => unreachable!("a plan was asked for"),
     }
 }
 
@@ -67,40 +83,9 @@ fn graphs_agree() {
             0 => 40,
             _ => 3 + (seed % 8) as usize,
         };
-        *kinds.entry(compare(&graph_ask(&mut Rng::new(seed), most_steps))).or_default() += 1;
+        *kinds.entry(compare(seed, most_steps)).or_default() += 1;
     }
     println!("{kinds:?}");
     assert_eq!(kinds.len(), 6, "{kinds:?}");
     assert!(kinds.values().all(|&count| count > graphs / 200), "{kinds:?}");
-}
-
-#[test]
-fn tables_out_of_range_are_answered() {
-    let ask = graph_ask(&mut Rng::new(1), 8);
-    let sound = Tables::of(&ask.graph);
-    let files = sound.made.len() as u32;
-    assert!(files > 0 && !sound.ends.is_empty(), "{sound:?}");
-    let broken = [
-        Tables { mentions: vec![files; sound.mentions.len()], ..sound.clone() },
-        Tables { ends: sound.ends.iter().map(|end| end + 1).collect(), ..sound.clone() },
-        Tables { ends: sound.ends.iter().rev().copied().collect(), ..sound.clone() },
-        Tables { ends: sound.ends[1..].to_vec(), ..sound.clone() },
-        Tables { made: vec![sound.phony.len() as u32 + 1; sound.made.len()], ..sound.clone() },
-        Tables { phony: vec![0; 513], ..sound.clone() },
-    ];
-    let mut list = [7; 512];
-    let unsound = Said { number: 255, value: 0 };
-    let start = Start { times: ask.start.times, ..Start::default() };
-    for tables in &broken {
-        assert_eq!(plan(tables, &start, &mut list), unsound, "{tables:?}");
-    }
-    for start in [
-        Start { times: start.times[1..].to_vec(), ..Start::default() },
-        Start { defaults: vec![files], ..start.clone() },
-        Start { targets: vec![files], ..start.clone() },
-    ] {
-        assert_eq!(plan(&sound, &start, &mut list), unsound, "{start:?}");
-    }
-    assert_eq!(plan(&sound, &start, &mut list[..511]), unsound);
-    assert_eq!(list, [7; 512]);
 }

@@ -1,27 +1,22 @@
-//! The proved scanners, name table, card and plan of a graph against the second planner's own:
-//! median and minimum of a call, and the ratios of both. Nothing is cleared before a call but the
+//! The proved scanners, name table and card against the second planner's own: median and minimum of
+//! a call, and the ratios of both. Nothing is cleared before a call but the
 //! name table. Where the linker puts a short loop can double its time, so run it with aligned loops
 //! too, which gives the second planner its best: `RUSTFLAGS="-C llvm-args=-align-loops=64" cargo
 //! run --release --target-dir target/aligned --bin bench`.
 
 use compare::card::{self, Card};
-use compare::graph::{self, Tables};
 use compare::measure::{both, row};
 use compare::names::{Added, Names};
 use compare::scan::{self, Classes};
 use second::bytes::{class, Class};
-use second::graph::Start;
 use second::line::{self, Opening, Statement};
-use second::plan::plan_graph;
 use second::scan::Scanner;
-use second::Answer;
 use std::collections::HashMap;
 
 fn main() {
     scanners();
     names();
     cards();
-    plans();
 }
 
 /// A manifest of some 49 KB: rules, variables, steps with blocks, comments.
@@ -204,30 +199,4 @@ fn cards() {
         },
     );
     row("card of 1,024: 1,024 lookups", ours, theirs);
-}
-
-/// Planning alone, from tables that are made before.
-fn plans() {
-    for shape in second::shapes::all(512) {
-        let manifest = second::manifest::read(&shape.manifest).expect("a sound manifest");
-        let tables = Tables::of(&manifest.graph);
-        for (age, ask) in shape.plans() {
-            let mut times = vec![0; manifest.files.names.len()];
-            for (name, time) in second::card::read(&ask.lent.card).expect("a sound card") {
-                times[manifest.files.number(name).expect("a mentioned file") as usize] = time;
-            }
-            let mut list = [0; 512];
-            let start = Start { times, targets: Vec::new(), defaults: manifest.defaults.clone() };
-            let said = graph::plan(&tables, &start, &mut list);
-            let Ok(Answer::List(theirs)) = plan_graph(&manifest.graph, &start) else {
-                panic!("no list")
-            };
-            assert_eq!((said.number, &list[..said.value]), (0, theirs.as_slice()));
-            let (ours, theirs) = both(
-                || graph::plan(&tables, &start, &mut list),
-                || plan_graph(&manifest.graph, &start),
-            );
-            row(&format!("plan of 512 steps: {}, {age}", shape.name), ours, theirs);
-        }
-    }
 }
