@@ -12,12 +12,29 @@ use test_packed::Ask;
 use test_packed::Head;
 use test_packed::Met;
 use test_packed::check;
-use test_packed::fill_bytes;
-use test_packed::fill_words;
 use test_packed::is_sound;
 use test_packed::read_ask;
 use test_packed::read_head;
 use test_packed::read_part;
+
+// What the lent buffers hold before an ask: nothing that an ask would write there.
+const BEFORE: u8 = 7;
+
+fn fill_bytes(buf: &mut [u8]) {
+    let mut i = 0;
+    while i < buf.len() {
+        buf[i] = BEFORE;
+        i += 1;
+    }
+}
+
+fn fill_words(list: &mut [u32]) {
+    let mut i = 0;
+    while i < list.len() {
+        list[i] = BEFORE as u32;
+        i += 1;
+    }
+}
 
 // How many cases and asks there were, and how many were answered otherwise than expected; whether more cases follow, and whether the
 // packed file was read as it should be.

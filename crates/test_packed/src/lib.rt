@@ -10,9 +10,6 @@ use byteorder::equal;
 use scan_numbers::word;
 use slices::words::at;
 
-// What the lent buffers hold before an ask: nothing that an ask would write there.
-const BEFORE: u8 = 7;
-
 // Whether an answer is one of those expected, and whether the packed file went on as it should.
 pub struct Met {
     pub yes: bool,
@@ -55,22 +52,6 @@ pub fn read_part(fd: i32, buf: &mut [u8], n: usize) -> bool
     }
     let got = io::read_full(fd, &mut buf[..n]);
     got == n
-}
-
-pub fn fill_bytes(buf: &mut [u8]) {
-    let mut i = 0;
-    while i < buf.len() {
-        buf[i] = BEFORE;
-        i += 1;
-    }
-}
-
-pub fn fill_words(list: &mut [u32]) {
-    let mut i = 0;
-    while i < list.len() {
-        list[i] = BEFORE as u32;
-        i += 1;
-    }
 }
 
 fn is_zero(buf: &[u8]) -> bool {

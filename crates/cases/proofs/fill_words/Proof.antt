@@ -4,8 +4,8 @@ use native.Mathlib.Omega.{arith}
 use Prim.Native.Nat.{_-_, _≤_}
 use mathlib.Core.Path.{_≡_}
 use borrow.Author.Needs.{needs}
-use Rattle.test_packed.proofs.fill_words.Statement.{statement}
-use Rattle.test_packed.proofs.fill_words.Tie as tie
+use Rattle.cases.proofs.fill_words.Statement.{statement}
+use Rattle.cases.proofs.fill_words.Tie as tie
 
 abbrev Inv-loop : tie.InvT-loop
 Inv-loop list₀ i₀ list i = (i ≤ length list) × (length list ≡ length list₀)

@@ -4,8 +4,8 @@ use native.Mathlib.Omega.{arith}
 use Prim.Native.Nat.{_-_, _≤_}
 use mathlib.Core.Path.{_≡_}
 use borrow.Author.Needs.{needs}
-use Rattle.test_packed.proofs.fill_bytes.Statement.{statement}
-use Rattle.test_packed.proofs.fill_bytes.Tie as tie
+use Rattle.cases.proofs.fill_bytes.Statement.{statement}
+use Rattle.cases.proofs.fill_bytes.Tie as tie
 
 abbrev Inv-loop : tie.InvT-loop
 Inv-loop buf₀ i₀ buf i = (i ≤ length buf) × (length buf ≡ length buf₀)
