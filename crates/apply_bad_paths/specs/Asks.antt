@@ -4,6 +4,8 @@ use mathlib.Core.Bool.{Bool}
 use mathlib.Core.List.{List}
 use mathlib.Core.Path.{_≡_}
 use lib.ListN.{length}
+use Rattle.lists.specs.Members.{any}
+use Rattle.spec.specs.Basics.{isEmpty}
 use Rattle.spec.specs.Limits.{maxManifest, maxWritten}
 use Rattle.spec.specs.Forms.{BuildLine}
 use Rattle.spec.specs.Reading.{Reading}
@@ -26,6 +28,10 @@ pub record LineAsks (t l names index texts bind graph word : List ℕ) (c : Coun
   pub room : maxWritten ≤ length word
   pub scratch : columnsEnd + maxManifest ≤ length graph
   pub whole : Whole names index texts bind graph c
+
+-- whether an input of any kind is an empty path
+pub record InputsChecked (l names index texts bind graph : List ℕ) (c : Counts) (p : BuildPlaces) (r : Bool) : Type 0 where
+  pub answer : (b : BuildLine) → Stands l p b → (log : List Logged) (rd : Reading) → HoldsReading log names index texts bind graph c rd → r ≡ any isEmpty (inputsOfLine (expandedLine rd b))
 
 -- "empty path, output made twice (also within one step)" (8)
 pub record Checked (l names index texts bind graph : List ℕ) (c : Counts) (p : BuildPlaces) (graph′ : List ℕ) (r : Bool) : Type 0 where

@@ -1,10 +1,39 @@
 // The refusals under 8 of a build line: an empty path, an output of an earlier step, two equal outputs.
-ghost use Rattle.apply_bad_paths.specs.Asks.{LineAsks, Checked};
-use apply_earlier_outputs::has_made;
-use apply_empty_paths::has_empty_path;
-use apply_equal_outputs::has_twice;
+ghost use Rattle.apply_bad_paths.specs.Asks.{LineAsks, InputsChecked, Checked};
+use apply_equal_outputs::has_equal_outputs;
+use apply_path_checks::PathKind;
+use apply_path_checks::has_wrong;
 use cut_forms::BuildPlaces;
 use hold_reading::Counts;
+
+// "empty path" (8), among the inputs of every kind.
+fn has_wrong_input(
+    t: &[u8; 256],
+    l: &[u8],
+    p: BuildPlaces,
+    names: &[u8],
+    index: &[u32],
+    texts: &[u8],
+    bind: &[u32],
+    graph: &[u32],
+    word: &mut [u8],
+    c: Counts,
+) -> bool
+    requires { ⌜ LineAsks (now t) (now l) (now names) (now index) (now texts) (now bind) (now graph) (now word) c p ⌝ }
+    ensures { λ r. ⌜ InputsChecked (now (l .entry)) (now (names .entry)) (now (index .entry)) (now (texts .entry)) (now (bind .entry)) (now (graph .entry)) c p r ⌝ }
+{
+    let kind = PathKind::Input;
+    let at = p.ins;
+    if has_wrong(t, l, at, kind, names, index, texts, bind, graph, word, c) {
+        return true;
+    }
+    let at = p.implicit;
+    if has_wrong(t, l, at, kind, names, index, texts, bind, graph, word, c) {
+        return true;
+    }
+    let at = p.order;
+    has_wrong(t, l, at, kind, names, index, texts, bind, graph, word, c)
+}
 
 // "empty path, output made twice (also within one step)" (8), of a build line. The columns of the graph stay; behind them lies a table of the
 // outputs, and the word buffer is left with a path as far as it fits.
@@ -23,23 +52,13 @@ pub fn bad_paths(
     requires { ⌜ LineAsks (now t) (now l) (now names) (now index) (now texts) (now bind) (now graph) (now word) c p ⌝ }
     ensures { λ r. ⌜ Checked (now (l .entry)) (now (names .entry)) (now (index .entry)) (now (texts .entry)) (now (bind .entry)) (now (graph .entry)) c p (now (graph .exit)) r ⌝ }
 {
-    if has_empty_path(t, l, p, texts, bind, c, word) {
+    let kind = PathKind::Output;
+    let at = p.outs;
+    if has_wrong(t, l, at, kind, names, index, texts, bind, graph, word, c) {
         return true;
     }
-    if has_made(
-        t,
-        l,
-        p.outs,
-        names,
-        index,
-        texts,
-        bind,
-        graph,
-        word,
-        c,
-        true,
-    ) {
+    if has_wrong_input(t, l, p, names, index, texts, bind, graph, word, c) {
         return true;
     }
-    has_twice(t, l, p.outs, texts, bind, graph, c)
+    has_equal_outputs(t, l, p.outs, texts, bind, graph, c)
 }

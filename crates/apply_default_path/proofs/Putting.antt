@@ -16,9 +16,9 @@ use Rattle.expand_parts.specs.Runs.{expanded}
 use Rattle.expand_dollars.specs.Written.{Written}
 use Rattle.expand_dollars.proofs.Callers.{written-long, written-whole}
 use Rattle.hold_reading.specs.declared.Counts.{Counts}
-use Rattle.apply_empty_paths.specs.Walk.{pathOf}
-use Rattle.apply_empty_paths.proofs.Empty.{path-held}
-use Rattle.apply_earlier_outputs.proofs.Makers.{made-among}
+use Rattle.apply_path_checks.specs.Checks.{pathOf}
+use Rattle.apply_path_checks.proofs.Wrong.{path-held}
+use Rattle.apply_path_checks.proofs.Makers.{made-among}
 use Rattle.apply_files.specs.Path.{overCounted}
 use Rattle.apply_files.proofs.Limits.{path-within}
 use Rattle.apply_default_path.specs.declared.AddedDefault.the-variants.{Added, Over}

@@ -8,8 +8,7 @@ use Rattle.spec.specs.Reading.{Reading, numberOf, isMade}
 use Rattle.hold_bindings.specs.Log.{Logged}
 use Rattle.hold_reading.specs.Held.{HoldsReading}
 use Rattle.hold_reading.specs.declared.Counts.{Counts}
-use Rattle.apply_empty_paths.specs.Walk.{pathOf}
-use Rattle.apply_earlier_outputs.specs.Asks.{Files}
+use Rattle.apply_path_checks.specs.Checks.{pathOf, Files}
 use Rattle.apply_files.specs.Path.{overCounted}
 use Rattle.apply_default_path.specs.declared.AddedDefault.{AddedDefault}
 use Rattle.apply_default_path.specs.declared.AddedDefault.the-variants.{Added, Over}

@@ -1,9 +1,8 @@
 -- A walk over the paths of a default line without an 8: what is held now, and what is left of the line.
 use Prim.Native.Nat.{ℕ, _≤_}
-use mathlib.Core.Bool.{true, false, not, _||_}
+use mathlib.Core.Bool.{true, false, _||_}
 use mathlib.Core.List.{List, [], _∷_}
 use mathlib.Core.Path.{_≡_, refl, sym, _∙_, ap}
-use borrow.Author.Tests.{not-false}
 use lib.ListN.{length}
 use Rattle.lists.specs.Tests.{or-left, or-right}
 use Rattle.lists.specs.Members.{any, any-cons}
@@ -20,7 +19,9 @@ use Rattle.hold_reading.specs.declared.Open.the-variants.{Nothing}
 use Rattle.hold_reading.specs.declared.LineAnswer.the-variants.{Goes, Refused}
 use Rattle.hold_reading.specs.Held.{joined, nothing, HoldsReading, goes, refuses}
 use Rattle.hold_reading.specs.Adds.{Whole, AddsFiles}
-use Rattle.apply_empty_paths.specs.Walk.{pathOf, AnyPath}
+use Rattle.apply_path_checks.specs.declared.PathKind.the-variants.{Default}
+use Rattle.apply_path_checks.specs.Checks.{pathOf, wrongPath, AnyWrong}
+use Rattle.apply_path_checks.proofs.Wrong.{expanded-cons, default-made}
 use Rattle.apply_default_path.specs.declared.AddedDefault.{AddedDefault}
 use Rattle.apply_default_path.specs.declared.AddedDefault.the-variants.{Added, Over}
 use Rattle.apply_default_path.specs.Defaults.{defaulted, Named·is, Names}
@@ -31,7 +32,7 @@ use Rattle.apply_defaults.proofs.Outcomes.{sound-over, sound-on, sound-
 pub record Reached (log : List Logged) (names index texts bind graph : List ℕ) (d : Counts) (start : ℕ) (rd : Reading) (ps qs : List (List ℕ)) : Type 0 where
   pub reading : Reading
   pub holds : HoldsReading log names index texts bind graph d reading
-  pub made : any (λ raw. not (isMade (pathOf reading raw) reading)) qs ≡ false
+  pub right : any (wrongPath Default reading) (expanded reading qs) ≡ false
   pub left : soundDefaults start (expanded rd ps) rd ≡ soundDefaults start (expanded reading qs) reading
 
 pub record Adding (l names index texts bind graph₀ : List ℕ) (c : Counts) (start at : ℕ) (graph : List ℕ) (d : Counts) (i : ℕ) : Type 0 where
@@ -40,28 +41,23 @@ pub record Adding (l names index texts bind graph₀ : List ℕ) (c : Counts) (s
       → (qs : List (List ℕ)) × PathsAt l i qs × ((log : List Logged) (rd : Reading) → HoldsReading log names index texts bind graph₀ c rd → Reached log names index texts bind graph d start rd ps qs)
 
 pub add-begin : {l names index texts bind graph : List ℕ} {c : Counts} (start : ℕ) {at : ℕ}
-    → AnyPath (λ log rd. HoldsReading log names index texts bind graph c rd) (λ rd raw. not (isMade (pathOf rd raw) rd)) l at false → at ≤ length l
+    → AnyWrong Default l names index texts bind graph c at false → at ≤ length l
     → Adding l names index texts bind graph c start at graph c at
 add-begin start a b =
     record {
       within = b;
-      rest = λ ps w. (ps, w, λ log rd h. record { reading = rd; holds = h; made = sym (a .answer ps w log rd h); left = refl });
+      rest = λ ps w. (ps, w, λ log rd h. record { reading = rd; holds = h; right = sym (a .answer ps w log rd h); left = refl });
     }
 
 -- ---- what does not look at defaults
 
-made-same : (k n : ℕ) (rd : Reading) (qs : List (List ℕ))
-    → any (λ raw. not (isMade (pathOf (defaulted k n rd) raw) (defaulted k n rd))) qs ≡ any (λ raw. not (isMade (pathOf rd raw) rd)) qs
-unfolding isMade pathOf defaulted
-made-same k n rd qs = refl
+right-same : (k n : ℕ) (rd : Reading) (qs : List (List ℕ)) → any (wrongPath Default (defaulted k n rd)) (expanded (defaulted k n rd) qs) ≡ any (wrongPath Default rd) (expanded rd qs)
+unfolding wrongPath isMade expanded defaulted
+right-same k n rd qs = refl
 
 expanded-same : (k n : ℕ) (rd : Reading) (qs : List (List ℕ)) → expanded (defaulted k n rd) qs ≡ expanded rd qs
 unfolding expanded defaulted
 expanded-same k n rd qs = refl
-
-expanded-cons : (rd : Reading) (q : List ℕ) (qs : List (List ℕ)) → expanded rd (q ∷ qs) ≡ pathOf rd q ∷ expanded rd qs
-unfolding expanded pathOf
-expanded-cons rd q qs = refl
 
 -- ---- a turn
 
@@ -83,17 +79,20 @@ module _ {l names index texts bind graph₀ : List ℕ} {c : Counts} {start at :
         (us, u, λ log rd h. rw q at (s log rd h))
 
     module _ {log : List Logged} {rd : Reading} {ps us : List (List ℕ)} (z : Reached log names index texts bind graph d start rd ps (part l from to ∷ us)) where
-      split-made : not (isMade (pathOf (z .reading) (part l from to)) (z .reading)) || any (λ raw. not (isMade (pathOf (z .reading) raw) (z .reading))) us ≡ false
-      split-made = sym (any-cons (λ raw. not (isMade (pathOf (z .reading) raw) (z .reading))) (part l from to) us) ∙ z .made
+      split-right : wrongPath Default (z .reading) (pathOf (z .reading) (part l from to)) || any (wrongPath Default (z .reading)) (expanded (z .reading) us) ≡ false
+      split-right =
+          sym (any-cons (wrongPath Default (z .reading)) (pathOf (z .reading) (part l from to)) (expanded (z .reading) us))
+          ∙ ap (any (wrongPath Default (z .reading))) (sym (expanded-cons (z .reading) (part l from to) us))
+          ∙ z .right
 
       here-made : isMade (pathOf (z .reading) (part l from to)) (z .reading) ≡ true
       here-made =
-          not-false _
-          (or-left (not (isMade (pathOf (z .reading) (part l from to)) (z .reading))) (any (λ raw. not (isMade (pathOf (z .reading) raw) (z .reading))) us) split-made)
+          default-made (z .reading) (pathOf (z .reading) (part l from to))
+          (or-left (wrongPath Default (z .reading) (pathOf (z .reading) (part l from to))) (any (wrongPath Default (z .reading)) (expanded (z .reading) us)) split-right)
 
-      rest-made : any (λ raw. not (isMade (pathOf (z .reading) raw) (z .reading))) us ≡ false
-      rest-made =
-          or-right (not (isMade (pathOf (z .reading) (part l from to)) (z .reading))) (any (λ raw. not (isMade (pathOf (z .reading) raw) (z .reading))) us) split-made
+      rest-right : any (wrongPath Default (z .reading)) (expanded (z .reading) us) ≡ false
+      rest-right =
+          or-right (wrongPath Default (z .reading) (pathOf (z .reading) (part l from to))) (any (wrongPath Default (z .reading)) (expanded (z .reading) us)) split-right
 
       left-cons : soundDefaults start (expanded rd ps) rd ≡ soundDefaults start (pathOf (z .reading) (part l from to) ∷ expanded (z .reading) us) (z .reading)
       left-cons = z .left ∙ ap (λ (y : List (List ℕ)). soundDefaults start y (z .reading)) (expanded-cons (z .reading) (part l from to) us)
@@ -107,7 +106,7 @@ module _ {l names index texts bind graph₀ : List ℕ} {c : Counts} {start at :
           record {
             reading = defaulted k (length p) (z .reading);
             holds = g;
-            made = made-same k (length p) (z .reading) us ∙ rest-made;
+            right = right-same k (length p) (z .reading) us ∙ rest-right;
             left =
                 left-cons
                 ∙ sound-on (z .holds) start p (expanded (z .reading) us) here-made o

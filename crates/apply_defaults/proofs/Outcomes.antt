@@ -18,7 +18,7 @@ use Rattle.hold_names.proofs.Numbers.{mention-old, mention-none, number-mention
 use Rattle.hold_bindings.specs.Log.{Logged}
 use Rattle.hold_reading.specs.declared.Counts.{Counts}
 use Rattle.hold_reading.specs.Held.{HoldsReading}
-use Rattle.apply_earlier_outputs.proofs.Makers.{made-among}
+use Rattle.apply_path_checks.proofs.Makers.{made-among}
 use Rattle.apply_files.specs.Lines.{overLine}
 use Rattle.apply_files.specs.Path.{overCounted}
 use Rattle.apply_files.proofs.Limits.{counted-over}

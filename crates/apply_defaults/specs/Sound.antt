@@ -1,14 +1,14 @@
 -- A default line without an 8: what the rules answer, and what it asks.
 use Prim.Native.Nat.{ℕ}
-use mathlib.Core.Bool.{false, not, _||_}
+use mathlib.Core.Bool.{false, _||_}
 use mathlib.Core.List.{List}
 use Rattle.lists.specs.Tests.{ifB}
 use Rattle.spec.specs.declared.Refusal.the-variants.{OverLimit}
-use Rattle.spec.specs.Reading.{Reading, isMade}
+use Rattle.spec.specs.Reading.{Reading}
 use Rattle.spec.specs.Statements.{Outcome, goesOn, refused, noBlock, mentioned, overPaths, overCounts, withDefaults}
-use Rattle.hold_reading.specs.Held.{HoldsReading}
 use Rattle.hold_reading.specs.declared.Counts.{Counts}
-use Rattle.apply_empty_paths.specs.Walk.{pathOf, AnyPath}
+use Rattle.apply_path_checks.specs.declared.PathKind.the-variants.{Default}
+use Rattle.apply_path_checks.specs.Checks.{AnyWrong}
 use Rattle.apply_defaults.specs.Asks.{DefaultAsks}
 
 unfoldable pub soundDefaults : ℕ → List (List ℕ) → Reading → Outcome
@@ -19,4 +19,4 @@ soundDefaults start ps rd =
 
 pub record SoundAsks (t l names index texts bind graph word : List ℕ) (c : Counts) (at : ℕ) : Type 0 where
   pub asks : DefaultAsks t l names index texts bind graph word c at
-  pub made : AnyPath (λ log rd. HoldsReading log names index texts bind graph c rd) (λ rd raw. not (isMade (pathOf rd raw) rd)) l at false
+  pub right : AnyWrong Default l names index texts bind graph c at false

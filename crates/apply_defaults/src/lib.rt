@@ -8,8 +8,8 @@ ghost use Rattle.apply_defaults.specs.Asks.{DefaultAsks};
 ghost use Rattle.apply_defaults.specs.Sound.{soundDefaults, SoundAsks};
 use apply_default_path::AddedDefault;
 use apply_default_path::add_default;
-use apply_earlier_outputs::has_made;
-use apply_empty_paths::has_empty;
+use apply_path_checks::PathKind;
+use apply_path_checks::has_wrong;
 use cut_forms::ListPath;
 use cut_forms::paths::next_path;
 use hold_reading::Counts;
@@ -73,10 +73,8 @@ pub fn add_defaults(
     requires { ⌜ DefaultAsks (now t) (now l) (now names) (now index) (now texts) (now bind) (now graph) (now word) c at ⌝ }
     ensures { λ r. ⌜ ((ps : List (List ℕ)) → PathsAt (now (l .entry)) at ps → AddsFiles (now (names .entry)) (now (index .entry)) (now (texts .entry)) (now (bind .entry)) (now (graph .entry)) c (λ rd. addDefaults start (expanded rd ps) rd) (now (names .entry)) (now (index .entry)) (now (graph .exit)) r) ⌝ }
 {
-    if has_empty(t, l, at, texts, bind, c, word) {
-        return LineAnswer::Refused(Refusal::BadPath(start));
-    }
-    if has_made(t, l, at, names, index, texts, bind, graph, word, c, false) {
+    let kind = PathKind::Default;
+    if has_wrong(t, l, at, kind, names, index, texts, bind, graph, word, c) {
         return LineAnswer::Refused(Refusal::BadPath(start));
     }
     add_sound(t, start, l, at, names, index, texts, bind, graph, word, c)

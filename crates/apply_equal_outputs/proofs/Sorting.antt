@@ -26,13 +26,13 @@ use Rattle.expand_parts.specs.Runs.{expanded as expandedBy, Ready}
 use Rattle.hold_reading.specs.Held.{Bound}
 use Rattle.hold_reading.specs.declared.Counts.{Counts}
 use Rattle.apply_equal_outputs.specs.declared.TablePlace.the-variants.{Taken, Free}
-use Rattle.apply_empty_paths.specs.Walk.{pathOf}
+use Rattle.apply_path_checks.specs.Checks.{pathOf}
 use Rattle.apply_equal_outputs.specs.Kept.{columnsEnd}
 use Rattle.apply_equal_outputs.specs.Sorted.{Between, entryOf, rawOf, Lies, pathsOf, Sorted, PlaceAsks, Ordered, Belongs, PlaceIn, Added, TwiceAsks, Compared, Twice}
-use Rattle.apply_empty_paths.proofs.Empty.{path-held}
+use Rattle.apply_path_checks.proofs.Wrong.{path-held, expanded-cons, expanded-none}
 use Rattle.apply_equal_outputs.proofs.Rising.{between-all, between-lower, between-higher, among-at, free-among, among-inserted, inserted-rising}
 use Rattle.apply_equal_outputs.proofs.Repeats.{repeats, repeats-begin, repeats-found, repeats-on, repeats-end}
-use Rattle.apply_empty_paths.proofs.Walking.{ready-path}
+use Rattle.apply_path_checks.proofs.Walking.{ready-path}
 
 -- ---- entries
 
@@ -231,14 +231,6 @@ scan-begin {l} h =
       };
       rest = λ ps w. (ps, w, λ log rd b. rw (none-in rd l) (repeats-begin (expanded rd ps)));
     }
-
-expanded-cons : (rd : Reading) (q : List ℕ) (qs : List (List ℕ)) → expanded rd (q ∷ qs) ≡ pathOf rd q ∷ expanded rd qs
-unfolding expanded pathOf
-expanded-cons rd q qs = refl
-
-expanded-none : (rd : Reading) → expanded rd [] ≡ []
-unfolding expanded
-expanded-none rd = refl
 
 module _ {l texts bind : List ℕ} {c : Counts} {start : ℕ} {table₀ table : List ℕ} {n i : ℕ} (x : Scanning l texts bind c start table₀ table n i) where
   module _ {from to : ℕ} (p : PathNext l i from to) where

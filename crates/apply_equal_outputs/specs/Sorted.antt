@@ -22,7 +22,7 @@ use Rattle.hold_reading.specs.Held.{Bound}
 use Rattle.hold_reading.specs.declared.Counts.{Counts}
 use Rattle.apply_equal_outputs.specs.declared.TablePlace.{TablePlace}
 use Rattle.apply_equal_outputs.specs.declared.TablePlace.the-variants.{Taken, Free}
-use Rattle.apply_empty_paths.specs.Walk.{pathOf}
+use Rattle.apply_path_checks.specs.Checks.{pathOf}
 use Rattle.apply_equal_outputs.specs.Kept.{columnsEnd, Kept}
 
 -- ---- rising lists

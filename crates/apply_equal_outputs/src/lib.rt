@@ -125,7 +125,7 @@ fn has_equal(
 }
 
 // Whether two paths of a list are equal. The table lies in the graph's buffer, behind its columns.
-pub fn has_twice(
+pub fn has_equal_outputs(
     t: &[u8; 256],
     l: &[u8],
     start: usize,

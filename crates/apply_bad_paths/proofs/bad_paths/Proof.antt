@@ -1,54 +1,59 @@
 -- `apply_bad_paths::bad_paths` meets its contract.
+use mathlib.Core.Path.{refl}
 use borrow.Author.Needs.{needs}
-use Rattle.apply_bad_paths.proofs.Joining.{room-asks, line-empty, line-made, line-twice}
+use Rattle.apply_bad_paths.proofs.Joining.{list-asks, line-asks, room-asks, line-output, line-input, line-twice}
 use Rattle.apply_bad_paths.proofs.bad_paths.Statement.{statement}
 use Rattle.apply_bad_paths.proofs.bad_paths.Tie as tie
 
-has-empty-path-requires : tie.Need-has-empty-path-requires
-has-empty-path-requires c κs = search needs
+has-wrong-requires : tie.Need-has-wrong-requires
+has-wrong-requires c κs = list-asks (c .before .before .before .before .before .before .before .before .before .pre) refl (c .before .before .before .before .before .before .before .before .before .pre .stands .outs .within)
 
 same-length : tie.Need-same-length
 same-length c = search needs
 
-returns : tie.Need-returns
-returns c = line-empty (c .before .before .before .has-empty-path .ensures) (c .if1 .taken)
-
-has-made-requires : tie.Need-has-made-requires
-has-made-requires c κs = search needs
-
 same-length-2 : tie.Need-same-length-2
 same-length-2 c = search needs
+
+returns : tie.Need-returns
+returns c = line-output (c .before .before .before .has-wrong .ensures) (c .if1 .taken)
+
+has-wrong-input-requires : tie.Need-has-wrong-input-requires
+has-wrong-input-requires c κs = line-asks (c .before .before .before .before .before .before .before .before .before .before .before .before .before .before .before .pre) (search needs)
 
 same-length-3 : tie.Need-same-length-3
 same-length-3 c = search needs
 
-returns-2 : tie.Need-returns-2
-returns-2 c = line-made (c .before .before .before .before .before .before .before .before .before .has-empty-path .ensures) (c .before .before .before .before .before .before .if1 .left) (c .before .before .before .has-made .ensures) (c .if2 .taken)
-
-has-twice-requires : tie.Need-has-twice-requires
-has-twice-requires c κs = room-asks (c .before .before .before .before .before .before .before .before .before .before .before .before .before .before .before .before .before .before .before .pre)
-
 same-length-4 : tie.Need-same-length-4
 same-length-4 c = search needs
+
+returns-2 : tie.Need-returns-2
+returns-2 c = line-input (c .before .before .before .before .before .before .before .before .before .has-wrong .ensures) (c .before .before .before .before .before .before .if1 .left) (c .before .before .before .has-wrong-input .ensures) (c .if2 .taken)
+
+has-equal-outputs-requires : tie.Need-has-equal-outputs-requires
+has-equal-outputs-requires c κs = room-asks (c .before .before .before .before .before .before .before .before .before .before .before .before .before .before .before .before .before .before .before .before .pre)
 
 same-length-5 : tie.Need-same-length-5
 same-length-5 c = search needs
 
+same-length-6 : tie.Need-same-length-6
+same-length-6 c = search needs
+
 returns-3 : tie.Need-returns-3
-returns-3 c = line-twice (c .before .before .before .before .before .before .before .before .before .before .before .before .before .has-empty-path .ensures) (c .before .before .before .before .before .before .before .before .before .before .if1 .left) (c .before .before .before .before .before .before .before .has-made .ensures) (c .before .before .before .before .if2 .left) (c .before .before .has-twice .ensures)
+returns-3 c = line-twice (c .before .before .before .before .before .before .before .before .before .before .before .before .before .has-wrong .ensures) (c .before .before .before .before .before .before .before .before .before .before .if1 .left) (c .before .before .before .before .before .before .before .has-wrong-input .ensures) (c .before .before .before .before .if2 .left) (c .before .before .has-equal-outputs .ensures)
 
 pub bad-paths-spec : {M : Type 1} → statement M
 bad-paths-spec =
     tie.close
     (tie.spec
-    has-empty-path-requires
+    has-wrong-requires
     same-length
-    returns
-    has-made-requires
     same-length-2
+    returns
+    has-wrong-input-requires
     same-length-3
-    returns-2
-    has-twice-requires
     same-length-4
+    returns-2
+    has-equal-outputs-requires
     same-length-5
+    same-length-6
     returns-3)

@@ -4,7 +4,7 @@ use mathlib.Core.Path.{_≡_, sym, _∙_}
 use native.Mathlib.Omega.{arith}
 use borrow.Author.Needs.{needs}
 use denote.Ref.{now}
-use Rattle.apply_earlier_outputs.proofs.Makers.{word-counted, files-held}
+use Rattle.apply_path_checks.proofs.Makers.{word-counted, files-held}
 use Rattle.apply_files.specs.Path.{overCounted}
 use Rattle.apply_files.proofs.Limits.{path-within}
 use Rattle.apply_default_path.proofs.Putting.{default-over, default-added}

@@ -3,7 +3,7 @@ use native.Mathlib.Omega.{arith}
 use borrow.Author.Needs.{needs}
 use denote.Ref.{now}
 use lib.ListN.{length}
-use Rattle.apply_earlier_outputs.proofs.Makers.{entry-low}
+use Rattle.apply_path_checks.proofs.Makers.{entry-low}
 use Rattle.apply_files.proofs.Limits.{Within, path-within}
 use Rattle.apply_default_path.proofs.Growing.{default-room}
 use Rattle.apply_default_path.proofs.Putting.{put-found, put-missing}

@@ -1,54 +1,42 @@
 -- `apply_defaults::add_defaults` meets its contract.
 use borrow.Author.Needs.{needs}
-use Rattle.apply_defaults.proofs.Lines.{line-empty, line-unmade, line-sound, sound-asks}
+use Rattle.apply_defaults.proofs.Lines.{line-wrong, line-sound, sound-asks}
 use Rattle.apply_defaults.proofs.add_defaults.Statement.{statement}
 use Rattle.apply_defaults.proofs.add_defaults.Tie as tie
 
-has-empty-requires : tie.Need-has-empty-requires
-has-empty-requires c κs = search needs
+has-wrong-requires : tie.Need-has-wrong-requires
+has-wrong-requires c κs = search needs
 
 same-length : tie.Need-same-length
 same-length c = search needs
 
-returns : tie.Need-returns
-returns c = λ ps w. line-empty (c .before .before .before .before .before .before .before .before .before .before .before .before .args .start) (c .before .before .before .has-empty .ensures) (c .if1 .taken) w
-
-has-made-requires : tie.Need-has-made-requires
-has-made-requires c κs = search needs
-
 same-length-2 : tie.Need-same-length-2
 same-length-2 c = search needs
+
+returns : tie.Need-returns
+returns c = λ ps w. line-wrong (c .before .before .before .before .before .before .before .before .before .before .before .before .before .args .start) (c .before .before .before .has-wrong .ensures) (c .if1 .taken) w
+
+add-sound-requires : tie.Need-add-sound-requires
+add-sound-requires c κs = sound-asks (c .before .before .before .before .before .before .before .before .before .before .before .before .before .before .before .pre) (search needs) (c .before .before .before .before .before .has-wrong .ensures) (c .before .before .if1 .left)
 
 same-length-3 : tie.Need-same-length-3
 same-length-3 c = search needs
 
-returns-2 : tie.Need-returns-2
-returns-2 c = λ ps w. line-unmade (c .before .before .before .before .before .before .before .before .before .before .before .before .before .before .before .before .before .before .args .start) (c .before .before .before .before .before .before .before .before .before .has-empty .ensures) (c .before .before .before .before .before .before .if1 .left) (c .before .before .before .has-made .ensures) (c .if2 .taken) w
-
-add-sound-requires : tie.Need-add-sound-requires
-add-sound-requires c κs = sound-asks (c .before .before .before .before .before .before .before .before .before .before .before .before .before .before .before .before .before .before .before .before .pre) (search needs) (c .before .before .before .before .before .has-made .ensures) (c .before .before .if2 .left)
-
 same-length-4 : tie.Need-same-length-4
 same-length-4 c = search needs
 
-same-length-5 : tie.Need-same-length-5
-same-length-5 c = search needs
-
-returns-3 : tie.Need-returns-3
-returns-3 c = λ ps w. line-sound (c .before .before .before .before .before .before .before .before .before .before .before .before .before .before .before .before .before .before .before .before .before .before .before .before .before .args .start) (c .before .before .before .before .before .before .before .before .before .before .before .before .before .before .before .before .has-empty .ensures) (c .before .before .before .before .before .before .before .before .before .before .before .before .before .if1 .left) (c .before .before .before .before .before .before .before .before .before .before .has-made .ensures) (c .before .before .before .before .before .before .before .if2 .left) w (c .before .before .before .before .add-sound .ensures ps w)
+returns-2 : tie.Need-returns-2
+returns-2 c = λ ps w. line-sound (c .before .before .before .before .before .before .before .before .before .before .before .before .before .before .before .before .before .before .before .before .args .start) (c .before .before .before .before .before .before .before .before .before .before .has-wrong .ensures) (c .before .before .before .before .before .before .before .if1 .left) w (c .before .before .before .before .add-sound .ensures ps w)
 
 pub add-defaults-spec : {M : Type 1} → statement M
 add-defaults-spec =
     tie.close
     (tie.spec
-    has-empty-requires
+    has-wrong-requires
     same-length
-    returns
-    has-made-requires
     same-length-2
-    same-length-3
-    returns-2
+    returns
     add-sound-requires
+    same-length-3
     same-length-4
-    same-length-5
-    returns-3)
+    returns-2)

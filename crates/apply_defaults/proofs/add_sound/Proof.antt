@@ -5,9 +5,8 @@ use native.Mathlib.Omega.{arith}
 use borrow.Author.Needs.{needs}
 use denote.Ref.{now}
 use lib.ListN.{length}
-use Rattle.apply_earlier_outputs.proofs.Makers.{table-held}
 use Rattle.cut_forms.proofs.Walks.{goes-on, stops}
-use Rattle.apply_empty_paths.proofs.Walking.{ready-path}
+use Rattle.apply_path_checks.proofs.Walking.{ready-path, table-held}
 use Rattle.scan_raw.specs.Texts.{PathNext}
 use Rattle.apply_defaults.proofs.Adding.{Adding, add-begin, add-whole, add-on, add-over, add-end}
 use Rattle.apply_defaults.proofs.add_sound.Statement.{statement}
@@ -24,7 +23,7 @@ next : (s : tie.After-known-told Inv-loop μ-loop) → PathNext (now (s .before 
 next s = goes-on _ _ _ (s .before .before .before .next-path .ensures) (s .before .from .given .1)
 
 loop-holds : tie.Need-loop-holds Inv-loop μ-loop
-loop-holds c = (refl, refl, add-begin (c .before .before .before .before .before .before .before .args .start) (c .before .before .before .before .before .before .before .pre .made) (c .before .before .before .before .before .before .before .pre .asks .stands .within))
+loop-holds c = (refl, refl, add-begin (c .before .before .before .before .before .before .before .args .start) (c .before .before .before .before .before .before .before .pre .right) (c .before .before .before .before .before .before .before .pre .asks .stands .within))
 
 next-path-requires : tie.Need-next-path-requires Inv-loop μ-loop
 next-path-requires c κs = search needs

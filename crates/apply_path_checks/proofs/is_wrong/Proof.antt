@@ -1,0 +1,67 @@
+-- `apply_path_checks::is_wrong` meets its contract.
+use borrow.Author.Needs.{needs}
+use denote.Ref.{now}
+use Rattle.apply_path_checks.proofs.Makers.{made-asks, empty-wrong, input-right, output-wrong, default-wrong}
+use Rattle.apply_path_checks.proofs.is_wrong.Statement.{statement}
+use Rattle.apply_path_checks.proofs.is_wrong.Tie as tie
+
+expand-requires : tie.Need-expand-requires
+expand-requires c κs = search needs
+
+same-length : tie.Need-same-length
+same-length c = search needs
+
+returns : tie.Need-returns
+returns c = empty-wrong (now (c .before .before .before .before .before .before .before .before .before .before .before .before .args .raw)) (c .before .before .before .expand .ensures) (c .before .before .before .before .before .before .before .before .before .before .before .before .args .kind) (c .if1 .taken)
+
+enum-told : tie.Need-enum-told
+enum-told c = search needs
+
+enum-told-2 : tie.Need-enum-told-2
+enum-told-2 c = search needs
+
+is-made-requires : tie.Need-is-made-requires
+is-made-requires c κs = made-asks (now (c .before .before .before .before .before .before .before .before .before .before .before .before .before .before .before .args .raw)) (c .before .before .before .before .before .before .expand .ensures) (c .before .before .before .before .before .before .before .before .before .before .before .before .before .before .before .pre)
+
+enum-told-3 : tie.Need-enum-told-3
+enum-told-3 c = search needs
+
+is-made-requires-2 : tie.Need-is-made-requires-2
+is-made-requires-2 c κs = made-asks (now (c .before .before .before .before .before .before .before .before .before .before .before .before .before .before .before .args .raw)) (c .before .before .before .before .before .before .expand .ensures) (c .before .before .before .before .before .before .before .before .before .before .before .before .before .before .before .pre)
+
+same-length-2 : tie.Need-same-length-2
+same-length-2 c = search needs
+
+returns-2 : tie.Need-returns-2
+returns-2 c = input-right (now (c .before .before .before .before .before .before .before .before .before .before .before .before .before .before .args .raw)) (c .before .before .before .before .before .expand .ensures) (c .before .before .before .before .before .before .before .before .before .before .before .before .before .before .args .kind) (c .before .before .if1 .left) (c .enum-told .given .1)
+
+same-length-3 : tie.Need-same-length-3
+same-length-3 c = search needs
+
+returns-3 : tie.Need-returns-3
+returns-3 c = output-wrong (now (c .before .before .before .before .before .before .before .before .before .before .before .before .before .before .before .before .args .raw)) (c .before .before .before .before .before .before .before .expand .ensures) (c .before .before .before .before .before .before .before .before .before .before .before .before .before .before .before .before .args .kind) (c .before .before .before .before .if1 .left) (c .is-made .ensures) (c .before .before .enum-told2 .given .1)
+
+same-length-4 : tie.Need-same-length-4
+same-length-4 c = search needs
+
+returns-4 : tie.Need-returns-4
+returns-4 c = default-wrong (now (c .before .before .before .before .before .before .before .before .before .before .before .before .before .before .before .before .args .raw)) (c .before .before .before .before .before .before .before .expand .ensures) (c .before .before .before .before .before .before .before .before .before .before .before .before .before .before .before .before .args .kind) (c .before .before .before .before .if1 .left) (c .is-made2 .ensures) (c .before .before .enum-told3 .given .1)
+
+pub is-wrong-spec : {M : Type 1} → statement M
+is-wrong-spec =
+    tie.close
+    (tie.spec
+    expand-requires
+    same-length
+    returns
+    enum-told
+    enum-told-2
+    is-made-requires
+    enum-told-3
+    is-made-requires-2
+    same-length-2
+    returns-2
+    same-length-3
+    returns-3
+    same-length-4
+    returns-4)

@@ -1,0 +1,115 @@
+// The refusals under 8 that a path has by itself. Each path of a list is cut and expanded once, and looked at for what its kind is refused for.
+ghost use mathlib.Core.Path.{_≡_};
+ghost use mathlib.Core.List.{List};
+ghost use Rattle.spec.specs.Reading.{Reading, isMade};
+ghost use Rattle.hold_bindings.specs.Log.{Logged};
+ghost use Rattle.hold_reading.specs.Held.{HoldsReading};
+ghost use Rattle.apply_path_checks.specs.Checks.{pathOf, wrongPath, Filed, Files, MadeAsks, Makes, RawAsks, PathAsks, AnyWrong};
+use cut_forms::ListPath;
+use cut_forms::paths::next_path;
+use expand_dollars::expand;
+use hold_names::FoundName;
+use hold_names::find;
+use hold_reading::Counts;
+use hold_reading::columns::MADE;
+use slices::words::at;
+
+// No path may be empty. An output of a build line is made by no earlier step, a default by one.
+pub enum PathKind {
+    Input,
+    Output,
+    Default,
+}
+
+// Whether a path is the output of an earlier step: its entry among the makers is not 0.
+fn is_output(names: &[u8], index: &[u32], graph: &[u32], c: Counts, path: &[u8]) -> bool
+    requires { ⌜ Files (now names) (now index) (now graph) c ⌝ }
+    ensures { λ r. ⌜ ((log : List Logged) (rd : Reading) → Filed log (now (names .entry)) (now (index .entry)) (now (graph .entry)) c rd → r ≡ isMade (now (path .entry)) rd) ⌝ }
+{
+    match find(names, index, c.files, path) {
+        FoundName::At(k) => at(graph, MADE + k) != 0,
+        FoundName::Missing => false,
+    }
+}
+
+// The same of a path of n bytes, which is in the word buffer if it fits. One that does not fit is longer than any name.
+fn is_made(names: &[u8], index: &[u32], graph: &[u32], c: Counts, word: &[u8], n: usize) -> bool
+    requires { ⌜ MadeAsks (now names) (now index) (now graph) (now word) c ⌝ }
+    ensures { λ r. ⌜ Makes (now (names .entry)) (now (index .entry)) (now (graph .entry)) (now (word .entry)) c n r ⌝ }
+{
+    if word.len() < n {
+        return false;
+    }
+    is_output(names, index, graph, c, &word[..n])
+}
+
+// Whether a raw path is refused. The word buffer is left with the path as far as it fits.
+fn is_wrong(
+    t: &[u8; 256],
+    raw: &[u8],
+    kind: PathKind,
+    names: &[u8],
+    index: &[u32],
+    texts: &[u8],
+    bind: &[u32],
+    graph: &[u32],
+    word: &mut [u8],
+    c: Counts,
+) -> bool
+    requires { ⌜ RawAsks (now t) (now raw) (now names) (now index) (now texts) (now bind) (now graph) (now word) c ⌝ }
+    ensures { λ r. ⌜ ((log : List Logged) (rd : Reading) → HoldsReading log (now (names .entry)) (now (index .entry)) (now (texts .entry)) (now (bind .entry)) (now (graph .entry)) c rd → r ≡ wrongPath kind rd (pathOf rd (now (raw .entry)))) ⌝ }
+{
+    let n = expand(t, raw, texts, bind, c.entries, word);
+    if n == 0 {
+        return true;
+    }
+    match kind {
+        PathKind::Input => false,
+        PathKind::Output => is_made(names, index, graph, c, word, n),
+        PathKind::Default => !is_made(names, index, graph, c, word, n),
+    }
+}
+
+// Whether a path of the list that starts at a place is refused.
+pub fn has_wrong(
+    t: &[u8; 256],
+    l: &[u8],
+    start: usize,
+    kind: PathKind,
+    names: &[u8],
+    index: &[u32],
+    texts: &[u8],
+    bind: &[u32],
+    graph: &[u32],
+    word: &mut [u8],
+    c: Counts,
+) -> bool
+    requires { ⌜ PathAsks (now t) (now l) (now names) (now index) (now texts) (now bind) (now graph) (now word) c start ⌝ }
+    ensures { λ r. ⌜ AnyWrong kind (now (l .entry)) (now (names .entry)) (now (index .entry)) (now (texts .entry)) (now (bind .entry)) (now (graph .entry)) c start r ⌝ }
+{
+    let mut i = start;
+    loop {
+        match next_path(t, l, i) {
+            ListPath::Path(from, to) => {
+                if is_wrong(
+                    t,
+                    &l[from..to],
+                    kind,
+                    names,
+                    index,
+                    texts,
+                    bind,
+                    graph,
+                    word,
+                    c,
+                ) {
+                    return true;
+                }
+                i = to;
+            }
+            ListPath::Stop => {
+                return false;
+            }
+        }
+    }
+}
