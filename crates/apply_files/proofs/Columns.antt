@@ -7,7 +7,7 @@ use lib.ListN.{length, set, getD}
 use Rattle.spec.specs.Limits.{maxSteps, maxFiles, maxMentions}
 use Rattle.arena.specs.Columns.{startOf}
 use Rattle.arena.proofs.Laws.{lies-column, lies-push, lies-set, lies-read}
-use Rattle.hold_reading.specs.Held.{capacities}
+use Rattle.hold_reading.specs.Held.{maxEnds, capacities, endsStart}
 use Rattle.apply_files.specs.Lines.{Columns}
 
 module _ {graph m e p d r f : List ℕ} (l : Columns graph m e p d r f) where
@@ -27,7 +27,7 @@ module _ {graph m e p d r f : List ℕ} (l : Columns graph m e p d r f) where
         let z : at ≡ 0 + length m = omega arith in
         rw z (record { lies = lies-push v capacities graph (m ∷ e ∷ p ∷ d ∷ r ∷ f ∷ []) 0 (l .lies) (omega arith) b })
 
-    pub push-end : at ≡ startOf capacities 1 + length e → length e < 4 * maxSteps → Columns (set graph at v) m (e ++ (v ∷ [])) p d r f
+    pub push-end : at ≡ endsStart + length e → length e < maxEnds → Columns (set graph at v) m (e ++ (v ∷ [])) p d r f
     push-end q b = rw q (record { lies = lies-push v capacities graph (m ∷ e ∷ p ∷ d ∷ r ∷ f ∷ []) 1 (l .lies) (omega arith) b })
 
     pub push-phony : at ≡ startOf capacities 2 + length p → length p < maxSteps → Columns (set graph at v) m e (p ++ (v ∷ [])) d r f
@@ -48,5 +48,5 @@ module _ {graph m e p d r f : List ℕ} (l : Columns graph m e p d r f) where
       let z : 0 + i ≡ i = omega arith in
       rw z at (lies-read capacities graph (m ∷ e ∷ p ∷ d ∷ r ∷ f ∷ []) 0 (l .lies) (omega arith) i b)
 
-  pub read-end : (i : ℕ) → i < length e → getD graph (startOf capacities 1 + i) 0 ≡ getD e i 0
+  pub read-end : (i : ℕ) → i < length e → getD graph (endsStart + i) 0 ≡ getD e i 0
   read-end i b = lies-read capacities graph (m ∷ e ∷ p ∷ d ∷ r ∷ f ∷ []) 1 (l .lies) (omega arith) i b

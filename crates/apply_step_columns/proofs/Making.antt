@@ -1,16 +1,17 @@
 -- The makers of a step's outputs, one file after another, and the step's other columns.
-use Prim.Native.Nat.{ℕ, zero, suc, _+_, _*_, _≤_, _<_}
+use Prim.Native.Nat.{ℕ, zero, suc, _+_, _≤_, _<_}
 use mathlib.Core.List.{List, [], _∷_}
 use mathlib.Core.Path.{_≡_, refl, _∙_, ap}
 use native.Mathlib.Omega.{arith}
 use lib.ListN.{length, getD, set, length-set}
 use Rattle.lists.specs.Parts.{part, part-cons, part-none}
 use Rattle.arena.specs.Columns.{startOf}
-use Rattle.hold_reading.specs.Held.{capacities}
+use Rattle.hold_columns.specs.Tables.{outsEnd, endPlace}
+use Rattle.hold_reading.specs.Held.{capacities, endIn}
 use Rattle.apply_files.specs.Lines.{Line, Columns}
 use Rattle.apply_files.proofs.Columns.{graph-long, mentions-fit, made-fit, set-made, read-mention, read-end, push-phony, push-rule}
 use Rattle.hold_reading.specs.declared.Counts.{Counts}
-use Rattle.apply_step_columns.specs.Joins.{setAll, Laid, Part, MakeAsks, Makes, Ready, JoinAsks, outsEnd, phonyBit, withRule, countedStep, Joins}
+use Rattle.apply_step_columns.specs.Joins.{setAll, Laid, Part, MakeAsks, Makes, Ready, JoinAsks, newestEnd, phonyBit, withRule, countedStep, Joins}
 
 pub length-set-all : (v : ℕ) (fs made : List ℕ) → length (setAll v fs made) ≡ length made
 unfolding setAll
@@ -96,10 +97,10 @@ phony-low : (n : ℕ) → phonyBit n ≤ 1
 phony-low zero = omega arith
 phony-low (suc n) = omega arith
 
-module _ {graph : List ℕ} {from : ℕ} {c : Counts} {to : ℕ} (e : to ≡ getD graph (startOf capacities 1 + 4 * c .steps) 0) where
+module _ {graph : List ℕ} {from : ℕ} {c : Counts} {to : ℕ} (e : to ≡ endIn graph (c .steps) outsEnd) where
   -- where the outputs end is the same for all lines held
-  join-end : (h : Line) → Laid graph h → Ready from c h → to ≡ outsEnd c h
-  join-end h l r = e ∙ read-end l (4 * c .steps) (r .ended)
+  join-end : (h : Line) → Laid graph h → Ready from c h → to ≡ newestEnd c h
+  join-end h l r = e ∙ read-end l (endPlace (c .steps) outsEnd) (r .ended)
 
   pub join-make : {n : ℕ} → JoinAsks graph from n c → MakeAsks graph from to (c .steps + 1)
   join-make a =

@@ -1,5 +1,5 @@
 -- The step joins the columns: the makers of its outputs, phony or not, and its rule.
-use Prim.Native.Nat.{ℕ, zero, suc, _+_, _*_, _^_, _≤_, _<_}
+use Prim.Native.Nat.{ℕ, zero, suc, _+_, _^_, _≤_, _<_}
 use mathlib.Core.List.{List, [], _∷_, _++_}
 use mathlib.Core.Path.{_≡_}
 use lib.ListN.{length, getD, set}
@@ -11,6 +11,7 @@ use Rattle.hold_bindings.specs.declared.FoundEntry.{FoundEntry}
 use Rattle.hold_bindings.specs.declared.FoundEntry.the-variants.{At, Missing}
 use Rattle.hold_bindings.specs.Log.{Logged, ofRules, newest}
 use Rattle.hold_bindings.specs.Held.{maxEntries}
+use Rattle.hold_columns.specs.Tables.{outsEnd, endPlace, endAt}
 use Rattle.hold_reading.specs.declared.Counts.{Counts}
 use Rattle.apply_files.specs.Lines.{Line, Columns}
 
@@ -65,13 +66,13 @@ pub record Makes (graph : List ℕ) (from to v : ℕ) (graph′ : List ℕ) : Ty
 -- ------------------------------------------------------------------ the step
 
 -- where the outputs of the newest step end
-abbrev pub outsEnd : Counts → Line → ℕ
-outsEnd c h = getD (h .ends) (4 * c .steps) 0
+abbrev pub newestEnd : Counts → Line → ℕ
+newestEnd c h = endAt (h .ends) (c .steps) outsEnd
 
 -- the line has its ends, its outputs start at `from`, and there is room for its step
 pub record Ready (from : ℕ) (c : Counts) (h : Line) : Type 0 where
-  pub ended : 4 * c .steps < length (h .ends)
-  pub outs : Part from (outsEnd c h) h
+  pub ended : endPlace (c .steps) outsEnd < length (h .ends)
+  pub outs : Part from (newestEnd c h) h
   pub phony : length (h .phony) ≡ c .steps
   pub ruled : length (h .ruleOf) ≡ c .steps
   pub few : c .steps < maxSteps
@@ -96,7 +97,7 @@ withRule from n c h =
       mentions = h .mentions;
       ends = h .ends;
       phony = h .phony ++ (phonyBit n ∷ []);
-      made = setAll (c .steps + 1) (part (h .mentions) from (outsEnd c h)) (h .made);
+      made = setAll (c .steps + 1) (part (h .mentions) from (newestEnd c h)) (h .made);
       ruleOf = h .ruleOf ++ (n ∷ []);
     }
 

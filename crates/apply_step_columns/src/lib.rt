@@ -8,11 +8,12 @@ use arena::put;
 use byteorder::equal;
 use hold_bindings::FoundEntry;
 use hold_bindings::newest;
+use hold_columns::OUTS_END;
 use hold_reading::Counts;
-use hold_reading::columns::ENDS;
 use hold_reading::columns::MADE;
 use hold_reading::columns::PHONY;
 use hold_reading::columns::RULES;
+use hold_reading::columns::step_end;
 use slices::words::at;
 
 // 0 for phony, else the number of the rule's declaration and one more.
@@ -54,7 +55,7 @@ pub fn join(graph: &mut [u32], from: usize, n: usize, c: Counts) -> Counts
     ensures { λ r. ⌜ Joins (now (graph .entry)) from n c (now (graph .exit)) r ⌝ }
 {
     let steps = c.steps;
-    let to = at(graph, ENDS + 4 * steps);
+    let to = step_end(graph, steps, OUTS_END);
     make(graph, from, to, steps + 1);
     put(graph, PHONY + steps, phony_bit(n));
     put(graph, RULES + steps, n);

@@ -1,20 +1,19 @@
 -- Lists of a line, one after another: what they come to, and one law for each answer.
-use Prim.Native.Nat.{ℕ, _+_, _*_, _<_}
+use Prim.Native.Nat.{ℕ, _+_, _<_}
 use mathlib.Core.Bool.{true, false}
 use mathlib.Core.List.{List, [], _∷_, _++_, append-assoc, append-nil}
 use mathlib.Core.Path.{_≡_, refl, sym, _∙_, ap}
 use native.Mathlib.Omega.{arith}
 use lib.ListN.{length, set, length-append}
 use Rattle.spec.specs.Basics.{concat}
-use Rattle.spec.specs.Limits.{maxSteps}
 use Rattle.spec.specs.Reading.{Reading}
 use Rattle.spec.specs.Statements.{expanded, mentioned, overPaths}
 use Rattle.cut_forms.specs.declared.BuildPlaces.{BuildPlaces}
 use Rattle.hold_reading.specs.declared.Counts.{Counts}
 use Rattle.apply_files.specs.declared.Mentioned.{Mentioned}
 use Rattle.apply_files.specs.declared.Mentioned.the-variants.{On, Over}
-use Rattle.arena.specs.Columns.{startOf}
-use Rattle.hold_reading.specs.Held.{capacities}
+use Rattle.hold_columns.specs.Tables.{outsEnd, implicitEnd, endPlace}
+use Rattle.hold_reading.specs.Held.{maxEnds, endsStart}
 use Rattle.apply_files.specs.Lines.{Line, Writing, withPaths, overLine}
 use Rattle.apply_mentions.specs.Asks as mentions
 use Rattle.apply_mentions.specs.Asks.{Room, MentionsAll}
@@ -85,7 +84,7 @@ module _ {names index texts bind graph : List ℕ} (h : Line) (a b : List (List 
 -- ---- one list
 
 module _ {names index texts bind graph graph′ : List ℕ} {c : Counts} {h : Line} (w : Writing names index texts bind graph c h) where
-  ended-on : {e : ℕ} → length (h .ends) ≡ e → e < 4 * maxSteps → graph′ ≡ set graph (startOf capacities 1 + e) (c .paths) → Writing names index texts bind graph′ c (withEnd h)
+  ended-on : {e : ℕ} → length (h .ends) ≡ e → e < maxEnds → graph′ ≡ set graph (endsStart + e) (c .paths) → Writing names index texts bind graph′ c (withEnd h)
   unfolding withEnd
   ended-on q b g =
       record {
@@ -105,8 +104,8 @@ unfolding concat
 concat-one ps = append-nil ps
 
 module _ {l : List ℕ} {at : ℕ} {names index texts bind graph : List ℕ} {c : Counts} {names′ index′ graph₁ : List ℕ} where
-  pub one-on : {d : Counts} → MentionsAll l at names index texts bind graph c names′ index′ graph₁ (On d) → {e : ℕ} {graph′ : List ℕ} → e < 4 * maxSteps
-      → graph′ ≡ set graph₁ (startOf capacities 1 + e) (d .paths) → Lists l at e names index texts bind graph c names′ index′ graph′ (On d)
+  pub one-on : {d : Counts} → MentionsAll l at names index texts bind graph c names′ index′ graph₁ (On d) → {e : ℕ} {graph′ : List ℕ} → e < maxEnds
+      → graph′ ≡ set graph₁ (endsStart + e) (d .paths) → Lists l at e names index texts bind graph c names′ index′ graph′ (On d)
   unfolding withLists
   one-on m b g =
       record {
@@ -184,8 +183,8 @@ module _ {t l names index texts bind graph word : List ℕ} {c : Counts} {at nex
 -- ---- the four
 
 module _ {l : List ℕ} {p : BuildPlaces} {names index texts bind graph : List ℕ} {c : Counts} {names₁ index₁ graph₁ : List ℕ} where
-  pub four-on : {d : Counts} {names′ index′ graph′ : List ℕ} {r : Mentioned} → Two l (p .outs) (p .ins) (4 * c .steps) names index texts bind graph c names₁ index₁ graph₁ (On d)
-      → Two l (p .implicit) (p .order) (4 * c .steps + 2) names₁ index₁ texts bind graph₁ d names′ index′ graph′ r
+  pub four-on : {d : Counts} {names′ index′ graph′ : List ℕ} {r : Mentioned} → Two l (p .outs) (p .ins) (endPlace (c .steps) outsEnd) names index texts bind graph c names₁ index₁ graph₁ (On d)
+      → Two l (p .implicit) (p .order) (endPlace (c .steps) implicitEnd) names₁ index₁ texts bind graph₁ d names′ index′ graph′ r
       → Four l names index texts bind graph c p names′ index′ graph′ r
   four-on x y =
       record {
@@ -197,7 +196,7 @@ module _ {l : List ℕ} {p : BuildPlaces} {names index texts bind graph : List �
             listed-then h a (expanded (h .reading) (b .implicit) ∷ expanded (h .reading) (b .orderOnly) ∷ []) (listed-short k) (rw (z (b .implicit), z (b .orderOnly)) at m);
       }
 
-  pub four-over : Two l (p .outs) (p .ins) (4 * c .steps) names index texts bind graph c names₁ index₁ graph₁ Over
+  pub four-over : Two l (p .outs) (p .ins) (endPlace (c .steps) outsEnd) names index texts bind graph c names₁ index₁ graph₁ Over
       → Four l names index texts bind graph c p names₁ index₁ graph₁ Over
   four-over x =
       record {
@@ -207,7 +206,7 @@ module _ {l : List ℕ} {p : BuildPlaces} {names index texts bind graph : List �
       }
 
 module _ {t l names index texts bind graph word : List ℕ} {c : Counts} {p : BuildPlaces} (a : FourAsks t l names index texts bind graph word c p) where
-  pub four-first : TwoAsks t l names index texts bind graph word c (p .outs) (p .ins) (4 * c .steps)
+  pub four-first : TwoAsks t l names index texts bind graph word c (p .outs) (p .ins) (endPlace (c .steps) outsEnd)
   four-first =
       record {
         table = a .table;
@@ -224,8 +223,8 @@ module _ {t l names index texts bind graph word : List ℕ} {c : Counts} {p : Bu
       }
 
   pub four-second : {names′ index′ graph′ word′ : List ℕ} {d : Counts} → length names′ ≡ length names → length word′ ≡ length word
-      → Two l (p .outs) (p .ins) (4 * c .steps) names index texts bind graph c names′ index′ graph′ (On d)
-      → TwoAsks t l names′ index′ texts bind graph′ word′ d (p .implicit) (p .order) (4 * c .steps + 2)
+      → Two l (p .outs) (p .ins) (endPlace (c .steps) outsEnd) names index texts bind graph c names′ index′ graph′ (On d)
+      → TwoAsks t l names′ index′ texts bind graph′ word′ d (p .implicit) (p .order) (endPlace (c .steps) implicitEnd)
   four-second x y m =
       let pss = expanded (a .line .reading) (a .raw .outs) ∷ expanded (a .line .reading) (a .raw .ins) ∷ [] in
       record {

@@ -1,5 +1,5 @@
 -- The lists of a build line, each with its end behind it.
-use Prim.Native.Nat.{ℕ, _+_, _*_, _≤_, _<_}
+use Prim.Native.Nat.{ℕ, _+_, _≤_, _<_}
 use mathlib.Core.Bool.{true, false}
 use mathlib.Core.List.{List, [], _∷_, _++_}
 use mathlib.Core.Path.{_≡_}
@@ -12,7 +12,9 @@ use Rattle.scan_classes.specs.Table.{classes}
 use Rattle.cut_forms.specs.declared.BuildPlaces.{BuildPlaces}
 use Rattle.cut_forms.specs.Paths.{PathsAt}
 use Rattle.cut_forms.specs.Statements.{Stands}
+use Rattle.hold_columns.specs.Tables.{outsEnd, endPlace}
 use Rattle.hold_reading.specs.declared.Counts.{Counts}
+use Rattle.hold_reading.specs.Held.{maxEnds}
 use Rattle.apply_files.specs.declared.Mentioned.{Mentioned}
 use Rattle.apply_files.specs.declared.Mentioned.the-variants.{On, Over}
 use Rattle.apply_files.specs.Lines.{Line, Writing, withPaths, overLine}
@@ -46,7 +48,7 @@ pub data Listed (names index texts bind graph : List ℕ) (h : Line) (pss : List
 pub record ListAsks (t l names index texts bind graph word : List ℕ) (c : Counts) (at e : ℕ) : Type 0 where
   pub asks : mentions.ListAsks t l names index texts bind graph word c at
   pub ended : length (asks .line .ends) ≡ e
-  pub low : e < 4 * maxSteps
+  pub low : e < maxEnds
 
 pub record Lists (l : List ℕ) (at e : ℕ) (names index texts bind graph : List ℕ) (c : Counts) (names′ index′ graph′ : List ℕ) (r : Mentioned) : Type 0 where
   pub listed : (raw : List (List ℕ)) → PathsAt l at raw → (h : Line) → Writing names index texts bind graph c h → length (h .ends) ≡ e
@@ -65,7 +67,7 @@ pub record TwoAsks (t l names index texts bind graph word : List ℕ) (c : Count
   pub line : Line
   pub writing : Writing names index texts bind graph c line
   pub ended : length (line .ends) ≡ e
-  pub low : e + 1 < 4 * maxSteps
+  pub low : e + 1 < maxEnds
 
 pub record Two (l : List ℕ) (at next e : ℕ) (names index texts bind graph : List ℕ) (c : Counts) (names′ index′ graph′ : List ℕ) (r : Mentioned) : Type 0 where
   pub listed : (first second : List (List ℕ)) → PathsAt l at first → PathsAt l next second → (h : Line) → Writing names index texts bind graph c h → length (h .ends) ≡ e
@@ -84,9 +86,9 @@ pub record FourAsks (t l names index texts bind graph word : List ℕ) (c : Coun
   pub room : Room names word
   pub line : Line
   pub writing : Writing names index texts bind graph c line
-  pub ended : length (line .ends) ≡ 4 * c .steps
+  pub ended : length (line .ends) ≡ endPlace (c .steps) outsEnd
   pub few : c .steps < maxSteps
 
 pub record Four (l names index texts bind graph : List ℕ) (c : Counts) (p : BuildPlaces) (names′ index′ graph′ : List ℕ) (r : Mentioned) : Type 0 where
-  pub listed : (b : BuildLine) → Stands l p b → (h : Line) → Writing names index texts bind graph c h → length (h .ends) ≡ 4 * c .steps
+  pub listed : (b : BuildLine) → Stands l p b → (h : Line) → Writing names index texts bind graph c h → length (h .ends) ≡ endPlace (c .steps) outsEnd
       → Listed names′ index′ texts bind graph′ h (expanded (h .reading) (b .outs) ∷ expanded (h .reading) (b .ins) ∷ expanded (h .reading) (b .implicit) ∷ expanded (h .reading) (b .orderOnly) ∷ []) r

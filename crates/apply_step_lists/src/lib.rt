@@ -4,6 +4,9 @@ use apply_files::Mentioned;
 use apply_mentions::mention_all;
 use arena::put;
 use cut_forms::BuildPlaces;
+use hold_columns::IMPLICIT_END;
+use hold_columns::OUTS_END;
+use hold_columns::end_place;
 use hold_reading::Counts;
 use hold_reading::columns::ENDS;
 
@@ -75,13 +78,13 @@ pub fn four(
 {
     let outs = p.outs;
     let ins = p.ins;
-    let e = 4 * c.steps;
+    let steps = c.steps;
     match two(
         t,
         l,
         outs,
         ins,
-        e,
+        end_place(steps, OUTS_END),
         names,
         index,
         texts,
@@ -95,7 +98,7 @@ pub fn four(
             l,
             p.implicit,
             p.order,
-            e + 2,
+            end_place(steps, IMPLICIT_END),
             names,
             index,
             texts,

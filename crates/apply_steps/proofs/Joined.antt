@@ -26,7 +26,7 @@ use Rattle.apply_files.specs.Lines.{Writing}
 use Rattle.apply_files.proofs.Limits.{mention-more}
 use Rattle.apply_mentions.proofs.Closed.{numbers-low, length-numbers}
 use Rattle.apply_step_lists.specs.Lists.{listsOf}
-use Rattle.apply_step_columns.specs.Joins.{setAll, Laid, outsEnd, phonyBit, withRule, countedStep}
+use Rattle.apply_step_columns.specs.Joins.{setAll, Laid, newestEnd, phonyBit, withRule, countedStep}
 use Rattle.apply_steps.proofs.Closed.{endsAfter}
 use Rattle.apply_step_columns.proofs.Making.{length-set-all}
 use Rattle.apply_step_columns.proofs.Numbered.{ruled-bit}
@@ -96,7 +96,7 @@ module _ {log : List Logged} {names index texts bind graph : List ℕ} {c : Coun
   ends = g .ends ++ endsAfter (length (g .mentions)) (listsOf b)
 
   abbrev makers : List ℕ
-  makers = setAll (d .steps + 1) (part mentions (c .paths) (outsEnd d (lineAfter b (lineOf w) made))) made
+  makers = setAll (d .steps + 1) (part mentions (c .paths) (newestEnd d (lineAfter b (lineOf w) made))) made
 
   makers-are : makers ≡ setAll (length (rd .steps) + 1) (step .outs) made
   makers-are = rw (outs-part w b few x, steps-same w b few x)

@@ -1,5 +1,5 @@
 -- What the rules answer to a line without 7 and 8: one law for each answer.
-use Prim.Native.Nat.{ℕ, _*_, _≤_, _<_}
+use Prim.Native.Nat.{ℕ, _≤_, _<_}
 use mathlib.Core.Bool.{true, false, _||_, or-true}
 use mathlib.Core.List.{List, [], append-nil}
 use mathlib.Core.Path.{_≡_, sym, _∙_, ap, subst}
@@ -29,6 +29,7 @@ use Rattle.apply_step_columns.specs.Joins.{ruleNumber, JoinAsks, Joins}
 use Rattle.apply_step_lists.proofs.Listing.{listed-on, listed-short, listed-over}
 use Rattle.apply_steps.proofs.Closed.{lists-made, concat-lists}
 use Rattle.apply_step_columns.proofs.Numbered.{ruled, number-low}
+use Rattle.hold_columns.specs.Tables.{outsEnd, endPlace}
 use Rattle.hold_columns.proofs.Places.{length-ends}
 use Rattle.apply_steps.proofs.Stepped.{lineOf, pathsOf, stepFor, lineAfter, lists-line, step-ready}
 use Rattle.apply_steps.proofs.Joined.{step-held}
@@ -79,7 +80,7 @@ module _ {log : List Logged} {names index texts bind graph : List ℕ} {c : Coun
         mentions-low = g .mentions-low;
       }
 
-  ends-begun : length (lineOf w .ends) ≡ 4 * c .steps
+  ends-begun : length (lineOf w .ends) ≡ endPlace (c .steps) outsEnd
   ends-begun =
       omega (arith, ap length (w .graphed .tables .ended), length-ends 0 (rd .steps), w .bound .steps-counted)
 

@@ -1,5 +1,5 @@
 -- A line that is written whole: the buffers hold the reading with its step.
-use Prim.Native.Nat.{ℕ, _+_, _-_, _*_, _<_}
+use Prim.Native.Nat.{ℕ, _+_, _-_, _<_}
 use mathlib.Core.List.{List, [], _∷_, _++_}
 use mathlib.Core.Path.{_≡_, sym, _∙_, ap}
 use native.Mathlib.Decide.{decLt}
@@ -14,7 +14,7 @@ use Rattle.spec.specs.Reading.{Step, Reading, numbersOf, mention}
 use Rattle.spec.specs.Statements.{mentioned, inputsOfLine}
 use Rattle.spec.specs.Graph.{inputs}
 use Rattle.hold_bindings.specs.Log.{Logged}
-use Rattle.hold_columns.specs.Tables.{mentionsOf, endsFrom}
+use Rattle.hold_columns.specs.Tables.{mentionsOf, outsEnd, endPlace, endsFrom}
 use Rattle.hold_columns.proofs.Held.{held-steps}
 use Rattle.hold_reading.specs.declared.Counts.{Counts}
 use Rattle.hold_reading.specs.Held.{Graphed, HoldsReading}
@@ -22,7 +22,7 @@ use Rattle.apply_files.specs.Lines.{Line, Writing}
 use Rattle.apply_files.proofs.Limits.{mention-more}
 use Rattle.apply_mentions.proofs.Closed.{Among, among-all, numbers-append, numbers-low, length-numbers}
 use Rattle.apply_step_lists.specs.Lists.{withLists, listsOf}
-use Rattle.apply_step_columns.specs.Joins.{Ready, outsEnd}
+use Rattle.apply_step_columns.specs.Joins.{Ready, newestEnd}
 use Rattle.apply_step_lists.proofs.Listing.{lists-reading}
 use Rattle.apply_steps.proofs.Closed.{lists-log, lists-phony, lists-ruled, lists-mentions, lists-ends, endsAfter, concat-lists}
 use Rattle.hold_columns.proofs.Places.{part-mid, length-ends}
@@ -118,10 +118,10 @@ module _ {log : List Logged} {names index texts bind graph : List ℕ} {c : Coun
   unfolding mentioned
   made-long = x .filed
 
-  ends-before : 4 * d .steps ≡ length (g .ends)
+  ends-before : endPlace (d .steps) outsEnd ≡ length (g .ends)
   ends-before = omega (arith, steps-same, ap length (g .tables .ended), length-ends 0 (rd .steps))
 
-  outs-end : outsEnd d (lineAfter b (lineOf w) made) ≡ length (g .mentions) + length (b .outs)
+  outs-end : newestEnd d (lineAfter b (lineOf w) made) ≡ length (g .mentions) + length (b .outs)
   outs-end = rw ends-before (getD-append-seam (g .ends) _ _ 0)
 
   length-paths : length (pathsOf b) ≡ length (b .outs) + length (inputsOfLine b)
@@ -157,7 +157,7 @@ module _ {log : List Logged} {names index texts bind graph : List ℕ} {c : Coun
         few = omega (arith, steps-same, w .bound .steps-counted);
       }
 
-  pub outs-part : part (g .mentions ++ numbers) (c .paths) (outsEnd d (lineAfter b (lineOf w) made)) ≡ numbersOf (filesWith b rd) (b .outs)
+  pub outs-part : part (g .mentions ++ numbers) (c .paths) (newestEnd d (lineAfter b (lineOf w) made)) ≡ numbersOf (filesWith b rd) (b .outs)
   outs-part =
       let f = filesWith b rd in
       rw (numbers-append f (b .outs) (inputsOfLine b))

@@ -9,7 +9,7 @@ use Rattle.spec.specs.declared.PlanAnswer.{PlanAnswer}
 use Rattle.spec.specs.Reading.{Reading}
 use Rattle.arena.specs.Columns.{Lies, startOf, column}
 use Rattle.arena.proofs.Laws.{Column, lies-column, lies-part}
-use Rattle.hold_columns.specs.Tables.{HoldsColumns}
+use Rattle.hold_columns.specs.Tables.{perStep, HoldsColumns}
 use Rattle.hold_columns.proofs.Places.{length-ends}
 use Rattle.hold_columns.proofs.Held.{held-steps, held-sound}
 use Rattle.hold_reading.specs.declared.Counts.{Counts}
@@ -22,7 +22,7 @@ module _ (graph : List ℕ) (c : Counts) where
   mentionsIn = take (c .paths) graph
 
   abbrev pub endsIn : List ℕ
-  endsIn = part graph 4096 (4096 + 4 * c .steps)
+  endsIn = part graph 4096 (4096 + perStep * c .steps)
 
   abbrev pub phonyIn : List ℕ
   phonyIn = part graph 6144 (6144 + c .steps)
@@ -66,9 +66,9 @@ module _ {graph : List ℕ} {c : Counts} {rd : Reading} (h : Tabled graph c rd) 
   spread =
       let g = h .graphed in
       let t = g .tables in
-      let e : length (g .ends) ≡ 4 * c .steps = ap length (t .ended) ∙ length-ends 0 (rd .steps) ∙ ap (λ (n : ℕ). 4 * n) (sym (h .steps-counted)) in
+      let e : length (g .ends) ≡ perStep * c .steps = ap length (t .ended) ∙ length-ends 0 (rd .steps) ∙ ap (λ (n : ℕ). perStep * n) (sym (h .steps-counted)) in
       let m : mentionsIn graph c ≡ g .mentions = let z : 0 + c .paths ≡ c .paths = omega arith in sym (part-from-start graph (c .paths)) ∙ (rw z at (is 0 (c .paths) 0 (omega arith) refl (sym (g .paths-counted)))) in
-      let d : endsIn graph c ≡ g .ends = is 1 (4 * c .steps) 4096 (omega arith) refl e in
+      let d : endsIn graph c ≡ g .ends = is 1 (perStep * c .steps) 4096 (omega arith) refl e in
       let p : phonyIn graph c ≡ g .phony = is 2 (c .steps) 6144 (omega arith) refl (held-steps t ∙ sym (h .steps-counted)) in
       let w : madeIn graph c ≡ g .made = is 3 (c .files) 6656 (omega arith) refl (t .counted ∙ sym (h .files-counted)) in
       let v : defaultsIn graph c ≡ rd .defaults = is 5 (c .defaults) 8192 (omega arith) refl (sym (g .defaults-counted)) in

@@ -1,6 +1,7 @@
 // The plan from the graph's columns as the reader leaves them.
 ghost use Rattle.ask_plan_columns.specs.Columns.{ColumnsAsked, PlansColumns};
 use graph_plan::plan_graph;
+use hold_columns::STEP_ENDS;
 use hold_reading::Counts;
 use hold_reading::columns::DEFAULTS;
 use hold_reading::columns::ENDS;
@@ -21,7 +22,7 @@ pub fn plan_columns(
 {
     let steps = c.steps;
     let mentions = &graph[..c.paths];
-    let ends = &graph[ENDS..ENDS + 4 * steps];
+    let ends = &graph[ENDS..ENDS + STEP_ENDS * steps];
     let phony = &graph[PHONY..PHONY + steps];
     let made = &graph[MADE..MADE + c.files];
     let defaults = &graph[DEFAULTS..DEFAULTS + c.defaults];

@@ -10,7 +10,7 @@ use lib.ListN.{length, getD, take, set, length-set}
 use lib.Seq.{take-suc, take-suc-set, getD-take, getD-set-same, getD-set-other, length-take-le}
 use Rattle.lists.specs.Members.{_∈_, _∉_, _⊆_, here, there, in-left, in-right, in-snoc, at-before, place-before, not-in-nil}
 use Rattle.orders.specs.Reach.{direct, Reached, upstream-more}
-use Rattle.hold_columns.specs.Tables.{makerAt, inputsIn, beforeIn, SoundColumns, Files}
+use Rattle.hold_columns.specs.Tables.{outsEnd, orderOnlyEnd, endAt, makerAt, inputsIn, beforeIn, SoundColumns, Files}
 use Rattle.hold_columns.proofs.Makers.{in-makersIn, makersIn-in, maker-low}
 use Rattle.hold_columns.proofs.Held.{part-files, part-few}
 use Rattle.graph_order.specs.Walk.{Walk, Passed, Opens, Settled, Circled, Starts, Finds}
@@ -102,7 +102,7 @@ module _ {mentions ends made : List ℕ} {n : ℕ} {old : List ℕ} {root : ℕ}
   module _ (sound : SoundColumns n mentions ends made) {fs : List ℕ} (q : fs ≡ inputsIn mentions ends s) where
     pub top-files : Files n fs made
     unfolding inputsIn
-    top-files = rw q (part-files sound (getD ends _ 0) (getD ends _ 0))
+    top-files = rw q (part-files sound (endAt ends _ outsEnd) (endAt ends _ orderOnlyEnd))
 
     pub top-start : {from : ℕ} → from ≡ getD next s 0 → from ≤ length fs
     top-start z = rw (z, q) (r .passed s top-low .within)
@@ -181,7 +181,7 @@ module _ {mentions ends made : List ℕ} {n : ℕ} {old : List ℕ} {root : ℕ}
     depth-in = r .depth-in;
     done-in = r .done-in;
     step-low = low;
-    place-low = omega (arith, o .within, ap length q, part-few (t .sound) (getD ends (4 * s) 0) (getD ends (4 * s + 3) 0));
+    place-low = omega (arith, o .within, ap length q, part-few (t .sound) (endAt ends s outsEnd) (endAt ends s orderOnlyEnd));
   }
 
   -- the maker k of the input at place i

@@ -17,7 +17,7 @@ use Rattle.lists.specs.Members.{_∈_, keep, any, has, has-true, in-has, in-app
 use Rattle.spec.specs.Basics.{concat}
 use Rattle.spec.specs.Reading.{Step}
 use Rattle.spec.specs.Graph.{inputs, noStep, stepAt, isInput, tops}
-use Rattle.hold_columns.specs.Tables.{startIn, outsIn, HoldsColumns, SoundColumns}
+use Rattle.hold_columns.specs.Tables.{outsEnd, endAt, startIn, outsIn, HoldsColumns, SoundColumns}
 use Rattle.hold_columns.proofs.Held.{in-part, outs-low, held-inputs, held-outs, held-steps}
 use Rattle.graph_roots.specs.Tops.{InputsMarked, unmarked, Appended, AppendAsked, outsBefore, TopsAsked, TopsFound}
 
@@ -91,7 +91,7 @@ unfolding outsBefore outsIn
 in-outs-before mentions ends zero h = absurd (not-in-nil h)
 in-outs-before mentions ends (suc s) h = elim (in-append (outsBefore mentions ends s) h) [
   | inl a ↦ in-outs-before mentions ends s a
-  | inr b ↦ in-part mentions (startIn ends s) (getD ends (4 * s) 0) b
+  | inr b ↦ in-part mentions (startIn ends s) (endAt ends s outsEnd) b
 ]
 
 unmarked-in : (marks l : List ℕ) {f : ℕ} → f ∈ unmarked marks l → f ∈ l
@@ -117,11 +117,11 @@ gather-begin = record { within = omega arith; long = refl; few = omega arith; fr
 module _ {mentions ends phony made blank marks out now : List ℕ} {k s : ℕ} (q : TopsAsked mentions ends phony made blank out) (m : InputsMarked mentions ends (length phony) (length made) marks)
     (r : Gathering mentions ends phony marks out now k s) where
   module _ (b : s < length phony) {fs : List ℕ} (e : fs ≡ outsIn mentions ends s) where
-    outs-long : length fs ≡ getD ends (4 * s) 0 - startIn ends s
+    outs-long : length fs ≡ endAt ends s outsEnd - startIn ends s
     unfolding outsIn
     outs-long =
         let p = q .sound .placed s b in
-        ap length e ∙ length-part mentions (startIn ends s) (getD ends (4 * s) 0) (omega (arith, p .counted, p .inputs, p .mentioned))
+        ap length e ∙ length-part mentions (startIn ends s) (endAt ends s outsEnd) (omega (arith, p .counted, p .inputs, p .mentioned))
 
     pub gather-ask : AppendAsked fs marks now k
     gather-ask =

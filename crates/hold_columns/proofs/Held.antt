@@ -14,7 +14,7 @@ use Rattle.spec.specs.Reading.{Step, isPhony}
 use Rattle.spec.specs.Graph.{inputs, counted, noStep, stepAt, makers, makersOf, before, needed}
 use Rattle.spec.specs.Stale.{phonyStep}
 use Rattle.spec.proofs.Graph.{in-makers}
-use Rattle.hold_columns.specs.Tables.{bit, mentionsOf, madeBy, HoldsColumns, startIn, outsIn, countedIn, inputsIn, makerIn, makersIn, beforeIn, neededIn, SoundColumns, Files}
+use Rattle.hold_columns.specs.Tables.{bit, mentionsOf, outsEnd, implicitEnd, orderOnlyEnd, endAt, madeBy, HoldsColumns, startIn, outsIn, countedIn, inputsIn, makerIn, makersIn, beforeIn, neededIn, SoundColumns, Files}
 use Rattle.hold_columns.proofs.Makers.{makers-small}
 use Rattle.hold_columns.proofs.Places.{read-inputs, read-counted, read-outs, read-placed}
 
@@ -28,17 +28,17 @@ part-low {mentions} low f e i b = low (getD (part mentions f e) i 0) (in-part me
 pub inputs-low : {mentions : List ℕ} {n : ℕ} → ((f : ℕ) → f ∈ mentions → f < n) → (ends : List ℕ) (s : ℕ) {fs : List ℕ} → fs ≡ inputsIn mentions ends s
     → (i : ℕ) → i < length fs → getD fs i 0 < n
 unfolding inputsIn
-inputs-low low ends s q i b = rw q (part-low low (getD ends (4 * s) 0) (getD ends (4 * s + 3) 0) i (rw q at b))
+inputs-low low ends s q i b = rw q (part-low low (endAt ends s outsEnd) (endAt ends s orderOnlyEnd) i (rw q at b))
 
 pub counted-low : {mentions : List ℕ} {n : ℕ} → ((f : ℕ) → f ∈ mentions → f < n) → (ends : List ℕ) (s : ℕ) {fs : List ℕ} → fs ≡ countedIn mentions ends s
     → (i : ℕ) → i < length fs → getD fs i 0 < n
 unfolding countedIn
-counted-low low ends s q i b = rw q (part-low low (getD ends (4 * s) 0) (getD ends (4 * s + 2) 0) i (rw q at b))
+counted-low low ends s q i b = rw q (part-low low (endAt ends s outsEnd) (endAt ends s implicitEnd) i (rw q at b))
 
 pub outs-low : {mentions : List ℕ} {n : ℕ} → ((f : ℕ) → f ∈ mentions → f < n) → (ends : List ℕ) (s : ℕ) {fs : List ℕ} → fs ≡ outsIn mentions ends s
     → (i : ℕ) → i < length fs → getD fs i 0 < n
 unfolding outsIn
-outs-low low ends s q i b = rw q (part-low low (startIn ends s) (getD ends (4 * s) 0) i (rw q at b))
+outs-low low ends s q i b = rw q (part-low low (startIn ends s) (endAt ends s outsEnd) i (rw q at b))
 
 -- and their makers are steps
 pub part-files : {n : ℕ} {mentions ends made : List ℕ} → SoundColumns n mentions ends made → (f e : ℕ) → Files n (part mentions f e) made
@@ -46,7 +46,7 @@ part-files r f e = record { low = part-low (r .low) f e; makers = r .makers }
 
 pub before-small : {n : ℕ} {mentions ends made : List ℕ} → SoundColumns n mentions ends made → Closed (beforeIn mentions ends made) (λ s. s < n)
 unfolding beforeIn inputsIn
-before-small {ends} r s b m h = makers-small (part-files r (getD ends (4 * s) 0) (getD ends (4 * s + 3) 0)) m h
+before-small {ends} r s b m h = makers-small (part-files r (endAt ends s outsEnd) (endAt ends s orderOnlyEnd)) m h
 
 pub part-few : {n : ℕ} {mentions ends made : List ℕ} → SoundColumns n mentions ends made → (f e : ℕ) → length (part mentions f e) ≤ maxMentions
 part-few {mentions} r f e = simp (length-take, length-drop) (omega (arith, r .few-mentions))

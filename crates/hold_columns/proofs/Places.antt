@@ -1,6 +1,6 @@
 -- Where each step's parts lie among the mentions.
 use Prim.Native.Nat.{ℕ, zero, suc, _+_, _*_, _-_, _≤_, _<_}
-use native.Mathlib.Nat.{add-zero, not-suc-le-zero, le-of-suc-le-suc}
+use native.Mathlib.Nat.{not-suc-le-zero, le-of-suc-le-suc}
 use native.Mathlib.Omega.{arith}
 use mathlib.Core.Path.{_≡_, refl, sym}
 use mathlib.Core.List.{List, [], _∷_, _++_, map, append-assoc}
@@ -10,16 +10,16 @@ use Rattle.lists.specs.Parts.{part}
 use Rattle.spec.specs.Basics.{concat}
 use Rattle.spec.specs.Reading.{Step}
 use Rattle.spec.specs.Graph.{inputs, counted, stepAt}
-use Rattle.hold_columns.specs.Tables.{mentionsOf, endsFrom, startIn, outsIn, countedIn, inputsIn, Placed}
+use Rattle.hold_columns.specs.Tables.{mentionsOf, perStep, outsEnd, insEnd, implicitEnd, orderOnlyEnd, lastEnd, endPlace, endAt, endsFrom, startIn, outsIn, insIn, countedIn, inputsIn, Placed}
 
 pub start-zero : (ends : List ℕ) (s : ℕ) → s ≡ 0 → 0 ≡ startIn ends s
 unfolding startIn
 start-zero ends s e = rw e
 
-pub start-suc : (ends : List ℕ) (s : ℕ) → (s ≡ 0 → ⊥) → getD ends (4 * s - 1) 0 ≡ startIn ends s
+pub start-suc : (ends : List ℕ) (s : ℕ) → (s ≡ 0 → ⊥) → endAt ends (s - 1) lastEnd ≡ startIn ends s
 unfolding startIn
 start-suc ends zero d = absurd (d refl)
-start-suc ends (suc s) d = let e : 4 * suc s - 1 ≡ 4 * s + 3 = omega arith in rw e
+start-suc ends (suc s) d = let e : suc s - 1 ≡ s = omega arith in rw e
 
 -- a part between two others
 pub part-mid : (a b c : List ℕ) (f e : ℕ) → f ≡ length a → e ≡ length a + length b → part (a ++ (b ++ c)) f e ≡ b
@@ -27,28 +27,28 @@ part-mid a b c f e p q =
     let d : length a + length b - length a ≡ length b = omega arith in
     rw (p, q, d, drop-append-seam a (b ++ c)) (take-append-seam b c)
 
--- four entries further on
-skip-four : (a b c d : ℕ) (r : List ℕ) (i j : ℕ) → i ≡ 4 + j → getD (a ∷ b ∷ c ∷ d ∷ r) i 0 ≡ getD r j 0
-skip-four a b c d r i j e = let q : i ≡ suc (suc (suc (suc j))) = omega arith in rw q
+-- the ends of one step further on
+skip-step : (a b c d : ℕ) (r : List ℕ) (i j : ℕ) → i ≡ perStep + j → getD (a ∷ b ∷ c ∷ d ∷ r) i 0 ≡ getD r j 0
+skip-step a b c d r i j e = let q : i ≡ suc (suc (suc (suc j))) = omega arith in rw q
 
 -- where the files of step x end, that start at k
 after : ℕ → Step → ℕ
 after k x = k + length (x .outs) + length (x .ins) + length (x .implicit) + length (x .orderOnly)
 
-pub length-ends : (k : ℕ) (steps : List Step) → length (endsFrom k steps) ≡ 4 * length steps
+pub length-ends : (k : ℕ) (steps : List Step) → length (endsFrom k steps) ≡ perStep * length steps
 unfolding endsFrom after
 length-ends k [] = refl
 length-ends k (x ∷ l) = omega (arith, length-ends (after k x) l)
 
 -- the end of number j of step s
 abbrev endOf : ℕ → List Step → ℕ → ℕ → ℕ
-endOf k steps s j = getD (endsFrom k steps) (4 * s + j) 0
+endOf k steps s j = endAt (endsFrom k steps) s j
 
 end-next : (k : ℕ) (x : Step) (l : List Step) (s j : ℕ) → endOf k (x ∷ l) (suc s) j ≡ endOf (after k x) l s j
 unfolding endsFrom after
 end-next k x l s j =
-    skip-four (k + length (x .outs)) (k + length (x .outs) + length (x .ins)) (k + length (x .outs) + length (x .ins) + length (x .implicit))
-    (after k x) (endsFrom (after k x) l) (4 * suc s + j) (4 * s + j) (omega arith)
+    skip-step (k + length (x .outs)) (k + length (x .outs) + length (x .ins)) (k + length (x .outs) + length (x .ins) + length (x .implicit))
+    (after k x) (endsFrom (after k x) l) (endPlace (suc s) j) (endPlace s j) (omega arith)
 
 length-after : (pre : List ℕ) (x : Step) → length (pre ++ mentionsOf x) ≡ after (length pre) x
 unfolding mentionsOf after
@@ -82,46 +82,46 @@ moved pre x l = append-assoc pre (mentionsOf x) (concat (map mentionsOf l))
 -- each part, with what lies before the first step's mentions
 
 inputs-at : (pre : List ℕ) (steps : List Step) (s : ℕ)
-    → part (pre ++ concat (map mentionsOf steps)) (endOf (length pre) steps s 0) (endOf (length pre) steps s 3) ≡ inputs (stepAt steps s)
+    → part (pre ++ concat (map mentionsOf steps)) (endOf (length pre) steps s outsEnd) (endOf (length pre) steps s orderOnlyEnd) ≡ inputs (stepAt steps s)
 unfolding endsFrom concat inputs after
 inputs-at pre [] s = refl
 inputs-at pre (x ∷ l) zero = first-inputs pre x (concat (map mentionsOf l))
 inputs-at pre (x ∷ l) (suc s) =
-    rw (end-next (length pre) x l s 0, end-next (length pre) x l s 3, ← moved pre x l, ← length-after pre x) (inputs-at (pre ++ mentionsOf x) l s)
+    rw (end-next (length pre) x l s outsEnd, end-next (length pre) x l s orderOnlyEnd, ← moved pre x l, ← length-after pre x) (inputs-at (pre ++ mentionsOf x) l s)
 
 counted-at : (pre : List ℕ) (steps : List Step) (s : ℕ)
-    → part (pre ++ concat (map mentionsOf steps)) (endOf (length pre) steps s 0) (endOf (length pre) steps s 2) ≡ counted (stepAt steps s)
+    → part (pre ++ concat (map mentionsOf steps)) (endOf (length pre) steps s outsEnd) (endOf (length pre) steps s implicitEnd) ≡ counted (stepAt steps s)
 unfolding endsFrom concat counted
 counted-at pre [] s = refl
 counted-at pre (x ∷ l) zero = first-counted pre x (concat (map mentionsOf l))
 counted-at pre (x ∷ l) (suc s) =
-    rw (end-next (length pre) x l s 0, end-next (length pre) x l s 2, ← moved pre x l, ← length-after pre x) (counted-at (pre ++ mentionsOf x) l s)
+    rw (end-next (length pre) x l s outsEnd, end-next (length pre) x l s implicitEnd, ← moved pre x l, ← length-after pre x) (counted-at (pre ++ mentionsOf x) l s)
 
 -- where step s starts, the first at k
 startFrom : ℕ → List Step → ℕ → ℕ
 startFrom k steps zero = k
-startFrom k steps (suc s) = endOf k steps s 3
+startFrom k steps (suc s) = endOf k steps s lastEnd
 
 start-next : (k : ℕ) (x : Step) (l : List Step) (s : ℕ) → startFrom k (x ∷ l) (suc s) ≡ startFrom (after k x) l s
 unfolding startFrom endsFrom after
 start-next k x l zero = refl
-start-next k x l (suc s) = end-next k x l s 3
+start-next k x l (suc s) = end-next k x l s lastEnd
 
 outs-at : (pre : List ℕ) (steps : List Step) (s : ℕ)
-    → part (pre ++ concat (map mentionsOf steps)) (startFrom (length pre) steps s) (endOf (length pre) steps s 0) ≡ stepAt steps s .outs
+    → part (pre ++ concat (map mentionsOf steps)) (startFrom (length pre) steps s) (endOf (length pre) steps s outsEnd) ≡ stepAt steps s .outs
 unfolding endsFrom concat startFrom
 outs-at pre [] s = let e : 0 - startFrom (length pre) [] s ≡ 0 = omega arith in rw e
 outs-at pre (x ∷ l) zero = first-outs pre x (concat (map mentionsOf l))
 outs-at pre (x ∷ l) (suc s) =
-    rw (start-next (length pre) x l s, end-next (length pre) x l s 0, ← moved pre x l, ← length-after pre x) (outs-at (pre ++ mentionsOf x) l s)
+    rw (start-next (length pre) x l s, end-next (length pre) x l s outsEnd, ← moved pre x l, ← length-after pre x) (outs-at (pre ++ mentionsOf x) l s)
 
 -- the parts of a step follow one another
 record Ordered (k : ℕ) (steps : List Step) (s : ℕ) : Type 0 where
-  within : 4 * s + 3 < length (endsFrom k steps)
-  outs : startFrom k steps s ≤ endOf k steps s 0
-  counted : endOf k steps s 0 ≤ endOf k steps s 2
-  inputs : endOf k steps s 2 ≤ endOf k steps s 3
-  mentioned : endOf k steps s 3 ≤ k + length (concat (map mentionsOf steps))
+  within : endPlace s lastEnd < length (endsFrom k steps)
+  outs : startFrom k steps s ≤ endOf k steps s outsEnd
+  counted : endOf k steps s outsEnd ≤ endOf k steps s implicitEnd
+  inputs : endOf k steps s implicitEnd ≤ endOf k steps s orderOnlyEnd
+  mentioned : endOf k steps s lastEnd ≤ k + length (concat (map mentionsOf steps))
 
 ordered : (k : ℕ) (steps : List Step) (s : ℕ) → s < length steps → Ordered k steps s
 unfolding endsFrom concat mentionsOf startFrom after
@@ -137,10 +137,10 @@ ordered k (x ∷ l) (suc s) b =
     let r = ordered (after k x) l s (le-of-suc-le-suc b) in
     record {
       within = omega (arith, r .within);
-      outs = rw (start-next k x l s, end-next k x l s 0) (r .outs);
-      counted = rw (end-next k x l s 0, end-next k x l s 2) (r .counted);
-      inputs = rw (end-next k x l s 2, end-next k x l s 3) (r .inputs);
-      mentioned = rw (end-next k x l s 3) (simp length-append (omega (arith, r .mentioned)));
+      outs = rw (start-next k x l s, end-next k x l s outsEnd) (r .outs);
+      counted = rw (end-next k x l s outsEnd, end-next k x l s implicitEnd) (r .counted);
+      inputs = rw (end-next k x l s implicitEnd, end-next k x l s orderOnlyEnd) (r .inputs);
+      mentioned = rw (end-next k x l s lastEnd) (simp length-append (omega (arith, r .mentioned)));
     }
 
 -- the parts as they are read from the tables
@@ -148,11 +148,11 @@ ordered k (x ∷ l) (suc s) b =
 module _ (steps : List Step) where
   pub read-inputs : (s : ℕ) → inputsIn (concat (map mentionsOf steps)) (endsFrom 0 steps) s ≡ inputs (stepAt steps s)
   unfolding inputsIn
-  read-inputs s = rw add-zero at (inputs-at [] steps s)
+  read-inputs s = inputs-at [] steps s
 
   pub read-counted : (s : ℕ) → countedIn (concat (map mentionsOf steps)) (endsFrom 0 steps) s ≡ counted (stepAt steps s)
   unfolding countedIn
-  read-counted s = rw add-zero at (counted-at [] steps s)
+  read-counted s = counted-at [] steps s
 
   start-same : (s : ℕ) → startFrom 0 steps s ≡ startIn (endsFrom 0 steps) s
   unfolding startFrom startIn
@@ -161,15 +161,15 @@ module _ (steps : List Step) where
 
   pub read-outs : (s : ℕ) → outsIn (concat (map mentionsOf steps)) (endsFrom 0 steps) s ≡ stepAt steps s .outs
   unfolding outsIn
-  read-outs s = rw (← start-same s) (rw add-zero at (outs-at [] steps s))
+  read-outs s = rw (← start-same s) (outs-at [] steps s)
 
   pub read-placed : (s : ℕ) → s < length steps → Placed (concat (map mentionsOf steps)) (endsFrom 0 steps) s
   read-placed s b =
       let r = ordered 0 steps s b in
       record {
         within = r .within;
-        outs = rw (← start-same s) (rw add-zero at (r .outs));
-        counted = rw add-zero at (r .counted);
+        outs = rw (← start-same s) (r .outs);
+        counted = r .counted;
         inputs = r .inputs;
         mentioned = omega (arith, r .mentioned);
       }
@@ -183,22 +183,24 @@ first-ins pre x rest =
     (part-mid (pre ++ x .outs) (x .ins) ((x .implicit ++ x .orderOnly) ++ rest) (length pre + length (x .outs)) (length pre + length (x .outs) + length (x .ins))
     (sym (length-append pre (x .outs))) (simp length-append (omega arith)))
 
-ins-at : (pre : List ℕ) (steps : List Step) (s : ℕ) → part (pre ++ concat (map mentionsOf steps)) (endOf (length pre) steps s 0) (endOf (length pre) steps s 1) ≡ stepAt steps s .ins
+ins-at : (pre : List ℕ) (steps : List Step) (s : ℕ) → part (pre ++ concat (map mentionsOf steps)) (endOf (length pre) steps s outsEnd) (endOf (length pre) steps s insEnd) ≡ stepAt steps s .ins
 unfolding endsFrom concat
 ins-at pre [] s = refl
 ins-at pre (x ∷ l) zero = first-ins pre x (concat (map mentionsOf l))
 ins-at pre (x ∷ l) (suc s) =
-    rw (end-next (length pre) x l s 0, end-next (length pre) x l s 1, ← moved pre x l, ← length-after pre x) (ins-at (pre ++ mentionsOf x) l s)
+    rw (end-next (length pre) x l s outsEnd, end-next (length pre) x l s insEnd, ← moved pre x l, ← length-after pre x) (ins-at (pre ++ mentionsOf x) l s)
 
-ins-ordered : (k : ℕ) (steps : List Step) (s : ℕ) → s < length steps → (endOf k steps s 0 ≤ endOf k steps s 1) × (endOf k steps s 1 ≤ endOf k steps s 2)
+ins-ordered : (k : ℕ) (steps : List Step) (s : ℕ) → s < length steps → (endOf k steps s outsEnd ≤ endOf k steps s insEnd) × (endOf k steps s insEnd ≤ endOf k steps s implicitEnd)
 unfolding endsFrom after
 ins-ordered k [] s b = absurd (not-suc-le-zero b)
 ins-ordered k (x ∷ l) zero b = (omega arith, omega arith)
-ins-ordered k (x ∷ l) (suc s) b = rw (end-next k x l s 0, end-next k x l s 1, end-next k x l s 2) (ins-ordered (after k x) l s (le-of-suc-le-suc b))
+ins-ordered k (x ∷ l) (suc s) b = rw (end-next k x l s outsEnd, end-next k x l s insEnd, end-next k x l s implicitEnd) (ins-ordered (after k x) l s (le-of-suc-le-suc b))
 
 module _ (steps : List Step) where
-  pub read-ins : (s : ℕ) → part (concat (map mentionsOf steps)) (getD (endsFrom 0 steps) (4 * s) 0) (getD (endsFrom 0 steps) (4 * s + 1) 0) ≡ stepAt steps s .ins
-  read-ins s = rw add-zero at (ins-at [] steps s)
+  pub read-ins : (s : ℕ) → insIn (concat (map mentionsOf steps)) (endsFrom 0 steps) s ≡ stepAt steps s .ins
+  unfolding insIn
+  read-ins s = ins-at [] steps s
 
-  pub read-ins-placed : (s : ℕ) → s < length steps → (getD (endsFrom 0 steps) (4 * s) 0 ≤ getD (endsFrom 0 steps) (4 * s + 1) 0) × (getD (endsFrom 0 steps) (4 * s + 1) 0 ≤ getD (endsFrom 0 steps) (4 * s + 2) 0)
-  read-ins-placed s b = rw add-zero at (ins-ordered 0 steps s b)
+  pub read-ins-placed : (s : ℕ) → s < length steps
+      → (endAt (endsFrom 0 steps) s outsEnd ≤ endAt (endsFrom 0 steps) s insEnd) × (endAt (endsFrom 0 steps) s insEnd ≤ endAt (endsFrom 0 steps) s implicitEnd)
+  read-ins-placed s b = ins-ordered 0 steps s b

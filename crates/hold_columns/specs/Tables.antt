@@ -25,7 +25,34 @@ unfoldable pub mentionsOf : Step → List ℕ
 unfolding inputs
 mentionsOf s = s .outs ++ inputs s
 
--- four numbers for each step: where its outputs, its inputs, its implicit and its order-only inputs end, counted from k
+-- a step has so many ends, in this order: those of its outputs, its inputs, its implicit and its order-only inputs
+abbrev pub perStep : ℕ
+perStep = 4
+
+abbrev pub outsEnd : ℕ
+outsEnd = 0
+
+abbrev pub insEnd : ℕ
+insEnd = 1
+
+abbrev pub implicitEnd : ℕ
+implicitEnd = 2
+
+abbrev pub orderOnlyEnd : ℕ
+orderOnlyEnd = 3
+
+-- where all that the step mentions ends, and the next step's outputs start
+abbrev pub lastEnd : ℕ
+lastEnd = orderOnlyEnd
+
+-- the place of end k of step s among all ends
+abbrev pub endPlace : ℕ → ℕ → ℕ
+endPlace s k = perStep * s + k
+
+abbrev pub endAt : List ℕ → ℕ → ℕ → ℕ
+endAt ends s k = getD ends (endPlace s k) 0
+
+-- the ends of all steps, counted from k
 unfoldable pub endsFrom : ℕ → List Step → List ℕ
 endsFrom k [] = []
 endsFrom k (s ∷ l) =
@@ -57,19 +84,23 @@ pub record HoldsColumns (steps : List Step) (files : ℕ) (mentions ends phony m
 -- where a step's outputs start
 unfoldable pub startIn : List ℕ → ℕ → ℕ
 startIn ends zero = 0
-startIn ends (suc s) = getD ends (4 * s + 3) 0
+startIn ends (suc s) = endAt ends s lastEnd
 
 unfoldable pub outsIn : List ℕ → List ℕ → ℕ → List ℕ
 unfolding startIn
-outsIn mentions ends s = part mentions (startIn ends s) (getD ends (4 * s) 0)
+outsIn mentions ends s = part mentions (startIn ends s) (endAt ends s outsEnd)
+
+-- the inputs that are neither implicit nor order-only
+unfoldable pub insIn : List ℕ → List ℕ → ℕ → List ℕ
+insIn mentions ends s = part mentions (endAt ends s outsEnd) (endAt ends s insEnd)
 
 -- the inputs that are not order-only
 unfoldable pub countedIn : List ℕ → List ℕ → ℕ → List ℕ
-countedIn mentions ends s = part mentions (getD ends (4 * s) 0) (getD ends (4 * s + 2) 0)
+countedIn mentions ends s = part mentions (endAt ends s outsEnd) (endAt ends s implicitEnd)
 
 -- the inputs of any kind
 unfoldable pub inputsIn : List ℕ → List ℕ → ℕ → List ℕ
-inputsIn mentions ends s = part mentions (getD ends (4 * s) 0) (getD ends (4 * s + 3) 0)
+inputsIn mentions ends s = part mentions (endAt ends s outsEnd) (endAt ends s orderOnlyEnd)
 
 unfoldable pub makerIn : List ℕ → ℕ → List ℕ
 unfolding madeBy
@@ -97,11 +128,11 @@ neededIn mentions ends made n roots = reach (beforeIn mentions ends made) n (mak
 
 -- a step's parts lie in the mentions, one after another
 pub record Placed (mentions ends : List ℕ) (s : ℕ) : Type 0 where
-  pub within : 4 * s + 3 < length ends
-  pub outs : startIn ends s ≤ getD ends (4 * s) 0
-  pub counted : getD ends (4 * s) 0 ≤ getD ends (4 * s + 2) 0
-  pub inputs : getD ends (4 * s + 2) 0 ≤ getD ends (4 * s + 3) 0
-  pub mentioned : getD ends (4 * s + 3) 0 ≤ length mentions
+  pub within : endPlace s lastEnd < length ends
+  pub outs : startIn ends s ≤ endAt ends s outsEnd
+  pub counted : endAt ends s outsEnd ≤ endAt ends s implicitEnd
+  pub inputs : endAt ends s implicitEnd ≤ endAt ends s orderOnlyEnd
+  pub mentioned : endAt ends s lastEnd ≤ length mentions
 
 -- all numbers of n steps' tables are in range
 pub record SoundColumns (n : ℕ) (mentions ends made : List ℕ) : Type 0 where

@@ -12,12 +12,12 @@ use Rattle.spec.specs.Reading.{Step, Rule, Reading, isPhony}
 use Rattle.spec.specs.Statements.{Block, noBlock, ruleBlock, buildBlock, Outcome, goesOn, refused}
 use Rattle.spec.specs.Manifest.{withRule, withStep}
 use Rattle.spec.specs.Graph.{stepAt}
-use Rattle.arena.specs.Columns.{Lies}
+use Rattle.arena.specs.Columns.{Lies, startOf}
 use Rattle.hold_names.specs.Table.{HoldsNames}
 use Rattle.hold_bindings.specs.declared.FoundEntry.the-variants.{At}
 use Rattle.hold_bindings.specs.Log.{Logged, ofFile, ofRules, ofStep, entryAt, boundBy, rulesOf, newestRule, Owned}
 use Rattle.hold_bindings.specs.Held.{HoldsBindings, valuesIn}
-use Rattle.hold_columns.specs.Tables.{HoldsColumns}
+use Rattle.hold_columns.specs.Tables.{perStep, endPlace, HoldsColumns}
 use Rattle.hold_reading.specs.declared.Counts.{Counts}
 use Rattle.hold_reading.specs.declared.Open.{Open}
 use Rattle.hold_reading.specs.declared.Open.the-variants.{Nothing, Rule as OpenRule, Step as OpenStep}
@@ -61,9 +61,21 @@ pub data Ruled (log : List Logged) (rule : List ℕ) : ℕ → Type 0 where
   phony : isPhony rule ≡ true → Ruled log rule 0
   declared : {k : ℕ} → k < length log → entryAt k log .owner ≡ ofRules → entryAt k log .name ≡ rule → isPhony rule ≡ false → Ruled log rule (suc k)
 
--- capacities of the columns of the graph: mentions, four ends for each step, phony or not, each file's maker, each step's rule, defaults
+-- the ends of all steps that a manifest may have
+abbrev pub maxEnds : ℕ
+maxEnds = perStep * maxSteps
+
+-- capacities of the columns of the graph: mentions, the ends of each step, phony or not, each file's maker, each step's rule, defaults
 abbrev pub capacities : List ℕ
-capacities = maxMentions ∷ (4 * maxSteps) ∷ maxSteps ∷ maxFiles ∷ maxSteps ∷ maxMentions ∷ []
+capacities = maxMentions ∷ maxEnds ∷ maxSteps ∷ maxFiles ∷ maxSteps ∷ maxMentions ∷ []
+
+-- where the ends start
+abbrev pub endsStart : ℕ
+endsStart = startOf capacities 1
+
+-- end k of step s
+abbrev pub endIn : List ℕ → ℕ → ℕ → ℕ
+endIn graph s k = getD graph (endsStart + endPlace s k) 0
 
 -- the columns hold the reading's steps, makers and defaults
 pub record Graphed (log : List Logged) (graph : List ℕ) (c : Counts) (rd : Reading) : Type 0 where

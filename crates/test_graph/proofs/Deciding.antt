@@ -1,5 +1,5 @@
 -- The checks, one after another.
-use Prim.Native.Nat.{ℕ, _+_, _*_, _≤_, _<_}
+use Prim.Native.Nat.{ℕ, _+_, _≤_, _<_}
 use native.Mathlib.Nat.{not-suc-le-zero}
 use native.Mathlib.Numerals.{add-one}
 use native.Mathlib.Omega.{arith}
@@ -10,7 +10,7 @@ use lib.ListN.{length, getD}
 use borrow.Author.Count.{below-more}
 use Rattle.lists.specs.Tests.{differ}
 use Rattle.lists.specs.Members.{in-at, place}
-use Rattle.hold_columns.specs.Tables.{startIn, Placed, SoundColumns}
+use Rattle.hold_columns.specs.Tables.{outsEnd, implicitEnd, lastEnd, endPlace, endAt, startIn, Placed, SoundColumns}
 use Rattle.graph_plan.specs.Plan.{PlanAsked, PlansGraph}
 use Rattle.spec.specs.declared.PlanAnswer.{PlanAnswer}
 use Rattle.spec.specs.Answers.{planSays}
@@ -45,10 +45,10 @@ module _ {l : List ℕ} {n i : ℕ} (r : Checked l n i) where
 
 -- ---- a step's parts
 
-pub not-within : (mentions ends : List ℕ) {s : ℕ} → length ends ≤ 4 * s + 3 → Decides (Placed mentions ends s) false
+pub not-within : (mentions ends : List ℕ) {s : ℕ} → length ends ≤ endPlace s lastEnd → Decides (Placed mentions ends s) false
 not-within mentions ends b = fails-so (λ p. omega (arith, p .within))
 
-pub placed-so : (mentions ends : List ℕ) {s a b c d : ℕ} {r : Bool} → 4 * s + 3 < length ends → a ≡ startIn ends s → b ≡ getD ends (4 * s) 0 → c ≡ getD ends (4 * s + 2) 0 → d ≡ getD ends (4 * s + 3) 0
+pub placed-so : (mentions ends : List ℕ) {s a b c d : ℕ} {r : Bool} → endPlace s lastEnd < length ends → a ≡ startIn ends s → b ≡ endAt ends s outsEnd → c ≡ endAt ends s implicitEnd → d ≡ endAt ends s lastEnd
     → Decides (Rising a b c d (length mentions)) r → Decides (Placed mentions ends s) r
 placed-so mentions ends w p q u v h = record {
   yes = λ e. let x = h .yes e in record {
@@ -82,7 +82,7 @@ unfolding startIn
 place-begin mentions ends = record { within = omega arith; starts = refl; placed = λ s b. absurd (not-suc-le-zero b) }
 
 module _ {mentions ends : List ℕ} {n from i : ℕ} {b : Bool} (r : Placing mentions ends n from i) (d : Decides (Placed mentions ends i) b) where
-  pub place-more : {next : ℕ} → i < n → b ≡ true → next ≡ getD ends (4 * i + 3) 0 → Placing mentions ends n next (i + 1)
+  pub place-more : {next : ℕ} → i < n → b ≡ true → next ≡ endAt ends i lastEnd → Placing mentions ends n next (i + 1)
   unfolding startIn
   place-more z e q = record { within = omega arith; starts = rw (add-one i) q; placed = below-more (Placed mentions ends) i (r .placed) (d .yes e) }
 

@@ -1,6 +1,6 @@
 // The plan of a read graph for Rust: the tables come from outside, so all that planning asks of them is checked first.
 ghost use mathlib.Core.Path.{_≡_};
-ghost use Prim.Native.Nat.{ℕ, _+_, _*_, _≤_, _<_};
+ghost use Prim.Native.Nat.{ℕ, _+_, _≤_, _<_};
 ghost use lib.ListN.{length};
 ghost use Rattle.hold_columns.specs.Tables.{startIn, Placed, SoundColumns};
 ghost use Rattle.graph_plan.specs.Plan.{PlanAsked};
@@ -8,6 +8,11 @@ ghost use Rattle.test_graph.specs.Checks.{Decides, Below, Rising, Answer
 use answers::Numbers;
 use answers::of_plan;
 use graph_plan::plan_graph;
+use hold_columns::IMPLICIT_END;
+use hold_columns::LAST_END;
+use hold_columns::OUTS_END;
+use hold_columns::end_at;
+use hold_columns::end_place;
 use slices::words::at;
 use spec::limits::FILES;
 use spec::limits::LIST;
@@ -52,12 +57,12 @@ fn is_placed(mentions: &[u32], ends: &[u32], s: usize, from: usize) -> bool
     requires { ⌜ (s < 512) × (from ≡ startIn (now ends) s) ⌝ }
     ensures { λ r. ⌜ Decides (Placed (now (mentions .entry)) (now (ends .entry)) s) r ⌝ }
 {
-    if ends.len() <= 4 * s + 3 {
+    if ends.len() <= end_place(s, LAST_END) {
         return false;
     }
-    let outs = at(ends, 4 * s);
-    let counted = at(ends, 4 * s + 2);
-    let to = at(ends, 4 * s + 3);
+    let outs = end_at(ends, s, OUTS_END);
+    let counted = end_at(ends, s, IMPLICIT_END);
+    let to = end_at(ends, s, LAST_END);
     is_rising(from, outs, counted, to, mentions.len())
 }
 
@@ -72,7 +77,7 @@ fn all_placed(mentions: &[u32], ends: &[u32], n: usize) -> bool
         if !is_placed(mentions, ends, s, from) {
             return false;
         }
-        from = at(ends, 4 * s + 3);
+        from = end_at(ends, s, LAST_END);
         s += 1;
     }
     true

@@ -1,5 +1,5 @@
 -- A step by its number: its rule's declaration, and its files among the mentions.
-use Prim.Native.Nat.{ℕ, suc, _+_, _*_, _-_, _≤_, _<_}
+use Prim.Native.Nat.{ℕ, suc, _+_, _-_, _≤_, _<_}
 use mathlib.Core.List.{List, [], _∷_}
 use mathlib.Core.Bool.{Bool, true, false, _||_}
 use mathlib.Core.Path.{_≡_, refl, sym, _∙_, ap}
@@ -16,7 +16,7 @@ use Rattle.lists.specs.Parts.{part}
 use Rattle.spec.specs.Reading.{Reading, isPhony, keysOf}
 use Rattle.spec.specs.Graph.{stepAt}
 use Rattle.arena.proofs.Laws.{lies-column, lies-read}
-use Rattle.hold_columns.specs.Tables.{outsIn, startIn}
+use Rattle.hold_columns.specs.Tables.{outsEnd, insEnd, implicitEnd, lastEnd, endPlace, endAt, startIn, outsIn, insIn}
 use Rattle.hold_columns.proofs.Places.{start-zero, start-suc, read-ins, read-ins-placed}
 use Rattle.hold_columns.proofs.Held.{held-outs, held-sound}
 use Rattle.hold_bindings.specs.declared.FoundEntry.{FoundEntry}
@@ -25,7 +25,7 @@ use Rattle.hold_bindings.specs.Log.{Logged, ofRules, ofKeys, entryAt, isNamed, 
 use Rattle.hold_bindings.specs.Held.{HoldsBindings, HasEntry, SoundBindings}
 use Rattle.hold_bindings.proofs.Lookups.{newest-below, entry-kept, entry-newest, keys-newest}
 use Rattle.hold_reading.specs.declared.Counts.{Counts}
-use Rattle.hold_reading.specs.Held.{capacities, Ruled, phony, declared, Bound, Graphed}
+use Rattle.hold_reading.specs.Held.{capacities, endIn, Ruled, phony, declared, Bound, Graphed}
 use Rattle.text_lookup.specs.declared.Asked.{Asked}
 use Rattle.text_memo.proofs.Spans.{part-front}
 use Rattle.text_step.specs.declared.StepAsked.{StepAsked}
@@ -120,37 +120,28 @@ module _ {log : List Logged} {texts bind graph : List ℕ} {c : Counts} {rd : Re
     pub is-phony : getD graph (7680 + s) 0 ≡ 0 → isPhony (stepAt (rd .steps) s .rule) ≡ true
     is-phony z = ruled-phony ruled z
 
-    ends-low : 4 * s + 3 < length (g .ends)
-    ends-low = held-sound (g .tables) .placed s there .within
-
-    end-read : (j : ℕ) → j ≤ 4 * s + 3 → getD graph (4096 + j) 0 ≡ getD (g .ends) j 0
+    end-read : (j k : ℕ) → endPlace j k ≤ endPlace s lastEnd → endIn graph j k ≡ endAt (g .ends) j k
     unfolding columns
-    end-read j k = let l = ends-low in lies-read capacities graph columns 1 (g .lies) (omega arith) j (omega arith)
-
-    -- where its outputs and its explicit inputs end
-    outs-end : getD graph (4096 + 4 * s) 0 ≡ getD (g .ends) (4 * s) 0
-    outs-end = end-read (4 * s) (omega arith)
-
-    ins-end : getD graph (4097 + 4 * s) 0 ≡ getD (g .ends) (4 * s + 1) 0
-    ins-end = let z : 4097 + 4 * s ≡ 4096 + (4 * s + 1) = omega arith in rw z (end-read (4 * s + 1) (omega arith))
+    end-read j k b =
+        let l = held-sound (g .tables) .placed s there .within in
+        lies-read capacities graph columns 1 (g .lies) (omega arith) (endPlace j k) (omega arith)
 
     outs-start : outputsFrom graph s ≡ startIn (g .ends) s
     unfolding outputsFrom
     outs-start = elim (ℕ-discrete s 0) [
       | yes z ↦ rw (eq-eqb s 0 z) (start-zero (g .ends) s z)
-      | no z ↦
-          (let y : 4095 + 4 * s ≡ 4096 + (4 * s - 1) = omega arith in
-          rw (ne-eqb s 0 z, y) (end-read (4 * s - 1) (omega arith) ∙ start-suc (g .ends) s z))
+      | no z ↦ rw (ne-eqb s 0 z) (end-read (s - 1) lastEnd (omega arith) ∙ start-suc (g .ends) s z)
     ]
 
     -- the explicit inputs in the tables
-    ins-held : part (g .mentions) (getD (g .ends) (4 * s) 0) (getD (g .ends) (4 * s + 1) 0) ≡ stepAt (rd .steps) s .ins
+    ins-held : part (g .mentions) (endAt (g .ends) s outsEnd) (endAt (g .ends) s insEnd) ≡ stepAt (rd .steps) s .ins
+    unfolding insIn
     ins-held = rw (g .tables .mentioned, g .tables .ended) (read-ins (rd .steps) s)
 
-    ins-placed : (getD (g .ends) (4 * s) 0 ≤ getD (g .ends) (4 * s + 1) 0) × (getD (g .ends) (4 * s + 1) 0 ≤ getD (g .ends) (4 * s + 2) 0)
+    ins-placed : (endAt (g .ends) s outsEnd ≤ endAt (g .ends) s insEnd) × (endAt (g .ends) s insEnd ≤ endAt (g .ends) s implicitEnd)
     ins-placed = rw (g .tables .ended) (read-ins-placed (rd .steps) s there)
 
-    outs-held : part (g .mentions) (startIn (g .ends) s) (getD (g .ends) (4 * s) 0) ≡ stepAt (rd .steps) s .outs
+    outs-held : part (g .mentions) (startIn (g .ends) s) (endAt (g .ends) s outsEnd) ≡ stepAt (rd .steps) s .outs
     unfolding outsIn
     outs-held = held-outs (g .tables) s
 
@@ -173,7 +164,7 @@ pub outputs-first : (graph : List ℕ) (s : ℕ) → s ≡ 0 → 0 ≡ outputsFr
 unfolding outputsFrom
 outputs-first graph s z = sym (rw (eq-eqb s 0 z))
 
-pub outputs-later : (graph : List ℕ) (s : ℕ) → (s ≡ 0 → ⊥) → getD graph (4095 + 4 * s) 0 ≡ outputsFrom graph s
+pub outputs-later : (graph : List ℕ) (s : ℕ) → (s ≡ 0 → ⊥) → endIn graph (s - 1) lastEnd ≡ outputsFrom graph s
 unfolding outputsFrom
 outputs-later graph s z = sym (rw (ne-eqb s 0 z))
 
@@ -189,8 +180,8 @@ module _ {texts bind graph : List ℕ} {c : Counts} {step k : ℕ} (w : PickAsk 
   pub pick-graph : InGraph graph step
   pick-graph = in-graph (w .bound) (w .graphed) (w .there)
 
-  module _ {rule outs ins rest : ℕ} (d : Declares texts bind (c .entries) k rule) (o : outs ≡ outputsFrom graph step) (i : ins ≡ getD graph (4096 + 4 * step) 0)
-      (e : rest ≡ getD graph (4097 + 4 * step) 0) where
+  module _ {rule outs ins rest : ℕ} (d : Declares texts bind (c .entries) k rule) (o : outs ≡ outputsFrom graph step) (i : ins ≡ endIn graph step outsEnd)
+      (e : rest ≡ endIn graph step insEnd) where
     module _ {log : List Logged} {rd : Reading} (b : Bound log texts bind c rd) (g : Graphed log graph c rd) where
       rule-found : newest ofRules (stepAt (rd .steps) step .rule) log ≡ At rule
       rule-found = let r = rules-of b g in rw (← (r .name)) (d .newest log (b .held) (r .owner))
@@ -205,8 +196,8 @@ module _ {texts bind graph : List ℕ} {c : Counts} {step k : ℕ} (w : PickAsk 
           let p = held-sound (g .tables) .placed step (there b g h) in
           let q = ins-placed b g h in
           let x : outs ≡ startIn (g .ends) step = o ∙ outs-start b g h in
-          let y : ins ≡ getD (g .ends) (4 * step) 0 = i ∙ outs-end b g h in
-          let z : rest ≡ getD (g .ends) (4 * step + 1) 0 = e ∙ ins-end b g h in
+          let y : ins ≡ endAt (g .ends) step outsEnd = i ∙ end-read b g h step outsEnd (omega arith) in
+          let z : rest ≡ endAt (g .ends) step insEnd = e ∙ end-read b g h step insEnd (omega arith) in
           let m : rest ≤ length (g .mentions) = omega (arith, p .inputs, p .mentioned, q .1) in
           record {
             there = there b g h;

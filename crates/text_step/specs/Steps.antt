@@ -1,5 +1,5 @@
 -- The step that a text is asked of, in the table of bindings and the columns of the graph.
-use Prim.Native.Nat.{ℕ, _+_, _*_, _-_, _≤_, _<_}
+use Prim.Native.Nat.{ℕ, _+_, _-_, _≤_, _<_}
 use mathlib.Core.List.{List}
 use mathlib.Core.Bool.{true, false, _||_}
 use mathlib.Core.Path.{_≡_}
@@ -10,12 +10,13 @@ use Rattle.lists.specs.Parts.{part}
 use Rattle.spec.specs.Limits.{maxSteps}
 use Rattle.spec.specs.Reading.{Reading, isPhony, keysOf}
 use Rattle.spec.specs.Graph.{stepAt}
+use Rattle.hold_columns.specs.Tables.{lastEnd}
 use Rattle.hold_bindings.specs.declared.FoundEntry.the-variants.{At}
 use Rattle.hold_bindings.specs.Log.{Logged, ofRules, ofKeys, entryAt, newest, boundBy}
 use Rattle.hold_bindings.specs.Held.{maxEntries, HoldsBindings}
 use Rattle.hold_reading.specs.declared.Counts.{Counts}
 use Rattle.arena.specs.Columns.{startOf}
-use Rattle.hold_reading.specs.Held.{Bound, capacities, Graphed}
+use Rattle.hold_reading.specs.Held.{Bound, capacities, endIn, Graphed}
 use Rattle.text_lookup.specs.declared.Asked.{Asked}
 use Rattle.text_step.specs.declared.StepAsked.{StepAsked}
 use Rattle.text_step.specs.declared.StepAsked.the-variants.{NoCommand, Step}
@@ -41,7 +42,7 @@ pub record InGraph (graph : List ℕ) (step : ℕ) : Type 0 where
 
 -- where the outputs of step s start: where the mentions of the step before it end
 unfoldable pub outputsFrom : List ℕ → ℕ → ℕ
-outputsFrom graph s = ifB (eqb s 0) (λ _. 0) (λ _. getD graph (startOf capacities 1 - 1 + 4 * s) 0)
+outputsFrom graph s = ifB (eqb s 0) (λ _. 0) (λ _. endIn graph (s - 1) lastEnd)
 
 -- ------------------------------------------------------------------ the step
 

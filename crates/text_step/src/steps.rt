@@ -6,16 +6,14 @@ use crate::StepAsked;
 use hold_bindings::FoundEntry;
 use hold_bindings::name;
 use hold_bindings::newest;
+use hold_columns::INS_END;
+use hold_columns::LAST_END;
+use hold_columns::OUTS_END;
 use hold_reading::Counts;
-use hold_reading::columns::ENDS;
 use hold_reading::columns::RULES;
+use hold_reading::columns::step_end;
 use slices::words::at;
 use text_lookup::Asked;
-
-// the last end of the step before, and where a step's explicit inputs end
-const ENDS_BEFORE: usize = ENDS - 1;
-
-const INPUT_ENDS: usize = ENDS + 1;
 
 // The declaration that a rule's name stands for, where entry k declares a rule of that name.
 fn declaration(texts: &[u8], bind: &[u32], count: usize, k: usize) -> usize
@@ -36,7 +34,7 @@ fn outputs_from(graph: &[u32], step: usize) -> usize
     if step == 0 {
         return 0;
     }
-    at(graph, ENDS_BEFORE + 4 * step)
+    step_end(graph, step - 1, LAST_END)
 }
 
 // The step, whose rule is declared at entry k.
@@ -46,8 +44,8 @@ fn picked(texts: &[u8], bind: &[u32], graph: &[u32], c: Counts, step: usize, k: 
 {
     let rule = declaration(texts, bind, c.entries, k);
     let outs = outputs_from(graph, step);
-    let ins = at(graph, ENDS + 4 * step);
-    let rest = at(graph, INPUT_ENDS + 4 * step);
+    let ins = step_end(graph, step, OUTS_END);
+    let rest = step_end(graph, step, INS_END);
     Asked {
         step,
         rule,

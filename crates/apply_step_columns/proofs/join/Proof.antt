@@ -1,25 +1,19 @@
 -- `apply_step_columns::join` meets its contract.
 use native.Mathlib.Omega.{arith}
-use borrow.Author.Needs.{needs}
 use Rattle.apply_files.proofs.Columns.{graph-long}
 use Rattle.apply_step_columns.proofs.Making.{join-make, join-first, join-second, join-done}
+use borrow.Author.Needs.{needs}
 use Rattle.apply_step_columns.proofs.join.Statement.{statement}
 use Rattle.apply_step_columns.proofs.join.Tie as tie
 
-mul-at : tie.Need-mul-at
-mul-at c = search needs
-
-add-at : tie.Need-add-at
-add-at c = search needs
-
-at-requires : tie.Need-at-requires
-at-requires c κs = let a = c .before .before .pre in omega (arith, a .ready .few, graph-long (a .laid))
+step-end-requires : tie.Need-step-end-requires
+step-end-requires c κs = let a = c .before .before .pre in omega (arith, a .ready .few, graph-long (a .laid))
 
 add-make : tie.Need-add-make
 add-make c = search needs
 
 make-requires : tie.Need-make-requires
-make-requires c κs = join-make (c .before .at .ensures) (c .before .before .before .before .pre)
+make-requires c κs = join-make (c .before .step-end .ensures) (c .before .before .before .before .pre)
 
 add-put : tie.Need-add-put
 add-put c = search needs
@@ -28,30 +22,28 @@ phony-bit-requires : tie.Need-phony-bit-requires
 phony-bit-requires c κs = search needs
 
 put-requires : tie.Need-put-requires
-put-requires c κs = join-first (c .before .before .before .before .before .before .at .ensures) (c .before .before .before .before .make .ensures) (c .phony-bit .ensures) (c .before .before .before .before .before .before .before .before .before .pre)
+put-requires c κs = join-first (c .before .before .before .before .before .before .step-end .ensures) (c .before .before .before .before .make .ensures) (c .phony-bit .ensures) (c .before .before .before .before .before .before .before .before .before .pre)
 
 add-put-2 : tie.Need-add-put-2
 add-put-2 c = search needs
 
 put-requires-2 : tie.Need-put-requires-2
-put-requires-2 c κs = join-second (c .before .before .before .before .before .before .before .before .before .before .at .ensures) (c .before .before .before .before .before .before .before .before .make .ensures) (c .before .before .before .before .phony-bit .ensures) (c .before .before .before .put .ensures) (c .before .before .before .before .before .before .before .before .before .before .before .before .before .pre)
+put-requires-2 c κs = join-second (c .before .before .before .before .before .before .before .before .before .before .step-end .ensures) (c .before .before .before .before .before .before .before .before .make .ensures) (c .before .before .before .before .phony-bit .ensures) (c .before .before .before .put .ensures) (c .before .before .before .before .before .before .before .before .before .before .before .before .before .pre)
 
-add-t10 : tie.Need-add-t10
-add-t10 c = search needs
+add-t12 : tie.Need-add-t12
+add-t12 c = search needs
 
 same-length : tie.Need-same-length
 same-length c = search needs
 
 returns : tie.Need-returns
-returns c = join-done (c .before .before .before .before .before .before .before .before .before .before .before .before .before .at .ensures) (c .before .before .before .before .before .before .before .before .before .before .before .make .ensures) (c .before .before .before .before .before .before .before .phony-bit .ensures) (c .before .before .before .before .before .before .put .ensures) (c .before .before .put2 .ensures)
+returns c = join-done (c .before .before .before .before .before .before .before .before .before .before .before .before .before .step-end .ensures) (c .before .before .before .before .before .before .before .before .before .before .before .make .ensures) (c .before .before .before .before .before .before .before .phony-bit .ensures) (c .before .before .before .before .before .before .put .ensures) (c .before .before .put2 .ensures)
 
 pub join-spec : {M : Type 1} → statement M
 join-spec =
     tie.close
     (tie.spec
-    mul-at
-    add-at
-    at-requires
+    step-end-requires
     add-make
     make-requires
     add-put
@@ -59,6 +51,6 @@ join-spec =
     put-requires
     add-put-2
     put-requires-2
-    add-t10
+    add-t12
     same-length
     returns)

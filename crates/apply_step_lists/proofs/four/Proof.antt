@@ -1,24 +1,24 @@
 -- `apply_step_lists::four` meets its contract.
 use native.Mathlib.Omega.{arith}
-use borrow.Author.Needs.{needs}
 use Rattle.apply_step_lists.proofs.Listing.{four-first, four-second, four-on, four-over}
+use borrow.Author.Needs.{needs}
 use Rattle.apply_step_lists.proofs.four.Statement.{statement}
 use Rattle.apply_step_lists.proofs.four.Tie as tie
 
-mul-e : tie.Need-mul-e
-mul-e c = omega (arith, c .before .before .before .before .before .before .before .before .pre .few)
+end-place-requires : tie.Need-end-place-requires
+end-place-requires c κs = omega (arith, c .before .before .before .before .before .before .before .pre .few)
 
 two-requires : tie.Need-two-requires
-two-requires c κs = four-first (c .before .before .before .before .before .before .before .before .before .before .before .before .pre)
+two-requires c κs = rw (c .before .before .before .before .end-place .ensures) (four-first (c .before .before .before .before .before .before .before .before .before .before .before .before .pre))
 
 enum-known-d : tie.Need-enum-known-d
 enum-known-d c = search needs
 
-add-two : tie.Need-add-two
-add-two c = omega (arith, c .before .before .before .before .before .before .before .before .before .before .before .before .before .before .before .before .before .before .before .before .before .before .before .before .pre .few)
+end-place-requires-2 : tie.Need-end-place-requires-2
+end-place-requires-2 c κs = omega (arith, c .before .before .before .before .before .before .before .before .before .before .before .before .before .before .before .before .before .before .before .before .before .before .before .before .pre .few)
 
 two-requires-2 : tie.Need-two-requires-2
-two-requires-2 c κs = four-second (c .before .before .before .before .before .before .before .before .before .before .before .before .before .before .before .before .before .before .before .before .before .before .before .before .before .before .before .before .pre) (search needs) (search needs) (rw (c .before .before .before .before .before .d .given .1) at (c .before .before .before .before .before .before .before .before .before .before .before .before .before .before .before .two .ensures))
+two-requires-2 c κs = rw (c .before .before .before .before .end-place2 .ensures) (four-second (c .before .before .before .before .before .before .before .before .before .before .before .before .before .before .before .before .before .before .before .before .before .before .before .before .before .before .before .before .before .pre) (search needs) (search needs) (rw (c .before .before .before .before .before .before .d .given .1, c .before .before .before .before .before .before .before .before .before .before .before .before .before .before .before .before .before .before .before .before .before .end-place .ensures) at (c .before .before .before .before .before .before .before .before .before .before .before .before .before .before .before .before .two .ensures)))
 
 enum-told : tie.Need-enum-told
 enum-told c = search needs
@@ -36,7 +36,7 @@ same-length-4 : tie.Need-same-length-4
 same-length-4 c = search needs
 
 returns : tie.Need-returns
-returns c = four-on (rw (c .before .before .before .before .before .before .before .before .before .before .before .before .before .before .d .given .1) at (c .before .before .before .before .before .before .before .before .before .before .before .before .before .before .before .before .before .before .before .before .before .before .before .before .two .ensures)) (c .before .before .before .before .before .before .before .before .two2 .ensures)
+returns c = four-on (rw (c .before .before .before .before .before .before .before .before .before .before .before .before .before .before .before .d .given .1, c .before .before .before .before .before .before .before .before .before .before .before .before .before .before .before .before .before .before .before .before .before .before .before .before .before .before .before .before .before .before .end-place .ensures) at (c .before .before .before .before .before .before .before .before .before .before .before .before .before .before .before .before .before .before .before .before .before .before .before .before .before .two .ensures)) (rw (c .before .before .before .before .before .before .before .before .before .before .before .before .before .end-place2 .ensures) at (c .before .before .before .before .before .before .before .before .two2 .ensures))
 
 same-length-5 : tie.Need-same-length-5
 same-length-5 c = search needs
@@ -51,16 +51,16 @@ same-length-8 : tie.Need-same-length-8
 same-length-8 c = search needs
 
 returns-2 : tie.Need-returns-2
-returns-2 c = four-over (rw (c .enum-told .given .1) at (c .before .before .before .before .before .before .before .before .before .before .two .ensures))
+returns-2 c = four-over (rw (c .enum-told .given .1, c .before .before .before .before .before .before .before .before .before .before .before .before .before .before .before .end-place .ensures) at (c .before .before .before .before .before .before .before .before .before .before .two .ensures))
 
 pub four-spec : {M : Type 1} → statement M
 four-spec =
     tie.close
     (tie.spec
-    mul-e
+    end-place-requires
     two-requires
     enum-known-d
-    add-two
+    end-place-requires-2
     two-requires-2
     enum-told
     same-length

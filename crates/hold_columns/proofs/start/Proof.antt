@@ -1,24 +1,21 @@
 -- `hold_columns::start` meets its contract.
 use mathlib.Core.Path.{_∙_}
-use borrow.Author.Needs.{needs}
 use Rattle.hold_columns.proofs.Places.{start-zero, start-suc}
+use borrow.Author.Needs.{needs}
 use Rattle.hold_columns.proofs.start.Statement.{statement}
 use Rattle.hold_columns.proofs.start.Tie as tie
 
 returns : tie.Need-returns
 returns c = start-zero _ _ (c .if1 .taken)
 
-mul-at : tie.Need-mul-at
-mul-at c = search needs
+sub-end-at : tie.Need-sub-end-at
+sub-end-at c = search needs
 
-sub-at : tie.Need-sub-at
-sub-at c = search needs
-
-at-requires : tie.Need-at-requires
-at-requires c κs = search needs
+end-at-requires : tie.Need-end-at-requires
+end-at-requires c κs = search needs
 
 returns-2 : tie.Need-returns-2
-returns-2 c = c .at .ensures ∙ start-suc _ _ (c .before .if1 .left)
+returns-2 c = c .end-at .ensures ∙ start-suc _ _ (c .before .if1 .left)
 
 pub start-spec : {M : Type 1} → statement M
-start-spec = tie.close (tie.spec returns mul-at sub-at at-requires returns-2)
+start-spec = tie.close (tie.spec returns sub-end-at end-at-requires returns-2)

@@ -22,14 +22,8 @@ is-placed-requires c κs = (omega (arith, c .loop-test .taken, c .before .before
 returns : tie.Need-returns Inv-loop μ-loop
 returns c = place-fails (c .before .before .before .loop .inv) (c .before .is-placed .ensures) (c .before .before .loop-test .taken) (not-true _ (c .if1 .taken))
 
-mul-at : tie.Need-mul-at Inv-loop μ-loop
-mul-at c = search needs
-
-add-at : tie.Need-add-at Inv-loop μ-loop
-add-at c = search needs
-
-at-requires : tie.Need-at-requires Inv-loop μ-loop
-at-requires c κs = c .before .is-placed .ensures .yes (not-false _ (c .if1 .left)) .within
+end-at-requires : tie.Need-end-at-requires Inv-loop μ-loop
+end-at-requires c κs = c .before .is-placed .ensures .yes (not-false _ (c .if1 .left)) .within
 
 add-s : tie.Need-add-s Inv-loop μ-loop
 add-s c = search needs
@@ -38,7 +32,7 @@ loop-less : tie.Need-loop-less Inv-loop μ-loop
 loop-less c = search needs
 
 loop-again : tie.Need-loop-again Inv-loop μ-loop
-loop-again c = place-more (c .before .before .before .before .loop .inv) (c .before .before .is-placed .ensures) (c .before .before .before .loop-test .taken) (not-false _ (c .before .if1 .left)) (c .at .ensures)
+loop-again c = place-more (c .before .before .before .before .loop .inv) (c .before .before .is-placed .ensures) (c .before .before .before .loop-test .taken) (not-false _ (c .before .if1 .left)) (c .end-at .ensures)
 
 returns-2 : tie.Need-returns-2 Inv-loop μ-loop
 returns-2 c = place-ends (c .before .loop .inv) (c .loop-test .left)
@@ -52,9 +46,7 @@ all-placed-spec =
     loop-holds
     is-placed-requires
     returns
-    mul-at
-    add-at
-    at-requires
+    end-at-requires
     add-s
     loop-less
     loop-again

@@ -9,17 +9,14 @@ use Rattle.text_step.proofs.steps.outputs_from.Tie as tie
 returns : tie.Need-returns
 returns c = outputs-first (now (c .before .before .args .graph)) (c .before .before .args .step) (c .if1 .taken)
 
-mul-at : tie.Need-mul-at
-mul-at c = search needs
+sub-step-end : tie.Need-sub-step-end
+sub-step-end c = search needs
 
-add-at : tie.Need-add-at
-add-at c = search needs
-
-at-requires : tie.Need-at-requires
-at-requires c κs = search needs
+step-end-requires : tie.Need-step-end-requires
+step-end-requires c κs = search needs
 
 returns-2 : tie.Need-returns-2
-returns-2 c = c .at .ensures ∙ outputs-later (now (c .before .before .before .args .graph)) (c .before .before .before .args .step) (c .before .if1 .left)
+returns-2 c = c .step-end .ensures ∙ outputs-later (now (c .before .before .before .args .graph)) (c .before .before .before .args .step) (c .before .if1 .left)
 
 pub outputs-from-spec : {M : Type 1} → statement M
-outputs-from-spec = tie.close (tie.spec returns mul-at add-at at-requires returns-2)
+outputs-from-spec = tie.close (tie.spec returns sub-step-end step-end-requires returns-2)
