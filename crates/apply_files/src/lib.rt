@@ -43,15 +43,10 @@ fn note_again(graph: &mut [u32], c: Counts, k: usize, n: usize) -> Counts
     let paths = c.paths;
     put(graph, paths, k);
     Counts {
-        files: c.files,
-        steps: c.steps,
         paths: paths + 1,
-        defaults: c.defaults,
-        entries: c.entries,
-        rules: c.rules,
-        bindings: c.bindings,
         mentions: c.mentions + 1,
         written: c.written + n,
+        ..c
     }
 }
 
@@ -66,14 +61,10 @@ fn note_first(graph: &mut [u32], c: Counts, k: usize, n: usize) -> Counts
     put(graph, MADE_START + files, 0);
     Counts {
         files: files + 1,
-        steps: c.steps,
         paths: paths + 1,
-        defaults: c.defaults,
-        entries: c.entries,
-        rules: c.rules,
-        bindings: c.bindings,
         mentions: c.mentions + 1,
         written: c.written + n,
+        ..c
     }
 }
 

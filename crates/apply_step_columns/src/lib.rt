@@ -60,14 +60,7 @@ pub fn join(graph: &mut [u32], from: usize, n: usize, c: Counts) -> Counts
     put(graph, PHONY_START + steps, phony_bit(n));
     put(graph, RULE_START + steps, n);
     Counts {
-        files: c.files,
         steps: steps + 1,
-        paths: c.paths,
-        defaults: c.defaults,
-        entries: c.entries,
-        rules: c.rules,
-        bindings: c.bindings,
-        mentions: c.mentions,
-        written: c.written,
+        ..c
     }
 }
