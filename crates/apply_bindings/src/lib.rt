@@ -43,14 +43,9 @@ pub fn put(
     let entries = c.entries;
     push(texts, bind, entries, owner, name, value);
     Counts {
-        files: c.files,
-        steps: c.steps,
-        paths: c.paths,
-        defaults: c.defaults,
         entries: entries + 1,
-        rules: c.rules,
         bindings: c.bindings + 1,
-        mentions: c.mentions,
         written: c.written + value.len(),
+        ..c
     }
 }

@@ -7,7 +7,7 @@ use expand_dollars::expand;
 use hold_names::FoundName;
 use hold_names::find;
 use hold_reading::Counts;
-use hold_reading::columns::DEFAULTS;
+use hold_reading::columns::DEFAULTS_START;
 
 // What a path of a default line does: it is a default more, or over a limit.
 pub enum AddedDefault {
@@ -22,7 +22,7 @@ fn put_default(names: &[u8], index: &[u32], graph: &mut [u32], c: Counts, path: 
 {
     match find(names, index, c.files, path) {
         FoundName::At(k) => {
-            put(graph, DEFAULTS + c.defaults, k);
+            put(graph, DEFAULTS_START + c.defaults, k);
             Counts {
                 files: c.files,
                 steps: c.steps,

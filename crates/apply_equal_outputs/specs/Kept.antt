@@ -3,10 +3,11 @@ use Prim.Native.Nat.{ℕ}
 use mathlib.Core.List.{List}
 use mathlib.Core.Path.{_≡_}
 use lib.ListN.{length, take}
+use Rattle.hold_reading.specs.Held as held
 
 -- where the columns of the graph end, and the room for a table of outputs begins
 abbrev pub columnsEnd : ℕ
-columnsEnd = 12288
+columnsEnd = held.columnsEnd
 
 -- the columns of the graph stay
 pub record Kept (graph graph′ : List ℕ) : Type 0 where

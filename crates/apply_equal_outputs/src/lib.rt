@@ -5,7 +5,7 @@ use cut_forms::ListPath;
 use cut_forms::paths::next_path;
 use expand_order::order;
 use hold_reading::Counts;
-use hold_reading::columns::END;
+use hold_reading::columns::COLUMNS_END;
 use lists::Order;
 use slices::words::at;
 
@@ -137,5 +137,5 @@ pub fn has_equal_outputs(
     requires { ⌜ RoomAsks (now t) (now l) (now texts) (now bind) (now graph) c start ⌝ }
     ensures { λ r. ⌜ Twice (now (l .entry)) (now (texts .entry)) (now (bind .entry)) (now (graph .entry)) c start (now (graph .exit)) r ⌝ }
 {
-    has_equal(t, l, start, texts, bind, c, &mut graph[END..])
+    has_equal(t, l, start, texts, bind, c, &mut graph[COLUMNS_END..])
 }

@@ -6,9 +6,8 @@ use mathlib.Core.Path.{_≡_}
 use lib.Dec.{ltb}
 use lib.ListN.{length, set}
 use Rattle.spec.specs.Limits.{maxMentions, maxPath, maxWritten}
-use Rattle.arena.specs.Columns.{startOf}
 use Rattle.hold_reading.specs.declared.Counts.{Counts}
-use Rattle.hold_reading.specs.Held.{capacities}
+use Rattle.hold_reading.specs.Held.{madeStart}
 use Rattle.apply_files.specs.declared.Mentioned.{Mentioned}
 use Rattle.apply_files.specs.Lines.{Line, Writing, Marks}
 
@@ -30,10 +29,6 @@ countedPath files n c =
       mentions = c .mentions + 1;
       written = c .written + n;
     }
-
--- where the makers' column starts
-abbrev pub madeStart : ℕ
-madeStart = startOf capacities 3
 
 -- the number of a file at the end of the mentions
 pub record Again (graph : List ℕ) (c : Counts) (k n : ℕ) (graph′ : List ℕ) (r : Counts) : Type 0 where

@@ -3,12 +3,13 @@ ghost use mathlib.Core.Path.{_≡_};
 ghost use Prim.Native.Nat.{_+_, _≤_, _<_};
 ghost use lib.ListN.{length};
 ghost use Rattle.spec.specs.Limits.{maxMentions, maxWritten, maxFiles};
+ghost use Rattle.hold_reading.specs.Held.{columnsEnd};
 ghost use Rattle.apply_files.specs.Path.{overCounted, Again, First, Fits, Marked};
 use arena::put;
 use hold_names::Added;
 use hold_names::add;
 use hold_reading::Counts;
-use hold_reading::columns::MADE;
+use hold_reading::columns::MADE_START;
 use spec::limits::MENTIONS;
 use spec::limits::PATH;
 use spec::limits::WRITTEN;
@@ -36,43 +37,34 @@ pub fn over(n: usize, c: Counts) -> bool
 
 // File k once more, whose path has n bytes.
 fn note_again(graph: &mut [u32], c: Counts, k: usize, n: usize) -> Counts
-    requires { ⌜ (k < maxFiles) × (c .paths < maxMentions) × (c .mentions < maxMentions) × (c .written + n ≤ maxWritten) × (12288 ≤ length (now graph)) ⌝ }
+    requires { ⌜ (k < maxFiles) × (c .paths < maxMentions) × (c .mentions < maxMentions) × (c .written + n ≤ maxWritten) × (columnsEnd ≤ length (now graph)) ⌝ }
     ensures { λ r. ⌜ Again (now (graph .entry)) c k n (now (graph .exit)) r ⌝ }
 {
     let paths = c.paths;
     put(graph, paths, k);
     Counts {
-        files: c.files,
-        steps: c.steps,
         paths: paths + 1,
-        defaults: c.defaults,
-        entries: c.entries,
-        rules: c.rules,
-        bindings: c.bindings,
         mentions: c.mentions + 1,
         written: c.written + n,
+        ..c
     }
 }
 
 // File k for the first time.
 fn note_first(graph: &mut [u32], c: Counts, k: usize, n: usize) -> Counts
-    requires { ⌜ (k < maxFiles) × (c .files < maxFiles) × (c .paths < maxMentions) × (c .mentions < maxMentions) × (c .written + n ≤ maxWritten) × (12288 ≤ length (now graph)) ⌝ }
+    requires { ⌜ (k < maxFiles) × (c .files < maxFiles) × (c .paths < maxMentions) × (c .mentions < maxMentions) × (c .written + n ≤ maxWritten) × (columnsEnd ≤ length (now graph)) ⌝ }
     ensures { λ r. ⌜ First (now (graph .entry)) c k n (now (graph .exit)) r ⌝ }
 {
     let files = c.files;
     let paths = c.paths;
     put(graph, paths, k);
-    put(graph, MADE + files, 0);
+    put(graph, MADE_START + files, 0);
     Counts {
         files: files + 1,
-        steps: c.steps,
         paths: paths + 1,
-        defaults: c.defaults,
-        entries: c.entries,
-        rules: c.rules,
-        bindings: c.bindings,
         mentions: c.mentions + 1,
         written: c.written + n,
+        ..c
     }
 }
 

@@ -11,7 +11,7 @@ use expand_dollars::expand;
 use hold_names::FoundName;
 use hold_names::find;
 use hold_reading::Counts;
-use hold_reading::columns::MADE;
+use hold_reading::columns::MADE_START;
 use slices::words::at;
 
 // No path may be empty. An output of a build line is made by no earlier step, a default by one.
@@ -27,7 +27,7 @@ fn is_output(names: &[u8], index: &[u32], graph: &[u32], c: Counts, path: &[u8])
     ensures { λ r. ⌜ ((log : List Logged) (rd : Reading) → Filed log (now (names .entry)) (now (index .entry)) (now (graph .entry)) c rd → r ≡ isMade (now (path .entry)) rd) ⌝ }
 {
     match find(names, index, c.files, path) {
-        FoundName::At(k) => at(graph, MADE + k) != 0,
+        FoundName::At(k) => at(graph, MADE_START + k) != 0,
         FoundName::Missing => false,
     }
 }

@@ -38,15 +38,9 @@ pub fn start_rule(
     let entry = c.entries;
     push(texts, bind, entry, 1, name, b"");
     let d = Counts {
-        files: c.files,
-        steps: c.steps,
-        paths: c.paths,
-        defaults: c.defaults,
         entries: entry + 1,
         rules: c.rules + 1,
-        bindings: c.bindings,
-        mentions: c.mentions,
-        written: c.written,
+        ..c
     };
     LineAnswer::Goes(d, Open::Rule(start, entry))
 }

@@ -5,9 +5,9 @@ use mathlib.Core.Path.{_≡_, refl, _∙_, ap}
 use native.Mathlib.Omega.{arith}
 use lib.ListN.{length, getD, set, length-set}
 use Rattle.lists.specs.Parts.{part, part-cons, part-none}
-use Rattle.arena.specs.Columns.{startOf}
+use Rattle.spec.specs.Limits.{maxFiles}
 use Rattle.hold_columns.specs.Tables.{outsEnd, endPlace}
-use Rattle.hold_reading.specs.Held.{capacities, endIn}
+use Rattle.hold_reading.specs.Held.{endIn, phonyStart, madeStart, ruleStart}
 use Rattle.apply_files.specs.Lines.{Line, Columns}
 use Rattle.apply_files.proofs.Columns.{graph-long, mentions-fit, made-fit, set-made, read-mention, read-end, push-phony, push-rule}
 use Rattle.hold_reading.specs.declared.Counts.{Counts}
@@ -58,18 +58,18 @@ module _ {graph₀ : List ℕ} {from to v : ℕ} {graph : List ℕ} {i : ℕ} (x
     file-low : (h : Line) → Laid graph₀ h → Part from to h → f < length (h .made)
     file-low h l p = rw (is-mention h l p) (p .low i (omega (arith, p .within)))
 
-    pub make-low : f < 1024
+    pub make-low : f < maxFiles
     make-low = omega (arith, file-low (x .asks .line) (x .asks .laid) (x .asks .some), made-fit (x .asks .laid))
 
-    pub make-fits : startOf capacities 3 + f < length graph
+    pub make-fits : madeStart + f < length graph
     make-fits = omega (arith, make-low, graph-long (here .columns))
 
-    pub make-on : {graph′ : List ℕ} → graph′ ≡ set graph (startOf capacities 3 + f) v → Making graph₀ from to v graph′ (i + 1)
+    pub make-on : {graph′ : List ℕ} → graph′ ≡ set graph (madeStart + f) v → Making graph₀ from to v graph′ (i + 1)
     unfolding setAll
     make-on g =
         record {
           asks = x .asks;
-          long = ap length g ∙ length-set graph (startOf capacities 3 + f) v ∙ x .long;
+          long = ap length g ∙ length-set graph (madeStart + f) v ∙ x .long;
           begun = omega (arith, x .begun);
           within = omega arith;
           lines = λ h l p.
@@ -108,25 +108,25 @@ module _ {graph : List ℕ} {from : ℕ} {c : Counts} {to : ℕ} (e : to ≡ end
 
   module _ {n : ℕ} {graph₁ : List ℕ} (m : Makes graph from to (c .steps + 1) graph₁) {b : ℕ} (q : b ≡ phonyBit n) where
     -- the places are low, for the stores
-    pub join-first : JoinAsks graph from n c → (startOf capacities 2 + c .steps < length graph₁) × (b < 4294967296)
+    pub join-first : JoinAsks graph from n c → (phonyStart + c .steps < length graph₁) × (b < 4294967296)
     join-first a =
         let k = m .laid (a .line) (a .laid) (rw (join-end (a .line) (a .laid) (a .ready)) (a .ready .outs)) in
         (omega (arith, graph-long k, a .ready .few), omega (arith, q, phony-low n))
 
-    module _ {graph₂ : List ℕ} (g : graph₂ ≡ set graph₁ (startOf capacities 2 + c .steps) b) where
-      pub join-second : JoinAsks graph from n c → (startOf capacities 4 + c .steps < length graph₂) × (n < 4294967296)
+    module _ {graph₂ : List ℕ} (g : graph₂ ≡ set graph₁ (phonyStart + c .steps) b) where
+      pub join-second : JoinAsks graph from n c → (ruleStart + c .steps < length graph₂) × (n < 4294967296)
       join-second a =
           let k = m .laid (a .line) (a .laid) (rw (join-end (a .line) (a .laid) (a .ready)) (a .ready .outs)) in
-          (omega (arith, graph-long k, a .ready .few, ap length g ∙ length-set graph₁ (startOf capacities 2 + c .steps) b), omega (arith, a .small))
+          (omega (arith, graph-long k, a .ready .few, ap length g ∙ length-set graph₁ (phonyStart + c .steps) b), omega (arith, a .small))
 
-      pub join-done : {graph′ : List ℕ} → graph′ ≡ set graph₂ (startOf capacities 4 + c .steps) n → Joins graph from n c graph′ (countedStep c)
+      pub join-done : {graph′ : List ℕ} → graph′ ≡ set graph₂ (ruleStart + c .steps) n → Joins graph from n c graph′ (countedStep c)
       unfolding withRule
       join-done f =
           record {
             laid = λ h l r.
                 let z = join-end h l r in
                 let k = m .laid h l (rw z (r .outs)) in
-                let w = push-phony k b (startOf capacities 2 + c .steps) (omega (arith, r .phony)) (omega (arith, r .phony, r .few)) in
-                rw (f, g, ← z, ← q) (push-rule w n (startOf capacities 4 + c .steps) (omega (arith, r .ruled)) (omega (arith, r .ruled, r .few)));
+                let w = push-phony k b (phonyStart + c .steps) (omega (arith, r .phony)) (omega (arith, r .phony, r .few)) in
+                rw (f, g, ← z, ← q) (push-rule w n (ruleStart + c .steps) (omega (arith, r .ruled)) (omega (arith, r .ruled, r .few)));
             counted = refl;
           }

@@ -10,9 +10,9 @@ use hold_bindings::FoundEntry;
 use hold_bindings::newest;
 use hold_columns::OUTS_END;
 use hold_reading::Counts;
-use hold_reading::columns::MADE;
-use hold_reading::columns::PHONY;
-use hold_reading::columns::RULES;
+use hold_reading::columns::MADE_START;
+use hold_reading::columns::PHONY_START;
+use hold_reading::columns::RULE_START;
 use hold_reading::columns::step_end;
 use slices::words::at;
 
@@ -38,7 +38,7 @@ fn make(graph: &mut [u32], from: usize, to: usize, v: usize)
     let mut i = from;
     while i < to {
         let f = at(graph, i);
-        put(graph, MADE + f, v);
+        put(graph, MADE_START + f, v);
         i += 1;
     }
 }
@@ -57,17 +57,10 @@ pub fn join(graph: &mut [u32], from: usize, n: usize, c: Counts) -> Counts
     let steps = c.steps;
     let to = step_end(graph, steps, OUTS_END);
     make(graph, from, to, steps + 1);
-    put(graph, PHONY + steps, phony_bit(n));
-    put(graph, RULES + steps, n);
+    put(graph, PHONY_START + steps, phony_bit(n));
+    put(graph, RULE_START + steps, n);
     Counts {
-        files: c.files,
         steps: steps + 1,
-        paths: c.paths,
-        defaults: c.defaults,
-        entries: c.entries,
-        rules: c.rules,
-        bindings: c.bindings,
-        mentions: c.mentions,
-        written: c.written,
+        ..c
     }
 }

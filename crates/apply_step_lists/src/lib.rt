@@ -8,7 +8,7 @@ use hold_columns::IMPLICIT_END;
 use hold_columns::OUTS_END;
 use hold_columns::end_place;
 use hold_reading::Counts;
-use hold_reading::columns::ENDS;
+use hold_reading::columns::ENDS_START;
 
 // One list; its end is number e of all ends.
 fn one(
@@ -29,7 +29,7 @@ fn one(
 {
     match mention_all(t, l, at, names, index, texts, bind, graph, word, c) {
         Mentioned::On(d) => {
-            put(graph, ENDS + e, d.paths);
+            put(graph, ENDS_START + e, d.paths);
             Mentioned::On(d)
         }
         Mentioned::Over => Mentioned::Over,

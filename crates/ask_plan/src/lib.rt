@@ -10,7 +10,7 @@ use ask_plan_reading::plan_read;
 use hold_bindings::ROWS;
 use hold_bindings::TEXTS;
 use hold_names::NUMBERS;
-use hold_reading::columns::ROOM;
+use hold_reading::columns::COLUMNS_ROOM;
 use scan_classes::table;
 use slices::words::zero_from;
 use spec::PlanAnswer;
@@ -52,7 +52,7 @@ pub fn plan_buffered(manifest: &[u8], card: &[u8], targets: &[u8], list: &mut [u
     let mut index = [0u32; NUMBERS];
     let mut texts = [0u8; TEXTS];
     let mut bind = [0u32; ROWS];
-    let mut graph = [0u32; ROOM];
+    let mut graph = [0u32; COLUMNS_ROOM];
     let mut word = [0u8; WRITTEN];
     plan_in(
         &t,

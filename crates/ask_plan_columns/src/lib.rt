@@ -3,10 +3,10 @@ ghost use Rattle.ask_plan_columns.specs.Columns.{ColumnsAsked, PlansColu
 use graph_plan::plan_graph;
 use hold_columns::STEP_ENDS;
 use hold_reading::Counts;
-use hold_reading::columns::DEFAULTS;
-use hold_reading::columns::ENDS;
-use hold_reading::columns::MADE;
-use hold_reading::columns::PHONY;
+use hold_reading::columns::DEFAULTS_START;
+use hold_reading::columns::ENDS_START;
+use hold_reading::columns::MADE_START;
+use hold_reading::columns::PHONY_START;
 use spec::PlanAnswer;
 
 // The plan of the columns, where the times of the files and the targets' numbers are known.
@@ -22,9 +22,9 @@ pub fn plan_columns(
 {
     let steps = c.steps;
     let mentions = &graph[..c.paths];
-    let ends = &graph[ENDS..ENDS + STEP_ENDS * steps];
-    let phony = &graph[PHONY..PHONY + steps];
-    let made = &graph[MADE..MADE + c.files];
-    let defaults = &graph[DEFAULTS..DEFAULTS + c.defaults];
+    let ends = &graph[ENDS_START..ENDS_START + STEP_ENDS * steps];
+    let phony = &graph[PHONY_START..PHONY_START + steps];
+    let made = &graph[MADE_START..MADE_START + c.files];
+    let defaults = &graph[DEFAULTS_START..DEFAULTS_START + c.defaults];
     plan_graph(mentions, ends, phony, made, times, defaults, targets, list)
 }

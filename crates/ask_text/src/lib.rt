@@ -9,7 +9,7 @@ use apply_manifest::read;
 use hold_bindings::ROWS;
 use hold_bindings::TEXTS;
 use hold_names::NUMBERS;
-use hold_reading::columns::ROOM;
+use hold_reading::columns::COLUMNS_ROOM;
 use scan_classes::table;
 use slices::bytes::zero_from;
 use spec::TextAnswer;
@@ -64,7 +64,7 @@ pub fn text_buffered(manifest: &[u8], step: usize, wanted: Wanted, buffer: &mut 
     let mut index = [0u32; NUMBERS];
     let mut texts = [0u8; TEXTS];
     let mut bind = [0u32; ROWS];
-    let mut graph = [0u32; ROOM];
+    let mut graph = [0u32; COLUMNS_ROOM];
     let mut word = [0u8; WRITTEN];
     text_in(
         &t,

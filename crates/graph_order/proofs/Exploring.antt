@@ -10,6 +10,7 @@ use lib.ListN.{length, getD, take, set, length-set}
 use lib.Seq.{take-suc, take-suc-set, getD-take, getD-set-same, getD-set-other, length-take-le}
 use Rattle.lists.specs.Members.{_∈_, _∉_, _⊆_, here, there, in-left, in-right, in-snoc, at-before, place-before, not-in-nil}
 use Rattle.orders.specs.Reach.{direct, Reached, upstream-more}
+use Rattle.spec.specs.Limits.{maxSteps, maxMentions}
 use Rattle.hold_columns.specs.Tables.{outsEnd, orderOnlyEnd, endAt, makerAt, inputsIn, beforeIn, SoundColumns, Files}
 use Rattle.hold_columns.proofs.Makers.{in-makersIn, makersIn-in, maker-low}
 use Rattle.hold_columns.proofs.Held.{part-files, part-few}
@@ -80,7 +81,7 @@ pub record Turn (mentions ends made : List ℕ) (n : ℕ) (old : List ℕ) (root
 
 -- what the indices and the lengths of a turn are
 pub record Numbers (n : ℕ) (seen next path order : List ℕ) (depth done s i : ℕ) : Type 0 where
-  pub few : n ≤ 512
+  pub few : n ≤ maxSteps
   pub seen-long : length seen ≡ n
   pub next-long : length next ≡ n
   pub path-long : length path ≡ n
@@ -88,7 +89,7 @@ pub record Numbers (n : ℕ) (seen next path order : List ℕ) (depth done s i :
   pub depth-in : depth ≤ n
   pub done-in : done ≤ n
   pub step-low : s < n
-  pub place-low : i ≤ 4096
+  pub place-low : i ≤ maxMentions
 
 -- the last step of the path, and its inputs
 module _ {mentions ends made : List ℕ} {n : ℕ} {old : List ℕ} {root : ℕ} {seen next path order : List ℕ} {depth done : ℕ}

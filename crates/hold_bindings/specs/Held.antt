@@ -22,7 +22,7 @@ abbrev pub rowsEnd : ℕ
 rowsEnd = 3 * maxEntries
 
 abbrev pub maxRows : ℕ
-maxRows = 4 * maxEntries
+maxRows = rowsEnd + maxEntries
 
 abbrev pub maxOwner : ℕ
 maxOwner = 2 + 2 * maxEntries

@@ -12,14 +12,21 @@ use byteorder::equal;
 use byteorder::less;
 use slices::bytes::copy_at;
 use slices::words::at;
+use spec::limits::BINDINGS;
+use spec::limits::NAME;
+use spec::limits::RULES;
+use spec::limits::WRITTEN;
 
-// Room for the texts of every binding that a manifest may have, and for the rows and the index.
-pub const TEXTS: usize = 133728;
+// The most entries that a manifest may have.
+const ENTRIES: usize = BINDINGS + RULES;
 
-pub const ROWS: usize = 4608;
+// Where the index begins: behind three numbers for each entry.
+const INDEX: usize = 3 * ENTRIES;
 
-// Where the index begins.
-const INDEX: usize = 3456;
+// Room for the texts of all entries, and for the rows and the index.
+pub const TEXTS: usize = WRITTEN + ENTRIES * NAME;
+
+pub const ROWS: usize = INDEX + ENTRIES;
 
 // The number of an entry, if there is one.
 pub enum FoundEntry {

@@ -15,13 +15,13 @@ use Rattle.lists.specs.Tests.{split, differ}
 use Rattle.lists.specs.Bytes.{eqBytes, eq-eqBytes, ne-eqBytes}
 use Rattle.spec.specs.Basics.{among}
 use Rattle.spec.specs.Reading.{numberOf}
-use Rattle.hold_names.specs.Table.{bucketFrom, bucketOf, lastIn}
+use Rattle.hold_names.specs.Table.{buckets, bucketFrom, bucketOf, lastIn}
 use Rattle.hold_names.proofs.Numbers.{among-none, among-here, among-there, number-here, number-there}
 
 -- ---- the bucket of a path
 
 pub record Summing (s : List ℕ) (h i : ℕ) : Type 0 where
-  pub small : h < 1024
+  pub small : h < buckets
   pub rest : bucketOf s ≡ bucketFrom h (drop i s)
 
 pub sum-begin : (s : List ℕ) → Summing s 0 0
@@ -29,7 +29,7 @@ unfolding bucketOf
 sum-begin s = record { small = omega arith; rest = refl }
 
 module _ {s : List ℕ} {h i : ℕ} (x : Summing s h i) where
-  pub sum-on : i < length s → {b : ℕ} → b ≡ getD s i 0 → Summing s ((h * 403 + b) % 1024) (i + 1)
+  pub sum-on : i < length s → {b : ℕ} → b ≡ getD s i 0 → Summing s ((h * 403 + b) % buckets) (i + 1)
   unfolding bucketFrom
   sum-on k e = record { small = omega arith; rest = x .rest ∙ rw (e, add-one, drop-cons s i 0 k) }
 
@@ -37,12 +37,12 @@ module _ {s : List ℕ} {h i : ℕ} (x : Summing s h i) where
   unfolding bucketFrom
   sum-end k = sym (x .rest ∙ rw (drop-of-length-le s {i = i} k))
 
-from-small : (h : ℕ) (s : List ℕ) → h < 1024 → bucketFrom h s < 1024
+from-small : (h : ℕ) (s : List ℕ) → h < buckets → bucketFrom h s < buckets
 unfolding bucketFrom
 from-small h [] b = b
-from-small h (x ∷ s) b = from-small ((h * 403 + x) % 1024) s (omega arith)
+from-small h (x ∷ s) b = from-small ((h * 403 + x) % buckets) s (omega arith)
 
-pub bucket-small : (p : List ℕ) → bucketOf p < 1024
+pub bucket-small : (p : List ℕ) → bucketOf p < buckets
 unfolding bucketOf
 bucket-small p = from-small 0 p (omega arith)
 

@@ -13,7 +13,7 @@ use Rattle.lists.specs.Fill.{zeroed, length-zeroed, getD-zeroed-in}
 use Rattle.lists.specs.Parts.{part, drop-take}
 use Rattle.spec.specs.Limits.{maxFiles}
 use Rattle.spec.specs.Basics.{among, concat}
-use Rattle.hold_names.specs.Table.{endsFrom, bucketOf, lastIn, maxNumbers, HoldsNames, Names, startIn, linked}
+use Rattle.hold_names.specs.Table.{endsFrom, buckets, bucketOf, lastIn, linksFrom, headsFrom, maxNumbers, HoldsNames, Names, startIn, linked}
 use Rattle.hold_names.proofs.Buckets.{bucket-small, name-old, name-new, last-none, last-old, last-new, last-other, nowhere}
 
 -- ---- names end to end
@@ -137,13 +137,13 @@ start-one index (suc k) h = let z : suc k - 1 ≡ k = omega arith in rw z
 
 -- ---- no name, and one name more
 
-pub holds-none : (names index : List ℕ) → length names < 2 ^ 32 → maxNumbers ≤ length index → HoldsNames names (zeroed index 2048 3072) 0 []
+pub holds-none : (names index : List ℕ) → length names < 2 ^ 32 → maxNumbers ≤ length index → HoldsNames names (zeroed index headsFrom maxNumbers) 0 []
 unfolding endsFrom concat
 holds-none names index h r =
     record {
       counted = refl;
       few = omega arith;
-      room = rw (length-zeroed index 2048 3072 (omega arith) (omega (arith, r))) r;
+      room = rw (length-zeroed index headsFrom maxNumbers (omega arith) (omega (arith, r))) r;
       small = h;
       within = omega arith;
       bytes = refl;
@@ -151,44 +151,44 @@ holds-none names index h r =
       once = λ i j l k. absurd (not-suc-le-zero k);
       links = λ k l. absurd (not-suc-le-zero l);
       heads = λ b l.
-          getD-zeroed-in index 2048 3072 (omega arith) (omega (arith, r)) (2048 + b) (omega arith) (omega (arith, l)) ∙ sym (last-none b []);
+          getD-zeroed-in index headsFrom maxNumbers (omega arith) (omega (arith, r)) (headsFrom + b) (omega arith) (omega (arith, l)) ∙ sym (last-none b []);
     }
 
 module _ {names index : List ℕ} {count : ℕ} {files : List (List ℕ)} (p : List ℕ) (h : HoldsNames names index count files) (a : count < maxFiles) (b : ℕ) (to : ℕ) where
   -- the numbers that are as they were
-  kept : (i : ℕ) → (i ≡ count → ⊥) → (i ≡ 1024 + count → ⊥) → (i ≡ 2048 + b → ⊥) → getD (linked index count b to) i 0 ≡ getD index i 0
+  kept : (i : ℕ) → (i ≡ count → ⊥) → (i ≡ linksFrom + count → ⊥) → (i ≡ headsFrom + b → ⊥) → getD (linked index count b to) i 0 ≡ getD index i 0
   unfolding linked
   kept i x y z =
-      getD-set-other (set (set index count to) (1024 + count) (getD index (2048 + b) 0)) (2048 + b) i (count + 1) 0 z
-      ∙ getD-set-other (set index count to) (1024 + count) i (getD index (2048 + b) 0) 0 y ∙ getD-set-other index count i to 0 x
+      getD-set-other (set (set index count to) (linksFrom + count) (getD index (headsFrom + b) 0)) (headsFrom + b) i (count + 1) 0 z
+      ∙ getD-set-other (set index count to) (linksFrom + count) i (getD index (headsFrom + b) 0) 0 y ∙ getD-set-other index count i to 0 x
 
   length-linked : length (linked index count b to) ≡ length index
   unfolding linked
   length-linked = simp length-set refl
 
-  head-now : b < 1024 → getD (linked index count b to) (2048 + b) 0 ≡ count + 1
+  head-now : b < buckets → getD (linked index count b to) (headsFrom + b) 0 ≡ count + 1
   unfolding linked
-  head-now l = getD-set-same (set (set index count to) (1024 + count) (getD index (2048 + b) 0)) (2048 + b) (count + 1) 0 (simp length-set (omega (arith, h .room)))
+  head-now l = getD-set-same (set (set index count to) (linksFrom + count) (getD index (headsFrom + b) 0)) (headsFrom + b) (count + 1) 0 (simp length-set (omega (arith, h .room)))
 
-  link-now : b < 1024 → getD (linked index count b to) (1024 + count) 0 ≡ getD index (2048 + b) 0
+  link-now : b < buckets → getD (linked index count b to) (linksFrom + count) 0 ≡ getD index (headsFrom + b) 0
   unfolding linked
   link-now l =
-      getD-set-other (set (set index count to) (1024 + count) (getD index (2048 + b) 0)) (2048 + b) (1024 + count) (count + 1) 0 (λ (q : 1024 + count ≡ 2048 + b). omega (arith, q))
-      ∙ getD-set-same (set index count to) (1024 + count) (getD index (2048 + b) 0) 0 (simp length-set (omega (arith, h .room)))
+      getD-set-other (set (set index count to) (linksFrom + count) (getD index (headsFrom + b) 0)) (headsFrom + b) (linksFrom + count) (count + 1) 0 (λ (q : linksFrom + count ≡ headsFrom + b). omega (arith, q))
+      ∙ getD-set-same (set index count to) (linksFrom + count) (getD index (headsFrom + b) 0) 0 (simp length-set (omega (arith, h .room)))
 
   column-now : take (suc count) (linked index count b to) ≡ take count index ++ (to ∷ [])
   unfolding linked
   column-now =
-      take-set-le (suc count) (set (set index count to) (1024 + count) (getD index (2048 + b) 0)) (2048 + b) (count + 1) (omega arith)
-      ∙ take-set-le (suc count) (set index count to) (1024 + count) (getD index (2048 + b) 0) (omega arith) ∙ take-suc-set index count to (omega (arith, h .room))
+      take-set-le (suc count) (set (set index count to) (linksFrom + count) (getD index (headsFrom + b) 0)) (headsFrom + b) (count + 1) (omega arith)
+      ∙ take-set-le (suc count) (set index count to) (linksFrom + count) (getD index (headsFrom + b) 0) (omega arith) ∙ take-suc-set index count to (omega (arith, h .room))
 
 -- the head of another bucket
-other : {names index : List ℕ} {count : ℕ} {files : List (List ℕ)} (p : List ℕ) (h : HoldsNames names index count files) (a : count < maxFiles) (to b : ℕ) → b < 1024
-    → (bucketOf p ≡ b → ⊥) → getD (linked index count (bucketOf p) to) (2048 + b) 0 ≡ lastIn b (files ++ (p ∷ [])) (count + 1)
+other : {names index : List ℕ} {count : ℕ} {files : List (List ℕ)} (p : List ℕ) (h : HoldsNames names index count files) (a : count < maxFiles) (to b : ℕ) → b < buckets
+    → (bucketOf p ≡ b → ⊥) → getD (linked index count (bucketOf p) to) (headsFrom + b) 0 ≡ lastIn b (files ++ (p ∷ [])) (count + 1)
 other {count = count} {files = files} p h a to b l d =
     let f : count ≡ length files = h .counted in
     let s = bucket-small p in
-    kept p h a (bucketOf p) to (2048 + b) (λ (q : 2048 + b ≡ count). omega (arith, q)) (λ (q : 2048 + b ≡ 1024 + count). omega (arith, q)) (λ (q : 2048 + b ≡ 2048 + bucketOf p). d (omega arith))
+    kept p h a (bucketOf p) to (headsFrom + b) (λ (q : headsFrom + b ≡ count). omega (arith, q)) (λ (q : headsFrom + b ≡ linksFrom + count). omega (arith, q)) (λ (q : headsFrom + b ≡ headsFrom + bucketOf p). d (omega arith))
     ∙ h .heads b l ∙ rw f (sym (last-other files p b d))
 
 pub holds-more : {names index : List ℕ} {count : ℕ} {files : List (List ℕ)} (p : List ℕ) → HoldsNames names index count files → count < maxFiles → among p files ≡ false
@@ -217,7 +217,7 @@ holds-more {names} {index} {count} {files} p h a m c =
       links = λ k l. elim (decLt k count) [
         | yes d ↦
             rw (name-old files p k (omega (arith, f)), last-old files p (bucketOf (getD files k [])) k (omega (arith, f)))
-            (kept p h a (bucketOf p) (n + length p) (1024 + k) (λ (q : 1024 + k ≡ count). omega (arith, q)) (λ (q : 1024 + k ≡ 1024 + count). omega (arith, q)) (λ (q : 1024 + k ≡ 2048 + bucketOf p). omega (arith, q)) ∙ h .links k d)
+            (kept p h a (bucketOf p) (n + length p) (linksFrom + k) (λ (q : linksFrom + k ≡ count). omega (arith, q)) (λ (q : linksFrom + k ≡ linksFrom + count). omega (arith, q)) (λ (q : linksFrom + k ≡ headsFrom + bucketOf p). omega (arith, q)) ∙ h .links k d)
         | no d ↦ (let v : k ≡ count = omega arith in
             rw (v, f, name-new files p, last-old files p (bucketOf p) (length files) (omega arith), ← f)
             (link-now p h a (bucketOf p) (n + length p) s ∙ h .heads (bucketOf p) s))

@@ -16,7 +16,7 @@ use Rattle.spec.specs.Reading.{numberOf}
 use Rattle.hold_names.specs.declared.FoundName.{FoundName}
 use Rattle.hold_names.specs.declared.FoundName.the-variants.{At, Missing}
 use Rattle.hold_names.specs.declared.Added.the-variants.{Old, New, Full}
-use Rattle.hold_names.specs.Table.{bucketOf, lastIn, HoldsNames, SoundNames, found, fits, added, filesAfter, countAfter, FindsName, AddsName, Names, startIn, linked}
+use Rattle.hold_names.specs.Table.{buckets, bucketOf, lastIn, linksFrom, headsFrom, HoldsNames, SoundNames, found, fits, added, filesAfter, countAfter, FindsName, AddsName, Names, startIn, linked}
 use Rattle.hold_names.proofs.Buckets.{bucket-small, last-low, last-is, last-behind, first-stands, among-nowhere}
 use Rattle.hold_names.proofs.Lies.{holds-one, holds-more, used-held}
 
@@ -31,10 +31,10 @@ pub record Finding (names index : List ℕ) (count : ℕ) (path : List ℕ) (j :
   pub passed : (k : ℕ) → j ≤ k → k < count → getD files k [] ≡ path → ⊥
 
 module _ {names index : List ℕ} {count : ℕ} {path : List ℕ} where
-  pub find-begin : {b : ℕ} → SoundNames names index count → b ≡ bucketOf path → Finding names index count path (getD index (2048 + b) 0)
+  pub find-begin : {b : ℕ} → SoundNames names index count → b ≡ bucketOf path → Finding names index count path (getD index (headsFrom + b) 0)
   find-begin {b} s e =
-      let q : b < 1024 = rw e (bucket-small path) in
-      let h : getD index (2048 + b) 0 ≡ lastIn b (s .files) count = s .holds .heads b q in
+      let q : b < buckets = rw e (bucket-small path) in
+      let h : getD index (headsFrom + b) 0 ≡ lastIn b (s .files) count = s .holds .heads b q in
       record {
         files = s .files;
         holds = s .holds;
@@ -65,11 +65,11 @@ module _ {names index : List ℕ} {count : ℕ} {path : List ℕ} where
           let (x, y) = first-stands path (r .files) (j - 1) (omega (arith, r .holds .counted)) q (λ i d f. r .holds .once i (j - 1) d w (f ∙ sym q)) in
           finds (rw (x, y))
 
-      pub find-more : eqBytes path n ≡ false → Finding names index count path (getD index (1024 + (j - 1)) 0)
+      pub find-more : eqBytes path n ≡ false → Finding names index count path (getD index (linksFrom + (j - 1)) 0)
       find-more e =
           let w : j - 1 < count = omega (arith, r .within) in
           let b = bucketOf (getD (r .files) (j - 1) []) in
-          let h : getD index (1024 + (j - 1)) 0 ≡ lastIn b (r .files) (j - 1) = r .holds .links (j - 1) w in
+          let h : getD index (linksFrom + (j - 1)) 0 ≡ lastIn b (r .files) (j - 1) = r .holds .links (j - 1) w in
           let u : b ≡ bucketOf path = r .bucket l in
           record {
             files = r .files;
@@ -85,7 +85,7 @@ module _ {names index : List ℕ} {count : ℕ} {path : List ℕ} where
             ];
           }
 
-      pub less : getD index (1024 + (j - 1)) 0 < j
+      pub less : getD index (linksFrom + (j - 1)) 0 < j
       less =
           let h = r .holds .links (j - 1) (omega (arith, r .within)) in
           omega (arith, h, last-low (bucketOf (getD (r .files) (j - 1) [])) (r .files) (j - 1))

@@ -21,8 +21,9 @@ unfoldable pub endsFrom : ℕ → List (List ℕ) → List ℕ
 endsFrom at [] = []
 endsFrom at (f ∷ l) = (at + length f) ∷ endsFrom (at + length f) l
 
+-- as many buckets as files
 abbrev pub buckets : ℕ
-buckets = 1024
+buckets = maxFiles
 
 -- the bucket of a name, by its bytes
 unfoldable pub bucketFrom : ℕ → List ℕ → ℕ

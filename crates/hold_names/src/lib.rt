@@ -5,7 +5,7 @@ ghost use Prim.Native.Nat.{_^_, _≤_, _<_};
 ghost use lib.ListN.{length};
 ghost use Rattle.lists.specs.Fill.{zeroed};
 ghost use Rattle.spec.specs.Limits.{maxFiles};
-ghost use Rattle.hold_names.specs.Table.{bucketOf, maxNumbers, SoundNames, FindsName, AddsName, Names, startIn, linked};
+ghost use Rattle.hold_names.specs.Table.{buckets, bucketOf, headsFrom, maxNumbers, SoundNames, FindsName, AddsName, Names, startIn, linked};
 use byteorder::equal;
 use slices::bytes::copy_at;
 use slices::words::at;
@@ -13,11 +13,13 @@ use slices::words::zero_part;
 use spec::limits::FILES;
 
 // The numbers lie in three parts: where each name ends, the next name of its bucket, the first name of each bucket.
-const LINKS: usize = 1024;
+const LINKS: usize = FILES;
 
-const HEADS: usize = 2048;
+const HEADS: usize = LINKS + FILES;
+// as many buckets as files
+const BUCKETS: usize = FILES;
 
-pub const NUMBERS: usize = 3072;
+pub const NUMBERS: usize = HEADS + BUCKETS;
 
 pub enum FoundName {
     At(usize),
@@ -46,7 +48,7 @@ fn bucket(path: &[u8]) -> usize
     let mut h = 0;
     let mut i = 0;
     while i < path.len() {
-        h = (h * 403 + wide(path[i])) % 1024;
+        h = (h * 403 + wide(path[i])) % BUCKETS;
         i += 1;
     }
     h
@@ -55,7 +57,7 @@ fn bucket(path: &[u8]) -> usize
 // Makes the table one of no names.
 pub fn clear(index: &mut [u32])
     requires { ⌜ maxNumbers ≤ length (now index) ⌝ }
-    ensures { λ _. ⌜ now (index .exit) ≡ zeroed (now (index .entry)) 2048 3072 ⌝ }
+    ensures { λ _. ⌜ now (index .exit) ≡ zeroed (now (index .entry)) headsFrom maxNumbers ⌝ }
 {
     zero_part(index, HEADS, NUMBERS);
 }
@@ -78,7 +80,7 @@ pub fn find(names: &[u8], index: &[u32], count: usize, path: &[u8]) -> FoundName
 
 // Puts down the numbers of a name more.
 fn link(index: &mut [u32], count: usize, b: usize, to: usize)
-    requires { ⌜ (maxNumbers ≤ length (now index)) × (count < maxFiles) × (b < 1024) × (to < 2 ^ 32) ⌝ }
+    requires { ⌜ (maxNumbers ≤ length (now index)) × (count < maxFiles) × (b < buckets) × (to < 2 ^ 32) ⌝ }
     ensures { λ _. ⌜ now (index .exit) ≡ linked (now (index .entry)) count b to ⌝ }
 {
     let head = index[HEADS + b];

@@ -69,9 +69,24 @@ maxEnds = perStep * maxSteps
 abbrev pub capacities : List ℕ
 capacities = maxMentions ∷ maxEnds ∷ maxSteps ∷ maxFiles ∷ maxSteps ∷ maxMentions ∷ []
 
--- where the ends start
+-- where the columns behind the mentions start, and where the last one ends
 abbrev pub endsStart : ℕ
 endsStart = startOf capacities 1
+
+abbrev pub phonyStart : ℕ
+phonyStart = startOf capacities 2
+
+abbrev pub madeStart : ℕ
+madeStart = startOf capacities 3
+
+abbrev pub ruleStart : ℕ
+ruleStart = startOf capacities 4
+
+abbrev pub defaultsStart : ℕ
+defaultsStart = startOf capacities 5
+
+abbrev pub columnsEnd : ℕ
+columnsEnd = startOf capacities 6
 
 -- end k of step s
 abbrev pub endIn : List ℕ → ℕ → ℕ → ℕ

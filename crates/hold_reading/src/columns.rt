@@ -4,28 +4,33 @@ ghost use Prim.Native.Nat.{_+_, _<_};
 ghost use lib.ListN.{length};
 ghost use Rattle.hold_columns.specs.Tables.{endPlace};
 ghost use Rattle.hold_reading.specs.Held.{endsStart, endIn};
+use hold_columns::STEP_ENDS;
 use hold_columns::end_place;
 use slices::words::at;
+use spec::limits::FILES;
+use spec::limits::MANIFEST;
+use spec::limits::MENTIONS;
+use spec::limits::STEPS;
 
-// four ends for each step: of its outputs, inputs, implicit and order-only inputs, among the mentions
-pub const ENDS: usize = 4096;
-
-pub const PHONY: usize = 6144;
+// the ends of each step's parts, among the mentions
+pub const ENDS_START: usize = MENTIONS;
+// whether a step is phony
+pub const PHONY_START: usize = ENDS_START + STEP_ENDS * STEPS;
 // the step that makes a file
-pub const MADE: usize = 6656;
+pub const MADE_START: usize = PHONY_START + STEPS;
 // the rule of a step
-pub const RULES: usize = 7680;
+pub const RULE_START: usize = MADE_START + FILES;
 
-pub const DEFAULTS: usize = 8192;
+pub const DEFAULTS_START: usize = RULE_START + STEPS;
 // where the columns end; behind them is room for working on a line, one number for each byte of a manifest
-pub const END: usize = 12288;
+pub const COLUMNS_END: usize = DEFAULTS_START + MENTIONS;
 
-pub const ROOM: usize = 61440;
+pub const COLUMNS_ROOM: usize = COLUMNS_END + MANIFEST;
 
 // Where part k of step s ends among the mentions.
 pub fn step_end(graph: &[u32], s: usize, k: usize) -> usize
     requires { ⌜ endsStart + endPlace s k < length (now graph) ⌝ }
     ensures { λ r. ⌜ r ≡ endIn (now (graph .entry)) s k ⌝ }
 {
-    at(graph, ENDS + end_place(s, k))
+    at(graph, ENDS_START + end_place(s, k))
 }

@@ -6,6 +6,7 @@ ghost use Rattle.printing.specs.Writes.{lineRoom};
 ghost use Rattle.report.specs.Begins.{Rooms};
 use libc::STDIN_FILENO;
 use libc::STDOUT_FILENO;
+use printing::LINE;
 use report::Begun;
 use report::begin;
 use report::step_line;
@@ -85,7 +86,7 @@ fn answer(manifest: &[u8], card: &[u8], targets: &[u8], list: &mut [u32], line: 
 // The same, with the working space.
 fn run(manifest: &[u8], card: &[u8], targets: &[u8]) {
     let mut list = [0u32; LIST];
-    let mut line = [0u8; 12288];
+    let mut line = [0u8; LINE];
     answer(manifest, card, targets, &mut list, &mut line);
 }
 

@@ -1,13 +1,14 @@
 -- What the functions promise that fill the lent line.
-use Prim.Native.Nat.{ℕ, _+_, _≤_}
+use Prim.Native.Nat.{ℕ, _+_, _*_, _≤_}
 use mathlib.Core.List.{List, _++_}
 use mathlib.Core.Path.{_≡_}
 use lib.ListN.{length, take}
+use Rattle.spec.specs.Limits.{maxSteps, maxText}
 use Rattle.spec.specs.Promises.{filled}
 
--- room for a line of any kind: a step's line, or a refusal with a circle of 512 steps
+-- room for a line of any kind: a step's line, or a refusal with a circle of all steps
 abbrev pub lineRoom : ℕ
-lineRoom = 12288
+lineRoom = maxText + 8 * maxSteps
 
 -- s is written from place `at` on, up to place r
 pub record Puts (s entry : List ℕ) (at : ℕ) (exit : List ℕ) (r : ℕ) : Type 0 where

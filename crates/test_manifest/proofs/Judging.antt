@@ -1,5 +1,5 @@
 -- Room in the buffers, and the answer.
-use Prim.Native.Nat.{ℕ, _≤_, _<_}
+use Prim.Native.Nat.{ℕ, _+_, _≤_, _<_}
 use mathlib.Core.Bool.{Bool, true, false}
 use mathlib.Core.List.{List}
 use mathlib.Core.Path.{_≡_, refl, sym, ap, _∙_}
@@ -9,6 +9,10 @@ use Rattle.lists.specs.Tests.{differ}
 use Rattle.apply_manifest.specs.declared.ReadAnswer.{ReadAnswer}
 use Rattle.apply_manifest.specs.declared.ReadAnswer.the-variants.{Refused}
 use Rattle.spec.specs.declared.Refusal.{Refusal}
+use Rattle.spec.specs.Limits.{maxManifest, maxWritten}
+use Rattle.hold_names.specs.Table.{maxNumbers}
+use Rattle.hold_bindings.specs.Held.{maxTexts, maxRows}
+use Rattle.hold_reading.specs.Held.{columnsEnd}
 use Rattle.spec.specs.Answers.{Said, refusalSays}
 use Rattle.answers.specs.declared.Numbers.{Numbers as Two}
 use Rattle.answers.specs.Numbers.{said}
@@ -21,29 +25,29 @@ module _ {names index texts bind graph word : List ℕ} where
   lacks : (Roomy classes names index texts bind graph word → ⊥) → Judges names index texts bind graph word false
   lacks n = record { enough = λ e. differ e refl; lacking = λ e. n }
 
-  pub few-names : length names < 60000 → Judges names index texts bind graph word false
+  pub few-names : length names < maxWritten → Judges names index texts bind graph word false
   few-names h = lacks (λ p. omega (arith, p .room .names-room))
 
   pub many-names : 4294967295 < length names → Judges names index texts bind graph word false
   many-names h = lacks (λ p. omega (arith, p .names-small))
 
-  pub few-ends : length index < 3072 → Judges names index texts bind graph word false
-  few-ends h = lacks (λ p. omega (arith, p .numbers-room))
+  pub few-numbers : length index < maxNumbers → Judges names index texts bind graph word false
+  few-numbers h = lacks (λ p. omega (arith, p .numbers-room))
 
-  pub few-texts : length texts < 133728 → Judges names index texts bind graph word false
+  pub few-texts : length texts < maxTexts → Judges names index texts bind graph word false
   few-texts h = lacks (λ p. omega (arith, p .texts-room))
 
-  pub few-rows : length bind < 4608 → Judges names index texts bind graph word false
+  pub few-rows : length bind < maxRows → Judges names index texts bind graph word false
   few-rows h = lacks (λ p. omega (arith, p .bind-room))
 
-  pub few-columns : length graph < 61440 → Judges names index texts bind graph word false
+  pub few-columns : length graph < columnsEnd + maxManifest → Judges names index texts bind graph word false
   few-columns h = lacks (λ p. omega (arith, p .room .scratch))
 
-  pub short-word : length word < 60000 → Judges names index texts bind graph word false
+  pub short-word : length word < maxWritten → Judges names index texts bind graph word false
   short-word h = lacks (λ p. omega (arith, p .room .word-room))
 
-  pub has-room : 60000 ≤ length names → length names ≤ 4294967295 → 3072 ≤ length index → 133728 ≤ length texts → 4608 ≤ length bind → 61440 ≤ length graph
-      → 60000 ≤ length word → Judges names index texts bind graph word true
+  pub has-room : maxWritten ≤ length names → length names ≤ 4294967295 → maxNumbers ≤ length index → maxTexts ≤ length texts → maxRows ≤ length bind → columnsEnd + maxManifest ≤ length graph
+      → maxWritten ≤ length word → Judges names index texts bind graph word true
   has-room n s f x b g w = record {
     enough = λ e. record {
       table = refl;
@@ -60,7 +64,7 @@ module _ {m names index texts bind graph word : List ℕ} {b : Bool} (j : Judges
   pub too-small : {r : ReadNumbers} → b ≡ false → r ≡ bare 255 0 → Reads m names index texts bind graph word r names index texts bind graph word
   too-small e q = record {
     roomy = λ p. absurd (j .lacking e p);
-    small = λ n. (q, record { names-stay = refl; ends-stay = refl; texts-stay = refl; bind-stay = refl; graph-stay = refl; word-stay = refl });
+    small = λ n. (q, record { names-stay = refl; index-stay = refl; texts-stay = refl; bind-stay = refl; graph-stay = refl; word-stay = refl });
   }
 
   pub has-read : (a : ReadAnswer) {r : ReadNumbers} {names′ index′ texts′ bind′ graph′ word′ : List ℕ} → b ≡ true → IsRead m names′ index′ texts′ bind′ graph′ a → r ≡ inNumbers a

@@ -46,7 +46,7 @@ pub record ReadAs (m : List ℕ) (r : ReadNumbers) (names index texts bind graph
 -- buffers as they were
 pub record Untouched (names index texts bind graph word names′ index′ texts′ bind′ graph′ word′ : List ℕ) : Type 0 where
   pub names-stay : names′ ≡ names
-  pub ends-stay : index′ ≡ index
+  pub index-stay : index′ ≡ index
   pub texts-stay : texts′ ≡ texts
   pub bind-stay : bind′ ≡ bind
   pub graph-stay : graph′ ≡ graph

@@ -7,7 +7,7 @@ use apply_manifest::read;
 use hold_bindings::ROWS;
 use hold_bindings::TEXTS;
 use hold_names::NUMBERS;
-use hold_reading::columns::ROOM;
+use hold_reading::columns::COLUMNS_ROOM;
 use scan_classes::table;
 use spec::limits::WRITTEN;
 
@@ -53,7 +53,7 @@ fn is_roomy(
     if bind.len() < ROWS {
         return false;
     }
-    if graph.len() < ROOM {
+    if graph.len() < COLUMNS_ROOM {
         return false;
     }
     if word.len() < WRITTEN {

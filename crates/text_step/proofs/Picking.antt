@@ -25,7 +25,7 @@ use Rattle.hold_bindings.specs.Log.{Logged, ofRules, ofKeys, entryAt, isNamed, 
 use Rattle.hold_bindings.specs.Held.{HoldsBindings, HasEntry, SoundBindings}
 use Rattle.hold_bindings.proofs.Lookups.{newest-below, entry-kept, entry-newest, keys-newest}
 use Rattle.hold_reading.specs.declared.Counts.{Counts}
-use Rattle.hold_reading.specs.Held.{capacities, endIn, Ruled, phony, declared, Bound, Graphed}
+use Rattle.hold_reading.specs.Held.{capacities, endIn, ruleStart, defaultsStart, Ruled, phony, declared, Bound, Graphed}
 use Rattle.text_lookup.specs.declared.Asked.{Asked}
 use Rattle.text_memo.proofs.Spans.{part-front}
 use Rattle.text_step.specs.declared.StepAsked.{StepAsked}
@@ -99,7 +99,7 @@ module _ {log : List Logged} {texts bind graph : List ℕ} {c : Counts} {rd : Re
   columns : List (List ℕ)
   columns = g .mentions ∷ g .ends ∷ g .phony ∷ g .made ∷ g .ruleOf ∷ rd .defaults ∷ []
 
-  pub graph-long : 8192 ≤ length graph
+  pub graph-long : defaultsStart ≤ length graph
   unfolding columns
   graph-long = let k = lies-column capacities graph columns 4 (g .lies) (omega arith) in omega (arith, k .within)
 
@@ -110,14 +110,14 @@ module _ {log : List Logged} {texts bind graph : List ℕ} {c : Counts} {rd : Re
     there : s < length (rd .steps)
     there = omega (arith, b .steps-counted)
 
-    rule-read : getD graph (7680 + s) 0 ≡ getD (g .ruleOf) s 0
+    rule-read : getD graph (ruleStart + s) 0 ≡ getD (g .ruleOf) s 0
     unfolding columns
     rule-read = let l = there in lies-read capacities graph columns 4 (g .lies) (omega arith) s (omega (arith, g .ruled-all))
 
-    ruled : Ruled log (stepAt (rd .steps) s .rule) (getD graph (7680 + s) 0)
+    ruled : Ruled log (stepAt (rd .steps) s .rule) (getD graph (ruleStart + s) 0)
     ruled = rw rule-read (g .ruled s there)
 
-    pub is-phony : getD graph (7680 + s) 0 ≡ 0 → isPhony (stepAt (rd .steps) s .rule) ≡ true
+    pub is-phony : getD graph (ruleStart + s) 0 ≡ 0 → isPhony (stepAt (rd .steps) s .rule) ≡ true
     is-phony z = ruled-phony ruled z
 
     end-read : (j k : ℕ) → endPlace j k ≤ endPlace s lastEnd → endIn graph j k ≡ endAt (g .ends) j k
@@ -245,13 +245,13 @@ module _ (texts bind graph : List ℕ) (c : Counts) (step : ℕ) where
 
 module _ {texts bind graph : List ℕ} {c : Counts} {step : ℕ} where
   module _ (w : Reads texts bind graph c) (h : step < c .steps) where
-    pub rule-place : 7680 + step < length graph
+    pub rule-place : ruleStart + step < length graph
     rule-place = let k = in-graph (w .bound) (w .graphed) h in omega (arith, k .low, k .long)
 
-    pub step-phony : {m : ℕ} → m ≡ getD graph (7680 + step) 0 → m ≡ 0 → Asks texts bind graph c step NoCommand
+    pub step-phony : {m : ℕ} → m ≡ getD graph (ruleStart + step) 0 → m ≡ 0 → Asks texts bind graph c step NoCommand
     unfolding Asks
     step-phony e z log rd b g = rw (is-phony b g h (sym e ∙ z)) (or-right-true (leb (length (rd .steps)) step))
 
-    pub pick-asked : {m : ℕ} → m ≡ getD graph (7680 + step) 0 → (m ≡ 0 → ⊥) → PickAsk texts bind graph c step (m - 1)
+    pub pick-asked : {m : ℕ} → m ≡ getD graph (ruleStart + step) 0 → (m ≡ 0 → ⊥) → PickAsk texts bind graph c step (m - 1)
     pick-asked e z =
         record { log = w .log; reading = w .reading; bound = w .bound; graphed = w .graphed; there = h; ruled = λ y. z (e ∙ y); entry = rw e }

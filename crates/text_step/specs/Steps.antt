@@ -15,8 +15,7 @@ use Rattle.hold_bindings.specs.declared.FoundEntry.the-variants.{At}
 use Rattle.hold_bindings.specs.Log.{Logged, ofRules, ofKeys, entryAt, newest, boundBy}
 use Rattle.hold_bindings.specs.Held.{maxEntries, HoldsBindings}
 use Rattle.hold_reading.specs.declared.Counts.{Counts}
-use Rattle.arena.specs.Columns.{startOf}
-use Rattle.hold_reading.specs.Held.{Bound, capacities, endIn, Graphed}
+use Rattle.hold_reading.specs.Held.{Bound, endIn, ruleStart, defaultsStart, Graphed}
 use Rattle.text_lookup.specs.declared.Asked.{Asked}
 use Rattle.text_step.specs.declared.StepAsked.{StepAsked}
 use Rattle.text_step.specs.declared.StepAsked.the-variants.{NoCommand, Step}
@@ -38,7 +37,7 @@ pub record Declares (texts bind : List ℕ) (count k r : ℕ) : Type 0 where
 -- the places of the ends and of the rule of a step are there
 pub record InGraph (graph : List ℕ) (step : ℕ) : Type 0 where
   pub low : step < maxSteps
-  pub long : startOf capacities 5 ≤ length graph
+  pub long : defaultsStart ≤ length graph
 
 -- where the outputs of step s start: where the mentions of the step before it end
 unfoldable pub outputsFrom : List ℕ → ℕ → ℕ
@@ -72,8 +71,8 @@ pub record PickAsk (texts bind graph : List ℕ) (c : Counts) (step k : ℕ) : T
   pub bound : Bound log texts bind c reading
   pub graphed : Graphed log graph c reading
   pub there : step < c .steps
-  pub ruled : (getD graph (startOf capacities 4 + step) 0 ≡ 0) → ⊥
-  pub entry : k ≡ getD graph (startOf capacities 4 + step) 0 - 1
+  pub ruled : (getD graph (ruleStart + step) 0 ≡ 0) → ⊥
+  pub entry : k ≡ getD graph (ruleStart + step) 0 - 1
 
 -- some reading is held
 pub record Reads (texts bind graph : List ℕ) (c : Counts) : Type 0 where

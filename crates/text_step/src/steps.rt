@@ -10,7 +10,7 @@ use hold_columns::INS_END;
 use hold_columns::LAST_END;
 use hold_columns::OUTS_END;
 use hold_reading::Counts;
-use hold_reading::columns::RULES;
+use hold_reading::columns::RULE_START;
 use hold_reading::columns::step_end;
 use slices::words::at;
 use text_lookup::Asked;
@@ -64,7 +64,7 @@ pub fn asked(texts: &[u8], bind: &[u32], graph: &[u32], c: Counts, step: usize) 
     if c.steps <= step {
         return StepAsked::NoCommand;
     }
-    let rule = at(graph, RULES + step);
+    let rule = at(graph, RULE_START + step);
     if rule == 0 {
         return StepAsked::NoCommand;
     }

@@ -3,6 +3,7 @@ use Prim.Native.Nat.{_+_}
 use native.Mathlib.Omega.{arith}
 use borrow.Author.Needs.{needs}
 use borrow.Author.Tests.{lt-ltb, le-ltb}
+use Rattle.spec.specs.Limits.{maxBindings}
 use Rattle.apply_bindings.specs.Limits.{overCounted}
 use Rattle.apply_bindings.proofs.over.Statement.{statement}
 use Rattle.apply_bindings.proofs.over.Tie as tie
@@ -19,7 +20,7 @@ returns-3 : tie.Need-returns-3
 unfolding overCounted
 returns-3 c =
     let a = c .before .before .before .before .args in
-    rw (le-ltb _ _ (c .before .before .before .if1 .left), le-ltb _ _ (c .before .before .if2 .left), lt-ltb 1024 (a .c .bindings + 1) (omega arith))
+    rw (le-ltb _ _ (c .before .before .before .if1 .left), le-ltb _ _ (c .before .before .if2 .left), lt-ltb maxBindings (a .c .bindings + 1) (omega arith))
 
 add-result : tie.Need-add-result
 add-result c = search needs
@@ -28,7 +29,7 @@ returns-4 : tie.Need-returns-4
 unfolding overCounted
 returns-4 c =
     let a = c .before .before .before .before .before .args in
-    rw (le-ltb _ _ (c .before .before .before .before .if1 .left), le-ltb _ _ (c .before .before .before .if2 .left), le-ltb 1024 (a .c .bindings + 1) (omega arith))
+    rw (le-ltb _ _ (c .before .before .before .before .if1 .left), le-ltb _ _ (c .before .before .before .if2 .left), le-ltb maxBindings (a .c .bindings + 1) (omega arith))
 
 pub over-spec : {M : Type 1} → statement M
 over-spec = tie.close (tie.spec returns returns-2 returns-3 add-result returns-4)

@@ -4,6 +4,7 @@ use mathlib.Core.Path.{refl, _∙_, ap}
 use Prim.Native.Nat.{ℕ, _+_}
 use lib.ListN.{set}
 use borrow.Author.Needs.{needs}
+use Rattle.hold_reading.specs.Held.{madeStart}
 use Rattle.apply_files.proofs.note_first.Statement.{statement}
 use Rattle.apply_files.proofs.note_first.Tie as tie
 
@@ -32,7 +33,7 @@ same-length : tie.Need-same-length
 same-length c = search needs
 
 returns : tie.Need-returns
-returns c = record { stored = (let a = c .before .before .before .before .before .before .before .before .before .before .before .args in c .before .before .before .before .put2 .ensures ∙ ap (λ (g : List ℕ). set g (6656 + a .c .files) 0) (c .before .before .before .before .before .before .before .before .put .ensures)); counted = refl }
+returns c = record { stored = (let a = c .before .before .before .before .before .before .before .before .before .before .before .args in c .before .before .before .before .put2 .ensures ∙ ap (λ (g : List ℕ). set g (madeStart + a .c .files) 0) (c .before .before .before .before .before .before .before .before .put .ensures)); counted = refl }
 
 pub note-first-spec : {M : Type 1} → statement M
 note-first-spec =

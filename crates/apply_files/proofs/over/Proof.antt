@@ -3,19 +3,20 @@ use Prim.Native.Nat.{_+_}
 use native.Mathlib.Omega.{arith}
 use borrow.Author.Needs.{needs}
 use borrow.Author.Tests.{lt-ltb, le-ltb}
+use Rattle.spec.specs.Limits.{maxPath, maxMentions}
 use Rattle.apply_files.specs.Path.{overCounted}
 use Rattle.apply_files.proofs.over.Statement.{statement}
 use Rattle.apply_files.proofs.over.Tie as tie
 
 returns : tie.Need-returns
 unfolding overCounted
-returns c = rw (lt-ltb 255 (c .before .args .n) (omega arith))
+returns c = rw (lt-ltb maxPath (c .before .args .n) (omega arith))
 
 returns-2 : tie.Need-returns-2
 unfolding overCounted
 returns-2 c =
     let a = c .before .before .before .args in
-    rw (le-ltb 255 (a .n) (omega arith), lt-ltb 4096 (a .c .mentions + 1) (omega arith))
+    rw (le-ltb maxPath (a .n) (omega arith), lt-ltb maxMentions (a .c .mentions + 1) (omega arith))
 
 add-result : tie.Need-add-result
 add-result c = search needs
@@ -24,7 +25,7 @@ returns-3 : tie.Need-returns-3
 unfolding overCounted
 returns-3 c =
     let a = c .before .before .before .before .args in
-    rw (le-ltb 255 (a .n) (omega arith), le-ltb 4096 (a .c .mentions + 1) (omega arith))
+    rw (le-ltb maxPath (a .n) (omega arith), le-ltb maxMentions (a .c .mentions + 1) (omega arith))
 
 pub over-spec : {M : Type 1} → statement M
 over-spec = tie.close (tie.spec returns returns-2 add-result returns-3)

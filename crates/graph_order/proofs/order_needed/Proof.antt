@@ -1,5 +1,6 @@
 -- `graph_order::order_needed` meets its contract.
 use mathlib.Core.Path.{sym}
+use Rattle.spec.specs.Limits.{maxSteps}
 use Rattle.hold_columns.proofs.Blank.{take-blank, length-blank}
 use borrow.Author.Needs.{needs}
 use Rattle.graph_order.proofs.order_needed.Statement.{statement}
@@ -9,28 +10,28 @@ array-borrow-prefix-seen : tie.Need-array-borrow-prefix-seen
 array-borrow-prefix-seen c = search needs
 
 slice-aggregate-sort-or-show : tie.Need-slice-aggregate-sort-or-show
-slice-aggregate-sort-or-show c = length-blank _ 512 (c .before .before .before .before .before .before .before .pre .sound .few-steps)
+slice-aggregate-sort-or-show c = length-blank _ maxSteps (c .before .before .before .before .before .before .before .pre .sound .few-steps)
 
 array-borrow-prefix-next : tie.Need-array-borrow-prefix-next
 array-borrow-prefix-next c = search needs
 
 slice-aggregate-sort-or-show-2 : tie.Need-slice-aggregate-sort-or-show-2
-slice-aggregate-sort-or-show-2 c = length-blank _ 512 (c .before .before .before .before .before .before .before .before .pre .sound .few-steps)
+slice-aggregate-sort-or-show-2 c = length-blank _ maxSteps (c .before .before .before .before .before .before .before .before .pre .sound .few-steps)
 
 array-borrow-prefix-path : tie.Need-array-borrow-prefix-path
 array-borrow-prefix-path c = search needs
 
 slice-aggregate-sort-or-show-3 : tie.Need-slice-aggregate-sort-or-show-3
-slice-aggregate-sort-or-show-3 c = length-blank _ 512 (c .before .before .before .before .before .before .before .before .before .pre .sound .few-steps)
+slice-aggregate-sort-or-show-3 c = length-blank _ maxSteps (c .before .before .before .before .before .before .before .before .before .pre .sound .few-steps)
 
 sort-or-show-requires : tie.Need-sort-or-show-requires
 sort-or-show-requires c κs = record {
   asked = record {
     sound = c .before .before .before .before .before .before .before .before .before .before .before .pre .sound;
     files = c .before .before .before .before .before .before .before .before .before .before .before .pre .files;
-    unseen = take-blank _ 512 (c .before .before .before .before .before .before .before .before .before .before .before .pre .sound .few-steps);
-    unpassed = take-blank _ 512 (c .before .before .before .before .before .before .before .before .before .before .before .pre .sound .few-steps);
-    path-long = sym (length-blank _ 512 (c .before .before .before .before .before .before .before .before .before .before .before .pre .sound .few-steps));
+    unseen = take-blank _ maxSteps (c .before .before .before .before .before .before .before .before .before .before .before .pre .sound .few-steps);
+    unpassed = take-blank _ maxSteps (c .before .before .before .before .before .before .before .before .before .before .before .pre .sound .few-steps);
+    path-long = sym (length-blank _ maxSteps (c .before .before .before .before .before .before .before .before .before .before .before .pre .sound .few-steps));
   };
   room = c .before .before .before .before .before .before .before .before .before .before .before .pre .room;
 }

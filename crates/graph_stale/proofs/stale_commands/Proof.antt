@@ -2,6 +2,7 @@
 use mathlib.Core.Path.{sym, _∙_, ap}
 use lib.ListN.{length}
 use Rattle.lists.specs.Fill.{length-zeros}
+use Rattle.spec.specs.Limits.{maxSteps}
 use Rattle.hold_columns.proofs.Blank.{length-blank}
 use Rattle.graph_stale.proofs.Marking.{all-marked}
 use borrow.Author.Needs.{needs}
@@ -12,7 +13,7 @@ array-borrow-prefix-late : tie.Need-array-borrow-prefix-late
 array-borrow-prefix-late c = search needs
 
 slice-aggregate-judge-all : tie.Need-slice-aggregate-judge-all
-slice-aggregate-judge-all c = length-blank _ 512 (c .before .before .before .before .before .before .before .before .before .pre .sound .few-steps)
+slice-aggregate-judge-all c = length-blank _ maxSteps (c .before .before .before .before .before .before .before .before .before .pre .sound .few-steps)
 
 judge-all-requires : tie.Need-judge-all-requires
 judge-all-requires c κs = record {
@@ -20,7 +21,7 @@ judge-all-requires c κs = record {
     sound = c .before .before .before .before .before .before .before .before .before .pre .sound;
     timed = c .before .before .before .before .before .before .before .before .before .pre .timed;
     stale-long = ap length (c .before .before .before .before .before .before .before .before .before .pre .unmarked) ∙ length-zeros _;
-    late-long = sym (length-blank _ 512 (c .before .before .before .before .before .before .before .before .before .pre .sound .few-steps));
+    late-long = sym (length-blank _ maxSteps (c .before .before .before .before .before .before .before .before .before .pre .sound .few-steps));
   };
   steps = c .before .before .before .before .before .before .before .before .before .pre .steps;
 }

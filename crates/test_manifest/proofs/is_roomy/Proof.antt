@@ -1,5 +1,5 @@
 -- `test_manifest::is_roomy` meets its contract.
-use Rattle.test_manifest.proofs.Judging.{few-names, many-names, few-ends, few-texts, few-rows, few-columns, short-word, has-room}
+use Rattle.test_manifest.proofs.Judging.{few-names, many-names, few-numbers, few-texts, few-rows, few-columns, short-word, has-room}
 use Rattle.test_manifest.proofs.is_roomy.Statement.{statement}
 use Rattle.test_manifest.proofs.is_roomy.Tie as tie
 
@@ -10,7 +10,7 @@ returns-2 : tie.Need-returns-2
 returns-2 c = many-names (c .if2 .taken)
 
 returns-3 : tie.Need-returns-3
-returns-3 c = few-ends (c .if3 .taken)
+returns-3 c = few-numbers (c .if3 .taken)
 
 returns-4 : tie.Need-returns-4
 returns-4 c = few-texts (c .if4 .taken)
