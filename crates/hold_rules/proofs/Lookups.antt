@@ -1,18 +1,19 @@
 -- What is looked up for a rule's block is what the rules ask.
 use Prim.Native.Nat.{ℕ, _≤_}
 use mathlib.Core.Bool.{Bool, true, false, not, _||_}
-use mathlib.Core.List.{List, _∷_}
+use mathlib.Core.List.{List, [], _∷_}
 use mathlib.Core.Path.{_≡_, refl, ap}
-use native.Mathlib.Omega.{arith}
-use lib.ListN.{length}
-use Rattle.lists.specs.Tests.{split, differ}
-use Rattle.lists.specs.Text.{bytes}
+use borrow.Author.Tests.{leb-true}
+use lib.Dec.{leb}
+use lib.ListN.{length, take}
+use Rattle.lists.specs.Tests.{split, differ, and-left, and-right}
 use Rattle.lists.specs.Bytes.{eqBytes, eqBytes-true}
-use Rattle.lists.specs.Members.{any}
+use Rattle.lists.specs.Members.{all, any}
 use Rattle.spec.specs.Basics.{among}
 use Rattle.spec.specs.Limits.{maxName}
 use Rattle.spec.specs.Reading.{Rule, Reading, isPhony, declared, hasKey}
 use Rattle.spec.specs.Statements.{ruleKey}
+use Rattle.spec.specs.Text.{keyName, keyNames}
 use Rattle.hold_bindings.specs.declared.FoundEntry.the-variants.{At}
 use Rattle.hold_bindings.specs.Log.{Logged, ofRules, ofKeys, newest, isAt, newestRule, rulesOf}
 use Rattle.hold_bindings.proofs.Lookups.{declared-newest, key-newest}
@@ -36,16 +37,16 @@ module _ (log : List Logged) (k : ℕ) (r : Rule) (rs : List Rule) (o : newestRu
   unfolding badKey
   bad-held = ap (λ (t : Bool). not (ruleKey n) || t) keyed-held
 
--- A rule's key has a short name.
+-- ---- a rule's key has a short name
+
+all-among : (p : List ℕ → Bool) (n : List ℕ) (l : List (List ℕ)) → all p l ≡ true → among n l ≡ true → p n ≡ true
+unfolding all among any
+all-among p n [] a h = differ h refl
+all-among p n (m ∷ l) a h =
+    split (eqBytes n m)
+    (λ (e : eqBytes n m ≡ true). rw (eqBytes-true n m e) (and-left (p m) (all p l) a))
+    (λ (e : eqBytes n m ≡ false). all-among p n l (and-right (p m) (all p l) a) (rw e at h))
+
 pub key-short : (n : List ℕ) → ruleKey n ≡ true → length n ≤ maxName
-unfolding ruleKey among any
-key-short n h =
-    split (eqBytes n (bytes "command"))
-    (λ (e : eqBytes n (bytes "command") ≡ true). rw (eqBytes-true n (bytes "command") e) (omega arith))
-    (λ (e : eqBytes n (bytes "command") ≡ false).
-    split (eqBytes n (bytes "description"))
-    (λ (f : eqBytes n (bytes "description") ≡ true). rw (eqBytes-true n (bytes "description") f) (omega arith))
-    (λ (f : eqBytes n (bytes "description") ≡ false).
-    split (eqBytes n (bytes "generator"))
-    (λ (g : eqBytes n (bytes "generator") ≡ true). rw (eqBytes-true n (bytes "generator") g) (omega arith))
-    (λ (g : eqBytes n (bytes "generator") ≡ false). let z : false ≡ true = rw (e, f, g) at h in differ z refl)))
+unfolding ruleKey keyNames keyName all
+key-short n h = leb-true (length n) maxName (all-among (λ m. leb (length m) maxName) n (take 3 keyNames) refl h)

@@ -11,7 +11,11 @@ ghost use Rattle.hold_rules.specs.Tests.{OfRule, keyed, badKey};
 use byteorder::equal;
 use hold_bindings::FoundEntry;
 use hold_bindings::newest;
+use hold_keys::key_number;
 use hold_reading::Counts;
+
+// The keys of this edition are the first three: "`command` (needed), `description`, `generator`".
+const EDITION: usize = 3;
 
 // Whether an owner has a line of this name.
 fn has_line(texts: &[u8], bind: &[u32], count: usize, owner: usize, name: &[u8]) -> bool
@@ -38,13 +42,7 @@ pub fn is_declared(texts: &[u8], bind: &[u32], c: Counts, name: &[u8]) -> bool
 fn is_rule_key(name: &[u8]) -> bool
     ensures { λ r. ⌜ r ≡ ruleKey (now (name .entry)) ⌝ }
 {
-    if equal(name, b"command") {
-        return true;
-    }
-    if equal(name, b"description") {
-        return true;
-    }
-    equal(name, b"generator")
+    key_number(name) < EDITION
 }
 
 // Whether the rule declared at an entry has this key.

@@ -1,39 +1,50 @@
 -- The text ask whole.
 use Prim.Native.Nat.{ℕ}
-use mathlib.Core.List.{List, []}
+use mathlib.Core.List.{List}
 use mathlib.Core.Bool.{_||_}
+use mathlib.Core.Option.{Option, none, some}
 use lib.Dec.{leb, ltb}
 use lib.ListN.{length}
 use Rattle.spec.specs.declared.Refusal.{Refusal}
-use Rattle.spec.specs.declared.Refusal.the-variants.{ShortBuffer, EndlessText, LongText, NoCommand}
+use Rattle.spec.specs.declared.Refusal.the-variants.{ShortBuffer, NoCommand}
+use Rattle.spec.specs.declared.Key.{Key}
+use Rattle.spec.specs.declared.Key.the-variants.{Command as commandKey, Description as descriptionKey}
 use Rattle.spec.specs.declared.Wanted.{Wanted}
 use Rattle.spec.specs.declared.Wanted.the-variants.{Command, Description}
 use Rattle.lists.specs.Tests.{ifB}
-use Rattle.lists.specs.Text.{bytes}
 use Rattle.spec.specs.Limits.{maxText}
 use Rattle.spec.specs.Reading.{Reading, isPhony}
 use Rattle.spec.specs.Manifest.{Read, accepted, refusedWith, readManifest}
 use Rattle.spec.specs.Graph.{stepAt}
-use Rattle.spec.specs.Text.{leadsBack, textOf, deep}
+use Rattle.spec.specs.Text.{textOf, keyName, nameText, nameRefusal}
 
 pub data TextOutcome : Type 0 where
   text : List ℕ → TextOutcome
   noText : Refusal → TextOutcome
 
 -- "whether `command` or `description` is wanted"
+unfoldable pub wantedKey : Wanted → Key
+wantedKey Command = commandKey
+wantedKey Description = descriptionKey
+
 unfoldable pub wantedName : Wanted → List ℕ
-wantedName Command = bytes "command"
-wantedName Description = bytes "description"
+unfolding wantedKey keyName
+wantedName w = keyName (wantedKey w)
+
+abbrev pub orText : Option Refusal → (Unit {0} → List ℕ) → TextOutcome
+orText none t = text (t tt)
+orText (some r) t = noText r
+
+-- the text of a name of a command step, or what refuses it
+unfoldable pub nameOutcome : ℕ → List ℕ → Reading → TextOutcome
+unfolding nameRefusal textOf
+nameOutcome s n rd = orText (nameRefusal rd s n) (λ _. nameText rd s n)
 
 -- "18, 16, 17 for a text"
 unfoldable pub textOfStep : ℕ → List ℕ → Reading → TextOutcome
-unfolding isPhony leadsBack textOf
+unfolding isPhony nameOutcome
 textOfStep s n rd =
-    let step = stepAt (rd .steps) s in
-    ifB (leb (length (rd .steps)) s || isPhony (step .rule)) (λ _. noText (NoCommand s)) λ _.
-    ifB (leadsBack rd step deep [] n) (λ _. noText (EndlessText s)) λ _.
-    ifB (ltb maxText (length (textOf rd step deep n))) (λ _. noText (LongText s)) λ _.
-    text (textOf rd step deep n)
+    ifB (leb (length (rd .steps)) s || isPhony (stepAt (rd .steps) s .rule)) (λ _. noText (NoCommand s)) λ _. nameOutcome s n rd
 
 unfoldable pub textRead : ℕ → List ℕ → Read → TextOutcome
 unfolding textOfStep

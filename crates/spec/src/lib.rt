@@ -54,6 +54,15 @@ pub enum Wanted {
     Description,
 }
 
+// The keys that a rule has in this edition or a later one.
+pub enum Key {
+    Command,
+    Description,
+    Generator,
+    Depfile,
+    Pool,
+}
+
 // What the text ask answers: the number of bytes written, or a refusal.
 pub enum TextAnswer {
     Written(usize),

@@ -1,73 +1,91 @@
 -- What a draft remembers stays, and what is remembered more.
-use Prim.Native.Nat.{ℕ, _+_, _-_, _≤_, _<_}
-use mathlib.Core.List.{List, [], _++_}
+use Prim.Native.Nat.{ℕ, zero, suc, _+_, _-_, _≤_, _<_}
+use mathlib.Core.List.{List, [], _∷_, _++_}
 use mathlib.Core.Bool.{true, false}
 use mathlib.Core.Logic.{_⊎_, inl, inr, ⊎-elim}
 use mathlib.Core.Path.{_≡_, refl, sym, _∙_, ap}
 use native.Mathlib.Nat.{le-refl}
 use native.Mathlib.Omega.{arith}
-use lib.ListN.{length, take, drop}
-use lib.Seq.{length-take-le, take-take, take-append-le, take-all, drop-at}
+use borrow.Author.Tests.{lt-ltb, le-ltb, ltb-true, eqb-true, eqb-false}
+use lib.Dec.{ltb, eqb}
+use lib.ListN.{length, take, drop, getD, set, getD-replicate}
+use lib.Seq.{getD-set-other, length-take-le, take-take, take-append-le, take-all, drop-at}
 use Rattle.lists.specs.Tests.{split}
-use Rattle.lists.specs.Text.{bytes}
-use Rattle.lists.specs.Bytes.{eqBytes, eqBytes-true}
 use Rattle.lists.specs.Parts.{part, drop-take}
 use Rattle.spec.specs.Limits.{maxText}
+use Rattle.spec.specs.Text.{ruleKeys, keyNumber}
+use Rattle.hold_keys.proofs.Numbers.{one-key}
 use Rattle.text_buffer.specs.Puts.{Open, Fits, Puts}
 use Rattle.text_buffer.proofs.Parts.{puts-none, puts-over, puts-then, open-on}
+use Rattle.text_memo.specs.declared.Span.{Span}
 use Rattle.text_memo.specs.declared.Draft.{Draft}
-use Rattle.text_memo.specs.Draft.{span, spanFor, Remembered, Remembers, Drafted, Moved, Writes}
+use Rattle.text_memo.specs.Draft.{span, nothing, spanFor, Remembered, Remembers, Drafted, Moved, Writes}
 
--- ---- one more span
+-- ---- no span, and one more
+
+pub nothing-spans : (n : List ℕ) → spanFor nothing n ≡ span 1 0
+unfolding spanFor
+nothing-spans n =
+    split (ltb (keyNumber n) ruleKeys)
+    (λ (e : ltb (keyNumber n) ruleKeys ≡ true). rw e (getD-replicate ruleKeys (keyNumber n) (span 1 0) (span 0 0) (ltb-true (keyNumber n) ruleKeys e)))
+    (λ (e : ltb (keyNumber n) ruleKeys ≡ false). rw e)
+
+pub nothing-remembers : (text : List ℕ → List ℕ) (buffer : List ℕ) → maxText ≤ length buffer → Remembers text buffer nothing
+nothing-remembers text buffer h =
+    record {
+      free = record { room = h; low = omega arith };
+      kept = λ n b. absurd (omega (arith, rw (nothing-spans n) at b));
+    }
+
+module _ (d : Draft) (n : List ℕ) {k : ℕ} (e : k ≡ keyNumber n) where
+  pub span-key : k < ruleKeys → getD (d .spans) k (span 0 0) ≡ spanFor d n
+  unfolding spanFor
+  span-key h = rw (← e, lt-ltb k ruleKeys h)
+
+  pub span-none : ruleKeys ≤ k → span 1 0 ≡ spanFor d n
+  unfolding spanFor
+  span-none h = rw (← e, le-ltb k ruleKeys h)
+
+-- a list that was set somewhere
+set-there : (l : List Span) (i : ℕ) (a d : Span) → (getD (set l i a) i d ≡ a) ⊎ (getD (set l i a) i d ≡ getD l i d)
+set-there [] i a d = inr refl
+set-there (x ∷ l) zero a d = inl refl
+set-there (x ∷ l) (suc i) a d = set-there l i a d
 
 module _ (d : Draft) (name : List ℕ) (from : ℕ) where
-  pub remember-command : eqBytes name (bytes "command") ≡ true
-      → Remembered d name from (record { at = d .at; command = span from (d .at); description = d .description; generator = d .generator })
-  unfolding spanFor
-  remember-command e =
-      record {
-        at = refl;
-        spans = λ n.
-            split (eqBytes n (bytes "command"))
-            (λ (a : eqBytes n (bytes "command") ≡ true). inl (eqBytes-true n (bytes "command") a ∙ sym (eqBytes-true name (bytes "command") e), rw a))
-            (λ (a : eqBytes n (bytes "command") ≡ false). inr (rw a));
-      }
-
-  pub remember-description : eqBytes name (bytes "description") ≡ true
-      → Remembered d name from (record { at = d .at; command = d .command; description = span from (d .at); generator = d .generator })
-  unfolding spanFor
-  remember-description e =
-      record {
-        at = refl;
-        spans = λ n.
-            split (eqBytes n (bytes "command"))
-            (λ (a : eqBytes n (bytes "command") ≡ true). inr (rw a))
-            (λ (a : eqBytes n (bytes "command") ≡ false).
-            split (eqBytes n (bytes "description"))
-            (λ (b : eqBytes n (bytes "description") ≡ true). inl (eqBytes-true n (bytes "description") b ∙ sym (eqBytes-true name (bytes "description") e), rw (a, b)))
-            (λ (b : eqBytes n (bytes "description") ≡ false). inr (rw (a, b))));
-      }
-
-  pub remember-generator : eqBytes name (bytes "generator") ≡ true
-      → Remembered d name from (record { at = d .at; command = d .command; description = d .description; generator = span from (d .at) })
-  unfolding spanFor
-  remember-generator e =
-      record {
-        at = refl;
-        spans = λ n.
-            split (eqBytes n (bytes "command"))
-            (λ (a : eqBytes n (bytes "command") ≡ true). inr (rw a))
-            (λ (a : eqBytes n (bytes "command") ≡ false).
-            split (eqBytes n (bytes "description"))
-            (λ (b : eqBytes n (bytes "description") ≡ true). inr (rw (a, b)))
-            (λ (b : eqBytes n (bytes "description") ≡ false).
-            split (eqBytes n (bytes "generator"))
-            (λ (c : eqBytes n (bytes "generator") ≡ true). inl (eqBytes-true n (bytes "generator") c ∙ sym (eqBytes-true name (bytes "generator") e), rw (a, b, c)))
-            (λ (c : eqBytes n (bytes "generator") ≡ false). inr (rw (a, b, c)))));
-      }
-
   pub remember-nothing : Remembered d name from d
   remember-nothing = record { at = refl; spans = λ n. inr refl }
+
+  module _ {k : ℕ} (e : k ≡ keyNumber name) (h : k < ruleKeys) where
+    -- the draft that remembers it
+    abbrev with-span : Draft
+    with-span = record { at = d .at; spans = set (d .spans) k (span from (d .at)) }
+
+    with-key : (n : List ℕ) → ltb (keyNumber n) ruleKeys ≡ true → ((n ≡ name) × (spanFor with-span n ≡ span from (d .at))) ⊎ (spanFor with-span n ≡ spanFor d n)
+    unfolding spanFor
+    with-key n b =
+        split (eqb (keyNumber n) k)
+        (λ (q : eqb (keyNumber n) k ≡ true).
+        let z : keyNumber n ≡ k = eqb-true (keyNumber n) k q in
+        ⊎-elim
+        (λ (x : getD (set (d .spans) k (span from (d .at))) k (span 0 0) ≡ span from (d .at)).
+        inl (one-key n name (ltb-true (keyNumber n) ruleKeys b) (z ∙ e), rw (b, z) x))
+        (λ (x : getD (set (d .spans) k (span from (d .at))) k (span 0 0) ≡ getD (d .spans) k (span 0 0)). inr (rw (b, z) x))
+        (set-there (d .spans) k (span from (d .at)) (span 0 0)))
+        (λ (q : eqb (keyNumber n) k ≡ false).
+        inr (rw b (getD-set-other (d .spans) k (keyNumber n) (span from (d .at)) (span 0 0) (eqb-false (keyNumber n) k q))))
+
+    no-key : (n : List ℕ) → ltb (keyNumber n) ruleKeys ≡ false → spanFor with-span n ≡ spanFor d n
+    unfolding spanFor
+    no-key n b = rw b
+
+    pub remember-key : Remembered d name from with-span
+    remember-key =
+        record {
+          at = refl;
+          spans = λ n.
+              split (ltb (keyNumber n) ruleKeys) (with-key n) (λ (b : ltb (keyNumber n) ruleKeys ≡ false). inr (no-key n b));
+        }
 
 -- ---- what is written stays
 
@@ -148,7 +166,7 @@ module _ {text : List ℕ → List ℕ} {before : List ℕ} {d : Draft} (k : Rem
 
 -- ---- a place further
 
-pub moved-to : (d : Draft) (at : ℕ) → Moved d at (record { at = at; command = d .command; description = d .description; generator = d .generator })
+pub moved-to : (d : Draft) (at : ℕ) → Moved d at (record { at = at; spans = d .spans })
 unfolding spanFor
 moved-to d at = record { to = refl; same = λ n. refl }
 

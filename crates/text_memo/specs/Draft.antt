@@ -3,11 +3,12 @@ use Prim.Native.Nat.{ℕ, _≤_}
 use mathlib.Core.List.{List}
 use mathlib.Core.Logic.{_⊎_}
 use mathlib.Core.Path.{_≡_}
+use lib.Dec.{ltb}
+use lib.ListN.{getD, replicate}
 use Rattle.lists.specs.Tests.{ifB}
-use Rattle.lists.specs.Text.{bytes}
-use Rattle.lists.specs.Bytes.{eqBytes}
 use Rattle.lists.specs.Parts.{part}
 use Rattle.spec.specs.Limits.{maxText}
+use Rattle.spec.specs.Text.{ruleKeys, keyNumber}
 use Rattle.text_buffer.specs.Puts.{Open, Puts}
 use Rattle.text_memo.specs.declared.Span.{Span}
 use Rattle.text_memo.specs.declared.Draft.{Draft}
@@ -15,12 +16,13 @@ use Rattle.text_memo.specs.declared.Draft.{Draft}
 abbrev pub span : ℕ → ℕ → Span
 span f e = record { from = f; to = e }
 
+abbrev pub nothing : Draft
+nothing = record { at = 0; spans = replicate ruleKeys (span 1 0) }
+
+-- the span of a key by its number; any other name has none
 unfoldable pub spanFor : Draft → List ℕ → Span
-unfolding eqBytes
-spanFor d n =
-    ifB (eqBytes n (bytes "command")) (λ _. d .command) λ _.
-    ifB (eqBytes n (bytes "description")) (λ _. d .description) λ _.
-    ifB (eqBytes n (bytes "generator")) (λ _. d .generator) λ _. span 1 0
+unfolding keyNumber
+spanFor d n = ifB (ltb (keyNumber n) ruleKeys) (λ _. getD (d .spans) (keyNumber n) (span 0 0)) (λ _. span 1 0)
 
 -- Only the span of this name may have changed, to that from a place up to the end.
 pub record Remembered (d : Draft) (name : List ℕ) (from : ℕ) (r : Draft) : Type 0 where

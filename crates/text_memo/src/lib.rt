@@ -2,8 +2,9 @@
 ghost use mathlib.Core.Path.{_≡_};
 ghost use Rattle.lists.specs.Parts.{part};
 ghost use Rattle.text_buffer.specs.Puts.{Open, Puts};
-ghost use Rattle.text_memo.specs.Draft.{spanFor, Remembered, Behind, Moved, Writes};
-use byteorder::equal;
+ghost use Rattle.text_memo.specs.Draft.{nothing, spanFor, Remembered, Behind, Moved, Writes};
+use hold_keys::RULE_KEYS;
+use hold_keys::key_number;
 use spec::limits::TEXT;
 use text_buffer::put;
 use text_buffer::put_byte;
@@ -14,25 +15,30 @@ pub struct Span {
     pub to: usize,
 }
 
+// The place that is reached, and the text of each rule's key by the key's number.
 pub struct Draft {
     pub at: usize,
-    pub command: Span,
-    pub description: Span,
-    pub generator: Span,
+    pub spans: [Span; RULE_KEYS],
+}
+
+// Nothing is written and nothing remembered.
+pub fn blank() -> Draft
+    ensures { λ r. ⌜ r ≡ nothing ⌝ }
+{
+    let none = Span { from: 1, to: 0 };
+    Draft {
+        at: 0,
+        spans: [none; RULE_KEYS],
+    }
 }
 
 // Where the text of a name stands.
 pub fn span_of(d: Draft, name: &[u8]) -> Span
     ensures { λ r. ⌜ r ≡ spanFor d (now (name .entry)) ⌝ }
 {
-    if equal(name, b"command") {
-        return d.command;
-    }
-    if equal(name, b"description") {
-        return d.description;
-    }
-    if equal(name, b"generator") {
-        return d.generator;
+    let k = key_number(name);
+    if k < RULE_KEYS {
+        return d.spans[k];
     }
     Span { from: 1, to: 0 }
 }
@@ -41,36 +47,14 @@ pub fn span_of(d: Draft, name: &[u8]) -> Span
 pub fn remember(d: Draft, name: &[u8], from: usize) -> Draft
     ensures { λ r. ⌜ Remembered d (now (name .entry)) from r ⌝ }
 {
-    let at = d.at;
-    let span = Span { from, to: at };
-    let command = d.command;
-    let description = d.description;
-    let generator = d.generator;
-    if equal(name, b"command") {
-        return Draft {
-            at,
-            command: span,
-            description,
-            generator,
-        };
+    let k = key_number(name);
+    if RULE_KEYS <= k {
+        return d;
     }
-    if equal(name, b"description") {
-        return Draft {
-            at,
-            command,
-            description: span,
-            generator,
-        };
-    }
-    if equal(name, b"generator") {
-        return Draft {
-            at,
-            command,
-            description,
-            generator: span,
-        };
-    }
-    d
+    let to = d.at;
+    let mut r = d;
+    r.spans[k] = Span { from, to };
+    r
 }
 
 // A part of the text again, from a place on.
@@ -95,15 +79,9 @@ fn put_again(buffer: &mut [u8], from: usize, to: usize, place: usize) -> usize
 pub fn moved(d: Draft, at: usize) -> Draft
     ensures { λ r. ⌜ Moved d at r ⌝ }
 {
-    let command = d.command;
-    let description = d.description;
-    let generator = d.generator;
-    Draft {
-        at,
-        command,
-        description,
-        generator,
-    }
+    let mut r = d;
+    r.at = at;
+    r
 }
 
 // Writes bytes.

@@ -1,4 +1,4 @@
--- A text leads back exactly where it goes four rule texts deep: along a circle it goes as deep as one likes.
+-- A text leads back exactly where it goes `deep` rule texts deep: along a circle it goes as deep as one likes.
 use Prim.Native.Nat.{ℕ, zero, suc}
 use mathlib.Core.List.{List, [], _∷_}
 use mathlib.Core.Bool.{Bool, true, false, _||_}

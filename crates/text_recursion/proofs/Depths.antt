@@ -8,7 +8,7 @@ use Rattle.lists.specs.Members.{any}
 use Rattle.lists.specs.Tests.{differ, or-left, or-right}
 use Rattle.spec.specs.Dollars.{Piece, byte, ref, pieces, fill, expand, refsOf, refs}
 use Rattle.spec.specs.Reading.{Step, Reading}
-use Rattle.spec.specs.Text.{Found, asIs, ofRule, lookup, textOf, deep}
+use Rattle.spec.specs.Text.{ruleKeys, Found, asIs, ofRule, lookup, textOf, deep}
 use Rattle.text_recursion.specs.Depth.{leadsTo, goesDeep}
 
 -- none of the names: not the first, and none of the others
@@ -67,8 +67,8 @@ module _ (rd : Reading) (s : Step) where
 
   whole-below : (k : ℕ) (n raw : List ℕ) → goesDeep rd s (suc k) n ≡ false → suc k ≤ deep → lookup rd s n ≡ ofRule raw → textOf rd s deep n ≡ expand (textOf rd s deep) raw
   whole-below k n raw h b e =
-      once 3 n raw e
-      ∙ expand-same (goesDeep rd s k) (textOf rd s 3) (textOf rd s deep) (λ m g. text-stable k 3 m g (omega arith) ∙ sym (text-stable k deep m g (omega arith))) raw (text-below k n raw h e)
+      once ruleKeys n raw e
+      ∙ expand-same (goesDeep rd s k) (textOf rd s ruleKeys) (textOf rd s deep) (λ m g. text-stable k ruleKeys m g (omega arith) ∙ sym (text-stable k deep m g (omega arith))) raw (text-below k n raw h e)
 
   -- "the rule, whose text is expanded by this same order"
   pub text-whole : (k : ℕ) (n raw : List ℕ) → goesDeep rd s k n ≡ false → k ≤ deep → lookup rd s n ≡ ofRule raw → textOf rd s deep n ≡ expand (textOf rd s deep) raw

@@ -1,105 +1,107 @@
 -- The marks are those of the names that go so deep: names that are no rule's key go nowhere.
-use Prim.Native.Nat.{ℕ, _+_, _≤_}
+use Prim.Native.Nat.{ℕ, suc, _+_, _≤_, _<_}
 use mathlib.Core.List.{List, []}
 use mathlib.Core.Bool.{Bool, true, false}
 use mathlib.Core.Path.{_≡_, refl, sym, _∙_, ap, fun-ext}
 use native.Mathlib.Numerals.{add-one}
 use native.Mathlib.Omega.{arith}
-use Rattle.lists.specs.Members.{any}
+use borrow.Author.Tests.{ltb-true, ltb-false, eqb-true, eqb-false}
+use lib.Dec.{ltb, eqb}
+use lib.ListN.{length, getD, set, replicate, length-set, getD-replicate}
+use lib.Seq.{getD-set-same, getD-set-other}
 use Rattle.lists.specs.Tests.{split, differ}
-use Rattle.lists.specs.Text.{bytes}
-use Rattle.lists.specs.Bytes.{eqBytes, eqBytes-true}
-use Rattle.spec.specs.Basics.{among}
 use Rattle.spec.specs.Reading.{Step, Reading, keysOf}
-use Rattle.spec.specs.Statements.{ruleKey}
-use Rattle.spec.specs.Text.{Found, asIs, ofRule, lookup, leadsBack, deep}
+use Rattle.spec.specs.Text.{keyNames, ruleKeys, keyNumber, Found, asIs, ofRule, lookup, leadsBack, deep}
+use Rattle.hold_keys.proofs.Numbers.{key-most, key-at, no-key}
 use Rattle.hold_bindings.specs.Log.{Logged}
 use Rattle.text_lookup.specs.declared.Asked.{Asked}
 use Rattle.spec.specs.Sound.{SoundKeys}
 use Rattle.text_lookup.specs.Scope.{Scope}
 use Rattle.text_lookup.proofs.Standing.{found-key}
-use Rattle.text_recursion.specs.declared.Marks.{Marks}
 use Rattle.text_recursion.specs.Depth.{leadsTo, goesDeep, marks, Deeper}
 use Rattle.text_recursion.proofs.Circles.{leads-back-deep}
 
 -- ---- a name that is no rule's key leads nowhere
 
-module _ (rd : Reading) (s : Step) (n : List ℕ) where
-  no-key : (p : List ℕ → Bool) (f : Found) → lookup rd s n ≡ f → SoundKeys (keysOf (s .rule) (rd .rules)) → ruleKey n ≡ false → leadsTo rd s p n ≡ false
-  unfolding leadsTo
-  no-key p (asIs v) e k h = rw e
-  no-key p (ofRule raw) e k h = differ (k n raw (found-key rd s n raw e) .key) h
+no-text : (rd : Reading) (s : Step) (p : List ℕ → Bool) (n : List ℕ) (f : Found) → lookup rd s n ≡ f → SoundKeys (keysOf (s .rule) (rd .rules)) → ruleKeys ≤ keyNumber n → leadsTo rd s p n ≡ false
+unfolding leadsTo
+no-text rd s p n (asIs v) e k h = rw e
+no-text rd s p n (ofRule raw) e k h = differ (k n raw (found-key rd s n raw e) .key) (no-key n h)
 
--- ---- the marks of a level
+-- ---- the loop over the keys
 
-module _ (n : List ℕ) where
-  other-name : eqBytes n (bytes "command") ≡ false → eqBytes n (bytes "description") ≡ false → eqBytes n (bytes "generator") ≡ false → ruleKey n ≡ false
-  unfolding ruleKey among any
-  other-name a b c = rw (a, b, c)
+-- x is the mark of this name
+abbrev Leads : (texts bind : List ℕ) (a : Asked) (d : List Bool) (x : Bool) (n : List ℕ) → Type 0
+Leads texts bind a d x n = (log : List Logged) (rd : Reading) (s : Step) → Scope texts bind a log rd s → x ≡ leadsTo rd s (marks d) n
 
-  by-name : (p : List ℕ → Bool) (d : Marks) → p (bytes "command") ≡ d .command → p (bytes "description") ≡ d .description → p (bytes "generator") ≡ d .generator
-      → (ruleKey n ≡ false → p n ≡ d .other) → p n ≡ marks d n
+pub record Marking (texts bind : List ℕ) (a : Asked) (d r : List Bool) (k : ℕ) : Type 0 where
+  pub low : k ≤ ruleKeys
+  pub long : length r ≡ suc ruleKeys
+  pub known : (j : ℕ) → j < k → Leads texts bind a d (getD r j false) (getD keyNames j [])
+  pub other : getD r ruleKeys false ≡ false
+
+pub mark-begin : (texts bind : List ℕ) (a : Asked) (d : List Bool) → Marking texts bind a d (replicate (suc ruleKeys) false) 0
+mark-begin texts bind a d = record { low = omega arith; long = refl; known = λ j h. absurd (omega arith); other = refl }
+
+module _ {texts bind : List ℕ} {a : Asked} {d r : List Bool} {k : ℕ} (m : Marking texts bind a d r k) where
+  pub mark-on : {x : Bool} {n : List ℕ} → k < ruleKeys → n ≡ getD keyNames k [] → Leads texts bind a d x n → Marking texts bind a d (set r k x) (k + 1)
+  mark-on {x} {n} h e l =
+      record {
+        low = omega (arith, h);
+        long = length-set r k x ∙ m .long;
+        known = λ j b.
+            split (eqb j k)
+            (λ (q : eqb j k ≡ true).
+            let z : j ≡ k = eqb-true j k q in
+            λ log rd s c. rw (z, ← e) (getD-set-same r k x false (omega (arith, h, m .long)) ∙ l log rd s c))
+            (λ (q : eqb j k ≡ false).
+            let z : j ≡ k → ⊥ = eqb-false j k q in
+            λ log rd s c. getD-set-other r k j x false z ∙ m .known j (omega (arith, b)) log rd s c);
+        other = getD-set-other r k ruleKeys x false (λ (z : ruleKeys ≡ k). omega (arith, h)) ∙ m .other;
+      }
+
+  -- the marks of the keys make those of all names
+  pub mark-end : ruleKeys ≤ k → Deeper texts bind a d r
   unfolding marks
-  by-name p d e f g h =
-      split (eqBytes n (bytes "command"))
-      (λ (a : eqBytes n (bytes "command") ≡ true). ap p (eqBytes-true n (bytes "command") a) ∙ e ∙ sym (rw a))
-      (λ (a : eqBytes n (bytes "command") ≡ false).
-      split (eqBytes n (bytes "description"))
-      (λ (b : eqBytes n (bytes "description") ≡ true). ap p (eqBytes-true n (bytes "description") b) ∙ f ∙ sym (rw (a, b)))
-      (λ (b : eqBytes n (bytes "description") ≡ false).
-      split (eqBytes n (bytes "generator"))
-      (λ (c : eqBytes n (bytes "generator") ≡ true). ap p (eqBytes-true n (bytes "generator") c) ∙ g ∙ sym (rw (a, b, c)))
-      (λ (c : eqBytes n (bytes "generator") ≡ false). h (other-name a b c) ∙ sym (rw (a, b, c)))))
-
--- the marks of the three keys make those of all names
-pub deeper-marks : {texts bind : List ℕ} {a : Asked} (d : Marks) {x y z : Bool}
-    → ((log : List Logged) (rd : Reading) (s : Step) → Scope texts bind a log rd s → x ≡ leadsTo rd s (marks d) (bytes "command"))
-    → ((log : List Logged) (rd : Reading) (s : Step) → Scope texts bind a log rd s → y ≡ leadsTo rd s (marks d) (bytes "description"))
-    → ((log : List Logged) (rd : Reading) (s : Step) → Scope texts bind a log rd s → z ≡ leadsTo rd s (marks d) (bytes "generator"))
-    → Deeper texts bind a d (record { command = x; description = y; generator = z; other = false })
-deeper-marks d p q r =
-    record {
-      marked = λ log rd s c n.
-          by-name n (leadsTo rd s (marks d)) _ (sym (p log rd s c)) (sym (q log rd s c)) (sym (r log rd s c)) (no-key rd s n (marks d) (lookup rd s n) refl (c .sound));
-    }
+  mark-end h =
+      record {
+        marked = λ log rd s c n.
+            split (ltb (keyNumber n) ruleKeys)
+            (λ (e : ltb (keyNumber n) ruleKeys ≡ true).
+            let b = ltb-true (keyNumber n) ruleKeys e in
+            ap (leadsTo rd s (marks d)) (sym (key-at n b)) ∙ sym (m .known (keyNumber n) (omega (arith, b, h)) log rd s c))
+            (λ (e : ltb (keyNumber n) ruleKeys ≡ false).
+            let b = ltb-false (keyNumber n) ruleKeys e in
+            let z : keyNumber n ≡ ruleKeys = omega (arith, b, key-most n) in
+            no-text rd s (marks d) n (lookup rd s n) refl (c .sound) b ∙ sym (ap (λ (j : ℕ). getD r j false) z ∙ m .other));
+      }
 
 -- ---- the loop over the levels
 
-pub record Level (texts bind : List ℕ) (a : Asked) (k : ℕ) (d : Marks) : Type 0 where
-  pub low : k ≤ 4
+pub record Level (texts bind : List ℕ) (a : Asked) (k : ℕ) (d : List Bool) : Type 0 where
+  pub low : k ≤ deep
   pub marked : (log : List Logged) (rd : Reading) (s : Step) → Scope texts bind a log rd s → goesDeep rd s k ≡ marks d
 
-abbrev pub everything : Marks
-everything = record { command = true; description = true; generator = true; other = true }
-
-pub level-begin : (texts bind : List ℕ) (a : Asked) → Level texts bind a 0 everything
-unfolding goesDeep
+pub level-begin : (texts bind : List ℕ) (a : Asked) → Level texts bind a 0 (replicate (suc ruleKeys) true)
+unfolding goesDeep marks
 level-begin texts bind a =
     record {
       low = omega arith;
-      marked = λ log rd s c. fun-ext (λ n. by-name n (λ m. true) everything refl refl refl (λ h. refl));
+      marked = λ log rd s c. fun-ext (λ n. sym (getD-replicate (suc ruleKeys) (keyNumber n) true false (omega (arith, key-most n))));
     }
 
-pub level-on : {texts bind : List ℕ} {a : Asked} {k : ℕ} {d r : Marks} → Level texts bind a k d → k + 1 ≤ 4 → Deeper texts bind a d r → Level texts bind a (k + 1) r
-unfolding goesDeep
-level-on {k = k} {d = d} {r = r} l b x =
-    record {
-      low = b;
-      marked = λ log rd s c.
-          fun-ext
-          (λ n. ap (λ (j : ℕ). goesDeep rd s j n) (add-one k) ∙ ap (λ (p : List ℕ → Bool). leadsTo rd s p n) (l .marked log rd s c) ∙ x .marked log rd s c n);
-    }
+module _ {texts bind : List ℕ} {a : Asked} {k : ℕ} {d : List Bool} (l : Level texts bind a k d) where
+  pub level-on : {r : List Bool} → k < deep → Deeper texts bind a d r → Level texts bind a (k + 1) r
+  unfolding goesDeep
+  level-on {r} b x =
+      record {
+        low = omega (arith, b);
+        marked = λ log rd s c.
+            fun-ext
+            (λ n. ap (λ (j : ℕ). goesDeep rd s j n) (add-one k) ∙ ap (λ (p : List ℕ → Bool). leadsTo rd s p n) (l .marked log rd s c) ∙ x .marked log rd s c n);
+      }
 
-module _ {texts bind : List ℕ} {a : Asked} {k : ℕ} {d : Marks} (l : Level texts bind a k d) (h : 4 ≤ k) {log : List Logged} {rd : Reading} {s : Step} (c : Scope texts bind a log rd s) where
-  level-end : (n : List ℕ) → marks d n ≡ leadsBack rd s deep [] n
-  level-end n =
+  pub level-end : deep ≤ k → {log : List Logged} {rd : Reading} {s : Step} → Scope texts bind a log rd s → (n : List ℕ) → marks d n ≡ leadsBack rd s deep [] n
+  level-end h {log} {rd} {s} c n =
       let z : k ≡ deep = omega (arith, l .low) in
       sym (leads-back-deep rd s n ∙ ap (λ (j : ℕ). goesDeep rd s j n) (sym z) ∙ ap (λ (p : List ℕ → Bool). p n) (l .marked log rd s c))
-
-  pub level-command : d .command ≡ leadsBack rd s deep [] (bytes "command")
-  unfolding marks eqBytes
-  level-command = level-end (bytes "command")
-
-  pub level-description : d .description ≡ leadsBack rd s deep [] (bytes "description")
-  unfolding marks eqBytes
-  level-description = level-end (bytes "description")

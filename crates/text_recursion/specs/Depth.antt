@@ -1,20 +1,18 @@
--- How deep a name's text goes into a rule's texts. The law in proofs/Circles.antt ties it to 16: a text leads back exactly where it goes four deep.
+-- How deep a name's text goes into a rule's texts. The law in proofs/Circles.antt ties it to 16: a text leads back exactly where it goes `deep`
+-- deep.
 use Prim.Native.Nat.{ℕ, zero, suc}
 use mathlib.Core.List.{List}
 use mathlib.Core.Bool.{Bool, true, false}
 use mathlib.Core.Path.{_≡_}
+use lib.ListN.{getD}
 use Rattle.lists.specs.Members.{any}
-use Rattle.lists.specs.Tests.{ifB}
-use Rattle.lists.specs.Text.{bytes}
-use Rattle.lists.specs.Bytes.{eqBytes}
 use Rattle.spec.specs.Dollars.{refs}
 use Rattle.spec.specs.Reading.{Step, Reading}
-use Rattle.spec.specs.Text.{onFound, lookup}
+use Rattle.spec.specs.Text.{keyNumber, onFound, lookup}
 use Rattle.scan_classes.specs.Table.{classes}
 use Rattle.hold_bindings.specs.Log.{Logged}
 use Rattle.text_lookup.specs.declared.Asked.{Asked}
 use Rattle.text_lookup.specs.Scope.{Scope, InScope}
-use Rattle.text_recursion.specs.declared.Marks.{Marks}
 
 -- the name stands for a rule's text, and that text refers to a name of p
 unfoldable pub leadsTo : Reading → Step → (List ℕ → Bool) → List ℕ → Bool
@@ -27,18 +25,15 @@ unfolding leadsTo
 goesDeep rd s zero n = true
 goesDeep rd s (suc k) n = leadsTo rd s (goesDeep rd s k) n
 
--- the mark of a name
-unfoldable pub marks : Marks → List ℕ → Bool
-unfolding eqBytes
-marks d n =
-    ifB (eqBytes n (bytes "command")) (λ _. d .command) λ _.
-    ifB (eqBytes n (bytes "description")) (λ _. d .description) λ _.
-    ifB (eqBytes n (bytes "generator")) (λ _. d .generator) λ _. d .other
+-- the mark of a name: a rule's key has its own, by number, and all other names the one behind them
+unfoldable pub marks : List Bool → List ℕ → Bool
+unfolding keyNumber
+marks d n = getD d (keyNumber n) false
 
 pub record Asks (t texts bind : List ℕ) (a : Asked) : Type 0 where
   pub table : t ≡ classes
   pub within : InScope texts bind a
 
 -- Marks of the names that lead to names marked by d.
-pub record Deeper (texts bind : List ℕ) (a : Asked) (d r : Marks) : Type 0 where
+pub record Deeper (texts bind : List ℕ) (a : Asked) (d r : List Bool) : Type 0 where
   pub marked : (log : List Logged) (rd : Reading) (s : Step) → Scope texts bind a log rd s → (n : List ℕ) → leadsTo rd s (marks d) n ≡ marks r n

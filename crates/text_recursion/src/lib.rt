@@ -4,46 +4,39 @@ ghost use mathlib.Core.List.{List, []};
 ghost use Rattle.lists.specs.Members.{any};
 ghost use Rattle.spec.specs.Dollars.{refs};
 ghost use Rattle.spec.specs.Reading.{Step, Reading};
-ghost use Rattle.spec.specs.Text.{leadsBack, deep};
-ghost use Rattle.spec.specs.TextAsk.{wantedName};
+ghost use Rattle.spec.specs.Text.{keyName, leadsBack, deep};
 ghost use Rattle.hold_bindings.specs.Log.{Logged};
 ghost use Rattle.text_references.specs.Begins.{Ready};
 ghost use Rattle.text_lookup.specs.Scope.{Scope};
 ghost use Rattle.text_recursion.specs.Depth.{marks, leadsTo, Asks, Deeper};
-use byteorder::equal;
 use hold_bindings::value;
-use spec::Wanted;
+use hold_keys::RULE_KEYS;
+use hold_keys::key_name;
+use hold_keys::key_names;
+use hold_keys::key_number;
+use hold_keys::number_of;
+use spec::Key;
 use text_lookup::Asked;
 use text_lookup::Source;
 use text_lookup::lookup;
 use text_references::Piece;
 use text_references::piece_at;
 
-// Which names go so many rule texts deep: each of the three keys of a rule, and all other names.
-pub struct Marks {
-    pub command: bool,
-    pub description: bool,
-    pub generator: bool,
-    pub other: bool,
-}
+// A rule has at most five keys, so that a text that goes six rule texts deep has come back to one.
+pub const DEEP: usize = RULE_KEYS + 1;
 
-fn marked(d: Marks, name: &[u8]) -> bool
+// A mark for each of a rule's keys, by its number, and one for all other names behind them.
+const MARKS: usize = RULE_KEYS + 1;
+
+fn marked(d: [bool; MARKS], name: &[u8]) -> bool
     ensures { λ r. ⌜ r ≡ marks d (now (name .entry)) ⌝ }
 {
-    if equal(name, b"command") {
-        return d.command;
-    }
-    if equal(name, b"description") {
-        return d.description;
-    }
-    if equal(name, b"generator") {
-        return d.generator;
-    }
-    d.other
+    let k = key_number(name);
+    d[k]
 }
 
 // Whether a raw text refers to a marked name.
-fn refers(t: &[u8; 256], raw: &[u8], d: Marks) -> bool
+fn refers(t: &[u8; 256], raw: &[u8], d: [bool; MARKS]) -> bool
     requires { ⌜ Ready (now t) (now raw) 0 ⌝ }
     ensures { λ r. ⌜ r ≡ any (marks d) (refs (now (raw .entry))) ⌝ }
 {
@@ -65,7 +58,7 @@ fn refers(t: &[u8; 256], raw: &[u8], d: Marks) -> bool
 }
 
 // Whether a name stands for a rule's text that refers to a marked name.
-fn leads(t: &[u8; 256], texts: &[u8], bind: &[u32], a: Asked, name: &[u8], d: Marks) -> bool
+fn leads(t: &[u8; 256], texts: &[u8], bind: &[u32], a: Asked, name: &[u8], d: [bool; MARKS]) -> bool
     requires { ⌜ Asks (now t) (now texts) (now bind) a ⌝ }
     ensures { λ r. ⌜ ((log : List Logged) (rd : Reading) (s : Step) → Scope (now (texts .entry)) (now (bind .entry)) a log rd s → r ≡ leadsTo rd s (marks d) (now (name .entry))) ⌝ }
 {
@@ -80,36 +73,30 @@ fn leads(t: &[u8; 256], texts: &[u8], bind: &[u32], a: Asked, name: &[u8], d: Ma
 }
 
 // The names that go one rule text deeper.
-fn deeper(t: &[u8; 256], texts: &[u8], bind: &[u32], a: Asked, d: Marks) -> Marks
+fn deeper(t: &[u8; 256], texts: &[u8], bind: &[u32], a: Asked, d: [bool; MARKS]) -> [bool; MARKS]
     requires { ⌜ Asks (now t) (now texts) (now bind) a ⌝ }
     ensures { λ r. ⌜ Deeper (now (texts .entry)) (now (bind .entry)) a d r ⌝ }
 {
-    Marks {
-        command: leads(t, texts, bind, a, b"command", d),
-        description: leads(t, texts, bind, a, b"description", d),
-        generator: leads(t, texts, bind, a, b"generator", d),
-        other: false,
+    let names = key_names();
+    let mut r = [false; MARKS];
+    let mut k: usize = 0;
+    while k < RULE_KEYS {
+        r[k] = leads(t, texts, bind, a, key_name(&names, k), d);
+        k += 1;
     }
+    r
 }
 
-// A rule has three keys, so a text that goes four rule texts deep has come back to one.
-pub fn leads_back(t: &[u8; 256], texts: &[u8], bind: &[u32], a: Asked, wanted: Wanted) -> bool
+pub fn leads_back(t: &[u8; 256], texts: &[u8], bind: &[u32], a: Asked, key: Key) -> bool
     requires { ⌜ Asks (now t) (now texts) (now bind) a ⌝ }
-    ensures { λ r. ⌜ ((log : List Logged) (rd : Reading) (s : Step) → Scope (now (texts .entry)) (now (bind .entry)) a log rd s → r ≡ leadsBack rd s deep [] (wantedName wanted)) ⌝ }
+    ensures { λ r. ⌜ ((log : List Logged) (rd : Reading) (s : Step) → Scope (now (texts .entry)) (now (bind .entry)) a log rd s → r ≡ leadsBack rd s deep [] (keyName key)) ⌝ }
 {
-    let mut d = Marks {
-        command: true,
-        description: true,
-        generator: true,
-        other: true,
-    };
+    let mut d = [true; MARKS];
     let mut k: usize = 0;
-    while k < 4 {
+    while k < DEEP {
         d = deeper(t, texts, bind, a, d);
         k += 1;
     }
-    match wanted {
-        Wanted::Command => d.command,
-        Wanted::Description => d.description,
-    }
+    let n = number_of(key);
+    d[n]
 }

@@ -13,13 +13,14 @@ use Rattle.spec.specs.declared.Refusal.the-variants.{EndlessText, LongText, NoC
 use Rattle.spec.specs.declared.TextAnswer.{TextAnswer}
 use Rattle.spec.specs.declared.TextAnswer.the-variants.{Written, Refused}
 use Rattle.spec.specs.declared.Wanted.{Wanted}
+use Rattle.spec.specs.declared.Key.{Key}
 use Rattle.spec.specs.Limits.{maxText}
 use Rattle.spec.specs.Answers.{numberOfRefusal, placeOfRefusal, refusalSays, textSays}
 use Rattle.spec.specs.Promises.{filled, leftBy, TextMeets}
 use Rattle.spec.specs.Reading.{Step, Reading, isPhony}
 use Rattle.spec.specs.Graph.{stepAt}
-use Rattle.spec.specs.Text.{leadsBack, textOf, deep}
-use Rattle.spec.specs.TextAsk.{text, noText, wantedName, textOfStep}
+use Rattle.spec.specs.Text.{keyName, leadsBack, textOf, deep, nameRefusal}
+use Rattle.spec.specs.TextAsk.{text, noText, wantedKey, wantedName, nameOutcome, textOfStep}
 use Rattle.spec.specs.Sound.{SoundRules}
 use Rattle.hold_bindings.specs.Log.{Logged}
 use Rattle.hold_reading.specs.declared.Counts.{Counts}
@@ -30,7 +31,7 @@ use Rattle.text_buffer.specs.Puts.{Puts}
 use Rattle.text_expansion.specs.Here.{Here}
 use Rattle.text_step.specs.Steps.{Picks, Reads}
 use Rattle.text_step.proofs.One.{sound-any}
-use Rattle.text_step.specs.Asks.{StepAsk, WholeAsk, WritesWhole, textOfIn, TextIn, TextAsk, TextOf}
+use Rattle.text_step.specs.Asks.{StepAsk, WholeAsk, WritesWhole, TextAt, TextAsk, TextOf}
 
 -- ---- the buffer
 
@@ -69,37 +70,39 @@ meets-text {before} {after} {exit} {s} {n} p h e =
 
 -- ---- one step
 
-module _ {t names index texts bind graph before : List ℕ} {a : Asked} (wanted : Wanted) (k : ℕ) (w : StepAsk t names index texts bind graph a before) {b : Bool}
-    (q : (log : List Logged) (rd : Reading) (s : Step) → Scope texts bind a log rd s → b ≡ leadsBack rd s deep [] (wantedName wanted)) where
-  pub in-endless : {exit : List ℕ} → b ≡ true → exit ≡ zeroed before 0 (length before) → TextIn names index texts bind graph a k wanted before exit (Refused (EndlessText k))
-  unfolding textOfIn
-  in-endless {exit} e z = record { meets = λ log rd s h. rw (sym (q log rd s (h .scope)) ∙ e) (meets-endless k before before refl z) }
+module _ {t names index texts bind graph before : List ℕ} {a : Asked} (key : Key) (k : ℕ) (w : StepAsk t names index texts bind graph a before) {b : Bool}
+    (q : (log : List Logged) (rd : Reading) (s : Step) → Scope texts bind a log rd s → b ≡ leadsBack rd s deep [] (keyName key)) where
+  pub in-endless : {exit : List ℕ} → b ≡ true → exit ≡ zeroed before 0 (length before) → TextAt names index texts bind graph a k key before exit (Refused (EndlessText k))
+  unfolding nameOutcome nameRefusal
+  in-endless {exit} e z = record { meets = λ log rd h. rw (sym (q log rd (stepAt (rd .steps) k) (h .scope)) ∙ e) (meets-endless k before before refl z) }
 
   module _ (e : b ≡ false) where
-    pub wants : WholeAsk t names index texts bind graph a (wantedName wanted) before
+    pub wants : WholeAsk t names index texts bind graph a (keyName key) before
     wants = record { asked = w; ended = sym (q (w .log) (w .reading) (w .step) (w .here .scope)) ∙ e }
 
-    module _ {after : List ℕ} {n : ℕ} (p : WritesWhole names index texts bind graph a (wantedName wanted) before after n) {exit : List ℕ} where
-      pub in-long : maxText < n → exit ≡ zeroed after 0 (length after) → TextIn names index texts bind graph a k wanted before exit (Refused (LongText k))
-      unfolding textOfIn
+    module _ {after : List ℕ} {n : ℕ} (p : WritesWhole names index texts bind graph a (keyName key) before after n) {exit : List ℕ} where
+      pub in-long : maxText < n → exit ≡ zeroed after 0 (length after) → TextAt names index texts bind graph a k key before exit (Refused (LongText k))
+      unfolding nameOutcome nameRefusal
       in-long h z =
           record {
-            meets = λ log rd s y.
-                let f : leadsBack rd s deep [] (wantedName wanted) ≡ false = sym (q log rd s (y .scope)) ∙ e in
+            meets = λ log rd y.
+                let s = stepAt (rd .steps) k in
+                let f : leadsBack rd s deep [] (keyName key) ≡ false = sym (q log rd s (y .scope)) ∙ e in
                 let x = p .writes log rd s y f in
-                let g : ltb maxText (length (textOf rd s deep (wantedName wanted))) ≡ true = lt-ltb maxText (length (textOf rd s deep (wantedName wanted))) (omega (arith, x .over h)) in
+                let g : ltb maxText (length (textOf rd s deep (keyName key))) ≡ true = lt-ltb maxText (length (textOf rd s deep (keyName key))) (omega (arith, x .over h)) in
                 rw (f, g) (meets-long k before after (x .long) z);
           }
 
-      pub in-text : n ≤ maxText → exit ≡ zeroed after n (length after) → TextIn names index texts bind graph a k wanted before exit (Written n)
-      unfolding textOfIn
+      pub in-text : n ≤ maxText → exit ≡ zeroed after n (length after) → TextAt names index texts bind graph a k key before exit (Written n)
+      unfolding nameOutcome nameRefusal
       in-text h z =
           record {
-            meets = λ log rd s y.
-                let f : leadsBack rd s deep [] (wantedName wanted) ≡ false = sym (q log rd s (y .scope)) ∙ e in
+            meets = λ log rd y.
+                let s = stepAt (rd .steps) k in
+                let f : leadsBack rd s deep [] (keyName key) ≡ false = sym (q log rd s (y .scope)) ∙ e in
                 let x = p .writes log rd s y f in
                 let c = x .fits h .count in
-                let g : ltb maxText (length (textOf rd s deep (wantedName wanted))) ≡ false = le-ltb maxText (length (textOf rd s deep (wantedName wanted))) (omega arith) in
+                let g : ltb maxText (length (textOf rd s deep (keyName key))) ≡ false = le-ltb maxText (length (textOf rd s deep (keyName key))) (omega arith) in
                 rw (f, g) (meets-text x h z);
           }
 
@@ -155,13 +158,13 @@ module _ {names index texts bind graph : List ℕ} {c : Counts} {step : ℕ} {a 
         here = picked-here (w .holds) (w .sound);
       }
 
-  pub step-text : {t before exit : List ℕ} {wanted : Wanted} {r : TextAnswer} → TextAsk t names index texts bind graph c before → TextIn names index texts bind graph a step wanted before exit r
-      → TextOf names index texts bind graph c step wanted before exit r
-  unfolding textOfStep textOfIn
-  step-text w q =
+  pub step-text : {t before exit : List ℕ} {wanted : Wanted} {key : Key} {r : TextAnswer} → TextAsk t names index texts bind graph c before → key ≡ wantedKey wanted
+      → TextAt names index texts bind graph a step key before exit r → TextOf names index texts bind graph c step wanted before exit r
+  unfolding textOfStep wantedName
+  step-text w z q =
       record {
         meets = λ log rd h.
             let x = p .picked log rd (h .bound) (h .graphed) in
             let f : leb (length (rd .steps)) step ≡ false = lt-leb (length (rd .steps)) step (x .there) in
-            rw (f, x .command) (q .meets log rd (stepAt (rd .steps) step) (picked-here h (sound-any (w .holds .bound) (w .sound) (h .bound))));
+            rw (f, x .command, ← z) (q .meets log rd (picked-here h (sound-any (w .holds .bound) (w .sound) (h .bound))));
       }

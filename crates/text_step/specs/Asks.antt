@@ -3,10 +3,8 @@ use Prim.Native.Nat.{ℕ, _≤_}
 use mathlib.Core.List.{List, []}
 use mathlib.Core.Bool.{false}
 use mathlib.Core.Path.{_≡_}
-use lib.Dec.{ltb}
 use lib.ListN.{length}
-use Rattle.lists.specs.Tests.{ifB}
-use Rattle.spec.specs.declared.Refusal.the-variants.{EndlessText, LongText}
+use Rattle.spec.specs.declared.Key.{Key}
 use Rattle.spec.specs.declared.TextAnswer.{TextAnswer}
 use Rattle.spec.specs.declared.Wanted.{Wanted}
 use Rattle.spec.specs.Limits.{maxText}
@@ -14,8 +12,9 @@ use Rattle.spec.specs.Answers.{textSays}
 use Rattle.spec.specs.Promises.{TextMeets}
 use Rattle.spec.specs.Reading.{Step, Reading}
 use Rattle.spec.specs.Sound.{SoundRules}
-use Rattle.spec.specs.Text.{leadsBack, textOf, deep}
-use Rattle.spec.specs.TextAsk.{TextOutcome, text, noText, wantedName, textOfStep}
+use Rattle.spec.specs.Graph.{stepAt}
+use Rattle.spec.specs.Text.{keyName, leadsBack, textOf, deep}
+use Rattle.spec.specs.TextAsk.{nameOutcome, wantedName, textOfStep}
 use Rattle.scan_classes.specs.Table.{classes}
 use Rattle.hold_bindings.specs.Log.{Logged}
 use Rattle.hold_reading.specs.declared.Counts.{Counts}
@@ -43,16 +42,10 @@ pub record WritesWhole (names index texts bind graph : List ℕ) (a : Asked) (na
   pub writes : (log : List Logged) (rd : Reading) (s : Step) → Here names index texts bind graph a log rd s → leadsBack rd s deep [] name ≡ false
       → Puts before 0 (textOf rd s deep name) after r
 
--- "16, 17 for a text", once 18 is out
-unfoldable pub textOfIn : ℕ → List ℕ → Reading → Step → TextOutcome
-unfolding leadsBack textOf
-textOfIn k n rd s =
-    ifB (leadsBack rd s deep [] n) (λ _. noText (EndlessText k)) λ _.
-    ifB (ltb maxText (length (textOf rd s deep n))) (λ _. noText (LongText k)) λ _.
-    text (textOf rd s deep n)
-
-pub record TextIn (names index texts bind graph : List ℕ) (a : Asked) (k : ℕ) (wanted : Wanted) (before after : List ℕ) (r : TextAnswer) : Type 0 where
-  pub meets : (log : List Logged) (rd : Reading) (s : Step) → Here names index texts bind graph a log rd s → TextMeets (textOfIn k (wantedName wanted) rd s) before (textSays r) after
+-- 16, 17 or the text of a key, and the whole buffer, for the step of this number in any reading that has it there
+pub record TextAt (names index texts bind graph : List ℕ) (a : Asked) (step : ℕ) (key : Key) (before after : List ℕ) (r : TextAnswer) : Type 0 where
+  pub meets : (log : List Logged) (rd : Reading) → Here names index texts bind graph a log rd (stepAt (rd .steps) step)
+      → TextMeets (nameOutcome step (keyName key) rd) before (textSays r) after
 
 -- ------------------------------------------------------------------ the ask
 

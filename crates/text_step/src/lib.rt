@@ -1,8 +1,14 @@
 // The text of a step from what a manifest was read into: 18, 16, 17, or the text.
-ghost use Rattle.spec.specs.TextAsk.{wantedName};
-ghost use Rattle.text_step.specs.Asks.{StepAsk, WholeAsk, WritesWhole, TextIn, TextAsk, TextOf};
+ghost use mathlib.Core.Path.{_≡_};
+ghost use Rattle.spec.specs.Text.{keyName};
+ghost use Rattle.spec.specs.TextAsk.{wantedKey};
+ghost use Rattle.text_step.specs.Asks.{StepAsk, WholeAsk, WritesWhole, TextAt, TextAsk, TextOf};
+use hold_keys::key_name;
+use hold_keys::key_names;
+use hold_keys::number_of;
 use hold_reading::Counts;
 use slices::bytes::zero_from;
+use spec::Key;
 use spec::Refusal;
 use spec::TextAnswer;
 use spec::Wanted;
@@ -10,8 +16,8 @@ use spec::limits::TEXT;
 use steps::asked;
 use text_expansion::write_name;
 use text_lookup::Asked;
-use text_memo::Draft;
-use text_memo::Span;
+use text_memo::blank;
+use text_recursion::DEEP;
 use text_recursion::leads_back;
 
 pub mod steps;
@@ -37,19 +43,25 @@ fn write_whole(
     requires { ⌜ WholeAsk (now t) (now names) (now index) (now texts) (now bind) (now graph) a (now name) (now buffer) ⌝ }
     ensures { λ r. ⌜ WritesWhole (now (names .entry)) (now (index .entry)) (now (texts .entry)) (now (bind .entry)) (now (graph .entry)) a (now (name .entry)) (now (buffer .entry)) (now (buffer .exit)) r ⌝ }
 {
-    let none = Span { from: 1, to: 0 };
-    let d = Draft {
-        at: 0,
-        command: none,
-        description: none,
-        generator: none,
-    };
-    let x = write_name(t, names, index, texts, bind, graph, a, name, 4, buffer, d);
+    let d = blank();
+    let x = write_name(
+        t,
+        names,
+        index,
+        texts,
+        bind,
+        graph,
+        a,
+        name,
+        DEEP,
+        buffer,
+        d,
+    );
     x.at
 }
 
-// Writes the text that is wanted.
-fn write_wanted(
+// Writes the text of a key.
+fn write_key(
     t: &[u8; 256],
     names: &[u8],
     index: &[u32],
@@ -57,32 +69,29 @@ fn write_wanted(
     bind: &[u32],
     graph: &[u32],
     a: Asked,
-    wanted: Wanted,
+    key: Key,
     buffer: &mut [u8],
 ) -> usize
-    requires { ⌜ WholeAsk (now t) (now names) (now index) (now texts) (now bind) (now graph) a (wantedName wanted) (now buffer) ⌝ }
-    ensures { λ r. ⌜ WritesWhole (now (names .entry)) (now (index .entry)) (now (texts .entry)) (now (bind .entry)) (now (graph .entry)) a (wantedName wanted) (now (buffer .entry)) (now (buffer .exit)) r ⌝ }
+    requires { ⌜ WholeAsk (now t) (now names) (now index) (now texts) (now bind) (now graph) a (keyName key) (now buffer) ⌝ }
+    ensures { λ r. ⌜ WritesWhole (now (names .entry)) (now (index .entry)) (now (texts .entry)) (now (bind .entry)) (now (graph .entry)) a (keyName key) (now (buffer .entry)) (now (buffer .exit)) r ⌝ }
 {
-    match wanted {
-        Wanted::Command => write_whole(t, names, index, texts, bind, graph, a, b"command", buffer),
-        Wanted::Description => {
-            write_whole(
-                t,
-                names,
-                index,
-                texts,
-                bind,
-                graph,
-                a,
-                b"description",
-                buffer,
-            )
-        }
-    }
+    let keys = key_names();
+    let k = number_of(key);
+    write_whole(
+        t,
+        names,
+        index,
+        texts,
+        bind,
+        graph,
+        a,
+        key_name(&keys, k),
+        buffer,
+    )
 }
 
-// 16, 17, or the text of a step that has a command.
-fn text_in(
+// 16, 17, or the text of a key with zeros beyond, for a step that is there and no phony.
+pub fn text_at(
     t: &[u8; 256],
     names: &[u8],
     index: &[u32],
@@ -91,23 +100,32 @@ fn text_in(
     graph: &[u32],
     a: Asked,
     step: usize,
-    wanted: Wanted,
+    key: Key,
     buffer: &mut [u8],
 ) -> TextAnswer
     requires { ⌜ StepAsk (now t) (now names) (now index) (now texts) (now bind) (now graph) a (now buffer) ⌝ }
-    ensures { λ r. ⌜ TextIn (now (names .entry)) (now (index .entry)) (now (texts .entry)) (now (bind .entry)) (now (graph .entry)) a step wanted (now (buffer .entry)) (now (buffer .exit)) r ⌝ }
+    ensures { λ r. ⌜ TextAt (now (names .entry)) (now (index .entry)) (now (texts .entry)) (now (bind .entry)) (now (graph .entry)) a step key (now (buffer .entry)) (now (buffer .exit)) r ⌝ }
 {
-    if leads_back(t, texts, bind, a, wanted) {
+    if leads_back(t, texts, bind, a, key) {
         zero_from(buffer, 0);
         return TextAnswer::Refused(Refusal::EndlessText(step));
     }
-    let n = write_wanted(t, names, index, texts, bind, graph, a, wanted, buffer);
+    let n = write_key(t, names, index, texts, bind, graph, a, key, buffer);
     if TEXT < n {
         zero_from(buffer, 0);
         return TextAnswer::Refused(Refusal::LongText(step));
     }
     zero_from(buffer, n);
     TextAnswer::Written(n)
+}
+
+fn wanted_key(wanted: Wanted) -> Key
+    ensures { λ r. ⌜ r ≡ wantedKey wanted ⌝ }
+{
+    match wanted {
+        Wanted::Command => Key::Command,
+        Wanted::Description => Key::Description,
+    }
 }
 
 // The text of a step: "18, 16, 17 for a text", or the text with zeros beyond.
@@ -131,6 +149,9 @@ pub fn text_of(
             zero_from(buffer, 0);
             TextAnswer::Refused(Refusal::NoCommand(step))
         }
-        StepAsked::Step(a) => text_in(t, names, index, texts, bind, graph, a, step, wanted, buffer),
+        StepAsked::Step(a) => {
+            let key = wanted_key(wanted);
+            text_at(t, names, index, texts, bind, graph, a, step, key, buffer)
+        }
     }
 }

@@ -1,53 +1,16 @@
 -- `hold_rules::is_rule_key` meets its contract.
-use mathlib.Core.Bool.{or-false}
-use mathlib.Core.Path.{sym, _∙_}
+use mathlib.Core.Path.{sym}
+use denote.Ref.{now}
 use borrow.Author.Needs.{needs}
-use Rattle.lists.specs.Members.{any}
-use Rattle.spec.specs.Basics.{among}
-use Rattle.spec.specs.Statements.{ruleKey}
+use Rattle.hold_keys.proofs.Numbers.{rule-key}
 use Rattle.hold_rules.proofs.is_rule_key.Statement.{statement}
 use Rattle.hold_rules.proofs.is_rule_key.Tie as tie
 
-slice-aggregate-equal : tie.Need-slice-aggregate-equal
-slice-aggregate-equal c = search needs
-
-equal-requires : tie.Need-equal-requires
-equal-requires c κs = search needs
+key-number-requires : tie.Need-key-number-requires
+key-number-requires c κs = search needs
 
 returns : tie.Need-returns
-unfolding ruleKey among any
-returns c = rw (sym (c .before .equal .ensures) ∙ c .if1 .taken)
-
-slice-aggregate-equal-2 : tie.Need-slice-aggregate-equal-2
-slice-aggregate-equal-2 c = search needs
-
-equal-requires-2 : tie.Need-equal-requires-2
-equal-requires-2 c κs = search needs
-
-returns-2 : tie.Need-returns-2
-unfolding ruleKey among any
-returns-2 c = rw (sym (c .before .before .before .before .equal .ensures) ∙ c .before .before .before .if1 .left, sym (c .before .equal2 .ensures) ∙ c .if2 .taken)
-
-slice-aggregate-equal-3 : tie.Need-slice-aggregate-equal-3
-slice-aggregate-equal-3 c = search needs
-
-equal-requires-3 : tie.Need-equal-requires-3
-equal-requires-3 c κs = search needs
-
-returns-3 : tie.Need-returns-3
-unfolding ruleKey among any
-returns-3 c = rw (sym (c .before .before .before .before .before .before .equal .ensures) ∙ c .before .before .before .before .before .if1 .left, sym (c .before .before .before .equal2 .ensures) ∙ c .before .before .if2 .left) (c .equal3 .ensures ∙ sym (or-false _))
+returns c = rw (c .key-number .ensures) (sym (rule-key (now (c .before .before .args .name))))
 
 pub is-rule-key-spec : {M : Type 1} → statement M
-is-rule-key-spec =
-    tie.close
-    (tie.spec
-    slice-aggregate-equal
-    equal-requires
-    returns
-    slice-aggregate-equal-2
-    equal-requires-2
-    returns-2
-    slice-aggregate-equal-3
-    equal-requires-3
-    returns-3)
+is-rule-key-spec = tie.close (tie.spec key-number-requires returns)

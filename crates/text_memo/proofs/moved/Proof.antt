@@ -4,7 +4,7 @@ use Rattle.text_memo.proofs.moved.Statement.{statement}
 use Rattle.text_memo.proofs.moved.Tie as tie
 
 returns : tie.Need-returns
-returns c = moved-to (c .before .before .before .args .d) (c .before .before .before .args .at)
+returns c = moved-to (c .args .d) (c .args .at)
 
 pub moved-spec : {M : Type 1} → statement M
 moved-spec = tie.close (tie.spec returns)

@@ -1,55 +1,25 @@
 -- `text_memo::span_of` meets its contract.
-use mathlib.Core.Path.{sym, _∙_}
-use Rattle.text_memo.specs.Draft.{spanFor}
+use denote.Ref.{now}
+use Rattle.text_memo.proofs.Spans.{span-key, span-none}
 use borrow.Author.Needs.{needs}
 use Rattle.text_memo.proofs.span_of.Statement.{statement}
 use Rattle.text_memo.proofs.span_of.Tie as tie
 
-slice-aggregate-equal : tie.Need-slice-aggregate-equal
-slice-aggregate-equal c = search needs
+key-number-requires : tie.Need-key-number-requires
+key-number-requires c κs = search needs
 
-equal-requires : tie.Need-equal-requires
-equal-requires c κs = search needs
+mul-result : tie.Need-mul-result
+mul-result c = search needs
+
+element-copy-out-result : tie.Need-element-copy-out-result
+element-copy-out-result c = search needs
 
 returns : tie.Need-returns
-unfolding spanFor
-returns c = rw (sym (c .before .before .equal .ensures) ∙ c .before .if1 .taken)
-
-slice-aggregate-equal-2 : tie.Need-slice-aggregate-equal-2
-slice-aggregate-equal-2 c = search needs
-
-equal-requires-2 : tie.Need-equal-requires-2
-equal-requires-2 c κs = search needs
+returns c = let a = c .before .before .before .before .args in span-key (a .t1) (now (a .name)) (c .before .before .key-number .ensures) (c .before .if1 .taken)
 
 returns-2 : tie.Need-returns-2
-unfolding spanFor
-returns-2 c = rw (sym (c .before .before .before .before .before .equal .ensures) ∙ c .before .before .before .before .if1 .left, sym (c .before .before .equal2 .ensures) ∙ c .before .if2 .taken)
-
-slice-aggregate-equal-3 : tie.Need-slice-aggregate-equal-3
-slice-aggregate-equal-3 c = search needs
-
-equal-requires-3 : tie.Need-equal-requires-3
-equal-requires-3 c κs = search needs
-
-returns-3 : tie.Need-returns-3
-unfolding spanFor
-returns-3 c = rw (sym (c .before .before .before .before .before .before .before .before .equal .ensures) ∙ c .before .before .before .before .before .before .before .if1 .left, sym (c .before .before .before .before .before .equal2 .ensures) ∙ c .before .before .before .before .if2 .left, sym (c .before .before .equal3 .ensures) ∙ c .before .if3 .taken)
-
-returns-4 : tie.Need-returns-4
-unfolding spanFor
-returns-4 c = rw (sym (c .before .before .before .before .before .before .before .equal .ensures) ∙ c .before .before .before .before .before .before .if1 .left, sym (c .before .before .before .before .equal2 .ensures) ∙ c .before .before .before .if2 .left, sym (c .before .equal3 .ensures) ∙ c .if3 .left)
+returns-2 c = let a = c .before .before .before .args in span-none (a .t1) (now (a .name)) (c .before .key-number .ensures) (c .if1 .left)
 
 pub span-of-spec : {M : Type 1} → statement M
 span-of-spec =
-    tie.close
-    (tie.spec
-    slice-aggregate-equal
-    equal-requires
-    returns
-    slice-aggregate-equal-2
-    equal-requires-2
-    returns-2
-    slice-aggregate-equal-3
-    equal-requires-3
-    returns-3
-    returns-4)
+    tie.close (tie.spec key-number-requires mul-result element-copy-out-result returns returns-2)

@@ -1,21 +1,23 @@
 -- `text_recursion::leads_back` meets its contract.
-use denote.Ref.{now}
 use Prim.Native.Nat.{_-_}
 use native.Mathlib.Omega.{arith}
-use Rattle.spec.specs.TextAsk.{wantedName}
-use Rattle.text_recursion.proofs.Levels.{Level, level-begin, level-on, level-command, level-description}
+use denote.Ref.{now}
+use Rattle.spec.specs.Text.{keyName, deep}
+use Rattle.hold_keys.proofs.Numbers.{key-low}
+use Rattle.text_recursion.specs.Depth.{marks}
+use Rattle.text_recursion.proofs.Levels.{Level, level-begin, level-on, level-end}
 use borrow.Author.Needs.{needs}
 use Rattle.text_recursion.proofs.leads_back.Statement.{statement}
 use Rattle.text_recursion.proofs.leads_back.Tie as tie
 
 abbrev Inv-loop : tie.InvT-loop
-Inv-loop t texts bind a wanted d₀ k₀ d k = Level texts bind a k d
+Inv-loop t texts bind a key d₀ k₀ d k = Level texts bind a k d
 
 abbrev μ-loop : tie.MeasureT-loop
-μ-loop t texts bind a wanted d₀ k₀ d k = 4 - k
+μ-loop t texts bind a key d₀ k₀ d k = deep - k
 
 loop-holds : tie.Need-loop-holds Inv-loop μ-loop
-loop-holds c = level-begin (now (c .before .before .args .texts)) (now (c .before .before .args .bind)) (c .before .before .args .a)
+loop-holds c = let a = c .before .before .args in level-begin (now (a .texts)) (now (a .bind)) (a .a)
 
 deeper-requires : tie.Need-deeper-requires Inv-loop μ-loop
 deeper-requires c κs = search needs
@@ -27,21 +29,17 @@ loop-less : tie.Need-loop-less Inv-loop μ-loop
 loop-less c = search needs
 
 loop-again : tie.Need-loop-again Inv-loop μ-loop
-loop-again c = level-on (c .before .before .loop .inv) (omega (arith, c .before .loop-test .taken)) (c .deeper .ensures)
+loop-again c = level-on (c .before .before .loop .inv) (c .before .loop-test .taken) (c .deeper .ensures)
 
-enum-told : tie.Need-enum-told Inv-loop μ-loop
-enum-told c = search needs
+number-of-requires : tie.Need-number-of-requires Inv-loop μ-loop
+number-of-requires c κs = search needs
 
-enum-told-2 : tie.Need-enum-told-2 Inv-loop μ-loop
-enum-told-2 c = search needs
+array-read-result : tie.Need-array-read-result Inv-loop μ-loop
+array-read-result c = omega (arith, c .number-of .ensures, key-low (c .before .before .before .before .before .args .key))
 
 returns : tie.Need-returns Inv-loop μ-loop
-unfolding wantedName
-returns c = λ log rd s h. rw (c .enum-told .given .1) (level-command (c .before .before .before .loop .inv) (c .before .before .loop-test .left) h)
-
-returns-2 : tie.Need-returns-2 Inv-loop μ-loop
-unfolding wantedName
-returns-2 c = λ log rd s h. rw (c .enum-told2 .given .1) (level-description (c .before .before .before .loop .inv) (c .before .before .loop-test .left) h)
+unfolding marks
+returns c = λ log rd s h. rw (c .number-of .ensures) (level-end (c .before .before .loop .inv) (c .before .loop-test .left) h (keyName (c .before .before .before .before .before .args .key)))
 
 pub leads-back-spec : {M : Type 1} → statement M
 leads-back-spec =
@@ -54,7 +52,6 @@ leads-back-spec =
     add-k
     loop-less
     loop-again
-    enum-told
-    enum-told-2
-    returns
-    returns-2)
+    number-of-requires
+    array-read-result
+    returns)

@@ -1,55 +1,22 @@
 -- `text_recursion::marked` meets its contract.
-use mathlib.Core.Path.{sym, _∙_}
-use Rattle.text_recursion.specs.Depth.{marks}
+use mathlib.Core.Path.{refl}
+use native.Mathlib.Omega.{arith}
+use denote.Ref.{now}
 use borrow.Author.Needs.{needs}
+use Rattle.hold_keys.proofs.Numbers.{key-most}
+use Rattle.text_recursion.specs.Depth.{marks}
 use Rattle.text_recursion.proofs.marked.Statement.{statement}
 use Rattle.text_recursion.proofs.marked.Tie as tie
 
-slice-aggregate-equal : tie.Need-slice-aggregate-equal
-slice-aggregate-equal c = search needs
+key-number-requires : tie.Need-key-number-requires
+key-number-requires c κs = search needs
 
-equal-requires : tie.Need-equal-requires
-equal-requires c κs = search needs
+array-read-result : tie.Need-array-read-result
+array-read-result c = omega (arith, c .key-number .ensures, key-most (now (c .before .before .args .name)))
 
 returns : tie.Need-returns
 unfolding marks
-returns c = rw (sym (c .before .equal .ensures) ∙ c .if1 .taken)
-
-slice-aggregate-equal-2 : tie.Need-slice-aggregate-equal-2
-slice-aggregate-equal-2 c = search needs
-
-equal-requires-2 : tie.Need-equal-requires-2
-equal-requires-2 c κs = search needs
-
-returns-2 : tie.Need-returns-2
-unfolding marks
-returns-2 c = rw (sym (c .before .before .before .before .equal .ensures) ∙ c .before .before .before .if1 .left, sym (c .before .equal2 .ensures) ∙ c .if2 .taken)
-
-slice-aggregate-equal-3 : tie.Need-slice-aggregate-equal-3
-slice-aggregate-equal-3 c = search needs
-
-equal-requires-3 : tie.Need-equal-requires-3
-equal-requires-3 c κs = search needs
-
-returns-3 : tie.Need-returns-3
-unfolding marks
-returns-3 c = rw (sym (c .before .before .before .before .before .before .before .equal .ensures) ∙ c .before .before .before .before .before .before .if1 .left, sym (c .before .before .before .before .equal2 .ensures) ∙ c .before .before .before .if2 .left, sym (c .before .equal3 .ensures) ∙ c .if3 .taken)
-
-returns-4 : tie.Need-returns-4
-unfolding marks
-returns-4 c = rw (sym (c .before .before .before .before .before .before .before .equal .ensures) ∙ c .before .before .before .before .before .before .if1 .left, sym (c .before .before .before .before .equal2 .ensures) ∙ c .before .before .before .if2 .left, sym (c .before .equal3 .ensures) ∙ c .if3 .left)
+returns c = rw (c .key-number .ensures)
 
 pub marked-spec : {M : Type 1} → statement M
-marked-spec =
-    tie.close
-    (tie.spec
-    slice-aggregate-equal
-    equal-requires
-    returns
-    slice-aggregate-equal-2
-    equal-requires-2
-    returns-2
-    slice-aggregate-equal-3
-    equal-requires-3
-    returns-3
-    returns-4)
+marked-spec = tie.close (tie.spec key-number-requires array-read-result returns)

@@ -18,8 +18,11 @@ zero-from-requires c κs = search needs
 enum-known-a : tie.Need-enum-known-a
 enum-known-a c = search needs
 
-text-in-requires : tie.Need-text-in-requires
-text-in-requires c κs = let a = c .before .before .before .before .before .before .before .before .before .before .before .args in step-asked (asked-step (now (a .texts)) (now (a .bind)) (now (a .graph)) (a .c) (a .step) (c .before .before .before .before .asked .ensures) (c .before .before .a .given .1)) (c .before .before .before .before .before .before .before .before .before .before .before .pre)
+wanted-key-requires : tie.Need-wanted-key-requires
+wanted-key-requires c κs = search needs
+
+text-at-requires : tie.Need-text-at-requires
+text-at-requires c κs = let a = c .before .before .before .before .before .before .before .before .before .before .before .before .args in step-asked (asked-step (now (a .texts)) (now (a .bind)) (now (a .graph)) (a .c) (a .step) (c .before .before .before .before .before .asked .ensures) (c .before .before .before .a .given .1)) (c .before .before .before .before .before .before .before .before .before .before .before .before .pre)
 
 same-length : tie.Need-same-length
 same-length c = search needs
@@ -31,7 +34,7 @@ same-length-2 : tie.Need-same-length-2
 same-length-2 c = search needs
 
 returns-2 : tie.Need-returns-2
-returns-2 c = let a = c .before .before .before .before .before .before .before .before .before .before .before .before .before .before .args in step-text (asked-step (now (a .texts)) (now (a .bind)) (now (a .graph)) (a .c) (a .step) (c .before .before .before .before .before .before .before .asked .ensures) (c .before .before .before .before .before .a .given .1)) (c .before .before .before .before .before .before .before .before .before .before .before .before .before .before .pre) (c .before .before .text-in .ensures)
+returns-2 c = let a = c .before .before .before .before .before .before .before .before .before .before .before .before .before .before .before .args in step-text (asked-step (now (a .texts)) (now (a .bind)) (now (a .graph)) (a .c) (a .step) (c .before .before .before .before .before .before .before .before .asked .ensures) (c .before .before .before .before .before .before .a .given .1)) (c .before .before .before .before .before .before .before .before .before .before .before .before .before .before .before .pre) (c .before .before .before .before .wanted-key .ensures) (c .before .before .text-at .ensures)
 
 pub text-of-spec : {M : Type 1} → statement M
 text-of-spec =
@@ -41,7 +44,8 @@ text-of-spec =
     enum-told
     zero-from-requires
     enum-known-a
-    text-in-requires
+    wanted-key-requires
+    text-at-requires
     same-length
     returns
     same-length-2
