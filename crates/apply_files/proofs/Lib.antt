@@ -1,3 +1,3 @@
 pub mod Limits
 pub mod Columns
-pub mod Marking
+pub mod Adding

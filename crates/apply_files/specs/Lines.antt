@@ -70,6 +70,6 @@ unfoldable pub overLine : List (List ℕ) → Reading → Bool
 overLine ps rd = overPaths ps || overCounts (mentioned ps rd)
 
 -- The paths are mentioned, or the line is over a limit, whatever it mentions after them.
-pub data Marks (names index texts bind graph : List ℕ) (h : Line) (ps : List (List ℕ)) : Mentioned → Type 0 where
-  on : {c : Counts} → Writing names index texts bind graph c (withPaths ps h) → overPaths ps ≡ false → Marks names index texts bind graph h ps (On c)
-  over : ((more : List (List ℕ)) → overLine (ps ++ more) (h .reading) ≡ true) → Marks names index texts bind graph h ps Over
+pub data AddedPaths (names index texts bind graph : List ℕ) (h : Line) (ps : List (List ℕ)) : Mentioned → Type 0 where
+  on : {c : Counts} → Writing names index texts bind graph c (withPaths ps h) → overPaths ps ≡ false → AddedPaths names index texts bind graph h ps (On c)
+  over : ((more : List (List ℕ)) → overLine (ps ++ more) (h .reading) ≡ true) → AddedPaths names index texts bind graph h ps Over

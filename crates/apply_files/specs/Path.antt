@@ -9,7 +9,7 @@ use Rattle.spec.specs.Limits.{maxMentions, maxPath, maxWritten}
 use Rattle.hold_reading.specs.declared.Counts.{Counts}
 use Rattle.hold_reading.specs.Held.{madeStart}
 use Rattle.apply_files.specs.declared.Mentioned.{Mentioned}
-use Rattle.apply_files.specs.Lines.{Line, Writing, Marks}
+use Rattle.apply_files.specs.Lines.{Line, Writing, AddedPaths}
 
 -- is a path of n bytes over a limit by the counts; files are not counted here
 unfoldable pub overCounted : ℕ → Counts → Bool
@@ -49,5 +49,5 @@ pub record Fits (path names index graph : List ℕ) (c : Counts) : Type 0 where
   pub line : Line
   pub writing : Writing names index texts bind graph c line
 
-pub record Marked (path names index graph : List ℕ) (c : Counts) (names′ index′ graph′ : List ℕ) (r : Mentioned) : Type 0 where
-  pub marks : (texts bind : List ℕ) (h : Line) → Writing names index texts bind graph c h → Marks names′ index′ texts bind graph′ h (path ∷ []) r
+pub record AddsPath (path names index graph : List ℕ) (c : Counts) (names′ index′ graph′ : List ℕ) (r : Mentioned) : Type 0 where
+  pub adds : (texts bind : List ℕ) (h : Line) → Writing names index texts bind graph c h → AddedPaths names′ index′ texts bind graph′ h (path ∷ []) r

@@ -1,10 +1,10 @@
-// One path of a line joins the graph's columns: its limits, its number by first mention, and no maker where it is new.
+// One path of a line is put into the graph's columns: its limits, its number by first mention, and no maker where it is new.
 ghost use mathlib.Core.Path.{_≡_};
 ghost use Prim.Native.Nat.{_+_, _≤_, _<_};
 ghost use lib.ListN.{length};
 ghost use Rattle.spec.specs.Limits.{maxMentions, maxWritten, maxFiles};
 ghost use Rattle.hold_reading.specs.Held.{columnsEnd};
-ghost use Rattle.apply_files.specs.Path.{overCounted, Again, First, Fits, Marked};
+ghost use Rattle.apply_files.specs.Path.{overCounted, Again, First, Fits, AddsPath};
 use arena::put;
 use hold_names::Added;
 use hold_names::add;
@@ -69,7 +69,7 @@ fn note_first(graph: &mut [u32], c: Counts, k: usize, n: usize) -> Counts
 }
 
 // A path that is within the limits, but for the count of files.
-pub fn mark(
+pub fn add_path(
     path: &[u8],
     names: &mut [u8],
     index: &mut [u32],
@@ -77,7 +77,7 @@ pub fn mark(
     c: Counts,
 ) -> Mentioned
     requires { ⌜ Fits (now path) (now names) (now index) (now graph) c ⌝ }
-    ensures { λ r. ⌜ Marked (now (path .entry)) (now (names .entry)) (now (index .entry)) (now (graph .entry)) c (now (names .exit)) (now (index .exit)) (now (graph .exit)) r ⌝ }
+    ensures { λ r. ⌜ AddsPath (now (path .entry)) (now (names .entry)) (now (index .entry)) (now (graph .entry)) c (now (names .exit)) (now (index .exit)) (now (graph .exit)) r ⌝ }
 {
     let files = c.files;
     match add(names, index, files, path) {

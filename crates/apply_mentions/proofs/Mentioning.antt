@@ -18,7 +18,7 @@ use Rattle.hold_reading.specs.declared.Counts.{Counts}
 use Rattle.apply_files.specs.declared.Mentioned.{Mentioned}
 use Rattle.apply_files.specs.declared.Mentioned.the-variants.{Over}
 use Rattle.apply_files.specs.Lines.{over}
-use Rattle.apply_files.specs.Path.{overCounted, Fits, Marked}
+use Rattle.apply_files.specs.Path.{overCounted, Fits, AddsPath}
 use Rattle.apply_mentions.specs.Asks.{Asks, Mentions}
 use Rattle.apply_files.proofs.Limits.{path-over, path-within}
 
@@ -53,12 +53,12 @@ module _ {t raw names index texts bind graph word : List ℕ} {c : Counts} (a : 
           writing = a .writing;
         }
 
-    pub mention-marked : {names′ index′ graph′ : List ℕ} {r : Mentioned} → Marked (take k word′) names index graph c names′ index′ graph′ r
+    pub mention-marked : {names′ index′ graph′ : List ℕ} {r : Mentioned} → AddsPath (take k word′) names index graph c names′ index′ graph′ r
         → Mentions raw names index texts bind graph c names′ index′ graph′ r
     unfolding expanded
     mention-marked m =
         record {
           marks = λ l w.
               let e : expand (fileVar (l .reading .vars)) raw ≡ runs.expanded (l .log) raw = expanded-vars (l .log) (l .reading .vars) raw (w .bound .vars) in
-              rw (e ∙ sym (written-whole (x (l .log) (w .bound .held)) path-fits)) (m .marks texts bind l w);
+              rw (e ∙ sym (written-whole (x (l .log) (w .bound .held)) path-fits)) (m .adds texts bind l w);
         }

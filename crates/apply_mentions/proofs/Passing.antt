@@ -15,25 +15,25 @@ use Rattle.cut_forms.proofs.Walks.{walk-on}
 use Rattle.hold_reading.specs.declared.Counts.{Counts}
 use Rattle.apply_files.specs.declared.Mentioned.{Mentioned}
 use Rattle.apply_files.specs.declared.Mentioned.the-variants.{On, Over}
-use Rattle.apply_files.specs.Lines.{Line, Writing, withPath, withPaths, overLine, Marks, on, over}
+use Rattle.apply_files.specs.Lines.{Line, Writing, withPath, withPaths, overLine, AddedPaths, on, over}
 use Rattle.apply_mentions.specs.Asks.{Room, Asks, Mentions, ListAsks, MentionsAll}
 use Rattle.apply_files.proofs.Limits.{line-later, short-append, short-none}
 
 -- ---- answers
 
 module _ {names index texts bind graph : List ℕ} {h : Line} {ps : List (List ℕ)} where
-  pub marks-on : {c : Counts} → Marks names index texts bind graph h ps (On c) → Writing names index texts bind graph c (withPaths ps h)
+  pub marks-on : {c : Counts} → AddedPaths names index texts bind graph h ps (On c) → Writing names index texts bind graph c (withPaths ps h)
   marks-on (on w s) = w
 
-  pub marks-short : {c : Counts} → Marks names index texts bind graph h ps (On c) → overPaths ps ≡ false
+  pub marks-short : {c : Counts} → AddedPaths names index texts bind graph h ps (On c) → overPaths ps ≡ false
   marks-short (on w s) = s
 
-  pub marks-over : Marks names index texts bind graph h ps Over → (more : List (List ℕ)) → overLine (ps ++ more) (h .reading) ≡ true
+  pub marks-over : AddedPaths names index texts bind graph h ps Over → (more : List (List ℕ)) → overLine (ps ++ more) (h .reading) ≡ true
   marks-over (over f) = f
 
 -- one path, then the others
 module _ {names index texts bind graph : List ℕ} (p : List ℕ) (ps : List (List ℕ)) (h : Line) where
-  pub marks-cons : {r : Mentioned} → overPaths (p ∷ []) ≡ false → Marks names index texts bind graph (withPath p h) ps r → Marks names index texts bind graph h (p ∷ ps) r
+  pub marks-cons : {r : Mentioned} → overPaths (p ∷ []) ≡ false → AddedPaths names index texts bind graph (withPath p h) ps r → AddedPaths names index texts bind graph h (p ∷ ps) r
   unfolding withPaths withPath
   marks-cons q (on w s) = on w (short-append (p ∷ []) ps q s)
   marks-cons q (over f) = over (λ more. line-later (p ∷ []) (ps ++ more) (h .reading) (f more))
@@ -51,8 +51,8 @@ pub record Going (l : List ℕ) (h : Line) (raw : List (List ℕ)) (names index 
   pub stands : PathsAt l i rest
   pub writing : Writing names index texts bind graph d line
   pub vars : line .reading .vars ≡ h .reading .vars
-  pub left : {names′ index′ graph′ : List ℕ} {r : Mentioned} → Marks names′ index′ texts bind graph′ line (expanded (h .reading) rest) r
-      → Marks names′ index′ texts bind graph′ h (expanded (h .reading) raw) r
+  pub left : {names′ index′ graph′ : List ℕ} {r : Mentioned} → AddedPaths names′ index′ texts bind graph′ line (expanded (h .reading) rest) r
+      → AddedPaths names′ index′ texts bind graph′ h (expanded (h .reading) raw) r
 
 pub record Passing (t l : List ℕ) (at : ℕ) (names₀ index₀ texts bind graph₀ word₀ : List ℕ) (c : Counts) (names index graph word : List ℕ) (i : ℕ) (d : Counts) : Type 0 where
   pub asks : ListAsks t l names₀ index₀ texts bind graph₀ word₀ c at
@@ -94,7 +94,7 @@ module _ {l : List ℕ} {h : Line} {raw : List (List ℕ)} {names index texts bi
       }
 
   going-over : {names′ index′ graph′ : List ℕ} → Mentions (part l from to) names index texts bind graph d names′ index′ graph′ Over
-      → Marks names′ index′ texts bind graph′ h (expanded (h .reading) raw) Over
+      → AddedPaths names′ index′ texts bind graph′ h (expanded (h .reading) raw) Over
   unfolding expanded
   going-over m =
       let (qs, e, s) = walk-on n (g .stands) in

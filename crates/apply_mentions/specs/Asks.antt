@@ -11,7 +11,7 @@ use Rattle.scan_classes.specs.Table.{classes}
 use Rattle.cut_forms.specs.Paths.{PathsAt}
 use Rattle.hold_reading.specs.declared.Counts.{Counts}
 use Rattle.apply_files.specs.declared.Mentioned.{Mentioned}
-use Rattle.apply_files.specs.Lines.{Line, Writing, Marks}
+use Rattle.apply_files.specs.Lines.{Line, Writing, AddedPaths}
 
 -- so that only a limit can be met
 pub record Room (names word : List ℕ) : Type 0 where
@@ -30,7 +30,7 @@ pub record Asks (t raw names index texts bind graph word : List ℕ) (c : Counts
 
 -- The raw path is expanded and mentioned, whatever line was held.
 pub record Mentions (raw names index texts bind graph : List ℕ) (c : Counts) (names′ index′ graph′ : List ℕ) (r : Mentioned) : Type 0 where
-  pub marks : (h : Line) → Writing names index texts bind graph c h → Marks names′ index′ texts bind graph′ h (expanded (h .reading) (raw ∷ [])) r
+  pub marks : (h : Line) → Writing names index texts bind graph c h → AddedPaths names′ index′ texts bind graph′ h (expanded (h .reading) (raw ∷ [])) r
 
 -- ------------------------------------------------------------------ lists of raw paths
 
@@ -45,4 +45,4 @@ pub record ListAsks (t l names index texts bind graph word : List ℕ) (c : Coun
 
 pub record MentionsAll (l : List ℕ) (at : ℕ) (names index texts bind graph : List ℕ) (c : Counts) (names′ index′ graph′ : List ℕ) (r : Mentioned) : Type 0 where
   pub marks : (raw : List (List ℕ)) → PathsAt l at raw → (h : Line) → Writing names index texts bind graph c h
-      → Marks names′ index′ texts bind graph′ h (expanded (h .reading) raw) r
+      → AddedPaths names′ index′ texts bind graph′ h (expanded (h .reading) raw) r

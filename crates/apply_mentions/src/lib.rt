@@ -1,7 +1,7 @@
 // Files mentioned by a line: each path is expanded and marked in the graph's columns.
 ghost use Rattle.apply_mentions.specs.Asks.{Asks, Mentions, ListAsks, MentionsAll};
 use apply_files::Mentioned;
-use apply_files::mark;
+use apply_files::add_path;
 use apply_files::over;
 use cut_forms::ListPath;
 use cut_forms::paths::next_path;
@@ -27,7 +27,7 @@ pub fn mention(
     if over(n, c) {
         return Mentioned::Over;
     }
-    mark(&word[..n], names, index, graph, c)
+    add_path(&word[..n], names, index, graph, c)
 }
 
 // All paths of the list that starts at a place.

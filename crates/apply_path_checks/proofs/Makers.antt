@@ -20,7 +20,7 @@ use Rattle.hold_names.specs.declared.FoundName.the-variants.{At, Missing}
 use Rattle.hold_names.specs.Table.{FindsName}
 use Rattle.hold_names.proofs.Numbers.{among-none, among-there, number-missing}
 use Rattle.hold_names.proofs.Laws.{find-at, find-missing}
-use Rattle.hold_columns.specs.Tables.{madeBy, makerIn}
+use Rattle.hold_columns.specs.Columns.{madeBy, makerIn}
 use Rattle.hold_columns.proofs.Held.{held-makers}
 use Rattle.hold_bindings.specs.Log.{Logged}
 use Rattle.hold_bindings.specs.Held.{HoldsBindings}

@@ -6,12 +6,12 @@ use native.Mathlib.Omega.{arith}
 use lib.ListN.{length, getD, set, length-set}
 use Rattle.lists.specs.Parts.{part, part-cons, part-none}
 use Rattle.spec.specs.Limits.{maxFiles}
-use Rattle.hold_columns.specs.Tables.{outsEnd, endPlace}
+use Rattle.hold_columns.specs.Columns.{outsEnd, endPlace}
 use Rattle.hold_reading.specs.Held.{endIn, phonyStart, madeStart, ruleStart}
 use Rattle.apply_files.specs.Lines.{Line, Columns}
 use Rattle.apply_files.proofs.Columns.{graph-long, mentions-fit, made-fit, set-made, read-mention, read-end, push-phony, push-rule}
 use Rattle.hold_reading.specs.declared.Counts.{Counts}
-use Rattle.apply_step_columns.specs.Joins.{setAll, Laid, Part, MakeAsks, Makes, Ready, JoinAsks, newestEnd, phonyBit, withRule, countedStep, Joins}
+use Rattle.apply_step_columns.specs.StepColumns.{setAll, Laid, Part, MakeAsks, Makes, Ready, PutStepAsks, newestEnd, phonyBit, withRule, countedStep, PutsStep}
 
 pub length-set-all : (v : ℕ) (fs made : List ℕ) → length (setAll v fs made) ≡ length made
 unfolding setAll
@@ -99,32 +99,32 @@ phony-low (suc n) = omega arith
 
 module _ {graph : List ℕ} {from : ℕ} {c : Counts} {to : ℕ} (e : to ≡ endIn graph (c .steps) outsEnd) where
   -- where the outputs end is the same for all lines held
-  join-end : (h : Line) → Laid graph h → Ready from c h → to ≡ newestEnd c h
-  join-end h l r = e ∙ read-end l (endPlace (c .steps) outsEnd) (r .ended)
+  put-end : (h : Line) → Laid graph h → Ready from c h → to ≡ newestEnd c h
+  put-end h l r = e ∙ read-end l (endPlace (c .steps) outsEnd) (r .ended)
 
-  pub join-make : {n : ℕ} → JoinAsks graph from n c → MakeAsks graph from to (c .steps + 1)
-  join-make a =
-      record { line = a .line; laid = a .laid; some = rw (join-end (a .line) (a .laid) (a .ready)) (a .ready .outs); small = omega (arith, a .ready .few) }
+  pub put-make : {n : ℕ} → PutStepAsks graph from n c → MakeAsks graph from to (c .steps + 1)
+  put-make a =
+      record { line = a .line; laid = a .laid; some = rw (put-end (a .line) (a .laid) (a .ready)) (a .ready .outs); small = omega (arith, a .ready .few) }
 
   module _ {n : ℕ} {graph₁ : List ℕ} (m : Makes graph from to (c .steps + 1) graph₁) {b : ℕ} (q : b ≡ phonyBit n) where
     -- the places are low, for the stores
-    pub join-first : JoinAsks graph from n c → (phonyStart + c .steps < length graph₁) × (b < 4294967296)
-    join-first a =
-        let k = m .laid (a .line) (a .laid) (rw (join-end (a .line) (a .laid) (a .ready)) (a .ready .outs)) in
+    pub put-first : PutStepAsks graph from n c → (phonyStart + c .steps < length graph₁) × (b < 4294967296)
+    put-first a =
+        let k = m .laid (a .line) (a .laid) (rw (put-end (a .line) (a .laid) (a .ready)) (a .ready .outs)) in
         (omega (arith, graph-long k, a .ready .few), omega (arith, q, phony-low n))
 
     module _ {graph₂ : List ℕ} (g : graph₂ ≡ set graph₁ (phonyStart + c .steps) b) where
-      pub join-second : JoinAsks graph from n c → (ruleStart + c .steps < length graph₂) × (n < 4294967296)
-      join-second a =
-          let k = m .laid (a .line) (a .laid) (rw (join-end (a .line) (a .laid) (a .ready)) (a .ready .outs)) in
+      pub put-second : PutStepAsks graph from n c → (ruleStart + c .steps < length graph₂) × (n < 4294967296)
+      put-second a =
+          let k = m .laid (a .line) (a .laid) (rw (put-end (a .line) (a .laid) (a .ready)) (a .ready .outs)) in
           (omega (arith, graph-long k, a .ready .few, ap length g ∙ length-set graph₁ (phonyStart + c .steps) b), omega (arith, a .small))
 
-      pub join-done : {graph′ : List ℕ} → graph′ ≡ set graph₂ (ruleStart + c .steps) n → Joins graph from n c graph′ (countedStep c)
+      pub put-done : {graph′ : List ℕ} → graph′ ≡ set graph₂ (ruleStart + c .steps) n → PutsStep graph from n c graph′ (countedStep c)
       unfolding withRule
-      join-done f =
+      put-done f =
           record {
             laid = λ h l r.
-                let z = join-end h l r in
+                let z = put-end h l r in
                 let k = m .laid h l (rw z (r .outs)) in
                 let w = push-phony k b (phonyStart + c .steps) (omega (arith, r .phony)) (omega (arith, r .phony, r .few)) in
                 rw (f, g, ← z, ← q) (push-rule w n (ruleStart + c .steps) (omega (arith, r .ruled)) (omega (arith, r .ruled, r .few)));

@@ -18,8 +18,8 @@ use Rattle.hold_bindings.specs.declared.FoundEntry.the-variants.{At, Missing}
 use Rattle.hold_bindings.specs.Log.{Logged, ofRules, entryAt, isNamed, newest, isAt, rulesOf}
 use Rattle.hold_bindings.proofs.Lookups.{newest-below, entry-kept, entry-newest, declared-newest}
 use Rattle.hold_reading.specs.Held.{Ruled, phony, declared}
-use Rattle.apply_step_columns.specs.Joins.{entryNumber, ruleNumber, phonyBit}
-use Rattle.hold_columns.specs.Tables.{bit}
+use Rattle.apply_step_columns.specs.StepColumns.{entryNumber, ruleNumber, phonyBit}
+use Rattle.hold_columns.specs.Columns.{bit}
 
 -- ---- what the search gives
 

@@ -1,9 +1,9 @@
-// A step joins the graph's columns: the makers of its outputs, phony or not, and its rule's number.
+// A step is put into the graph's columns: the makers of its outputs, phony or not, and its rule's number.
 ghost use mathlib.Core.Path.{_≡_};
 ghost use mathlib.Core.List.{List};
 ghost use Rattle.hold_bindings.specs.Log.{Logged};
 ghost use Rattle.hold_bindings.specs.Held.{HoldsBindings, SoundBindings};
-ghost use Rattle.apply_step_columns.specs.Joins.{ruleNumber, phonyBit, MakeAsks, Makes, JoinAsks, Joins};
+ghost use Rattle.apply_step_columns.specs.StepColumns.{ruleNumber, phonyBit, MakeAsks, Makes, PutStepAsks, PutsStep};
 use arena::put;
 use byteorder::equal;
 use hold_bindings::FoundEntry;
@@ -50,9 +50,9 @@ fn phony_bit(n: usize) -> usize
 }
 
 // The step whose outputs start at `from`, with its rule's number.
-pub fn join(graph: &mut [u32], from: usize, n: usize, c: Counts) -> Counts
-    requires { ⌜ JoinAsks (now graph) from n c ⌝ }
-    ensures { λ r. ⌜ Joins (now (graph .entry)) from n c (now (graph .exit)) r ⌝ }
+pub fn put_step(graph: &mut [u32], from: usize, n: usize, c: Counts) -> Counts
+    requires { ⌜ PutStepAsks (now graph) from n c ⌝ }
+    ensures { λ r. ⌜ PutsStep (now (graph .entry)) from n c (now (graph .exit)) r ⌝ }
 {
     let steps = c.steps;
     let to = step_end(graph, steps, OUTS_END);

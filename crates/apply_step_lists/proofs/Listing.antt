@@ -12,7 +12,7 @@ use Rattle.cut_forms.specs.declared.BuildPlaces.{BuildPlaces}
 use Rattle.hold_reading.specs.declared.Counts.{Counts}
 use Rattle.apply_files.specs.declared.Mentioned.{Mentioned}
 use Rattle.apply_files.specs.declared.Mentioned.the-variants.{On, Over}
-use Rattle.hold_columns.specs.Tables.{outsEnd, implicitEnd, endPlace}
+use Rattle.hold_columns.specs.Columns.{outsEnd, implicitEnd, endPlace}
 use Rattle.hold_reading.specs.Held.{maxEnds, endsStart}
 use Rattle.apply_files.specs.Lines.{Line, Writing, withPaths, overLine}
 use Rattle.apply_mentions.specs.Asks as mentions

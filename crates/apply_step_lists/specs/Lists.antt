@@ -12,7 +12,7 @@ use Rattle.scan_classes.specs.Table.{classes}
 use Rattle.cut_forms.specs.declared.BuildPlaces.{BuildPlaces}
 use Rattle.cut_forms.specs.Paths.{PathsAt}
 use Rattle.cut_forms.specs.Statements.{Stands}
-use Rattle.hold_columns.specs.Tables.{outsEnd, endPlace}
+use Rattle.hold_columns.specs.Columns.{outsEnd, endPlace}
 use Rattle.hold_reading.specs.declared.Counts.{Counts}
 use Rattle.hold_reading.specs.Held.{maxEnds}
 use Rattle.apply_files.specs.declared.Mentioned.{Mentioned}

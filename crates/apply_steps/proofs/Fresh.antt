@@ -17,7 +17,7 @@ use Rattle.spec.specs.Reading.{Step, Reading, numberOf, numbersOf, mention, isO
 use Rattle.spec.specs.Statements.{badPaths, twice}
 use Rattle.spec.specs.Graph.{makers, makersFrom}
 use Rattle.hold_names.proofs.Numbers.{among-cons, number-there, number-mention, mention-none, mention-old, mention-new}
-use Rattle.hold_columns.specs.Tables.{makerIn, madeBy, HoldsColumns}
+use Rattle.hold_columns.specs.Columns.{makerIn, madeBy, HoldsColumns}
 use Rattle.hold_columns.proofs.Held.{held-makers}
 
 -- ---- a path that is new has a number behind the old ones

@@ -14,9 +14,9 @@ use Rattle.lists.specs.Members.{has}
 use Rattle.spec.specs.Basics.{concat}
 use Rattle.spec.specs.Reading.{Step}
 use Rattle.spec.specs.Graph.{inputs, makers, makersFrom}
-use Rattle.hold_columns.specs.Tables.{mentionsOf, endsFrom, madeBy, makerIn, HoldsColumns}
+use Rattle.hold_columns.specs.Columns.{mentionsOf, endsFrom, madeBy, makerIn, HoldsColumns}
 use Rattle.hold_columns.proofs.Held.{held-makers}
-use Rattle.apply_step_columns.specs.Joins.{setAll}
+use Rattle.apply_step_columns.specs.StepColumns.{setAll}
 
 -- ---- columns
 

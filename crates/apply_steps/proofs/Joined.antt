@@ -18,15 +18,15 @@ use Rattle.spec.specs.Manifest.{withStep}
 use Rattle.spec.specs.Graph.{noStep, stepAt}
 use Rattle.hold_bindings.specs.Log.{Logged, ofStep, boundBy}
 use Rattle.hold_bindings.proofs.Lookups.{no-lines, owned-more}
-use Rattle.hold_columns.specs.Tables as tables
-use Rattle.hold_columns.specs.Tables.{bit, mentionsOf, endsFrom}
+use Rattle.hold_columns.specs.Columns as columns
+use Rattle.hold_columns.specs.Columns.{bit, mentionsOf, endsFrom}
 use Rattle.hold_reading.specs.declared.Counts.{Counts}
 use Rattle.hold_reading.specs.Held.{Bound, Ruled, Graphed, HoldsReading}
 use Rattle.apply_files.specs.Lines.{Writing}
 use Rattle.apply_files.proofs.Limits.{mention-more}
 use Rattle.apply_mentions.proofs.Closed.{numbers-low, length-numbers}
 use Rattle.apply_step_lists.specs.Lists.{listsOf}
-use Rattle.apply_step_columns.specs.Joins.{setAll, Laid, newestEnd, phonyBit, withRule, countedStep}
+use Rattle.apply_step_columns.specs.StepColumns.{setAll, Laid, newestEnd, phonyBit, withRule, countedStep}
 use Rattle.apply_steps.proofs.Closed.{endsAfter}
 use Rattle.apply_step_columns.proofs.Making.{length-set-all}
 use Rattle.apply_step_columns.proofs.Numbered.{ruled-bit}
@@ -132,7 +132,7 @@ module _ {log : List Logged} {names index texts bind graph : List ℕ} {c : Coun
   unfolding mentioned
   files-few = omega (arith, x .named .counted, x .named .few)
 
-  step-tables : tables.HoldsColumns (rd .steps ++ (step ∷ [])) (length (filesWith b rd)) mentions ends (g .phony ++ (phonyBit n ∷ [])) makers
+  step-tables : columns.HoldsColumns (rd .steps ++ (step ∷ [])) (length (filesWith b rd)) mentions ends (g .phony ++ (phonyBit n ∷ [])) makers
   step-tables =
       record {
         mentioned = step-mentioned;

@@ -25,11 +25,11 @@ use Rattle.apply_files.specs.declared.Mentioned.the-variants.{On, Over}
 use Rattle.apply_files.specs.Lines.{Line, Writing, overLine}
 use Rattle.apply_steps.specs.Asks.{StepAsks, Clear, Writes}
 use Rattle.apply_step_lists.specs.Lists.{withLists, listsOf, FourAsks, Four}
-use Rattle.apply_step_columns.specs.Joins.{ruleNumber, JoinAsks, Joins}
+use Rattle.apply_step_columns.specs.StepColumns.{ruleNumber, PutStepAsks, PutsStep}
 use Rattle.apply_step_lists.proofs.Listing.{listed-on, listed-short, listed-over}
 use Rattle.apply_steps.proofs.Closed.{lists-made, concat-lists}
 use Rattle.apply_step_columns.proofs.Numbered.{ruled, number-low}
-use Rattle.hold_columns.specs.Tables.{outsEnd, endPlace}
+use Rattle.hold_columns.specs.Columns.{outsEnd, endPlace}
 use Rattle.hold_columns.proofs.Places.{length-ends}
 use Rattle.apply_steps.proofs.Stepped.{lineOf, pathsOf, stepFor, lineAfter, lists-line, step-ready}
 use Rattle.apply_steps.proofs.Joined.{step-held}
@@ -115,7 +115,7 @@ module _ (start : ℕ) {l names index texts bind graph : List ℕ} {c : Counts} 
       record { agrees = λ b s log rd w k. rw (step-over start (expandedLine rd b) rd k (four-past w s f)) refuses }
 
   pub write-goes : c .steps < maxSteps → {graph₁ : List ℕ} {d : Counts} → Four l names index texts bind graph c p names′ index′ graph₁ (On d) → {n : ℕ}
-      → ((log : List Logged) → bindings.HoldsBindings log texts bind (d .entries) → n ≡ ruleNumber (part l (p .rule) (p .ins)) log) → {e : Counts} → Joins graph₁ (c .paths) n d graph′ e
+      → ((log : List Logged) → bindings.HoldsBindings log texts bind (d .entries) → n ≡ ruleNumber (part l (p .rule) (p .ins)) log) → {e : Counts} → PutsStep graph₁ (c .paths) n d graph′ e
       → Writes l names index texts bind graph c start p names′ index′ graph′ (Goes e OpenStep)
   unfolding joined expandedLine
   write-goes few {d = d} f {n} r j =
@@ -151,9 +151,9 @@ module _ {t l names index texts bind graph word : List ℕ} {c : Counts} {p : Bu
     pub write-rule : bindings.SoundBindings texts bind (d .entries)
     write-rule = record { log = a .whole .log; held = four-held (a .whole .holds) (a .stands) f .bound .held }
 
-    pub write-join : c .steps < maxSteps → {n : ℕ} (name : List ℕ) → ((log : List Logged) → bindings.HoldsBindings log texts bind (d .entries) → n ≡ ruleNumber name log)
-        → JoinAsks graph′ (c .paths) n d
-    write-join few name r =
+    pub write-columns : c .steps < maxSteps → {n : ℕ} (name : List ℕ) → ((log : List Logged) → bindings.HoldsBindings log texts bind (d .entries) → n ≡ ruleNumber name log)
+        → PutStepAsks graph′ (c .paths) n d
+    write-columns few name r =
         let w = a .whole .holds in
         let x = four-held w (a .stands) f in
         let h = x .bound .held in

@@ -14,7 +14,7 @@ use Rattle.spec.specs.Reading.{Step, Reading, numbersOf, mention}
 use Rattle.spec.specs.Statements.{mentioned, inputsOfLine}
 use Rattle.spec.specs.Graph.{inputs}
 use Rattle.hold_bindings.specs.Log.{Logged}
-use Rattle.hold_columns.specs.Tables.{mentionsOf, outsEnd, endPlace, endsFrom}
+use Rattle.hold_columns.specs.Columns.{mentionsOf, outsEnd, endPlace, endsFrom}
 use Rattle.hold_columns.proofs.Held.{held-steps}
 use Rattle.hold_reading.specs.declared.Counts.{Counts}
 use Rattle.hold_reading.specs.Held.{Graphed, HoldsReading}
@@ -22,7 +22,7 @@ use Rattle.apply_files.specs.Lines.{Line, Writing}
 use Rattle.apply_files.proofs.Limits.{mention-more}
 use Rattle.apply_mentions.proofs.Closed.{Among, among-all, numbers-append, numbers-low, length-numbers}
 use Rattle.apply_step_lists.specs.Lists.{withLists, listsOf}
-use Rattle.apply_step_columns.specs.Joins.{Ready, newestEnd}
+use Rattle.apply_step_columns.specs.StepColumns.{Ready, newestEnd}
 use Rattle.apply_step_lists.proofs.Listing.{lists-reading}
 use Rattle.apply_steps.proofs.Closed.{lists-log, lists-phony, lists-ruled, lists-mentions, lists-ends, endsAfter, concat-lists}
 use Rattle.hold_columns.proofs.Places.{part-mid, length-ends}

@@ -1,8 +1,8 @@
-// A build line is written: its files are mentioned, and its step joins the graph's columns.
+// A build line is written: its files are mentioned, and its step is put into the graph's columns.
 ghost use Prim.Native.Nat.{_<_};
 ghost use Rattle.apply_steps.specs.Asks.{StepAsks, Writes};
 use apply_files::Mentioned;
-use apply_step_columns::join;
+use apply_step_columns::put_step;
 use apply_step_columns::rule_number;
 use apply_step_lists::four;
 use cut_forms::BuildPlaces;
@@ -37,7 +37,7 @@ pub fn write_step(
             let from = p.rule;
             let to = p.ins;
             let n = rule_number(&l[from..to], texts, bind, d.entries);
-            let e = join(graph, c.paths, n, d);
+            let e = put_step(graph, c.paths, n, d);
             LineAnswer::Goes(e, Open::Step)
         }
         Mentioned::Over => LineAnswer::Refused(Refusal::OverLimit(start)),

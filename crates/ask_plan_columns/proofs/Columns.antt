@@ -9,7 +9,7 @@ use Rattle.spec.specs.declared.PlanAnswer.{PlanAnswer}
 use Rattle.spec.specs.Reading.{Reading}
 use Rattle.arena.specs.Columns.{Lies, startOf, column}
 use Rattle.arena.proofs.Laws.{Column, lies-column, lies-part}
-use Rattle.hold_columns.specs.Tables.{perStep, HoldsColumns}
+use Rattle.hold_columns.specs.Columns.{perStep, HoldsColumns}
 use Rattle.hold_columns.proofs.Places.{length-ends}
 use Rattle.hold_columns.proofs.Held.{held-steps, held-sound}
 use Rattle.hold_reading.specs.declared.Counts.{Counts}

@@ -17,7 +17,7 @@ use Rattle.orders.specs.Greedy.{In, By}
 use Rattle.orders.specs.GreedyLaws.{lowest-greedy}
 use Rattle.orders.specs.Reach.{upstream, in-upstream}
 use Rattle.spec.specs.Promises.{filled}
-use Rattle.hold_columns.specs.Tables.{beforeIn, Shown}
+use Rattle.hold_columns.specs.Columns.{beforeIn, Shown}
 use Rattle.hold_columns.proofs.Held.{before-small}
 use Rattle.graph_list.specs.Listing.{marked, Unblocked, Clear, NextReady, PassAsked, Passed, ListAsked, leastIn}
 

@@ -14,7 +14,7 @@ use borrow.Author.Tests.{eq-eqb, ne-eqb}
 use Rattle.lists.specs.Tests.{differ}
 use Rattle.lists.specs.Members.{all}
 use Rattle.spec.specs.Basics.{concat}
-use Rattle.hold_columns.specs.Tables.{madeBy, makerIn, makersIn}
+use Rattle.hold_columns.specs.Columns.{madeBy, makerIn, makersIn}
 use Rattle.graph_list.specs.Listing.{allClear, Looks}
 
 -- the makers of one file more

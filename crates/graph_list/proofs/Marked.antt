@@ -11,7 +11,7 @@ use Rattle.orders.specs.Reach.{rising-reach, reach-low}
 use Rattle.spec.specs.Reading.{Step}
 use Rattle.spec.specs.Graph.{before, makersOf, needed}
 use Rattle.spec.specs.Stale.{isStale, staleNeeded, listOf}
-use Rattle.hold_columns.specs.Tables.{bit, HoldsColumns, Marks, Shown}
+use Rattle.hold_columns.specs.Columns.{bit, HoldsColumns, Marks, Shown}
 use Rattle.hold_columns.proofs.Held.{held-before, held-steps}
 use Rattle.graph_stale.specs.Judge.{timeAt, StaleMarked}
 use Rattle.graph_list.specs.Listing.{marked, leastIn, ListAsked, SpaceAsked, StaleListed}

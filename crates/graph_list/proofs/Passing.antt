@@ -13,7 +13,7 @@ use lib.Seq.{take-suc, take-all}
 use borrow.Author.Tests.{eqb-true, eq-eqb}
 use Rattle.lists.specs.Members.{_∈_, all-true, true-all, in-snoc, in-left, in-right, here, not-in-nil}
 use Rattle.orders.specs.Reach.{direct, further}
-use Rattle.hold_columns.specs.Tables.{inputsIn, beforeIn, Sorted}
+use Rattle.hold_columns.specs.Columns.{inputsIn, beforeIn, Sorted}
 use Rattle.graph_list.specs.Listing.{allClear, Unblocked, Clear, Looks, LookAsked, NextReady, PassAsked, Passed}
 
 pub record Passing (mentions ends made order pending clear : List ℕ) (best i : ℕ) : Type 0 where

@@ -14,7 +14,7 @@ use Rattle.orders.specs.Reach.{Upstream, upstream}
 use Rattle.spec.specs.Reading.{Step}
 use Rattle.spec.specs.Graph.{before, needed}
 use Rattle.spec.specs.Stale.{listOf}
-use Rattle.hold_columns.specs.Tables.{makersIn, beforeIn, HoldsColumns, SoundColumns, Sorted, Shown}
+use Rattle.hold_columns.specs.Columns.{makersIn, beforeIn, HoldsColumns, SoundColumns, Sorted, Shown}
 use Rattle.graph_stale.specs.Judge.{timeAt}
 
 -- the steps with the mark 1

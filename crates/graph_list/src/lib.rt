@@ -2,7 +2,7 @@
 ghost use mathlib.Core.Path.{_≡_};
 ghost use Prim.Native.Nat.{_+_, _<_};
 ghost use lib.ListN.{length};
-ghost use Rattle.hold_columns.specs.Tables.{Files, inputsIn, Shown};
+ghost use Rattle.hold_columns.specs.Columns.{Files, inputsIn, Shown};
 ghost use Rattle.graph_list.specs.Listing.{allClear, Looks, LookAsked, PassAsked, Passed, ListAsked, leastIn, StaleListAsked, SpaceAsked, StaleListed};
 use graph_stale::stale_commands;
 use hold_columns::inputs;

@@ -11,7 +11,7 @@ use lib.Seq.{take-suc, take-suc-set, getD-take, getD-set-same, getD-set-other, l
 use Rattle.lists.specs.Members.{_∈_, _∉_, _⊆_, here, there, in-left, in-right, in-snoc, at-before, place-before, not-in-nil}
 use Rattle.orders.specs.Reach.{direct, Reached, upstream-more}
 use Rattle.spec.specs.Limits.{maxSteps, maxMentions}
-use Rattle.hold_columns.specs.Tables.{outsEnd, orderOnlyEnd, endAt, makerAt, inputsIn, beforeIn, SoundColumns, Files}
+use Rattle.hold_columns.specs.Columns.{outsEnd, orderOnlyEnd, endAt, makerAt, inputsIn, beforeIn, SoundColumns, Files}
 use Rattle.hold_columns.proofs.Makers.{in-makersIn, makersIn-in, maker-low}
 use Rattle.hold_columns.proofs.Held.{part-files, part-few}
 use Rattle.graph_order.specs.Walk.{Walk, Passed, Opens, Settled, Circled, Starts, Finds}

@@ -6,7 +6,7 @@ use native.Mathlib.Omega.{arith}
 use mathlib.Core.Path.{_≡_, sym, _∙_}
 use mathlib.Core.List.{List}
 use lib.ListN.{length, getD}
-use Rattle.hold_columns.specs.Tables.{makerAt}
+use Rattle.hold_columns.specs.Columns.{makerAt}
 use Rattle.graph_order.specs.Walk.{Over, Opens}
 
 pub record Opening (fs made seen : List ℕ) (from i : ℕ) : Type 0 where

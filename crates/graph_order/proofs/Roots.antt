@@ -12,7 +12,7 @@ use Rattle.lists.specs.Members.{_∈_, has, has-true, has-false, in-cons, in-ta
 use Rattle.orders.specs.Greedy.{In}
 use Rattle.orders.specs.Reach.{Upstream, direct, further, Reached, upstream-more, reach-least, reach-complete}
 use Rattle.lists.specs.Fill.{length-zeros, getD-zeros}
-use Rattle.hold_columns.specs.Tables.{makerAt, makersIn, beforeIn, neededIn, SoundColumns, Files}
+use Rattle.hold_columns.specs.Columns.{makerAt, makersIn, beforeIn, neededIn, SoundColumns, Files}
 use Rattle.hold_columns.proofs.Makers.{in-makersIn, makersIn-in, maker-low, makers-small}
 use Rattle.hold_columns.proofs.Held.{before-small}
 use Rattle.graph_order.specs.declared.Visit.{Visit}

@@ -6,7 +6,7 @@ use mathlib.Core.List.{List}
 use lib.ListN.{length, length-take, length-drop}
 use Rattle.lists.specs.Parts.{part, drop-take}
 use Rattle.orders.specs.Greedy.{In}
-use Rattle.hold_columns.specs.Tables.{beforeIn, neededIn, Shown}
+use Rattle.hold_columns.specs.Columns.{beforeIn, neededIn, Shown}
 use Rattle.graph_order.specs.declared.Visit.{Visit}
 use Rattle.graph_order.specs.declared.Visit.the-variants.{Done, Circle}
 use Rattle.graph_order.specs.Walk.{Circled, Sorted}

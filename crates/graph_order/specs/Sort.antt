@@ -5,7 +5,7 @@ use mathlib.Core.List.{List}
 use lib.ListN.{length}
 use Rattle.orders.specs.Order.{IsCircle}
 use Rattle.orders.specs.Greedy.{In, By}
-use Rattle.hold_columns.specs.Tables.{beforeIn, neededIn, SoundColumns, Files, Shown}
+use Rattle.hold_columns.specs.Columns.{beforeIn, neededIn, SoundColumns, Files, Shown}
 use Rattle.graph_order.specs.declared.Sorting.{Sorting}
 use Rattle.graph_order.specs.declared.Sorting.the-variants.{Ordered as OrderedSteps, Circular}
 use Rattle.graph_order.specs.Walk.{SortAsked, Ordered}

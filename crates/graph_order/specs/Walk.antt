@@ -10,7 +10,7 @@ use Rattle.orders.specs.Order.{IsOrder, IsCircle}
 use Rattle.orders.specs.Greedy.{In, By}
 use Rattle.orders.specs.Reach.{Reached}
 use Rattle.orders.specs.Circle.{Linked}
-use Rattle.hold_columns.specs.Tables.{makerAt, makersIn, inputsIn, beforeIn, neededIn, SoundColumns, Files}
+use Rattle.hold_columns.specs.Columns.{makerAt, makersIn, inputsIn, beforeIn, neededIn, SoundColumns, Files}
 use Rattle.graph_order.specs.declared.Visit.{Visit}
 use Rattle.graph_order.specs.declared.Visit.the-variants.{Done, Circle}
 

@@ -2,7 +2,7 @@
 ghost use mathlib.Core.Path.{_≡_};
 ghost use Prim.Native.Nat.{_+_, _≤_};
 ghost use lib.ListN.{length, take};
-ghost use Rattle.hold_columns.specs.Tables.{Files, Shown};
+ghost use Rattle.hold_columns.specs.Columns.{Files, Shown};
 ghost use Rattle.lists.specs.Parts.{part};
 ghost use Rattle.spec.specs.Promises.{filled};
 ghost use Rattle.graph_order.specs.Sort.{NeededAsked, Showable, SortShows, NeededSorted};

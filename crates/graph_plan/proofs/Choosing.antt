@@ -15,7 +15,7 @@ use Rattle.spec.specs.Reading.{Step}
 use Rattle.spec.specs.Graph.{tops}
 use Rattle.spec.specs.Answers.{Said, numberOfRefusal, planSays}
 use Rattle.spec.specs.Promises.{filled, leftBy, PlanMeets}
-use Rattle.hold_columns.specs.Tables.{HoldsColumns}
+use Rattle.hold_columns.specs.Columns.{HoldsColumns}
 use Rattle.hold_columns.proofs.Blank.{take-blank, length-blank}
 use Rattle.hold_columns.proofs.Held.{held-steps}
 use Rattle.graph_roots.specs.Tops.{TopsFound}

@@ -19,7 +19,7 @@ use Rattle.spec.specs.Graph.{before, needed, isNeededSource}
 use Rattle.spec.specs.Words.{Makes, NeededSource}
 use Rattle.spec.proofs.Graph.{in-makers, in-needed}
 use Rattle.spec.proofs.Sources.{in-source}
-use Rattle.hold_columns.specs.Tables.{makerIn, HoldsColumns}
+use Rattle.hold_columns.specs.Columns.{makerIn, HoldsColumns}
 use Rattle.hold_columns.proofs.Makers.{in-makerIn, makerIn-in}
 use Rattle.hold_columns.proofs.Held.{held-makers, held-inputs}
 use Rattle.graph_sources.specs.Sources.{Absent, Wanted, LowestMissing}

@@ -20,7 +20,7 @@ use Rattle.spec.specs.Stale.{listOf}
 use Rattle.spec.specs.Answers.{Said, numberOfRefusal, placeOfRefusal, planSays}
 use Rattle.spec.specs.Promises.{filled, leftBy, PlanMeets, counts, refused14}
 use Rattle.spec.proofs.Graph.{in-before, in-needed}
-use Rattle.hold_columns.specs.Tables.{makersIn, beforeIn, neededIn, HoldsColumns, Files, Shown}
+use Rattle.hold_columns.specs.Columns.{makersIn, beforeIn, neededIn, HoldsColumns, Files, Shown}
 use Rattle.hold_columns.proofs.Makers.{makers-small}
 use Rattle.hold_columns.proofs.Held.{before-small, held-before, held-needed, held-steps}
 use Rattle.graph_order.specs.declared.Sorting.{Sorting}

@@ -22,7 +22,7 @@ use Rattle.spec.specs.Stale.{listOf}
 use Rattle.spec.specs.Answers.{planSays}
 use Rattle.spec.specs.PlanAsk.{PlanOutcome, listed, circular, noPlan}
 use Rattle.spec.specs.Promises.{PlanMeets}
-use Rattle.hold_columns.specs.Tables.{beforeIn, neededIn, HoldsColumns, SoundColumns}
+use Rattle.hold_columns.specs.Columns.{beforeIn, neededIn, HoldsColumns, SoundColumns}
 use Rattle.graph_stale.specs.Judge.{timeAt}
 
 -- "a needed source is missing": "lowest file number" (15)

@@ -17,7 +17,7 @@ use Rattle.lists.specs.Members.{_∈_, keep, any, has, has-true, in-has, in-app
 use Rattle.spec.specs.Basics.{concat}
 use Rattle.spec.specs.Reading.{Step}
 use Rattle.spec.specs.Graph.{inputs, noStep, stepAt, isInput, tops}
-use Rattle.hold_columns.specs.Tables.{outsEnd, endAt, startIn, outsIn, HoldsColumns, SoundColumns}
+use Rattle.hold_columns.specs.Columns.{outsEnd, endAt, startIn, outsIn, HoldsColumns, SoundColumns}
 use Rattle.hold_columns.proofs.Held.{in-part, outs-low, held-inputs, held-outs, held-steps}
 use Rattle.graph_roots.specs.Tops.{InputsMarked, unmarked, Appended, AppendAsked, outsBefore, TopsAsked, TopsFound}
 

@@ -10,7 +10,7 @@ use lib.ListN.{length, getD, take, set, length-set}
 use lib.Seq.{take-suc, take-all, getD-set-same, getD-set-other}
 use Rattle.lists.specs.Fill.{length-zeros, getD-zeros}
 use Rattle.lists.specs.Members.{here, in-snoc, in-left, in-right, not-in-nil}
-use Rattle.hold_columns.specs.Tables.{inputsIn}
+use Rattle.hold_columns.specs.Columns.{inputsIn}
 use Rattle.graph_roots.specs.Tops.{MarkedToo, MarkAsked, InputsMarked}
 
 -- the first i files are marked

@@ -11,7 +11,7 @@ use Rattle.lists.specs.Members.{_∈_, keep}
 use Rattle.spec.specs.Limits.{maxFiles}
 use Rattle.spec.specs.Reading.{Step}
 use Rattle.spec.specs.Graph.{tops}
-use Rattle.hold_columns.specs.Tables.{inputsIn, outsIn, HoldsColumns, SoundColumns}
+use Rattle.hold_columns.specs.Columns.{inputsIn, outsIn, HoldsColumns, SoundColumns}
 
 -- the files of a list are marked too
 pub record MarkedToo (fs marks exit : List ℕ) : Type 0 where

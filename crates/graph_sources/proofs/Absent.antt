@@ -10,7 +10,7 @@ use mathlib.Core.List.{List, [], _∷_, _++_}
 use lib.ListN.{length, getD, take}
 use lib.Seq.{take-suc, take-all}
 use Rattle.lists.specs.Members.{here, in-cons, in-left, in-right, in-append, in-snoc, not-in-nil}
-use Rattle.hold_columns.specs.Tables.{inputsIn}
+use Rattle.hold_columns.specs.Columns.{inputsIn}
 use Rattle.graph_sources.specs.Sources.{Absent, Lowered, LowestMissing}
 
 module _ {times made : List ℕ} where

@@ -5,7 +5,7 @@ use mathlib.Core.Logic.{_⊎_}
 use mathlib.Core.List.{List}
 use lib.ListN.{length, getD}
 use Rattle.lists.specs.Members.{_∈_}
-use Rattle.hold_columns.specs.Tables.{inputsIn, Placed}
+use Rattle.hold_columns.specs.Columns.{inputsIn, Placed}
 
 -- a file with no maker that is not on the card
 abbrev pub Absent : List ℕ → List ℕ → ℕ → Type 0

@@ -12,7 +12,7 @@ use Rattle.spec.specs.Reading.{Step}
 use Rattle.spec.specs.Graph.{before}
 use Rattle.spec.specs.Stale.{verdict}
 use Rattle.spec.proofs.Stale.{verdict-local}
-use Rattle.hold_columns.specs.Tables.{HoldsColumns, Sorted}
+use Rattle.hold_columns.specs.Columns.{HoldsColumns, Sorted}
 use Rattle.graph_stale.specs.declared.Judged.{Judged}
 use Rattle.graph_stale.specs.Judge.{known, timeAt, Told, Judges, JudgeAsked, AllTold, AllAsked}
 

@@ -13,7 +13,7 @@ use Rattle.spec.specs.Basics.{isEmpty}
 use Rattle.spec.specs.Reading.{Step}
 use Rattle.spec.specs.Graph.{counted, stepAt}
 use Rattle.spec.specs.Stale.{phonyStep, madeTime, timeOf, greatest, newestInput, makerStale, outputMissing, staleCommand, stalePhony, verdict}
-use Rattle.hold_columns.specs.Tables.{bit, makerIn, countedIn, inputsIn, outsIn, HoldsColumns}
+use Rattle.hold_columns.specs.Columns.{bit, makerIn, countedIn, inputsIn, outsIn, HoldsColumns}
 use Rattle.hold_columns.proofs.Held.{held-phony, held-makers, held-makersOf, held-counted, held-inputs, held-outs}
 use Rattle.graph_stale.specs.Judge.{known, timeAt, lateTime, fileTime, newestOf, staleMaker, outdated, bareMissing, Told}
 

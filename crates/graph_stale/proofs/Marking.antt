@@ -22,7 +22,7 @@ use Rattle.spec.specs.Stale.{Verdict, unknown, phonyStep, verdict, verdicts, to
 use Rattle.spec.specs.Words.{input}
 use Rattle.spec.proofs.Graph.{in-before, in-needed}
 use Rattle.spec.proofs.Stale.{verdict-local}
-use Rattle.hold_columns.specs.Tables.{bit, HoldsColumns, Marks, Sorted}
+use Rattle.hold_columns.specs.Columns.{bit, HoldsColumns, Marks, Sorted}
 use Rattle.hold_columns.proofs.Held.{held-phony}
 use Rattle.graph_stale.specs.Judge.{known, timeAt, Told, AllTold, CommandsKept, StaleMarked}
 use Rattle.graph_stale.proofs.Judging.{bit-test}

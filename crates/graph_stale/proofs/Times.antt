@@ -13,7 +13,7 @@ use Rattle.lists.specs.Tests.{ifB}
 use Rattle.lists.specs.Members.{any}
 use Rattle.spec.specs.Basics.{concat}
 use Rattle.spec.specs.Stale.{greatest}
-use Rattle.hold_columns.specs.Tables.{madeBy, makerIn, makersIn}
+use Rattle.hold_columns.specs.Columns.{madeBy, makerIn, makersIn}
 use Rattle.graph_stale.specs.Judge.{timeAt, lateTime, fileTime, newestOf, staleMaker, outdated, FileAsked, FilesAsked}
 
 -- the time of a file

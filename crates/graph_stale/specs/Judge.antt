@@ -14,7 +14,7 @@ use Rattle.spec.specs.Basics.{isEmpty}
 use Rattle.spec.specs.Reading.{Step}
 use Rattle.spec.specs.Graph.{before, needed}
 use Rattle.spec.specs.Stale.{Verdict, greatest, verdict, staleNeeded}
-use Rattle.hold_columns.specs.Tables.{bit, makerIn, makersIn, inputsIn, outsIn, HoldsColumns, SoundColumns, Files, Marks, Sorted}
+use Rattle.hold_columns.specs.Columns.{bit, makerIn, makersIn, inputsIn, outsIn, HoldsColumns, SoundColumns, Files, Marks, Sorted}
 use Rattle.graph_stale.specs.declared.Judged.{Judged}
 
 -- what the columns say of a step

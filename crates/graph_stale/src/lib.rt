@@ -3,7 +3,7 @@ ghost use mathlib.Core.Path.{_≡_};
 ghost use Prim.Native.Nat.{ℕ, _+_, _<_, max};
 ghost use lib.ListN.{length, getD};
 ghost use Rattle.lists.specs.Members.{_∈_};
-ghost use Rattle.hold_columns.specs.Tables.{bit, Files, Placed};
+ghost use Rattle.hold_columns.specs.Columns.{bit, Files, Placed};
 ghost use Rattle.graph_stale.specs.Judge.{fileTime, newestOf, staleMaker, outdated, bareMissing, FileAsked, FilesAsked, JudgeAsked, Judges, AllAsked, AllTold, CommandsKept, StaleAsked, StaleMarked};
 use hold_columns::counted;
 use hold_columns::inputs;

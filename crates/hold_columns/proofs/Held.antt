@@ -1,4 +1,4 @@
--- What the tables give for the steps that they hold.
+-- What the columns give for the steps that they hold.
 use Prim.Native.Nat.{ℕ, zero, suc, _+_, _*_, _-_, _≤_, _<_}
 use native.Mathlib.Decide.{decLt}
 use native.Mathlib.Omega.{arith}
@@ -14,7 +14,7 @@ use Rattle.spec.specs.Reading.{Step, isPhony}
 use Rattle.spec.specs.Graph.{inputs, counted, noStep, stepAt, makers, makersOf, before, needed}
 use Rattle.spec.specs.Stale.{phonyStep}
 use Rattle.spec.proofs.Graph.{in-makers}
-use Rattle.hold_columns.specs.Tables.{bit, mentionsOf, outsEnd, implicitEnd, orderOnlyEnd, endAt, madeBy, HoldsColumns, startIn, outsIn, countedIn, inputsIn, makerIn, makersIn, beforeIn, neededIn, SoundColumns, Files}
+use Rattle.hold_columns.specs.Columns.{bit, mentionsOf, outsEnd, implicitEnd, orderOnlyEnd, endAt, madeBy, HoldsColumns, startIn, outsIn, countedIn, inputsIn, makerIn, makersIn, beforeIn, neededIn, SoundColumns, Files}
 use Rattle.hold_columns.proofs.Makers.{makers-small}
 use Rattle.hold_columns.proofs.Places.{read-inputs, read-counted, read-outs, read-placed}
 
@@ -63,7 +63,7 @@ none-in : (l : List ℕ) → ((x : ℕ) → x ∈ l → ⊥) → l ≡ []
 none-in [] f = refl
 none-in (y ∷ l) f = absurd (f y (here refl))
 
--- an entry of the makers' table names a step
+-- an entry of the makers' column names a step
 entry-low : (n k : ℕ) → ((m : ℕ) → m ∈ madeBy k → m < n) → k ≤ n
 unfolding madeBy
 entry-low n zero g = omega arith

@@ -1,4 +1,4 @@
--- The makers of files, by the entries of the makers' table.
+-- The makers of files, by the entries of the makers' column.
 use Prim.Native.Nat.{ℕ, zero, suc, _≤_, _<_}
 use native.Mathlib.Nat.{not-suc-le-zero, le-of-suc-le-suc}
 use native.Mathlib.Omega.{arith}
@@ -8,7 +8,7 @@ use mathlib.Core.List.{List, [], _∷_, map}
 use lib.ListN.{length, getD}
 use Rattle.lists.specs.Members.{_∈_, here, in-cons, in-append, in-left, in-right, not-in-nil}
 use Rattle.spec.specs.Basics.{concat}
-use Rattle.hold_columns.specs.Tables.{madeBy, makerIn, makersIn, makerAt, Files}
+use Rattle.hold_columns.specs.Columns.{madeBy, makerIn, makersIn, makerAt, Files}
 
 in-madeBy : (k : ℕ) {m : ℕ} → m ∈ madeBy k → k ≡ suc m
 unfolding madeBy

@@ -10,7 +10,7 @@ use Rattle.lists.specs.Parts.{part}
 use Rattle.spec.specs.Basics.{concat}
 use Rattle.spec.specs.Reading.{Step}
 use Rattle.spec.specs.Graph.{inputs, counted, stepAt}
-use Rattle.hold_columns.specs.Tables.{mentionsOf, perStep, outsEnd, insEnd, implicitEnd, orderOnlyEnd, lastEnd, endPlace, endAt, endsFrom, startIn, outsIn, insIn, countedIn, inputsIn, Placed}
+use Rattle.hold_columns.specs.Columns.{mentionsOf, perStep, outsEnd, insEnd, implicitEnd, orderOnlyEnd, lastEnd, endPlace, endAt, endsFrom, startIn, outsIn, insIn, countedIn, inputsIn, Placed}
 
 pub start-zero : (ends : List ℕ) (s : ℕ) → s ≡ 0 → 0 ≡ startIn ends s
 unfolding startIn
@@ -143,7 +143,7 @@ ordered k (x ∷ l) (suc s) b =
       mentioned = rw (end-next k x l s lastEnd) (simp length-append (omega (arith, r .mentioned)));
     }
 
--- the parts as they are read from the tables
+-- the parts as they are read from the columns
 
 module _ (steps : List Step) where
   pub read-inputs : (s : ℕ) → inputsIn (concat (map mentionsOf steps)) (endsFrom 0 steps) s ≡ inputs (stepAt steps s)

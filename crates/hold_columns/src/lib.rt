@@ -1,8 +1,8 @@
-// The tables of a read graph: a step's parts of the mentions.
+// The columns of a read graph: a step's parts of the mentions.
 ghost use mathlib.Core.Path.{_≡_};
 ghost use Prim.Native.Nat.{_^_, _<_};
 ghost use lib.ListN.{length, getD};
-ghost use Rattle.hold_columns.specs.Tables.{Placed, lastEnd, endPlace, endAt, startIn, outsIn, countedIn, inputsIn, makerAt};
+ghost use Rattle.hold_columns.specs.Columns.{Placed, lastEnd, endPlace, endAt, startIn, outsIn, countedIn, inputsIn, makerAt};
 use slices::words::at;
 
 // How many ends a step has, and which is which: those of its outputs, its inputs, its implicit and its order-only inputs.
@@ -75,7 +75,7 @@ pub fn outs<'a, 'b>(mentions: &'a [u32], ends: &'b [u32], s: usize) -> &'a [u32]
     &mentions[from..to]
 }
 
-// The maker of the file at place i, as the makers' table has it.
+// The maker of the file at place i, as the makers' column has it.
 pub fn maker(fs: &[u32], i: usize, made: &[u32]) -> usize
     requires { ⌜ (i < length (now fs)) × (getD (now fs) i 0 < length (now made)) ⌝ }
     ensures { λ r. ⌜ r ≡ makerAt (now (made .entry)) (now (fs .entry)) i ⌝ }

@@ -16,7 +16,7 @@ use Rattle.hold_names.specs.Table.{HoldsNames}
 use Rattle.hold_bindings.specs.Log.{Logged, boundBy, rulesIn, rulesOf}
 use Rattle.hold_bindings.specs.Held.{maxTexts, maxRows, valuesIn}
 use Rattle.hold_bindings.proofs.Entries.{held-none}
-use Rattle.hold_columns.specs.Tables.{madeBy}
+use Rattle.hold_columns.specs.Columns.{madeBy}
 use Rattle.hold_reading.specs.declared.Counts.{Counts}
 use Rattle.hold_reading.specs.declared.Open.{Open}
 use Rattle.hold_reading.specs.declared.LineAnswer.the-variants.{Goes, Refused}
@@ -53,7 +53,7 @@ none-lies (n ∷ ns) a h = (omega arith, omega arith, refl, none-lies ns (drop n
 module _ (names index texts bind graph : List ℕ) where
   pub start-held : HoldsNames names index 0 [] → maxTexts ≤ length texts → maxRows ≤ length bind → sum capacities ≤ length graph
       → HoldsReading [] names index texts bind graph noCounts (joined nothingRead noBlock)
-  unfolding joined boundBy rulesOf rulesIn valuesIn concat makers makersFrom madeBy Rattle.hold_columns.specs.Tables.endsFrom
+  unfolding joined boundBy rulesOf rulesIn valuesIn concat makers makersFrom madeBy Rattle.hold_columns.specs.Columns.endsFrom
   start-held n t b g =
       record {
         named = n;

@@ -9,7 +9,7 @@ use Rattle.lists.specs.Members.{has}
 use Rattle.spec.specs.Basics.{concat}
 use Rattle.spec.specs.Reading.{Step, isPhony}
 use Rattle.spec.specs.Graph.{noStep, stepAt, inputs, makers, makersFrom}
-use Rattle.hold_columns.specs.Tables.{bit, mentionsOf, endsFrom, HoldsColumns}
+use Rattle.hold_columns.specs.Columns.{bit, mentionsOf, endsFrom, HoldsColumns}
 use Rattle.hold_reading.specs.Binds.{bare}
 
 mentions-bare : (l : List Step) → concat (map mentionsOf (map bare l)) ≡ concat (map mentionsOf l)

@@ -17,7 +17,7 @@ use Rattle.hold_names.specs.Table.{HoldsNames}
 use Rattle.hold_bindings.specs.declared.FoundEntry.the-variants.{At}
 use Rattle.hold_bindings.specs.Log.{Logged, ofFile, ofRules, ofStep, entryAt, boundBy, rulesOf, newestRule, Owned}
 use Rattle.hold_bindings.specs.Held.{HoldsBindings, valuesIn}
-use Rattle.hold_columns.specs.Tables.{perStep, endPlace, HoldsColumns}
+use Rattle.hold_columns.specs.Columns.{perStep, endPlace, HoldsColumns}
 use Rattle.hold_reading.specs.declared.Counts.{Counts}
 use Rattle.hold_reading.specs.declared.Open.{Open}
 use Rattle.hold_reading.specs.declared.Open.the-variants.{Nothing, Rule as OpenRule, Step as OpenStep}

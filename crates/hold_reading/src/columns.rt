@@ -2,7 +2,7 @@
 ghost use mathlib.Core.Path.{_≡_};
 ghost use Prim.Native.Nat.{_+_, _<_};
 ghost use lib.ListN.{length};
-ghost use Rattle.hold_columns.specs.Tables.{endPlace};
+ghost use Rattle.hold_columns.specs.Columns.{endPlace};
 ghost use Rattle.hold_reading.specs.Held.{endsStart, endIn};
 use hold_columns::STEP_ENDS;
 use hold_columns::end_place;

@@ -10,7 +10,7 @@ use lib.ListN.{length, getD}
 use borrow.Author.Count.{below-more}
 use Rattle.lists.specs.Tests.{differ}
 use Rattle.lists.specs.Members.{in-at, place}
-use Rattle.hold_columns.specs.Tables.{outsEnd, implicitEnd, lastEnd, endPlace, endAt, startIn, Placed, SoundColumns}
+use Rattle.hold_columns.specs.Columns.{outsEnd, implicitEnd, lastEnd, endPlace, endAt, startIn, Placed, SoundColumns}
 use Rattle.graph_plan.specs.Plan.{PlanAsked, PlansGraph}
 use Rattle.spec.specs.declared.PlanAnswer.{PlanAnswer}
 use Rattle.spec.specs.Answers.{planSays}

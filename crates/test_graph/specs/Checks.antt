@@ -6,7 +6,7 @@ use mathlib.Core.List.{List}
 use lib.ListN.{length, getD}
 use Rattle.spec.specs.Reading.{Step}
 use Rattle.spec.specs.Promises.{PlanMeets}
-use Rattle.hold_columns.specs.Tables.{HoldsColumns}
+use Rattle.hold_columns.specs.Columns.{HoldsColumns}
 use Rattle.graph_stale.specs.Judge.{timeAt}
 use Rattle.graph_plan.specs.Plan.{planGraph, PlanAsked}
 use Rattle.answers.specs.declared.Numbers.{Numbers}

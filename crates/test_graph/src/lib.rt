@@ -2,7 +2,7 @@
 ghost use mathlib.Core.Path.{_≡_};
 ghost use Prim.Native.Nat.{ℕ, _+_, _≤_, _<_};
 ghost use lib.ListN.{length};
-ghost use Rattle.hold_columns.specs.Tables.{startIn, Placed, SoundColumns};
+ghost use Rattle.hold_columns.specs.Columns.{startIn, Placed, SoundColumns};
 ghost use Rattle.graph_plan.specs.Plan.{PlanAsked};
 ghost use Rattle.test_graph.specs.Checks.{Decides, Below, Rising, Answers};
 use answers::Numbers;

@@ -16,7 +16,7 @@ use Rattle.lists.specs.Parts.{part}
 use Rattle.spec.specs.Reading.{Reading, isPhony, keysOf}
 use Rattle.spec.specs.Graph.{stepAt}
 use Rattle.arena.proofs.Laws.{lies-column, lies-read}
-use Rattle.hold_columns.specs.Tables.{outsEnd, insEnd, implicitEnd, lastEnd, endPlace, endAt, startIn, outsIn, insIn}
+use Rattle.hold_columns.specs.Columns.{outsEnd, insEnd, implicitEnd, lastEnd, endPlace, endAt, startIn, outsIn, insIn}
 use Rattle.hold_columns.proofs.Places.{start-zero, start-suc, read-ins, read-ins-placed}
 use Rattle.hold_columns.proofs.Held.{held-outs, held-sound}
 use Rattle.hold_bindings.specs.declared.FoundEntry.{FoundEntry}

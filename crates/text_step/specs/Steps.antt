@@ -10,7 +10,7 @@ use Rattle.lists.specs.Parts.{part}
 use Rattle.spec.specs.Limits.{maxSteps}
 use Rattle.spec.specs.Reading.{Reading, isPhony, keysOf}
 use Rattle.spec.specs.Graph.{stepAt}
-use Rattle.hold_columns.specs.Tables.{lastEnd}
+use Rattle.hold_columns.specs.Columns.{lastEnd}
 use Rattle.hold_bindings.specs.declared.FoundEntry.the-variants.{At}
 use Rattle.hold_bindings.specs.Log.{Logged, ofRules, ofKeys, entryAt, newest, boundBy}
 use Rattle.hold_bindings.specs.Held.{maxEntries, HoldsBindings}

@@ -24,14 +24,14 @@ same-length c = search needs
 returns : tie.Need-returns
 returns c = mention-over (c .before .before .before .before .before .before .before .before .before .before .before .before .before .pre) (c .before .before .before .before .expand .ensures) (sym (c .before .over .ensures) ∙ c .if1 .taken)
 
-slice-reshare-prefix-mark : tie.Need-slice-reshare-prefix-mark
-slice-reshare-prefix-mark c = omega (arith, path-fits (c .before .before .before .before .before .before .before .before .before .before .before .before .before .pre) (c .before .before .before .before .expand .ensures) (inside c))
+slice-reshare-prefix-add-path : tie.Need-slice-reshare-prefix-add-path
+slice-reshare-prefix-add-path c = omega (arith, path-fits (c .before .before .before .before .before .before .before .before .before .before .before .before .before .pre) (c .before .before .before .before .expand .ensures) (inside c))
 
-slice-aggregate-mark : tie.Need-slice-aggregate-mark
-slice-aggregate-mark c = sym (path-counted (c .before .before .before .before .before .before .before .before .before .before .before .before .before .before .pre) (c .before .before .before .before .before .expand .ensures) (inside (c .before)))
+slice-aggregate-add-path : tie.Need-slice-aggregate-add-path
+slice-aggregate-add-path c = sym (path-counted (c .before .before .before .before .before .before .before .before .before .before .before .before .before .before .pre) (c .before .before .before .before .before .expand .ensures) (inside (c .before)))
 
-mark-requires : tie.Need-mark-requires
-mark-requires c κs = mention-fits (c .before .before .before .before .before .before .before .before .before .before .before .before .before .before .before .before .before .pre) (c .before .before .before .before .before .before .before .before .expand .ensures) (inside (c .before .before .before .before))
+add-path-requires : tie.Need-add-path-requires
+add-path-requires c κs = mention-fits (c .before .before .before .before .before .before .before .before .before .before .before .before .before .before .before .before .before .pre) (c .before .before .before .before .before .before .before .before .expand .ensures) (inside (c .before .before .before .before))
 
 same-length-2 : tie.Need-same-length-2
 same-length-2 c = search needs
@@ -46,7 +46,7 @@ same-length-5 : tie.Need-same-length-5
 same-length-5 c = search needs
 
 returns-2 : tie.Need-returns-2
-returns-2 c = mention-marked (c .before .before .before .before .before .before .before .before .before .before .before .before .before .before .before .before .before .before .before .before .before .before .before .before .pre) (c .before .before .before .before .before .before .before .before .before .before .before .before .before .before .before .expand .ensures) (inside (c .before .before .before .before .before .before .before .before .before .before .before)) (c .before .before .before .before .before .before .mark .ensures)
+returns-2 c = mention-marked (c .before .before .before .before .before .before .before .before .before .before .before .before .before .before .before .before .before .before .before .before .before .before .before .before .pre) (c .before .before .before .before .before .before .before .before .before .before .before .before .before .before .before .expand .ensures) (inside (c .before .before .before .before .before .before .before .before .before .before .before)) (c .before .before .before .before .before .before .add-path .ensures)
 
 pub mention-spec : {M : Type 1} → statement M
 mention-spec =
@@ -56,9 +56,9 @@ mention-spec =
     over-requires
     same-length
     returns
-    slice-reshare-prefix-mark
-    slice-aggregate-mark
-    mark-requires
+    slice-reshare-prefix-add-path
+    slice-aggregate-add-path
+    add-path-requires
     same-length-2
     same-length-3
     same-length-4

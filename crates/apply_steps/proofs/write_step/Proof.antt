@@ -1,7 +1,7 @@
 -- `apply_steps::write_step` meets its contract.
 use native.Mathlib.Omega.{arith}
 use borrow.Author.Needs.{needs}
-use Rattle.apply_steps.proofs.Outcomes.{write-many, write-over, write-goes, write-four, write-rule, write-join}
+use Rattle.apply_steps.proofs.Outcomes.{write-many, write-over, write-goes, write-four, write-rule, write-columns}
 use Rattle.apply_steps.proofs.write_step.Statement.{statement}
 use Rattle.apply_steps.proofs.write_step.Tie as tie
 
@@ -26,8 +26,8 @@ part-rule-number-end c = omega (arith, c .before .before .before .before .before
 rule-number-requires : tie.Need-rule-number-requires
 rule-number-requires c κs = write-rule (c .before .before .before .before .before .before .before .before .before .before .before .before .before .before .before .before .before .before .before .before .before .before .before .before .before .before .pre) (rw (c .before .before .d .given .1) at (c .before .before .before .before .before .before .before .before .before .before .before .before .four .ensures))
 
-join-requires : tie.Need-join-requires
-join-requires c κs = write-join (c .before .before .before .before .before .before .before .before .before .before .before .before .before .before .before .before .before .before .before .before .before .before .before .before .before .before .before .before .pre) (rw (c .before .before .before .before .d .given .1) at (c .before .before .before .before .before .before .before .before .before .before .before .before .before .before .four .ensures)) (c .before .before .before .before .before .before .before .before .before .before .before .before .before .before .before .before .before .before .before .if1 .left) _ (c .before .rule-number .ensures)
+put-step-requires : tie.Need-put-step-requires
+put-step-requires c κs = write-columns (c .before .before .before .before .before .before .before .before .before .before .before .before .before .before .before .before .before .before .before .before .before .before .before .before .before .before .before .before .pre) (rw (c .before .before .before .before .d .given .1) at (c .before .before .before .before .before .before .before .before .before .before .before .before .before .before .four .ensures)) (c .before .before .before .before .before .before .before .before .before .before .before .before .before .before .before .before .before .before .before .if1 .left) _ (c .before .rule-number .ensures)
 
 enum-told : tie.Need-enum-told
 enum-told c = search needs
@@ -45,7 +45,7 @@ same-length-4 : tie.Need-same-length-4
 same-length-4 c = search needs
 
 returns-2 : tie.Need-returns-2
-returns-2 c = write-goes (c .before .before .before .before .before .before .before .before .before .before .before .before .before .before .before .before .before .before .before .before .before .before .before .before .before .before .before .before .before .before .before .args .start) (c .before .before .before .before .before .before .before .before .before .before .before .before .before .before .before .before .before .before .before .before .before .before .if1 .left) (rw (c .before .before .before .before .before .before .before .d .given .1) at (c .before .before .before .before .before .before .before .before .before .before .before .before .before .before .before .before .before .four .ensures)) (c .before .before .before .before .rule-number .ensures) (c .before .before .join .ensures)
+returns-2 c = write-goes (c .before .before .before .before .before .before .before .before .before .before .before .before .before .before .before .before .before .before .before .before .before .before .before .before .before .before .before .before .before .before .before .args .start) (c .before .before .before .before .before .before .before .before .before .before .before .before .before .before .before .before .before .before .before .before .before .before .if1 .left) (rw (c .before .before .before .before .before .before .before .d .given .1) at (c .before .before .before .before .before .before .before .before .before .before .before .before .before .before .before .before .before .four .ensures)) (c .before .before .before .before .rule-number .ensures) (c .before .before .put-step .ensures)
 
 same-length-5 : tie.Need-same-length-5
 same-length-5 c = search needs
@@ -73,7 +73,7 @@ write-step-spec =
     part-rule-number-start
     part-rule-number-end
     rule-number-requires
-    join-requires
+    put-step-requires
     enum-told
     same-length
     same-length-2

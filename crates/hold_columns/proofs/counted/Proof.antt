@@ -1,5 +1,5 @@
 -- `hold_columns::counted` meets its contract.
-use Rattle.hold_columns.specs.Tables.{countedIn}
+use Rattle.hold_columns.specs.Columns.{countedIn}
 use borrow.Author.Needs.{needs}
 use Rattle.hold_columns.proofs.counted.Statement.{statement}
 use Rattle.hold_columns.proofs.counted.Tie as tie

@@ -1,5 +1,5 @@
 -- `hold_columns::inputs` meets its contract.
-use Rattle.hold_columns.specs.Tables.{inputsIn}
+use Rattle.hold_columns.specs.Columns.{inputsIn}
 use borrow.Author.Needs.{needs}
 use Rattle.hold_columns.proofs.inputs.Statement.{statement}
 use Rattle.hold_columns.proofs.inputs.Tie as tie

@@ -1,5 +1,5 @@
 -- `hold_columns::outs` meets its contract.
-use Rattle.hold_columns.specs.Tables.{outsIn}
+use Rattle.hold_columns.specs.Columns.{outsIn}
 use borrow.Author.Needs.{needs}
 use Rattle.hold_columns.proofs.outs.Statement.{statement}
 use Rattle.hold_columns.proofs.outs.Tie as tie

@@ -1,13 +1,13 @@
--- `apply_files::mark` meets its contract.
+-- `apply_files::add_path` meets its contract.
 use native.Mathlib.Omega.{arith}
 use denote.Ref.{now}
 use lib.ListN.{length}
 use borrow.Author.Needs.{needs}
 use Rattle.apply_files.proofs.Columns.{graph-long}
 use Rattle.apply_files.proofs.Limits.{Within, path-within}
-use Rattle.apply_files.proofs.Marking.{mentions-short, path-old, path-new, path-full, old-low, new-low}
-use Rattle.apply_files.proofs.mark.Statement.{statement}
-use Rattle.apply_files.proofs.mark.Tie as tie
+use Rattle.apply_files.proofs.Adding.{mentions-short, path-old, path-new, path-full, old-low, new-low}
+use Rattle.apply_files.proofs.add_path.Statement.{statement}
+use Rattle.apply_files.proofs.add_path.Tie as tie
 
 -- the path that was found within the limits
 abbrev within : (s : tie.Start) → Within (length (now (s .args .path))) (s .args .c)
@@ -50,7 +50,7 @@ same-length-3 : tie.Need-same-length-3
 same-length-3 c = search needs
 
 returns : tie.Need-returns
-returns c = record { marks = λ texts bind h w. path-old (c .before .before .before .before .before .before .before .before .before .before .before .add .ensures) (within (c .before .before .before .before .before .before .before .before .before .before .before .before .before .before .before .before .before .before)) w (c .before .before .before .before .before .k .given .1) (c .before .before .note-again .ensures) }
+returns c = record { adds = λ texts bind h w. path-old (c .before .before .before .before .before .before .before .before .before .before .before .add .ensures) (within (c .before .before .before .before .before .before .before .before .before .before .before .before .before .before .before .before .before .before)) w (c .before .before .before .before .before .k .given .1) (c .before .before .note-again .ensures) }
 
 same-length-4 : tie.Need-same-length-4
 same-length-4 c = search needs
@@ -62,7 +62,7 @@ same-length-6 : tie.Need-same-length-6
 same-length-6 c = search needs
 
 returns-2 : tie.Need-returns-2
-returns-2 c = record { marks = λ texts bind h w. path-new (c .before .before .before .before .before .before .before .before .before .before .before .add .ensures) (within (c .before .before .before .before .before .before .before .before .before .before .before .before .before .before .before .before .before .before)) w (c .before .before .before .before .before .k2 .given .1) (c .before .before .note-first .ensures) }
+returns-2 c = record { adds = λ texts bind h w. path-new (c .before .before .before .before .before .before .before .before .before .before .before .add .ensures) (within (c .before .before .before .before .before .before .before .before .before .before .before .before .before .before .before .before .before .before)) w (c .before .before .before .before .before .k2 .given .1) (c .before .before .note-first .ensures) }
 
 same-length-7 : tie.Need-same-length-7
 same-length-7 c = search needs
@@ -71,10 +71,10 @@ same-length-8 : tie.Need-same-length-8
 same-length-8 c = search needs
 
 returns-3 : tie.Need-returns-3
-returns-3 c = record { marks = λ texts bind h w. path-full (c .before .before .before .before .before .before .add .ensures) (within (c .before .before .before .before .before .before .before .before .before .before .before .before .before)) w (c .before .before .before .before .before .before .before .before .before .before .before .before .before .pre .names-long) (c .enum-told .given .1) }
+returns-3 c = record { adds = λ texts bind h w. path-full (c .before .before .before .before .before .before .add .ensures) (within (c .before .before .before .before .before .before .before .before .before .before .before .before .before)) w (c .before .before .before .before .before .before .before .before .before .before .before .before .before .pre .names-long) (c .enum-told .given .1) }
 
-pub mark-spec : {M : Type 1} → statement M
-mark-spec =
+pub add-path-spec : {M : Type 1} → statement M
+add-path-spec =
     tie.close
     (tie.spec
     add-requires

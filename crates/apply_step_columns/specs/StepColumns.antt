@@ -1,4 +1,4 @@
--- The step joins the columns: the makers of its outputs, phony or not, and its rule.
+-- A step in the columns: the makers of its outputs, phony or not, and its rule.
 use Prim.Native.Nat.{ℕ, zero, suc, _+_, _^_, _≤_, _<_}
 use mathlib.Core.List.{List, [], _∷_, _++_}
 use mathlib.Core.Path.{_≡_}
@@ -11,7 +11,7 @@ use Rattle.hold_bindings.specs.declared.FoundEntry.{FoundEntry}
 use Rattle.hold_bindings.specs.declared.FoundEntry.the-variants.{At, Missing}
 use Rattle.hold_bindings.specs.Log.{Logged, ofRules, newest}
 use Rattle.hold_bindings.specs.Held.{maxEntries}
-use Rattle.hold_columns.specs.Tables.{outsEnd, endPlace, endAt}
+use Rattle.hold_columns.specs.Columns.{outsEnd, endPlace, endAt}
 use Rattle.hold_reading.specs.declared.Counts.{Counts}
 use Rattle.apply_files.specs.Lines.{Line, Columns}
 
@@ -77,7 +77,7 @@ pub record Ready (from : ℕ) (c : Counts) (h : Line) : Type 0 where
   pub ruled : length (h .ruleOf) ≡ c .steps
   pub few : c .steps < maxSteps
 
-pub record JoinAsks (graph : List ℕ) (from n : ℕ) (c : Counts) : Type 0 where
+pub record PutStepAsks (graph : List ℕ) (from n : ℕ) (c : Counts) : Type 0 where
   pub line : Line
   pub laid : Laid graph line
   pub ready : Ready from c line
@@ -115,6 +115,6 @@ countedStep c =
       written = c .written;
     }
 
-pub record Joins (graph : List ℕ) (from n : ℕ) (c : Counts) (graph′ : List ℕ) (r : Counts) : Type 0 where
+pub record PutsStep (graph : List ℕ) (from n : ℕ) (c : Counts) (graph′ : List ℕ) (r : Counts) : Type 0 where
   pub laid : (h : Line) → Laid graph h → Ready from c h → Laid graph′ (withRule from n c h)
   pub counted : r ≡ countedStep c

@@ -19,7 +19,7 @@ use Rattle.hold_names.proofs.Laws.{after-old, after-new, after-full}
 use Rattle.hold_reading.specs.declared.Counts.{Counts}
 use Rattle.hold_reading.specs.Held.{Bound}
 use Rattle.apply_files.specs.declared.Mentioned.the-variants.{On, Over}
-use Rattle.apply_files.specs.Lines.{Line, Columns, Writing, madeWith, withPath, withPaths, Marks, on, over}
+use Rattle.apply_files.specs.Lines.{Line, Columns, Writing, madeWith, withPath, withPaths, AddedPaths, on, over}
 use Rattle.apply_files.specs.Path.{countedPath, Again, First}
 use Rattle.apply_files.proofs.Columns.{push-mention, push-made}
 use Rattle.apply_files.proofs.Limits.{Within, line-files, path-short}
@@ -103,7 +103,7 @@ module _ {names index texts bind graph : List ℕ} {c : Counts} {h : Line} (w : 
 
 module _ {names index graph path names′ index′ : List ℕ} {c : Counts} {r : Added} (a : AddsName names index (c .files) path names′ index′ r) (l : Within (length path) c)
     {texts bind : List ℕ} {h : Line} (w : Writing names index texts bind graph c h) where
-  pub path-old : {k : ℕ} {graph′ : List ℕ} {d : Counts} → r ≡ Old k → Again graph c k (length path) graph′ d → Marks names′ index′ texts bind graph′ h (path ∷ []) (On d)
+  pub path-old : {k : ℕ} {graph′ : List ℕ} {d : Counts} → r ≡ Old k → Again graph c k (length path) graph′ d → AddedPaths names′ index′ texts bind graph′ h (path ∷ []) (On d)
   unfolding withPaths
   path-old {k} e g =
       let m = after-old a (w .named) e in
@@ -111,7 +111,7 @@ module _ {names index graph path names′ index′ : List ℕ} {c : Counts} {r :
       rw (g .stored, g .counted)
       (on (path-held w path l m (rw z (push-mention (w .columns) k (c .paths) (w .paths-counted) (mentions-short w path l))) (rw z (w .filed ∙ sym (w .named .counted)))) (path-short path l))
 
-  pub path-new : {k : ℕ} {graph′ : List ℕ} {d : Counts} → r ≡ New k → First graph c k (length path) graph′ d → Marks names′ index′ texts bind graph′ h (path ∷ []) (On d)
+  pub path-new : {k : ℕ} {graph′ : List ℕ} {d : Counts} → r ≡ New k → First graph c k (length path) graph′ d → AddedPaths names′ index′ texts bind graph′ h (path ∷ []) (On d)
   unfolding withPaths
   path-new {k} e g =
       let m = after-new a (w .named) e in
@@ -124,7 +124,7 @@ module _ {names index graph path names′ index′ : List ℕ} {c : Counts} {r :
       (rw z (omega (arith, length-append (h .made) (0 ∷ []), w .filed, w .named .counted))))
       (path-short path l))
 
-  pub path-full : maxWritten ≤ length names → r ≡ Full → {graph′ : List ℕ} → Marks names′ index′ texts bind graph′ h (path ∷ []) Over
+  pub path-full : maxWritten ≤ length names → r ≡ Full → {graph′ : List ℕ} → AddedPaths names′ index′ texts bind graph′ h (path ∷ []) Over
   path-full n e =
       let x = after-full a (w .named) e (omega (arith, w .bound .shared, l .low)) in
       over (line-files path (h .reading) (x .0) (x .1))

@@ -1,4 +1,4 @@
--- The tables of a read graph: every mention of a file in one column, where each step's parts of it end, which steps are phony, each file's maker.
+-- The columns of a read graph: every mention of a file in one column, where each step's parts of it end, which steps are phony, each file's maker.
 use Prim.Native.Nat.{ℕ, zero, suc, _+_, _*_, _≤_, _<_}
 use mathlib.Core.Path.{_≡_}
 use mathlib.Core.Bool.{Bool, true, false}
@@ -13,7 +13,7 @@ use Rattle.spec.specs.Promises.{filled}
 use Rattle.spec.specs.Reading.{Step, isPhony}
 use Rattle.spec.specs.Graph.{inputs, makers}
 
--- ------------------------------------------------------------------ what the tables hold
+-- ------------------------------------------------------------------ what the columns hold
 
 -- a test as the number 1 or 0
 abbrev pub bit : Bool → ℕ
@@ -62,12 +62,12 @@ endsFrom k (s ∷ l) =
     let d = c + length (s .orderOnly) in
     a ∷ b ∷ c ∷ d ∷ endsFrom d l
 
--- what an entry of the makers' table says: 0 no maker, else the step after
+-- what an entry of the makers' column says: 0 no maker, else the step after
 unfoldable pub madeBy : ℕ → List ℕ
 madeBy zero = []
 madeBy (suc m) = m ∷ []
 
--- the tables hold these steps, over so many files
+-- the columns hold these steps, over so many files
 pub record HoldsColumns (steps : List Step) (files : ℕ) (mentions ends phony made : List ℕ) : Type 0 where
   pub mentioned : mentions ≡ concat (map mentionsOf steps)
   pub ended : ends ≡ endsFrom 0 steps
@@ -134,7 +134,7 @@ pub record Placed (mentions ends : List ℕ) (s : ℕ) : Type 0 where
   pub inputs : endAt ends s implicitEnd ≤ endAt ends s orderOnlyEnd
   pub mentioned : endAt ends s lastEnd ≤ length mentions
 
--- all numbers of n steps' tables are in range
+-- all numbers of n steps' columns are in range
 pub record SoundColumns (n : ℕ) (mentions ends made : List ℕ) : Type 0 where
   pub placed : (s : ℕ) → s < n → Placed mentions ends s
   pub low : (f : ℕ) → f ∈ mentions → f < length made
@@ -143,7 +143,7 @@ pub record SoundColumns (n : ℕ) (mentions ends made : List ℕ) : Type 0 where
   pub few-files : length made ≤ maxFiles
   pub few-mentions : length mentions ≤ maxMentions
 
--- files that the makers' table has, and entries of it for n steps
+-- files that the makers' column has, and entries of it for n steps
 pub record Files (n : ℕ) (fs made : List ℕ) : Type 0 where
   pub low : (i : ℕ) → i < length fs → getD fs i 0 < length made
   pub makers : (f : ℕ) → f < length made → getD made f 0 ≤ n
