@@ -39,7 +39,7 @@ extern "C" {
 }
 
 /// The lengths that do for any manifest, in the order of the buffers.
-pub const LENGTHS: [usize; 6] = [60_000, 3_072, 133_728, 4_608, 61_440, 60_000];
+pub const LENGTHS: [usize; 6] = [60_000, 3_072, 133_728, 4_608, 61_440, 2_048];
 
 /// The reader's buffers. What they held before is of no matter to a reading.
 #[derive(Clone, PartialEq, Eq)]

@@ -39,11 +39,11 @@ module _ {names index texts bind graph word : List ℕ} where
   pub few-columns : length graph < 61440 → Judges names index texts bind graph word false
   few-columns h = lacks (λ p. omega (arith, p .room .scratch))
 
-  pub short-word : length word < 60000 → Judges names index texts bind graph word false
+  pub short-word : length word < 2048 → Judges names index texts bind graph word false
   short-word h = lacks (λ p. omega (arith, p .room .word-room))
 
   pub has-room : 60000 ≤ length names → length names ≤ 4294967295 → 3072 ≤ length index → 133728 ≤ length texts → 4608 ≤ length bind → 61440 ≤ length graph
-      → 60000 ≤ length word → Judges names index texts bind graph word true
+      → 2048 ≤ length word → Judges names index texts bind graph word true
   has-room n s f x b g w = record {
     enough = λ e. record {
       table = refl;
