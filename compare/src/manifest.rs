@@ -40,7 +40,7 @@ extern "C" {
 }
 
 /// The lengths that do for any manifest, in the order of the buffers.
-pub const LENGTHS: [usize; 6] = [60_000, 3_072, 133_728, 4_608, 61_440, 60_000];
+pub const LENGTHS: [usize; 6] = [60_000, 3_072, 133_728, 4_608, 61_440, 2_048];
 
 /// Where the columns of the graph's buffer start.
 mod column {

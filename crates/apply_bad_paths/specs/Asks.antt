@@ -6,7 +6,7 @@ use mathlib.Core.Path.{_≡_}
 use lib.ListN.{length}
 use Rattle.lists.specs.Members.{any}
 use Rattle.spec.specs.Basics.{isEmpty}
-use Rattle.spec.specs.Limits.{maxManifest, maxWritten}
+use Rattle.spec.specs.Limits.{maxManifest, maxValue}
 use Rattle.spec.specs.Forms.{BuildLine}
 use Rattle.spec.specs.Reading.{Reading}
 use Rattle.spec.specs.Statements.{badPaths, expandedLine, inputsOfLine}
@@ -25,7 +25,7 @@ pub record LineAsks (t l names index texts bind graph word : List ℕ) (c : Coun
   pub short : length l ≤ maxManifest
   pub line : BuildLine
   pub stands : Stands l p line
-  pub room : maxWritten ≤ length word
+  pub room : maxValue ≤ length word
   pub scratch : columnsEnd + maxManifest ≤ length graph
   pub whole : Whole names index texts bind graph c
 

@@ -3,7 +3,7 @@ use Prim.Native.Nat.{ℕ, _+_, _≤_}
 use mathlib.Core.List.{List}
 use mathlib.Core.Path.{_≡_}
 use lib.ListN.{length}
-use Rattle.spec.specs.Limits.{maxManifest, maxWritten}
+use Rattle.spec.specs.Limits.{maxManifest, maxValue, maxWritten}
 use Rattle.spec.specs.Forms.{BuildLine}
 use Rattle.scan_classes.specs.Table.{classes}
 use Rattle.cut_forms.specs.Statements.{Stands}
@@ -12,13 +12,13 @@ use Rattle.hold_reading.specs.Adds.{Whole}
 use Rattle.hold_reading.specs.declared.Counts.{Counts}
 use Rattle.apply_equal_outputs.specs.Kept.{columnsEnd}
 
--- The word buffer has room for as many bytes as all names that are held, and behind the columns of the graph is room for the table of its outputs.
+-- The word buffer has room for any path within its limit, and behind the columns of the graph is room for the table of its outputs.
 pub record BuildAsks (t l names index texts bind graph word : List ℕ) (c : Counts) (p : BuildPlaces) : Type 0 where
   pub table : t ≡ classes
   pub short : length l ≤ maxManifest
   pub line : BuildLine
   pub stands : Stands l p line
-  pub room : maxWritten ≤ length word
+  pub room : maxValue ≤ length word
   pub scratch : columnsEnd + maxManifest ≤ length graph
   pub names-room : maxWritten ≤ length names
   pub whole : Whole names index texts bind graph c

@@ -78,4 +78,4 @@ module _ {log : List Logged} {names index texts bind graph : List ℕ} {c : Coun
 
   pub default-held : HoldsReading log names index texts bind (set graph (8192 + c .defaults) k) (countedDefault n c) (defaulted k n rd)
   unfolding defaulted
-  default-held = record { named = h .named; bound = bound-more; graphed = graphed-more }
+  default-held = record { named = h .named; bound = bound-more; graphed = graphed-more; short = h .short }

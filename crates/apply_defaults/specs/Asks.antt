@@ -1,9 +1,9 @@
--- What a default line asks: a list of paths, all that is held, and a word buffer with room for as many bytes as all names that are held.
+-- What a default line asks: a list of paths, all that is held, and a word buffer with room for any path within its limit.
 use Prim.Native.Nat.{ℕ, _≤_}
 use mathlib.Core.List.{List}
 use mathlib.Core.Path.{_≡_}
 use lib.ListN.{length}
-use Rattle.spec.specs.Limits.{maxManifest, maxWritten}
+use Rattle.spec.specs.Limits.{maxManifest, maxValue}
 use Rattle.scan_classes.specs.Table.{classes}
 use Rattle.cut_forms.specs.Paths.{PathsAt}
 use Rattle.hold_reading.specs.Adds.{Whole}
@@ -14,5 +14,5 @@ pub record DefaultAsks (t l names index texts bind graph word : List ℕ) (c : C
   pub short : length l ≤ maxManifest
   pub raw : List (List ℕ)
   pub stands : PathsAt l at raw
-  pub room : maxWritten ≤ length word
+  pub room : maxValue ≤ length word
   pub whole : Whole names index texts bind graph c

@@ -31,7 +31,7 @@ graphed-kept {graph = graph} {graph′ = graph′} {rd = rd} k g =
 
 pub held-kept : {log : List Logged} {names index texts bind graph graph′ : List ℕ} {c : Counts} {rd : Reading} → Kept graph graph′ → HoldsReading log names index texts bind graph c rd
     → HoldsReading log names index texts bind graph′ c rd
-held-kept k h = record { named = h .named; bound = h .bound; graphed = graphed-kept k (h .graphed) }
+held-kept k h = record { named = h .named; bound = h .bound; graphed = graphed-kept k (h .graphed); short = h .short }
 
 pub whole-kept : {names index texts bind graph graph′ : List ℕ} {c : Counts} → Kept graph graph′ → Whole names index texts bind graph c → Whole names index texts bind graph′ c
 whole-kept k w = record { log = w .log; reading = w .reading; holds = held-kept k (w .holds) }

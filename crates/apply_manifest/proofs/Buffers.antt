@@ -8,7 +8,7 @@ use Rattle.scan_classes.specs.Table.{classes}
 use Rattle.apply_manifest.specs.Manifests.{Roomy}
 
 module _ {t names index texts bind graph word : List ℕ} (e : t ≡ classes) (n : length names ≡ 60000) (f : length index ≡ 3072) (x : length texts ≡ 133728)
-    (b : length bind ≡ 4608) (g : length graph ≡ 61440) (w : length word ≡ 60000) where
+    (b : length bind ≡ 4608) (g : length graph ≡ 61440) (w : length word ≡ 2048) where
   pub roomy : Roomy t names index texts bind graph word
   roomy =
       record {

@@ -6,19 +6,18 @@ use mathlib.Core.Path.{_≡_, refl, sym, _∙_, ap}
 use native.Mathlib.Omega.{arith}
 use borrow.Author.Tests.{ne-eqb}
 use lib.Dec.{eqb}
-use lib.ListN.{length, getD, take, length-append, List·getD-eq-default}
+use lib.ListN.{length, getD, take, List·getD-eq-default}
 use Rattle.lists.specs.Tests.{split, differ}
-use Rattle.lists.specs.Bytes.{eqBytes, eqBytes-true}
 use Rattle.lists.specs.Members.{any, has}
-use Rattle.spec.specs.Basics.{isEmpty, among, concat}
-use Rattle.spec.specs.Limits.{maxFiles, maxWritten}
+use Rattle.spec.specs.Basics.{isEmpty, among}
+use Rattle.spec.specs.Limits.{maxFiles, maxPath}
 use Rattle.spec.specs.Reading.{Step, Reading, numberOf, isOutput, isMade}
 use Rattle.spec.specs.Graph.{makers, makersFrom}
 use Rattle.arena.proofs.Laws.{lies-column, lies-read}
 use Rattle.hold_names.specs.declared.FoundName.{FoundName}
 use Rattle.hold_names.specs.declared.FoundName.the-variants.{At, Missing}
 use Rattle.hold_names.specs.Table.{FindsName}
-use Rattle.hold_names.proofs.Numbers.{among-none, among-there, number-missing}
+use Rattle.hold_names.proofs.Numbers.{number-missing}
 use Rattle.hold_names.proofs.Laws.{find-at, find-missing}
 use Rattle.hold_columns.specs.Columns.{madeBy, makerIn}
 use Rattle.hold_columns.proofs.Held.{held-makers}
@@ -30,6 +29,7 @@ use Rattle.expand_dollars.proofs.Callers.{written-long, written-whole}
 use Rattle.hold_reading.specs.declared.Counts.{Counts}
 use Rattle.hold_reading.specs.Held.{capacities, Graphed, HoldsReading}
 use Rattle.hold_reading.specs.Adds.{Whole}
+use Rattle.hold_reading.proofs.Short.{among-short}
 use Rattle.apply_path_checks.specs.declared.PathKind.{PathKind}
 use Rattle.apply_path_checks.specs.declared.PathKind.the-variants.{Input, Output, Default}
 use Rattle.apply_path_checks.specs.Checks.{pathOf, wrongPath, Filed, Files, Makes, MadeAsks, RawAsks}
@@ -99,20 +99,11 @@ missing-unmade h {path} f e = unknown-unmade (h .graphed) path (find-missing f (
 
 -- ---- a path in the word buffer
 
--- A name that is there is no longer than all names together.
-among-short : (p : List ℕ) (l : List (List ℕ)) → among p l ≡ true → length p ≤ length (concat l)
-unfolding concat
-among-short p [] h = differ h (among-none p)
-among-short p (f ∷ l) h =
-    split (eqBytes p f)
-    (λ (e : eqBytes p f ≡ true). rw (eqBytes-true p f e) (omega (arith, length-append f (concat l))))
-    (λ (e : eqBytes p f ≡ false). omega (arith, length-append f (concat l), among-short p l (sym (among-there p f l e) ∙ h)))
-
 pub long-unmade : {log : List Logged} {names index texts bind graph : List ℕ} {c : Counts} {rd : Reading} → HoldsReading log names index texts bind graph c rd → (path : List ℕ)
-    → maxWritten < length path → false ≡ isMade path rd
+    → maxPath < length path → false ≡ isMade path rd
 long-unmade {rd = rd} h path b =
     split (among path (rd .files))
-    (λ (e : among path (rd .files) ≡ true). absurd (omega (arith, among-short path (rd .files) e, h .bound .shared, h .bound .few-written)))
+    (λ (e : among path (rd .files) ≡ true). absurd (omega (arith, among-short path (rd .files) (h .short) e)))
     (λ (e : among path (rd .files) ≡ false). unknown-unmade (h .graphed) path e)
 
 pub filed : {log : List Logged} {names index texts bind graph : List ℕ} {c : Counts} {rd : Reading} → HoldsReading log names index texts bind graph c rd → Filed log names index graph c rd
@@ -124,8 +115,8 @@ files-held w = record { log = w .log; reading = w .reading; filed = filed (w .ho
 -- ---- what the functions on one path answer
 
 module _ {names index graph word : List ℕ} {c : Counts} {n : ℕ} where
-  pub long-held : maxWritten ≤ length word → length word < n → Makes names index graph word c n false
-  long-held r l = record { answer = λ path e w texts bind log rd h. long-unmade h path (omega arith) }
+  pub long-held : maxPath < n → Makes names index graph word c n false
+  long-held l = record { answer = λ path e w texts bind log rd h. long-unmade h path (omega arith) }
 
   pub made-held : n ≤ length word → {r : Bool} → ((log : List Logged) (rd : Reading) → Filed log names index graph c rd → r ≡ isMade (take n word) rd) → Makes names index graph word c n r
   made-held l e = record { answer = λ path d w texts bind log rd h. e log rd (filed h) ∙ ap (λ (p : List ℕ). isMade p rd) (w l) }

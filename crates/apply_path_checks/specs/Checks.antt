@@ -6,7 +6,7 @@ use mathlib.Core.Path.{_≡_}
 use lib.ListN.{length, take}
 use Rattle.lists.specs.Members.{any}
 use Rattle.spec.specs.Basics.{isEmpty}
-use Rattle.spec.specs.Limits.{maxManifest, maxWritten}
+use Rattle.spec.specs.Limits.{maxManifest, maxValue}
 use Rattle.spec.specs.Dollars.{expand}
 use Rattle.spec.specs.Reading.{Reading, fileVar, isMade}
 use Rattle.spec.specs.Statements.{expanded}
@@ -45,12 +45,12 @@ pub record Files (names index graph : List ℕ) (c : Counts) : Type 0 where
   pub reading : Reading
   pub filed : Filed log names index graph c reading
 
--- No name that is held is longer than the word buffer.
+-- The word buffer has room for any name that is held.
 pub record MadeAsks (names index graph word : List ℕ) (c : Counts) : Type 0 where
-  pub room : maxWritten ≤ length word
+  pub room : maxValue ≤ length word
   pub files : Files names index graph c
 
--- whether a path of n bytes, which is in the word buffer if it fits, is the output of an earlier step
+-- whether a path of n bytes, which is in the word buffer if it fits there, is the output of an earlier step
 pub record Makes (names index graph word : List ℕ) (c : Counts) (n : ℕ) (r : Bool) : Type 0 where
   pub answer : (path : List ℕ) → n ≡ length path → (n ≤ length word → take n word ≡ path) → (texts bind : List ℕ) (log : List Logged) (rd : Reading)
       → HoldsReading log names index texts bind graph c rd → r ≡ isMade path rd
@@ -60,7 +60,7 @@ pub record Makes (names index graph word : List ℕ) (c : Counts) (n : ℕ) (r :
 -- a raw path, and all that is held
 pub record RawAsks (t raw names index texts bind graph word : List ℕ) (c : Counts) : Type 0 where
   pub ready : Ready t raw texts bind (c .entries) 0
-  pub room : maxWritten ≤ length word
+  pub room : maxValue ≤ length word
   pub whole : Whole names index texts bind graph c
 
 -- the same for a list of paths
@@ -68,7 +68,7 @@ pub record PathAsks (t l names index texts bind graph word : List ℕ) (c : Coun
   pub table : t ≡ classes
   pub short : length l ≤ maxManifest
   pub within : at ≤ length l
-  pub room : maxWritten ≤ length word
+  pub room : maxValue ≤ length word
   pub whole : Whole names index texts bind graph c
 
 -- whether any path of the list is wrong, whatever reading is held

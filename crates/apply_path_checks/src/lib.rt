@@ -13,6 +13,7 @@ use hold_names::find;
 use hold_reading::Counts;
 use hold_reading::columns::MADE_START;
 use slices::words::at;
+use spec::limits::PATH;
 
 // No path may be empty. An output of a build line is made by no earlier step, a default by one.
 pub enum PathKind {
@@ -32,12 +33,12 @@ fn is_output(names: &[u8], index: &[u32], graph: &[u32], c: Counts, path: &[u8])
     }
 }
 
-// The same of a path of n bytes, which is in the word buffer if it fits. One that does not fit is longer than any name.
+// The same of a path of n bytes, which is in the word buffer if it fits there. One over the limit is no name that is held.
 fn is_made(names: &[u8], index: &[u32], graph: &[u32], c: Counts, word: &[u8], n: usize) -> bool
     requires { ⌜ MadeAsks (now names) (now index) (now graph) (now word) c ⌝ }
     ensures { λ r. ⌜ Makes (now (names .entry)) (now (index .entry)) (now (graph .entry)) (now (word .entry)) c n r ⌝ }
 {
-    if word.len() < n {
+    if PATH < n {
         return false;
     }
     is_output(names, index, graph, c, &word[..n])

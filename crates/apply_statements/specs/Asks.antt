@@ -2,7 +2,7 @@
 use Prim.Native.Nat.{ℕ, _+_, _≤_}
 use mathlib.Core.List.{List}
 use lib.ListN.{length}
-use Rattle.spec.specs.Limits.{maxManifest, maxWritten}
+use Rattle.spec.specs.Limits.{maxManifest, maxValue, maxWritten}
 use Rattle.spec.specs.Reading.{Reading}
 use Rattle.spec.specs.Statements.{Block, Outcome}
 use Rattle.hold_bindings.specs.Log.{Logged}
@@ -17,7 +17,7 @@ use Rattle.apply_equal_outputs.specs.Kept.{columnsEnd}
 pub record Room (names graph word : List ℕ) : Type 0 where
   pub names-room : maxWritten ≤ length names
   pub scratch : columnsEnd + maxManifest ≤ length graph
-  pub word-room : maxWritten ≤ length word
+  pub word-room : maxValue ≤ length word
 
 -- the buffers hold some reading and its open block
 pub record Between (names index texts bind graph : List ℕ) (c : Counts) (o : Open) : Type 0 where

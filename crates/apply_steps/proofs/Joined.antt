@@ -13,7 +13,7 @@ use Rattle.spec.specs.Basics.{concat}
 use Rattle.spec.specs.Limits.{maxSteps, maxFiles}
 use Rattle.spec.specs.Forms.{BuildLine}
 use Rattle.spec.specs.Reading.{Step, Reading, isPhony, numbersOf}
-use Rattle.spec.specs.Statements.{mentioned, inputsOfLine, badPaths}
+use Rattle.spec.specs.Statements.{mentioned, inputsOfLine, badPaths, overPaths}
 use Rattle.spec.specs.Manifest.{withStep}
 use Rattle.spec.specs.Graph.{noStep, stepAt}
 use Rattle.hold_bindings.specs.Log.{Logged, ofStep, boundBy}
@@ -22,6 +22,7 @@ use Rattle.hold_columns.specs.Columns as columns
 use Rattle.hold_columns.specs.Columns.{bit, mentionsOf, endsFrom}
 use Rattle.hold_reading.specs.declared.Counts.{Counts}
 use Rattle.hold_reading.specs.Held.{Bound, Ruled, Graphed, HoldsReading}
+use Rattle.hold_reading.proofs.Short.{mention-short}
 use Rattle.apply_files.specs.Lines.{Writing}
 use Rattle.apply_files.proofs.Limits.{mention-more}
 use Rattle.apply_mentions.proofs.Closed.{numbers-low, length-numbers}
@@ -181,11 +182,12 @@ module _ {log : List Logged} {names index texts bind graph : List ℕ} {c : Coun
         }
 
     -- all that is held of the reading with the step
-    pub step-held : HoldsReading log names′ index′ texts bind graph′ (countedStep d) (withStep step (mentioned (pathsOf b) rd))
+    pub step-held : overPaths (pathsOf b) ≡ false → HoldsReading log names′ index′ texts bind graph′ (countedStep d) (withStep step (mentioned (pathsOf b) rd))
     unfolding withStep mentioned
-    step-held =
+    step-held p =
         record {
           named = x .named;
           bound = bound-step (x .bound) step refl (omega (arith, steps-same w b few x, w .bound .steps-counted));
           graphed = step-graphed;
+          short = mention-short (rd .files) (pathsOf b) (w .short) p;
         }

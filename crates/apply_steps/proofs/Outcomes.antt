@@ -127,7 +127,7 @@ module _ (start : ℕ) {l names index texts bind graph : List ℕ} {c : Counts} 
             let y = j .laid _ (x .columns) (step-ready w b′ few x) in
             let q = subst (λ (m : ℕ). Ruled log (b .rule) m) (sym z) (ruled (b .rule) log rd (w .bound .rules) (k .known)) in
             rw (step-goes start b′ rd k (four-short w s f) (not-over x) (omega (arith, w .bound .steps-counted)), j .counted)
-            (goes (step-held w b′ few (k .sound) x (lists-made (listsOf b′) (lineOf w)) q y) aStep);
+            (goes (step-held w b′ few (k .sound) x (lists-made (listsOf b′) (lineOf w)) q y (four-short w s f)) aStep);
       }
 
 -- ---- what the calls ask

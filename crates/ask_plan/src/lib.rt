@@ -14,6 +14,7 @@ use hold_reading::columns::COLUMNS_ROOM;
 use scan_classes::table;
 use slices::words::zero_from;
 use spec::PlanAnswer;
+use spec::limits::VALUE;
 use spec::limits::WRITTEN;
 
 // With the reader's buffers lent.
@@ -53,7 +54,7 @@ pub fn plan_buffered(manifest: &[u8], card: &[u8], targets: &[u8], list: &mut [u
     let mut texts = [0u8; TEXTS];
     let mut bind = [0u32; ROWS];
     let mut graph = [0u32; COLUMNS_ROOM];
-    let mut word = [0u8; WRITTEN];
+    let mut word = [0u8; VALUE];
     plan_in(
         &t,
         manifest,

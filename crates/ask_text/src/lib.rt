@@ -14,6 +14,7 @@ use scan_classes::table;
 use slices::bytes::zero_from;
 use spec::TextAnswer;
 use spec::Wanted;
+use spec::limits::VALUE;
 use spec::limits::WRITTEN;
 use text_step::text_of;
 
@@ -65,7 +66,7 @@ pub fn text_buffered(manifest: &[u8], step: usize, wanted: Wanted, buffer: &mut 
     let mut texts = [0u8; TEXTS];
     let mut bind = [0u32; ROWS];
     let mut graph = [0u32; COLUMNS_ROOM];
-    let mut word = [0u8; WRITTEN];
+    let mut word = [0u8; VALUE];
     text_in(
         &t,
         manifest,

@@ -1,16 +1,18 @@
 -- What an agreement says of the outcome, by the answer; and what is held before the first line.
 use Prim.Native.Nat.{ℕ, _≤_}
+use mathlib.Core.Bool.{false}
 use mathlib.Core.List.{List, [], _∷_, map}
 use mathlib.Core.Path.{_≡_, refl}
 use native.Mathlib.Nat.{not-suc-le-zero}
 use native.Mathlib.Omega.{arith}
 use lib.ListN.{length, drop, length-drop}
-use Rattle.lists.specs.Members.{not-in-nil}
+use Rattle.lists.specs.Members.{not-in-nil, any-none}
 use Rattle.spec.specs.declared.Refusal.{Refusal}
 use Rattle.spec.specs.Basics.{concat, sum}
+use Rattle.spec.specs.Limits.{maxPath}
 use Rattle.spec.specs.Reading.{Reading, nothingRead}
 use Rattle.spec.specs.Graph.{makers, makersFrom}
-use Rattle.spec.specs.Statements.{Block, noBlock, Outcome, goesOn, refused}
+use Rattle.spec.specs.Statements.{Block, noBlock, Outcome, goesOn, refused, longerThan, overPaths}
 use Rattle.arena.specs.Columns.{Lies}
 use Rattle.hold_names.specs.Table.{HoldsNames}
 use Rattle.hold_bindings.specs.Log.{Logged, boundBy, rulesIn, rulesOf}
@@ -49,6 +51,10 @@ none-lies : (ns a : List ℕ) → sum ns ≤ length a → Lies ns a (map (λ (n 
 unfolding Lies sum
 none-lies [] a h = tt
 none-lies (n ∷ ns) a h = (omega arith, omega arith, refl, none-lies ns (drop n a) (omega (arith, length-drop n a)))
+
+none-over : overPaths [] ≡ false
+unfolding overPaths
+none-over = any-none (longerThan maxPath)
 
 module _ (names index texts bind graph : List ℕ) where
   pub start-held : HoldsNames names index 0 [] → maxTexts ≤ length texts → maxRows ≤ length bind → sum capacities ≤ length graph
@@ -104,4 +110,5 @@ module _ (names index texts bind graph : List ℕ) where
               mentions-low = omega arith;
               defaults-low = λ i d. absurd (not-suc-le-zero d);
             };
+        short = none-over;
       }

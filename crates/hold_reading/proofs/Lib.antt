@@ -2,3 +2,4 @@ pub mod Bare
 pub mod Lift
 pub mod Grow
 pub mod Agreement
+pub mod Short

@@ -63,7 +63,7 @@ module _ {c c′ : Counts} {rd rd′ : Reading} (s : Beside c rd c′ rd′) whe
 module _ {log : List Logged} {names index texts bind graph : List ℕ} {c : Counts} {rd : Reading} where
   pub lifted : {texts′ bind′ : List ℕ} {out : Outcome} {r : LineAnswer} → HoldsReading log names index texts bind graph c rd → Binds log c rd texts′ bind′ out r
       → Agrees names index texts′ bind′ graph out r
-  lifted h (Binds.goes more b o s) = goes (record { named = named-beside s (h .named); bound = b; graphed = graphed-beside s more (h .graphed) }) o
+  lifted h (Binds.goes more b o s) = goes (record { named = named-beside s (h .named); bound = b; graphed = graphed-beside s more (h .graphed); short = rw (s .files) (h .short) }) o
   lifted h Binds.refuses = refuses
 
 module _ {log : List Logged} {names index texts bind graph : List ℕ} {c : Counts} (rd : Reading) {b : Block} {o : Open}

@@ -9,7 +9,7 @@ use Rattle.spec.specs.declared.Refusal.{Refusal}
 use Rattle.spec.specs.Basics.{concat}
 use Rattle.spec.specs.Limits.{maxSteps, maxFiles, maxRules, maxBindings, maxMentions, maxWritten}
 use Rattle.spec.specs.Reading.{Step, Rule, Reading, isPhony}
-use Rattle.spec.specs.Statements.{Block, noBlock, ruleBlock, buildBlock, Outcome, goesOn, refused}
+use Rattle.spec.specs.Statements.{Block, noBlock, ruleBlock, buildBlock, Outcome, goesOn, refused, overPaths}
 use Rattle.spec.specs.Manifest.{withRule, withStep}
 use Rattle.spec.specs.Graph.{stepAt}
 use Rattle.arena.specs.Columns.{Lies, startOf}
@@ -116,6 +116,8 @@ pub record HoldsReading (log : List Logged) (names index texts bind graph : List
   pub named : HoldsNames names index (c .files) (rd .files)
   pub bound : Bound log texts bind c rd
   pub graphed : Graphed log graph c rd
+  -- every name was a path within its limit, so a longer expansion is no file's name
+  pub short : overPaths (rd .files) ≡ false
 
 -- an outcome and an answer agree: what goes on is held, a refusal is the same and says nothing of the buffers
 pub data Agrees (names index texts bind graph : List ℕ) : Outcome → LineAnswer → Type 0 where

@@ -9,7 +9,7 @@ use Rattle.lists.specs.Tests.{differ}
 use Rattle.apply_manifest.specs.declared.ReadAnswer.{ReadAnswer}
 use Rattle.apply_manifest.specs.declared.ReadAnswer.the-variants.{Refused}
 use Rattle.spec.specs.declared.Refusal.{Refusal}
-use Rattle.spec.specs.Limits.{maxManifest, maxWritten}
+use Rattle.spec.specs.Limits.{maxManifest, maxWritten, maxValue}
 use Rattle.hold_names.specs.Table.{maxNumbers}
 use Rattle.hold_bindings.specs.Held.{maxTexts, maxRows}
 use Rattle.hold_reading.specs.Held.{columnsEnd}
@@ -43,11 +43,11 @@ module _ {names index texts bind graph word : List ℕ} where
   pub few-columns : length graph < columnsEnd + maxManifest → Judges names index texts bind graph word false
   few-columns h = lacks (λ p. omega (arith, p .room .scratch))
 
-  pub short-word : length word < maxWritten → Judges names index texts bind graph word false
+  pub short-word : length word < maxValue → Judges names index texts bind graph word false
   short-word h = lacks (λ p. omega (arith, p .room .word-room))
 
   pub has-room : maxWritten ≤ length names → length names ≤ 4294967295 → maxNumbers ≤ length index → maxTexts ≤ length texts → maxRows ≤ length bind → columnsEnd + maxManifest ≤ length graph
-      → maxWritten ≤ length word → Judges names index texts bind graph word true
+      → maxValue ≤ length word → Judges names index texts bind graph word true
   has-room n s f x b g w = record {
     enough = λ e. record {
       table = refl;

@@ -9,6 +9,7 @@ use hold_bindings::TEXTS;
 use hold_names::NUMBERS;
 use hold_reading::columns::COLUMNS_ROOM;
 use scan_classes::table;
+use spec::limits::VALUE;
 use spec::limits::WRITTEN;
 
 // What is answered: 0, 0 and how much the buffers hold; or a refusal's number and place; or 255 for buffers without room.
@@ -56,7 +57,7 @@ fn is_roomy(
     if graph.len() < COLUMNS_ROOM {
         return false;
     }
-    if word.len() < WRITTEN {
+    if word.len() < VALUE {
         return false;
     }
     true

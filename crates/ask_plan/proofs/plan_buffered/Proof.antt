@@ -26,10 +26,10 @@ slice-aggregate-plan-in-5 : tie.Need-slice-aggregate-plan-in-5
 slice-aggregate-plan-in-5 c = sym (length-replicate {A = ℕ} 61440 0)
 
 slice-aggregate-plan-in-6 : tie.Need-slice-aggregate-plan-in-6
-slice-aggregate-plan-in-6 c = sym (length-replicate {A = ℕ} 60000 0)
+slice-aggregate-plan-in-6 c = sym (length-replicate {A = ℕ} 2048 0)
 
 plan-in-requires : tie.Need-plan-in-requires
-plan-in-requires c κs = record { roomy = roomy (c .before .before .before .before .before .before .before .before .table .ensures) (length-replicate {A = ℕ} 60000 0) (length-replicate {A = ℕ} 3072 0) (length-replicate {A = ℕ} 133728 0) (length-replicate {A = ℕ} 4608 0) (length-replicate {A = ℕ} 61440 0) (length-replicate {A = ℕ} 60000 0); room = c .before .before .before .before .before .before .before .before .before .before .before .before .before .pre }
+plan-in-requires c κs = record { roomy = roomy (c .before .before .before .before .before .before .before .before .table .ensures) (length-replicate {A = ℕ} 60000 0) (length-replicate {A = ℕ} 3072 0) (length-replicate {A = ℕ} 133728 0) (length-replicate {A = ℕ} 4608 0) (length-replicate {A = ℕ} 61440 0) (length-replicate {A = ℕ} 2048 0); room = c .before .before .before .before .before .before .before .before .before .before .before .before .before .pre }
 
 same-length : tie.Need-same-length
 same-length c = search needs

@@ -26,10 +26,10 @@ slice-aggregate-text-in-5 : tie.Need-slice-aggregate-text-in-5
 slice-aggregate-text-in-5 c = sym (length-replicate {A = ℕ} 61440 0)
 
 slice-aggregate-text-in-6 : tie.Need-slice-aggregate-text-in-6
-slice-aggregate-text-in-6 c = sym (length-replicate {A = ℕ} 60000 0)
+slice-aggregate-text-in-6 c = sym (length-replicate {A = ℕ} 2048 0)
 
 text-in-requires : tie.Need-text-in-requires
-text-in-requires c κs = record { roomy = roomy (c .before .before .before .before .before .before .before .before .table .ensures) (length-replicate {A = ℕ} 60000 0) (length-replicate {A = ℕ} 3072 0) (length-replicate {A = ℕ} 133728 0) (length-replicate {A = ℕ} 4608 0) (length-replicate {A = ℕ} 61440 0) (length-replicate {A = ℕ} 60000 0); room = c .before .before .before .before .before .before .before .before .before .before .before .pre }
+text-in-requires c κs = record { roomy = roomy (c .before .before .before .before .before .before .before .before .table .ensures) (length-replicate {A = ℕ} 60000 0) (length-replicate {A = ℕ} 3072 0) (length-replicate {A = ℕ} 133728 0) (length-replicate {A = ℕ} 4608 0) (length-replicate {A = ℕ} 61440 0) (length-replicate {A = ℕ} 2048 0); room = c .before .before .before .before .before .before .before .before .before .before .before .pre }
 
 same-length : tie.Need-same-length
 same-length c = search needs
