@@ -3,6 +3,7 @@ use Prim.Native.Nat.{_-_, _≤_, _<_}
 use mathlib.Core.Path.{_∙_, sym}
 use native.Mathlib.Omega.{arith}
 use lib.ListN.{length}
+use Rattle.spec.specs.Limits.{maxSteps}
 use Rattle.graph_list.proofs.Listing.{Listing, list-ask, list-begin, list-room, list-again, list-more, list-end}
 use borrow.Author.Needs.{needs}
 use Rattle.graph_list.proofs.list_pending.Statement.{statement}
@@ -20,7 +21,7 @@ low c = rw (c .before .loop .inv .pending-long) at (c .loop-test .taken)
 
 -- the numbers of a turn
 numbers : (c : tie.In-loop Inv-loop μ-loop) → (c .before .loop .s < length (c .before .before .before .before .before .before .before .before .before .before .before .before .before .before .args .pending .now)) × (c .before .loop .count < length (c .before .before .before .before .before .before .before .before .before .before .before .before .before .before .args .pending .now))
-    × (length (c .before .before .before .before .before .before .before .before .before .before .before .before .before .before .args .pending .now) ≤ 512) × (length (c .before .before .before .before .before .before .before .before .before .before .before .before .before .before .args .pending .now) ≤ length (c .before .loop .list))
+    × (length (c .before .before .before .before .before .before .before .before .before .before .before .before .before .before .args .pending .now) ≤ maxSteps) × (length (c .before .before .before .before .before .before .before .before .before .before .before .before .before .before .args .pending .now) ≤ length (c .before .loop .list))
 numbers c = (low c, list-room (c .before .before .before .before .before .before .before .before .before .before .before .before .before .before .pre) (c .before .loop .inv) (low c), c .before .before .before .before .before .before .before .before .before .before .before .before .before .before .pre .sound .few-steps, rw (c .before .loop .inv .list-long) (c .before .before .before .before .before .before .before .before .before .before .before .before .before .before .pre .room))
 
 next-ready-requires : tie.Need-next-ready-requires Inv-loop μ-loop

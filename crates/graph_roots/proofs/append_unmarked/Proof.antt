@@ -2,6 +2,7 @@
 use Prim.Native.Nat.{_-_, _≤_, _<_}
 use native.Mathlib.Omega.{arith}
 use lib.ListN.{length}
+use Rattle.spec.specs.Limits.{maxFiles}
 use Rattle.graph_roots.proofs.Appending.{Appending, append-begin, append-skip, append-more, append-end}
 use borrow.Author.Needs.{needs}
 use Rattle.graph_roots.proofs.append_unmarked.Statement.{statement}
@@ -14,7 +15,7 @@ abbrev μ-loop : tie.MeasureT-loop
 μ-loop fs marks out₀ k n₀ i₀ out n i = length fs - i
 
 -- the file of a turn
-low : (c : tie.Else1 Inv-loop μ-loop) → (c .before .before .at .result < length (c .before .before .before .before .before .before .before .before .args .marks .now)) × (length (c .before .before .before .before .before .before .before .before .args .marks .now) ≤ 1024)
+low : (c : tie.Else1 Inv-loop μ-loop) → (c .before .before .at .result < length (c .before .before .before .before .before .before .before .before .args .marks .now)) × (length (c .before .before .before .before .before .before .before .before .args .marks .now) ≤ maxFiles)
 low c = (rw (c .before .before .at .ensures) (c .before .before .before .before .before .before .before .before .pre .low (c .before .before .before .before .loop .i) (c .before .before .before .loop-test .taken)), c .before .before .before .before .before .before .before .before .pre .few)
 
 loop-holds : tie.Need-loop-holds Inv-loop μ-loop

@@ -2,6 +2,7 @@
 use Prim.Native.Nat.{_-_, _≤_, _<_}
 use native.Mathlib.Omega.{arith}
 use lib.ListN.{length}
+use Rattle.spec.specs.Limits.{maxSteps}
 use Rattle.graph_stale.proofs.Along.{Telling, tell-begin, tell-more, tell-end, ask-judge}
 use borrow.Author.Needs.{needs}
 use Rattle.graph_stale.proofs.judge_all.Statement.{statement}
@@ -14,7 +15,7 @@ abbrev μ-loop : tie.MeasureT-loop
 μ-loop mentions ends phony made times order stale₀ late₀ i₀ stale late i = length order - i
 
 -- the step of a turn
-step : (c : tie.After-judge Inv-loop μ-loop) → (c .before .before .before .at .result < length (c .before .before .before .before .before .before .before .before .before .before .before .before .before .before .args .phony .now)) × (length (c .before .before .before .before .before .before .before .before .before .before .before .before .before .before .args .phony .now) ≤ 512)
+step : (c : tie.After-judge Inv-loop μ-loop) → (c .before .before .before .at .result < length (c .before .before .before .before .before .before .before .before .before .before .before .before .before .before .args .phony .now)) × (length (c .before .before .before .before .before .before .before .before .before .before .before .before .before .before .args .phony .now) ≤ maxSteps)
 step c = (rw (c .before .before .before .at .ensures) (c .before .before .before .before .before .before .before .before .before .before .before .before .before .before .pre .steps (c .before .before .before .before .before .loop .i) (c .before .before .before .before .loop-test .taken)), c .before .before .before .before .before .before .before .before .before .before .before .before .before .before .pre .asked .sound .few-steps)
 
 loop-holds : tie.Need-loop-holds Inv-loop μ-loop
