@@ -1,6 +1,6 @@
-// The plan from the graph's columns as the reader leaves them.
+// A stage of the plan ask: the graph's columns as the reader leaves them are cut once, then 13.
 ghost use Rattle.ask_plan_columns.specs.Columns.{ColumnsAsked, PlansColumns};
-use graph_plan::plan_graph;
+use ask_plan_roots::plan_rooted;
 use hold_reading::Counts;
 use hold_reading::columns::DEFAULTS;
 use hold_reading::columns::ENDS;
@@ -25,5 +25,5 @@ pub fn plan_columns(
     let phony = &graph[PHONY..PHONY + steps];
     let made = &graph[MADE..MADE + c.files];
     let defaults = &graph[DEFAULTS..DEFAULTS + c.defaults];
-    plan_graph(mentions, ends, phony, made, times, defaults, targets, list)
+    plan_rooted(mentions, ends, phony, made, times, defaults, targets, list)
 }

@@ -1,7 +1,7 @@
 // The two asks for C and Rust: numbers and slices alone. Neither asks anything of its caller, and each says what document 01 says in two numbers.
 ghost use mathlib.Core.Path.{_≡_};
 ghost use lib.ListN.{length};
-ghost use Rattle.spec.specs.PlanAsk.{planAsk};
+ghost use Rattle.spec.specs.PlanAsk.{inputsOf, planAsk};
 ghost use Rattle.spec.specs.TextAsk.{textAsk};
 ghost use Rattle.spec.specs.Promises.{PlanMeets, TextMeets};
 ghost use Rattle.answers.specs.Numbers.{said};
@@ -21,7 +21,7 @@ pub extern "C" fn kestrenyo_plan(
     targets: &[u8],
     list: &mut [u32],
 ) -> Numbers
-    ensures { λ r. ⌜ PlanMeets (planAsk (now (manifest .entry)) (now (card .entry)) (now (targets .entry)) (length (now (list .entry)))) (now (list .entry)) (said r) (now (list .exit)) ⌝ }
+    ensures { λ r. ⌜ PlanMeets (planAsk (inputsOf (now (manifest .entry)) (now (card .entry)) (now (targets .entry))) (length (now (list .entry)))) (now (list .entry)) (said r) (now (list .exit)) ⌝ }
 {
     of_plan(plan(manifest, card, targets, list))
 }
