@@ -14,10 +14,10 @@ use Rattle.spec.specs.declared.PlanAnswer.the-variants.{Refused}
 use Rattle.spec.specs.Limits.{leastList}
 use Rattle.spec.specs.Manifest.{refusedWith, readManifest}
 use Rattle.spec.specs.Answers.{numberOfRefusal, planSays}
-use Rattle.spec.specs.PlanAsk.{planRead, planAsk}
+use Rattle.spec.specs.PlanAsk.{inputsOf, planManifest, planAsk}
 use Rattle.spec.specs.Promises.{leftBy, PlanMeets, PlanPromise}
 use Rattle.spec.proofs.Manifests.{of-reading}
-use Rattle.graph_plan.proofs.Outcomes.{cleared}
+use Rattle.spec.proofs.Promises.{cleared}
 use Rattle.ask_plan_reading.specs.Asked.{ReadAsked, PlansRead}
 use Rattle.hold_reading.specs.declared.Counts.{Counts}
 use Rattle.apply_manifest.specs.Manifests.{Held}
@@ -28,8 +28,8 @@ module _ (manifest card targets list : List ℕ) (room : leastList ≤ length li
 
   -- 2 to 10
   pub unread : {r : Refusal} {exit : List ℕ} → readManifest manifest ≡ refusedWith r → exit ≡ zeroed list 0 (length list)
-      → PlanPromise manifest card targets list (Refused r) exit
-  unfolding planAsk planRead PlanMeets planSays leftBy
+      → PlanPromise (inputsOf manifest card targets) list (Refused r) exit
+  unfolding planAsk planManifest PlanMeets planSays leftBy
   unread {r} e z =
       let b = of-reading manifest e in
       let n = ne-eqb (numberOfRefusal r) 1 (λ (q : numberOfRefusal r ≡ 1). omega (arith, q, b .least)) in
@@ -37,9 +37,9 @@ module _ (manifest card targets list : List ℕ) (room : leastList ≤ length li
 
   -- 11 to 15, and the list
   pub planned : {names index texts bind graph : List ℕ} {c : Counts} {r : PlanAnswer} {exit : List ℕ} → Held manifest names index texts bind graph c
-      → PlansRead card targets names index graph c list r exit → PlanPromise manifest card targets list r exit
-  unfolding planAsk
-  planned {texts = texts} {bind = bind} h p = rw (long, h .is) (p .plans (h .log) texts bind (h .reading) (h .holds))
+      → PlansRead card targets names index graph c list r exit → PlanPromise (inputsOf manifest card targets) list r exit
+  unfolding planAsk planManifest
+  planned {texts = texts} {bind = bind} h p = rw (long, h .is) (p .plans manifest (h .log) texts bind (h .reading) (h .holds))
 
 pub askable : {manifest names index texts bind graph : List ℕ} {c : Counts} {list : List ℕ} → leastList ≤ length list → Held manifest names index texts bind graph c
     → ReadAsked names index graph c list

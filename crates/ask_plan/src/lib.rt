@@ -2,6 +2,7 @@
 ghost use Prim.Native.Nat.{_≤_};
 ghost use lib.ListN.{length};
 ghost use Rattle.spec.specs.Limits.{leastList};
+ghost use Rattle.spec.specs.PlanAsk.{inputsOf};
 ghost use Rattle.spec.specs.Promises.{PlanPromise};
 ghost use Rattle.ask_plan.specs.Asked.{PlanAsked};
 use apply_manifest::ReadAnswer;
@@ -18,7 +19,7 @@ use spec::limits::VALUE;
 use spec::limits::WRITTEN;
 
 // With the reader's buffers lent.
-fn plan_in(
+fn plan_manifest(
     t: &[u8; 256],
     manifest: &[u8],
     card: &[u8],
@@ -32,7 +33,7 @@ fn plan_in(
     list: &mut [u32],
 ) -> PlanAnswer
     requires { ⌜ PlanAsked (now t) (now names) (now index) (now texts) (now bind) (now graph) (now word) (now list) ⌝ }
-    ensures { λ r. ⌜ PlanPromise (now (manifest .entry)) (now (card .entry)) (now (targets .entry)) (now (list .entry)) r (now (list .exit)) ⌝ }
+    ensures { λ r. ⌜ PlanPromise (inputsOf (now (manifest .entry)) (now (card .entry)) (now (targets .entry))) (now (list .entry)) r (now (list .exit)) ⌝ }
 {
     match read(t, manifest, names, index, texts, bind, graph, word) {
         ReadAnswer::Accepted(c) => plan_read(card, targets, names, index, graph, c, list),
@@ -46,7 +47,7 @@ fn plan_in(
 // With a list buffer of 512 numbers at least.
 pub fn plan_buffered(manifest: &[u8], card: &[u8], targets: &[u8], list: &mut [u32]) -> PlanAnswer
     requires { ⌜ leastList ≤ length (now list) ⌝ }
-    ensures { λ r. ⌜ PlanPromise (now (manifest .entry)) (now (card .entry)) (now (targets .entry)) (now (list .entry)) r (now (list .exit)) ⌝ }
+    ensures { λ r. ⌜ PlanPromise (inputsOf (now (manifest .entry)) (now (card .entry)) (now (targets .entry))) (now (list .entry)) r (now (list .exit)) ⌝ }
 {
     let t = table();
     let mut names = [0u8; WRITTEN];
@@ -55,7 +56,7 @@ pub fn plan_buffered(manifest: &[u8], card: &[u8], targets: &[u8], list: &mut [u
     let mut bind = [0u32; ROWS];
     let mut graph = [0u32; COLUMNS_ROOM];
     let mut word = [0u8; VALUE];
-    plan_in(
+    plan_manifest(
         &t,
         manifest,
         card,

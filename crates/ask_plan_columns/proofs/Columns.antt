@@ -14,7 +14,7 @@ use Rattle.hold_columns.proofs.Places.{length-ends}
 use Rattle.hold_columns.proofs.Held.{held-steps, held-sound}
 use Rattle.hold_reading.specs.declared.Counts.{Counts}
 use Rattle.hold_reading.specs.Held.{capacities}
-use Rattle.graph_plan.specs.Plan.{PlanAsked, PlansGraph}
+use Rattle.ask_plan_roots.specs.Roots.{RootedAsked, PlansRooted}
 use Rattle.ask_plan_columns.specs.Columns.{Tabled, ColumnsAsked, PlansColumns}
 
 module _ (graph : List ℕ) (c : Counts) where
@@ -85,7 +85,7 @@ module _ {graph : List ℕ} {c : Counts} {rd : Reading} (h : Tabled graph c rd) 
       }
 
 module _ {graph : List ℕ} {c : Counts} {times targets list : List ℕ} where
-  pub askable : (a : ColumnsAsked graph c times targets list) → PlanAsked (mentionsIn graph c) (endsIn graph c) (phonyIn graph c) (madeIn graph c) times (defaultsIn graph c) targets list
+  pub askable : (a : ColumnsAsked graph c times targets list) → RootedAsked (mentionsIn graph c) (endsIn graph c) (phonyIn graph c) (madeIn graph c) times (defaultsIn graph c) targets list
   askable a =
       let s = spread (a .tabled) in
       let z : length (madeIn graph c) ≡ c .files = s .counted in
@@ -95,11 +95,11 @@ module _ {graph : List ℕ} {c : Counts} {times targets list : List ℕ} where
         targets-low = rw z (a .low);
       }
 
-  pub planned : {r : PlanAnswer} {exit : List ℕ} → PlansGraph (mentionsIn graph c) (endsIn graph c) (phonyIn graph c) (madeIn graph c) times (defaultsIn graph c) targets list r exit
+  pub planned : {r : PlanAnswer} {exit : List ℕ} → PlansRooted (mentionsIn graph c) (endsIn graph c) (phonyIn graph c) (madeIn graph c) times (defaultsIn graph c) targets list r exit
       → PlansColumns graph c times targets list r exit
   planned p =
       record {
-        plans = λ rd h.
+        plans = λ i rd h t e.
             let s = spread h in
-            rw (s .defaults) at (p (rd .steps) (length (rd .files)) (s .tables));
+            p .plans i rd (record { held = s .tables; timed = t }) (s .defaults) e;
       }

@@ -1,6 +1,6 @@
-// The plan from the graph's columns as the reader leaves them.
+// A stage of the plan ask: the graph's columns as the reader leaves them are cut once, then 13.
 ghost use Rattle.ask_plan_columns.specs.Columns.{ColumnsAsked, PlansColumns};
-use graph_plan::plan_graph;
+use ask_plan_roots::plan_rooted;
 use hold_columns::STEP_ENDS;
 use hold_reading::Counts;
 use hold_reading::columns::DEFAULTS_START;
@@ -26,5 +26,5 @@ pub fn plan_columns(
     let phony = &graph[PHONY_START..PHONY_START + steps];
     let made = &graph[MADE_START..MADE_START + c.files];
     let defaults = &graph[DEFAULTS_START..DEFAULTS_START + c.defaults];
-    plan_graph(mentions, ends, phony, made, times, defaults, targets, list)
+    plan_rooted(mentions, ends, phony, made, times, defaults, targets, list)
 }

@@ -1,4 +1,4 @@
--- Each outcome of the plan from a reading: 11, 12, and the plan of the columns.
+-- 11 and 12, and what comes after them.
 use Prim.Native.Nat.{ℕ, zero, suc, _≤_, _<_}
 use mathlib.Core.Bool.{true, false}
 use mathlib.Core.List.{List, [], _∷_, map}
@@ -14,12 +14,12 @@ use Rattle.spec.specs.declared.PlanAnswer.{PlanAnswer}
 use Rattle.spec.specs.declared.PlanAnswer.the-variants.{Refused}
 use Rattle.spec.specs.Limits.{maxFiles}
 use Rattle.spec.specs.Reading.{Reading}
-use Rattle.spec.specs.Manifest.{accepted}
 use Rattle.spec.specs.Card.{soundCard, cardEntries, timeIn}
 use Rattle.spec.specs.Targets.{badTarget}
 use Rattle.spec.specs.Answers.{numberOfRefusal, planSays}
-use Rattle.spec.specs.PlanAsk.{PlanOutcome, targetFiles, planRoots, planRead}
+use Rattle.spec.specs.PlanAsk.{inputsOf, targetFiles, planTargets, planRead}
 use Rattle.spec.specs.Promises.{leftBy, PlanMeets}
+use Rattle.spec.proofs.Promises.{cleared}
 use Rattle.hold_bindings.specs.Log.{Logged}
 use Rattle.hold_names.specs.Table.{SoundNames}
 use Rattle.ask_file_times.specs.Times.{timesOf, Timed}
@@ -28,10 +28,9 @@ use Rattle.ask_target_files.specs.declared.Numbered.the-variants.{All, Bad}
 use Rattle.ask_target_files.specs.Numbered.{numbersOf, Numbers, Says, NumbersTargets}
 use Rattle.hold_reading.specs.declared.Counts.{Counts}
 use Rattle.hold_reading.specs.Held.{HoldsReading}
-use Rattle.graph_plan.proofs.Outcomes.{cleared}
-use Rattle.ask_plan_reading.proofs.Laws.{CardTimes, plan-of-read}
+use Rattle.ask_plan_reading.proofs.Laws.{CardTimes, card-time}
 use Rattle.ask_plan_columns.specs.Columns.{Tabled, ColumnsAsked, PlansColumns}
-use Rattle.ask_plan_reading.specs.Asked.{ReadAsked, PlansRead}
+use Rattle.ask_plan_reading.specs.Asked.{ReadAsked, PlansTargets, PlansRead}
 
 pub tabled : {log : List Logged} {names index texts bind graph : List ℕ} {c : Counts} {rd : Reading} → HoldsReading log names index texts bind graph c rd → Tabled graph c rd
 tabled {log = log} h =
@@ -44,24 +43,31 @@ module _ {names index graph : List ℕ} {c : Counts} {list : List ℕ} (a : Read
   pub few-files : c .files ≤ maxFiles
   few-files = a .whole .holds .named .few
 
--- ---- 11 and 12
+-- ---- 11
 
-module _ {card targets names index graph : List ℕ} {c : Counts} {list exit : List ℕ} (z : exit ≡ zeroed list 0 (length list)) where
-  pub bad-card : soundCard card ≡ false → PlansRead card targets names index graph c list (Refused BadCard) exit
+module _ {card targets names index graph : List ℕ} {c : Counts} {list exit : List ℕ} where
+  pub bad-card : soundCard card ≡ false → exit ≡ zeroed list 0 (length list) → PlansRead card targets names index graph c list (Refused BadCard) exit
   unfolding planRead PlanMeets planSays leftBy numberOfRefusal
-  bad-card s = record { plans = λ log texts bind rd h. rw s (record { says = refl; leaves = z ∙ cleared list }) }
+  bad-card s z = record { plans = λ manifest log texts bind rd h. rw s (record { says = refl; leaves = z ∙ cleared list }) }
 
-  pub bad-target : soundCard card ≡ true → {numbers : List ℕ} {r : Numbered} {place : ℕ} → NumbersTargets targets names index (c .files) numbers r → r ≡ Bad place
-      → PlansRead card targets names index graph c list (Refused (BadTarget place)) exit
-  unfolding planRead planRoots PlanMeets planSays leftBy numberOfRefusal
-  bad-target s {numbers} {place = place} n e =
-      record {
-        plans = λ log texts bind rd h.
-            let b : badTarget (rd .files) targets ≡ some place = subst (Says targets numbers (rd .files)) e (n .says (rd .files) (h .named)) in
-            rw (s, b) (record { says = refl; leaves = z ∙ cleared list });
-      }
+  pub good-card : soundCard card ≡ true → {answer : PlanAnswer} → PlansTargets card targets names index graph c list answer exit → PlansRead card targets names index graph c list answer exit
+  unfolding planRead
+  good-card s p = record { plans = λ manifest log texts bind rd h. rw s (p .plans manifest log texts bind rd h) }
 
--- ---- the plan of the columns
+-- ---- 12
+
+pub bad-target : {card targets names index graph : List ℕ} {c : Counts} {list exit : List ℕ} → exit ≡ zeroed list 0 (length list)
+    → {numbers : List ℕ} {r : Numbered} {place : ℕ} → NumbersTargets targets names index (c .files) numbers r → r ≡ Bad place
+    → PlansTargets card targets names index graph c list (Refused (BadTarget place)) exit
+unfolding planTargets PlanMeets planSays leftBy numberOfRefusal
+bad-target {targets = targets} {list = list} z {numbers} {place = place} n e =
+    record {
+      plans = λ manifest log texts bind rd h.
+          let b : badTarget (rd .files) targets ≡ some place = subst (Says targets numbers (rd .files)) e (n .says (rd .files) (h .named)) in
+          rw b (record { says = refl; leaves = z ∙ cleared list });
+    }
+
+-- ---- past 12, by the columns
 
 time-at : (g : List ℕ → ℕ) (files : List (List ℕ)) (f : ℕ) → f < length files → getD (map g files) f 0 ≡ g (getD files f [])
 time-at g [] f b = absurd (not-suc-le-zero b)
@@ -92,14 +98,15 @@ module _ {card targets names index graph : List ℕ} {c : Counts} (s : soundCard
     unfolding targetFiles numbersOf
     targets-are = numbered .numbers
 
-    pub meets : {answer : PlanAnswer} {list exit : List ℕ} → PlansColumns graph c (take (c .files) times) (take k numbers) list answer exit
-        → PlanMeets (planRead card targets (accepted rd)) list (planSays answer) exit
-    meets {answer} {list} {exit} p =
-        subst (λ (o : PlanOutcome). PlanMeets o list (planSays answer) exit) (plan-of-read card s rd (take (c .files) times) timed targets (take k numbers) targets-are (numbered .good)) (p .plans rd (tabled h))
-
-  pub plans : {answer : PlanAnswer} {list exit : List ℕ} → PlansColumns graph c (take (c .files) times) (take k numbers) list answer exit
-      → PlansRead card targets names index graph c list answer exit
-  plans p = record { plans = λ log texts bind rd h. meets h p }
+  pub good-targets : {answer : PlanAnswer} {list exit : List ℕ} → PlansColumns graph c (take (c .files) times) (take k numbers) list answer exit
+      → PlansTargets card targets names index graph c list answer exit
+  unfolding planTargets
+  good-targets p =
+      record {
+        plans = λ manifest log texts bind rd h.
+            rw (numbered h .good)
+            (p .plans (inputsOf manifest card targets) rd (tabled h) (card-time card s rd (take (c .files) times) (timed h)) (targets-are h));
+      }
 
   module _ {list : List ℕ} (a : ReadAsked names index graph c list) where
     pub numbers-within : k ≤ length numbers

@@ -1,5 +1,5 @@
-// The plan ask from what has been read of the manifest on: 11, 12, then the plan of the graph.
-ghost use Rattle.ask_plan_reading.specs.Asked.{TablesAsked, ReadAsked, PlansRead};
+// Two stages of the plan ask, from what has been read of the manifest on: 11, then 12, then what the graph's columns give.
+ghost use Rattle.ask_plan_reading.specs.Asked.{ReadAsked, TargetsAsked, SpaceAsked, PlansTargets, PlansRead};
 use ask_file_times::fill_times;
 use ask_plan_columns::plan_columns;
 use ask_target_files::Numbered;
@@ -12,8 +12,8 @@ use spec::Refusal;
 use spec::limits::FILES;
 use spec::limits::TARGETS;
 
-// "then 11 to 15 for a plan"; `times` and `numbers` are working space.
-fn plan_tables(
+// 12 where the target list is bad; else the times of the files, and 13. `times` and `numbers` are working space.
+fn number_then_plan(
     card: &[u8],
     targets: &[u8],
     names: &[u8],
@@ -24,13 +24,9 @@ fn plan_tables(
     numbers: &mut [u32],
     list: &mut [u32],
 ) -> PlanAnswer
-    requires { ⌜ TablesAsked (now names) (now index) (now graph) c (now times) (now numbers) (now list) ⌝ }
-    ensures { λ r. ⌜ PlansRead (now (card .entry)) (now (targets .entry)) (now (names .entry)) (now (index .entry)) (now (graph .entry)) c (now (list .entry)) r (now (list .exit)) ⌝ }
+    requires { ⌜ SpaceAsked (now card) (now names) (now index) (now graph) c (now times) (now numbers) (now list) ⌝ }
+    ensures { λ r. ⌜ PlansTargets (now (card .entry)) (now (targets .entry)) (now (names .entry)) (now (index .entry)) (now (graph .entry)) c (now (list .entry)) r (now (list .exit)) ⌝ }
 {
-    if !sound(card) {
-        zero_from(list, 0);
-        return PlanAnswer::Refused(Refusal::BadCard);
-    }
     let files = c.files;
     match number_targets(targets, names, index, files, numbers) {
         Numbered::Bad(place) => {
@@ -45,6 +41,34 @@ fn plan_tables(
 }
 
 // The same, with the working space.
+fn plan_targets(
+    card: &[u8],
+    targets: &[u8],
+    names: &[u8],
+    index: &[u32],
+    graph: &[u32],
+    c: Counts,
+    list: &mut [u32],
+) -> PlanAnswer
+    requires { ⌜ TargetsAsked (now card) (now names) (now index) (now graph) c (now list) ⌝ }
+    ensures { λ r. ⌜ PlansTargets (now (card .entry)) (now (targets .entry)) (now (names .entry)) (now (index .entry)) (now (graph .entry)) c (now (list .entry)) r (now (list .exit)) ⌝ }
+{
+    let mut times = [0u64; FILES];
+    let mut numbers = [0u32; TARGETS];
+    number_then_plan(
+        card,
+        targets,
+        names,
+        index,
+        graph,
+        c,
+        &mut times,
+        &mut numbers,
+        list,
+    )
+}
+
+// 11 where the card is not sound; else 12: "then 11 to 15 for a plan".
 pub fn plan_read(
     card: &[u8],
     targets: &[u8],
@@ -57,17 +81,9 @@ pub fn plan_read(
     requires { ⌜ ReadAsked (now names) (now index) (now graph) c (now list) ⌝ }
     ensures { λ r. ⌜ PlansRead (now (card .entry)) (now (targets .entry)) (now (names .entry)) (now (index .entry)) (now (graph .entry)) c (now (list .entry)) r (now (list .exit)) ⌝ }
 {
-    let mut times = [0u64; FILES];
-    let mut numbers = [0u32; TARGETS];
-    plan_tables(
-        card,
-        targets,
-        names,
-        index,
-        graph,
-        c,
-        &mut times,
-        &mut numbers,
-        list,
-    )
+    if !sound(card) {
+        zero_from(list, 0);
+        return PlanAnswer::Refused(Refusal::BadCard);
+    }
+    plan_targets(card, targets, names, index, graph, c, list)
 }

@@ -11,7 +11,7 @@ use Rattle.spec.specs.declared.Wanted.{Wanted}
 use Rattle.spec.specs.Limits.{maxText}
 use Rattle.spec.specs.Manifest.{refusedWith, readManifest}
 use Rattle.spec.specs.Promises.{TextPromise}
-use Rattle.graph_plan.proofs.Outcomes.{cleared}
+use Rattle.spec.proofs.Promises.{cleared}
 use Rattle.scan_classes.specs.Table.{classes}
 use Rattle.hold_reading.specs.declared.Counts.{Counts}
 use Rattle.apply_manifest.specs.Manifests.{Held}

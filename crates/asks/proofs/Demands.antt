@@ -13,6 +13,7 @@ use lib.Dec.{eqb}
 use lib.ListN.{length}
 use Rattle.lists.specs.Tests.{split}
 use Rattle.spec.specs.declared.Refusal.{Refusal}
+use Rattle.spec.specs.declared.Refusal.the-variants.{MissingSource}
 use Rattle.spec.specs.declared.PlanAnswer.{PlanAnswer}
 use Rattle.spec.specs.declared.TextAnswer.{TextAnswer}
 use Rattle.spec.specs.declared.Wanted.{Wanted}
@@ -20,12 +21,11 @@ use Rattle.spec.specs.Reading.{Reading}
 use Rattle.spec.specs.Answers.{Said, numberOfRefusal, refusalSays, planSays, textSays}
 use Rattle.spec.specs.Words.{NeededOrder, NeededCircle}
 use Rattle.spec.specs.Graph.{hasOrder}
-use Rattle.spec.specs.PlanAsk.{PlanOutcome, listed, circular, noPlan, missingSource, listedOr15, planFrom, planAsk}
+use Rattle.spec.specs.PlanAsk.{Inputs, PlanOutcome, listed, circular, noPlan, rootsOf, missingSource, refusedAt, onRefusal, planListed, planSources, planOrdered, planAsk}
 use Rattle.spec.specs.TextAsk.{TextOutcome, text, noText, textAsk}
 use Rattle.spec.specs.Promises.{filled, leftBy, counts, refused14, Is, Shows, PlanMeets, PlanPromise, TextMeets, TextPromise}
-use Rattle.spec.proofs.Checks.{PastChecks, rootsOf, past-checks}
-use Rattle.spec.proofs.Sources.{MissingIn}
-use Rattle.spec.proofs.Demand3.{Listing, demand3}
+use Rattle.spec.proofs.Checks.{PastChecks, past-checks}
+use Rattle.spec.proofs.Demand3.{Unrefused, Listing, demand3}
 
 -- ------------------------------------------------------------------ demand 1
 
@@ -59,9 +59,8 @@ unfolding TextMeets
 text-left (text t) i = answers t (i .says) (i .leaves)
 text-left (noText r) i = refusal-left r i
 
-pub plan-answers : (manifest card targets lent : List ℕ) (answer : PlanAnswer) (exit : List ℕ) → PlanPromise manifest card targets lent answer exit
-    → Demand1 lent (planSays answer) exit
-plan-answers manifest card targets lent answer exit p = plan-left (planAsk manifest card targets (length lent)) p
+pub plan-answers : (i : Inputs) (lent : List ℕ) (answer : PlanAnswer) (exit : List ℕ) → PlanPromise i lent answer exit → Demand1 lent (planSays answer) exit
+plan-answers i lent answer exit p = plan-left (planAsk i (length lent)) p
 
 pub text-answers : (manifest : List ℕ) (step : ℕ) (wanted : Wanted) (lent : List ℕ) (answer : TextAnswer) (exit : List ℕ)
     → TextPromise manifest step wanted lent answer exit → Demand1 lent (textSays answer) exit
@@ -71,12 +70,12 @@ text-answers manifest step wanted lent answer exit p = text-left (textAsk manife
 
 -- "Steps, files, texts, stale or fresh, and each refusal are exactly what document 01 says": the outcome that the definitions compute, whatever it is, is
 -- what the answer says and the buffer holds. A circle is the one outcome of which the definitions leave a choice.
-module _ (manifest card targets lent : List ℕ) (answer : PlanAnswer) (exit : List ℕ) (p : PlanPromise manifest card targets lent answer exit) where
-  pub plan-listed : {l : List ℕ} → planAsk manifest card targets (length lent) ≡ listed l → Is (planSays answer) exit (counts (length l)) (filled l lent)
+module _ (i : Inputs) (lent : List ℕ) (answer : PlanAnswer) (exit : List ℕ) (p : PlanPromise i lent answer exit) where
+  pub plan-listed : {l : List ℕ} → planAsk i (length lent) ≡ listed l → Is (planSays answer) exit (counts (length l)) (filled l lent)
   unfolding PlanMeets
   plan-listed e = subst (λ (o : PlanOutcome). PlanMeets o lent (planSays answer) exit) e p
 
-  pub plan-refused : {r : Refusal} → planAsk manifest card targets (length lent) ≡ noPlan r → Is (planSays answer) exit (refusalSays r) (leftBy r lent)
+  pub plan-refused : {r : Refusal} → planAsk i (length lent) ≡ noPlan r → Is (planSays answer) exit (refusalSays r) (leftBy r lent)
   unfolding PlanMeets
   plan-refused e = subst (λ (o : PlanOutcome). PlanMeets o lent (planSays answer) exit) e p
 
@@ -92,61 +91,67 @@ module _ (manifest : List ℕ) (step : ℕ) (wanted : Wanted) (lent : List ℕ) 
 -- ------------------------------------------------------------------ demand 3
 
 -- a real circle of needed steps stands in the buffer, zeros beyond, and the answer is 14 with its length
-pub record CircleShown (rd : Reading) (roots lent : List ℕ) (said : Said) (exit : List ℕ) : Type 0 where
+pub record CircleShown (i : Inputs) (rd : Reading) (lent : List ℕ) (said : Said) (exit : List ℕ) : Type 0 where
   pub circle : List ℕ
-  pub real : NeededCircle (rd .steps) roots circle
+  pub real : NeededCircle (rd .steps) (rootsOf i rd) circle
   pub shown : Is said exit (refused14 (length circle)) (filled circle lent)
 
 -- the list stands in the buffer, zeros beyond, and the answer is its length: every stale needed command step once, each after all stale ones upstream, and the
 -- least such list by step number (`Listing`)
-pub record ListShown (card : List ℕ) (rd : Reading) (roots lent : List ℕ) (said : Said) (exit : List ℕ) : Type 0 where
-  pub listing : Listing card rd roots
+pub record ListShown (i : Inputs) (rd : Reading) (lent : List ℕ) (said : Said) (exit : List ℕ) : Type 0 where
+  pub listing : Listing i rd
   pub shown : Is said exit (counts (length (listing .list))) (filled (listing .list) lent)
 
 -- "Past the checks ahead of circles: a circle is refused exactly when no order of the needed steps exists, and a real one is shown; otherwise the list holds every
--- stale needed command step once, each after all stale ones upstream, and it is the least such list by step number."
-pub record Demand3 (card : List ℕ) (rd : Reading) (roots lent : List ℕ) (said : Said) (exit : List ℕ) : Type 0 where
-  pub exactly : (said .number ≡ 14) ↔ (¬ ((l : List ℕ) × NeededOrder (rd .steps) roots l))
-  pub circle : (¬ ((l : List ℕ) × NeededOrder (rd .steps) roots l)) → CircleShown rd roots lent said exit
-  pub list : (l : List ℕ) → NeededOrder (rd .steps) roots l → ((f : ℕ) → ¬ MissingIn card rd roots f) → ListShown card rd roots lent said exit
+-- stale needed command step once, each after all stale ones upstream, and it is the least such list by step number." No check after 14 refuses exactly when no
+-- needed source is missing (`unrefused` of `demand3`).
+pub record Demand3 (i : Inputs) (rd : Reading) (lent : List ℕ) (said : Said) (exit : List ℕ) : Type 0 where
+  pub exactly : (said .number ≡ 14) ↔ (¬ ((l : List ℕ) × NeededOrder (rd .steps) (rootsOf i rd) l))
+  pub circle : (¬ ((l : List ℕ) × NeededOrder (rd .steps) (rootsOf i rd) l)) → CircleShown i rd lent said exit
+  pub list : (l : List ℕ) → NeededOrder (rd .steps) (rootsOf i rd) l → Unrefused i rd → ListShown i rd lent said exit
 
-module _ (card : List ℕ) (rd : Reading) (roots lent : List ℕ) (said : Said) (exit : List ℕ) (m : PlanMeets (planFrom card rd roots) lent said exit) where
-  shown : planFrom card rd roots ≡ circular (rd .steps) roots → CircleShown rd roots lent said exit
+module _ (i : Inputs) (rd : Reading) (lent : List ℕ) (said : Said) (exit : List ℕ) where
+  -- the outcome past 14 has another number
+  other : (o : Option ℕ) → PlanMeets (onRefusal (refusedAt o MissingSource) (λ _. planListed i rd)) lent said exit → said .number ≡ 14 → ⊥
+  unfolding PlanMeets planListed refusalSays numberOfRefusal
+  other none p e = omega (arith, sym e ∙ ap (λ (s : Said). s .number) (p .says))
+  other (some f) p e = omega (arith, sym e ∙ ap (λ (s : Said). s .number) (p .says))
+
+  past-14 : PlanMeets (planSources i rd) lent said exit → said .number ≡ 14 → ⊥
+  unfolding planSources
+  past-14 p e = other (missingSource (i .card) rd (rootsOf i rd)) p e
+
+module _ (i : Inputs) (rd : Reading) (lent : List ℕ) (said : Said) (exit : List ℕ) (m : PlanMeets (planOrdered i rd) lent said exit) where
+  shown : planOrdered i rd ≡ circular (rd .steps) (rootsOf i rd) → CircleShown i rd lent said exit
   unfolding PlanMeets
   shown e =
-      let s : Shows (rd .steps) roots lent said exit = subst (λ (o : PlanOutcome). PlanMeets o lent said exit) e m in
+      let s : Shows (rd .steps) (rootsOf i rd) lent said exit = subst (λ (o : PlanOutcome). PlanMeets o lent said exit) e m in
       record { circle = s .circle; real = s .real; shown = s .shown }
 
-  -- the outcome past 14 has another number
-  other : (o : Option ℕ) → PlanMeets (listedOr15 card rd roots o) lent said exit → said .number ≡ 14 → ⊥
-  unfolding PlanMeets listedOr15 refusalSays numberOfRefusal
-  other none i e = omega (arith, sym e ∙ ap (λ (s : Said). s .number) (i .says))
-  other (some f) i e = omega (arith, sym e ∙ ap (λ (s : Said). s .number) (i .says))
-
-  numbered : said .number ≡ 14 → planFrom card rd roots ≡ circular (rd .steps) roots
-  unfolding planFrom
+  numbered : said .number ≡ 14 → planOrdered i rd ≡ circular (rd .steps) (rootsOf i rd)
+  unfolding planOrdered
   numbered e =
-      split (hasOrder (rd .steps) roots)
-      (λ (h : hasOrder (rd .steps) roots ≡ true). absurd (other (missingSource card rd roots) (rw h at m) e))
-      (λ (h : hasOrder (rd .steps) roots ≡ false). rw h)
+      split (hasOrder (rd .steps) (rootsOf i rd))
+      (λ (h : hasOrder (rd .steps) (rootsOf i rd) ≡ true). absurd (past-14 i rd lent said exit (rw h at m) e))
+      (λ (h : hasOrder (rd .steps) (rootsOf i rd) ≡ false). rw h)
 
-  on-list : {l : List ℕ} → planFrom card rd roots ≡ listed l → Is said exit (counts (length l)) (filled l lent)
+  on-list : {l : List ℕ} → planOrdered i rd ≡ listed l → Is said exit (counts (length l)) (filled l lent)
   unfolding PlanMeets
   on-list e = subst (λ (o : PlanOutcome). PlanMeets o lent said exit) e m
 
-  met : Demand3 card rd roots lent said exit
+  met : Demand3 i rd lent said exit
   met =
-      let d = demand3 card rd roots in
+      let d = demand3 i rd in
       record {
         exactly = (λ e. d .circle .0 (numbered e), λ n. let c = shown (d .circle .1 n) in ap (λ (s : Said). s .number) (c .shown .says));
         circle = λ n. shown (d .circle .1 n);
-        list = λ l o f.
-            let g = d .listing l o f in
+        list = λ l o u.
+            let g = d .listing l o u in
             record { listing = g; shown = on-list (g .outcome) };
       }
 
 -- The theorem: the plan ask keeps demand 3, from the lent bytes to the filled buffer.
-pub plan-demand3 : (manifest card targets lent : List ℕ) (answer : PlanAnswer) (exit : List ℕ) → PlanPromise manifest card targets lent answer exit
-    → (rd : Reading) → PastChecks manifest card targets (length lent) rd → Demand3 card rd (rootsOf targets rd) lent (planSays answer) exit
-plan-demand3 manifest card targets lent answer exit p rd c =
-    met card rd (rootsOf targets rd) lent (planSays answer) exit (subst (λ (o : PlanOutcome). PlanMeets o lent (planSays answer) exit) (past-checks manifest card targets (length lent) rd c) p)
+pub plan-demand3 : (i : Inputs) (lent : List ℕ) (answer : PlanAnswer) (exit : List ℕ) → PlanPromise i lent answer exit
+    → (rd : Reading) → PastChecks i (length lent) rd → Demand3 i rd lent (planSays answer) exit
+plan-demand3 i lent answer exit p rd c =
+    met i rd lent (planSays answer) exit (subst (λ (o : PlanOutcome). PlanMeets o lent (planSays answer) exit) (past-checks i (length lent) rd c) p)

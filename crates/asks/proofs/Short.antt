@@ -10,13 +10,13 @@ use Rattle.spec.specs.declared.TextAnswer.the-variants as texts
 use Rattle.spec.specs.declared.Wanted.{Wanted}
 use Rattle.spec.specs.Limits.{leastList, maxText}
 use Rattle.spec.specs.Answers.{numberOfRefusal, planSays, textSays}
-use Rattle.spec.specs.PlanAsk.{planAsk}
+use Rattle.spec.specs.PlanAsk.{Inputs, planAsk}
 use Rattle.spec.specs.TextAsk.{textAsk}
 use Rattle.spec.specs.Promises.{leftBy, PlanMeets, PlanPromise, TextMeets, TextPromise}
 
-pub short-list : (manifest card targets list : List ℕ) → length list < leastList → PlanPromise manifest card targets list (plans.Refused ShortBuffer) list
+pub short-list : (i : Inputs) (list : List ℕ) → length list < leastList → PlanPromise i list (plans.Refused ShortBuffer) list
 unfolding planAsk PlanMeets planSays leftBy numberOfRefusal
-short-list manifest card targets list h = rw (lt-ltb (length list) leastList h) (record { says = refl; leaves = refl })
+short-list i list h = rw (lt-ltb (length list) leastList h) (record { says = refl; leaves = refl })
 
 pub short-text : (manifest : List ℕ) (step : ℕ) (wanted : Wanted) (buffer : List ℕ) → length buffer < maxText → TextPromise manifest step wanted buffer (texts.Refused ShortBuffer) buffer
 unfolding textAsk TextMeets textSays leftBy numberOfRefusal

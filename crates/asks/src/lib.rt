@@ -1,4 +1,5 @@
 // The two asks on lent bytes. Neither asks anything of what it is given: it refuses.
+ghost use Rattle.spec.specs.PlanAsk.{inputsOf};
 ghost use Rattle.spec.specs.Promises.{PlanPromise, TextPromise};
 use ask_plan::plan_buffered;
 use ask_text::text_buffered;
@@ -11,7 +12,7 @@ use spec::limits::TEXT;
 
 // The list of the stale needed command steps for a manifest, a card of file times and a list of targets.
 pub fn plan(manifest: &[u8], card: &[u8], targets: &[u8], list: &mut [u32]) -> PlanAnswer
-    ensures { λ r. ⌜ PlanPromise (now (manifest .entry)) (now (card .entry)) (now (targets .entry)) (now (list .entry)) r (now (list .exit)) ⌝ }
+    ensures { λ r. ⌜ PlanPromise (inputsOf (now (manifest .entry)) (now (card .entry)) (now (targets .entry))) (now (list .entry)) r (now (list .exit)) ⌝ }
 {
     if list.len() < LIST {
         return PlanAnswer::Refused(Refusal::ShortBuffer);

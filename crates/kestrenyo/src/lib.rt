@@ -1,7 +1,7 @@
 // The two asks for C and Rust: numbers and slices alone. Neither asks anything of its caller, and each says what document 01 says in two numbers.
 ghost use mathlib.Core.Path.{_≡_};
 ghost use lib.ListN.{length};
-ghost use Rattle.spec.specs.PlanAsk.{planAsk};
+ghost use Rattle.spec.specs.PlanAsk.{inputsOf, planAsk};
 ghost use Rattle.spec.specs.TextAsk.{textAsk};
 ghost use Rattle.spec.specs.Promises.{PlanMeets, TextMeets};
 ghost use Rattle.kestrenyo.specs.Tells.{Tells, TellsNumbers};
@@ -37,7 +37,7 @@ pub extern "C" fn kestrenyo_plan(
     targets: &[u8],
     list: &mut [u32],
 ) -> Said
-    ensures { λ r. ⌜ Tells (λ said. PlanMeets (planAsk (now (manifest .entry)) (now (card .entry)) (now (targets .entry)) (length (now (list .entry)))) (now (list .entry)) said (now (list .exit))) r ⌝ }
+    ensures { λ r. ⌜ Tells (λ said. PlanMeets (planAsk (inputsOf (now (manifest .entry)) (now (card .entry)) (now (targets .entry))) (length (now (list .entry)))) (now (list .entry)) said (now (list .exit))) r ⌝ }
 {
     in_two(of_plan(plan(manifest, card, targets, list)))
 }

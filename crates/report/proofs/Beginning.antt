@@ -8,7 +8,7 @@ use lib.ListN.{length, take, replicate}
 use lib.Seq.{drop-length}
 use Rattle.lists.specs.Fill.{zeroed}
 use Rattle.spec.specs.Answers.{Said, numberOfRefusal, refusalSays}
-use Rattle.spec.specs.PlanAsk.{PlanOutcome, listed, circular, noPlan, planAsk}
+use Rattle.spec.specs.PlanAsk.{Inputs, PlanOutcome, listed, circular, noPlan, planAsk}
 use Rattle.spec.specs.Promises.{filled, PlanMeets}
 use Rattle.answers.specs.declared.Numbers.{Numbers as Two}
 use Rattle.answers.specs.Numbers.{said}
@@ -85,8 +85,8 @@ record Fits (s : Said) (n : ℕ) : Type 0 where
 fits-all : {s : Said} {n k : ℕ} → s .value ≡ k → k ≤ n → Fits s n
 fits-all e h = record { listed-fits = λ _. omega arith; circle-fits = λ _. omega arith }
 
-module _ (manifest card targets : List ℕ) (room : ℕ) where
-  plan-fits : (o : PlanOutcome) → planAsk manifest card targets room ≡ o → (list exit : List ℕ) (s : Said) → length exit ≡ length list → PlanMeets o list s exit → Fits s (length exit)
+module _ (i : Inputs) (room : ℕ) where
+  plan-fits : (o : PlanOutcome) → planAsk i room ≡ o → (list exit : List ℕ) (s : Said) → length exit ≡ length list → PlanMeets o list s exit → Fits s (length exit)
   unfolding PlanMeets refusalSays
   plan-fits (listed l) e list exit s k m = fits-all (ap (λ (x : Said). x .value) (m .says)) (omega (arith, fits-filled l list exit (m .leaves) k))
   plan-fits (circular steps ts) e list exit s k m =
@@ -95,13 +95,13 @@ module _ (manifest card targets : List ℕ) (room : ℕ) where
       let n : s .number ≡ numberOfRefusal r = ap (λ (x : Said). x .number) (m .says) in
       record {
         listed-fits = λ (z : s .number ≡ 0). absurd (not-0 r (sym n ∙ z));
-        circle-fits = λ (z : s .number ≡ 14). absurd (eqb-false (numberOfRefusal r) 14 (not-14 manifest card targets room e) (sym n ∙ z));
+        circle-fits = λ (z : s .number ≡ 14). absurd (eqb-false (numberOfRefusal r) 14 (not-14 i room e) (sym n ∙ z));
       }
 
   pub planned : (list exit line : List ℕ) (n : Two) (s : Said) → Rooms list line → said n ≡ s → length exit ≡ length list
-      → PlanMeets (planAsk manifest card targets room) list s exit → Planned n exit line
+      → PlanMeets (planAsk i room) list s exit → Planned n exit line
   planned list exit line n s h e k m =
-      let f : Fits s (length exit) = plan-fits (planAsk manifest card targets room) refl list exit s k m in
+      let f : Fits s (length exit) = plan-fits (planAsk i room) refl list exit s k m in
       let a : n .number ≡ s .number = ap (λ (x : Said). x .number) e in
       let b : n .value ≡ s .value = ap (λ (x : Said). x .value) e in
       record {
@@ -144,38 +144,38 @@ unfolding listOutput listOpening
 list-written manifest [] list line listExit k w j p = whole-written manifest listExit noWork line j p
 list-written manifest (s ∷ l) list line listExit k w j p = checked-written manifest (s ∷ l) list line listExit (checkTexts manifest (s ∷ l)) k w j p
 
-module _ (manifest card targets : List ℕ) (room : ℕ) (list line listExit : List ℕ) {r : Begun} {exit : List ℕ} (s : Said)
-    (k : length listExit ≡ length list) (j : length exit ≡ length line) (p : Opens (planOpening manifest s listExit) line r exit) where
-  plan-right : (o : PlanOutcome) → planAsk manifest card targets room ≡ o → PlanMeets o list s listExit → Right manifest o r listExit exit
+module _ (i : Inputs) (room : ℕ) (list line listExit : List ℕ) {r : Begun} {exit : List ℕ} (s : Said)
+    (k : length listExit ≡ length list) (j : length exit ≡ length line) (p : Opens (planOpening (i .manifest) s listExit) line r exit) where
+  plan-right : (o : PlanOutcome) → planAsk i room ≡ o → PlanMeets o list s listExit → Right (i .manifest) o r listExit exit
   unfolding PlanMeets Outputs refusalSays
   plan-right (listed l) e m =
       let n : s .number ≡ 0 = ap (λ (x : Said). x .number) (m .says) in
       let v : s .value ≡ length l = ap (λ (x : Said). x .value) (m .says) in
       let t : take (s .value) listExit ≡ l = rw (v, m .leaves) (front-filled l list) in
-      let q : Opens (listOpening manifest l) line r exit = rw (planned-list manifest s listExit n, t) at p in
-      let b = list-written manifest l list line listExit k (m .leaves) j q in
+      let q : Opens (listOpening (i .manifest) l) line r exit = rw (planned-list (i .manifest) s listExit n, t) at p in
+      let b = list-written (i .manifest) l list line listExit k (m .leaves) j q in
       record { within = b .0; right = b .1 }
   plan-right (circular steps ts) e m =
       let n : s .number ≡ 14 = ap (λ (x : Said). x .number) (m .shown .says) in
       let v : s .value ≡ length (m .circle) = ap (λ (x : Said). x .value) (m .shown .says) in
       let t : take (s .value) listExit ≡ m .circle = rw (v, m .shown .leaves) (front-filled (m .circle) list) in
-      let q : Opens (whole (circleOutput (m .circle))) line r exit = rw (planned-circle manifest s listExit n, t) at p in
-      let b = whole-written manifest listExit (circleOutput (m .circle)) line j q in
+      let q : Opens (whole (circleOutput (m .circle))) line r exit = rw (planned-circle (i .manifest) s listExit n, t) at p in
+      let b = whole-written (i .manifest) listExit (circleOutput (m .circle)) line j q in
       record { within = b .0; right = record { circle = m .circle; real = m .real; shown = b .1 } }
   plan-right (noPlan x) e m =
       let n : s .number ≡ numberOfRefusal x = ap (λ (y : Said). y .number) (m .says) in
       let a : s .number ≡ 0 → ⊥ = λ (z : s .number ≡ 0). not-0 x (sym n ∙ z) in
-      let c : s .number ≡ 14 → ⊥ = λ (z : s .number ≡ 14). eqb-false (numberOfRefusal x) 14 (not-14 manifest card targets room e) (sym n ∙ z) in
-      let q : Opens (whole (refusedLine s)) line r exit = rw (planned-refused manifest s listExit a c) at p in
-      let b = whole-written manifest listExit (refusedLine s) line j q in
+      let c : s .number ≡ 14 → ⊥ = λ (z : s .number ≡ 14). eqb-false (numberOfRefusal x) 14 (not-14 i room e) (sym n ∙ z) in
+      let q : Opens (whole (refusedLine s)) line r exit = rw (planned-refused (i .manifest) s listExit a c) at p in
+      let b = whole-written (i .manifest) listExit (refusedLine s) line j q in
       record { within = b .0; right = b .1 ∙ ap refusedLine (m .says) }
 
-pub begins : (manifest card targets list line listExit : List ℕ) {r : Begun} {exit : List ℕ} (n : Two) (s : Said) → said n ≡ s → length listExit ≡ length list
-    → length exit ≡ length line → PlanMeets (planAsk manifest card targets (length list)) list s listExit
-    → Opens (planOpening manifest (said n) listExit) line r exit → Begins manifest card targets list line r listExit exit
-begins manifest card targets list line listExit {r} {exit} n s e k j m p =
-    let q : Opens (planOpening manifest s listExit) line r exit = rw e at p in
-    let x = plan-right manifest card targets (length list) list line listExit s k j q (planAsk manifest card targets (length list)) refl m in
+pub begins : (i : Inputs) (list line listExit : List ℕ) {r : Begun} {exit : List ℕ} (n : Two) (s : Said) → said n ≡ s → length listExit ≡ length list
+    → length exit ≡ length line → PlanMeets (planAsk i (length list)) list s listExit
+    → Opens (planOpening (i .manifest) (said n) listExit) line r exit → Begins i list line r listExit exit
+begins i list line listExit {r} {exit} n s e k j m p =
+    let q : Opens (planOpening (i .manifest) s listExit) line r exit = rw e at p in
+    let x = plan-right i (length list) list line listExit s k j q (planAsk i (length list)) refl m in
     record { says = s; planned = m; opens = q; within = x .within; right = x .right }
 
 -- What is to be read of the line and of the list lies within them.

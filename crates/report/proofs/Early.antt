@@ -25,8 +25,8 @@ use Rattle.spec.specs.Statements.{Block, noBlock, ruleBlock, buildBlock, Outcom
 use Rattle.spec.specs.Manifest.{withRule, close, andThen, faultOf, ifCut, indented, readIndented, readStatement, readLine, readLines, Read, accepted, refusedWith, readOf, ifSound, badByte, readManifest}
 use Rattle.spec.specs.Card.{soundCard}
 use Rattle.spec.specs.Targets.{badTarget}
-use Rattle.spec.specs.Graph.{hasOrder, noRoot, roots}
-use Rattle.spec.specs.PlanAsk.{PlanOutcome, listed, circular, noPlan, targetFiles, missingSource, listedOr15, planFrom, planRoots, planRead, planAsk}
+use Rattle.spec.specs.Graph.{hasOrder, noRoot}
+use Rattle.spec.specs.PlanAsk.{Inputs, PlanOutcome, listed, circular, noPlan, targetFiles, rootsOf, missingSource, onRefusal, refusedIf, refusedAt, planListed, planSources, planOrdered, planRooted, planTargets, planRead, planManifest, planAsk}
 
 abbrev early : Outcome → Bool
 early (goesOn rd b) = true
@@ -166,34 +166,43 @@ either-plan : (b : Bool) (o t : PlanOutcome) → Other o → Other t → Other (
 either-plan true o t p q = p
 either-plan false o t p q = q
 
-or15-other : (card : List ℕ) (rd : Reading) (rs : List ℕ) (o : Option ℕ) → Other (listedOr15 card rd rs o)
-unfolding listedOr15 numberOfRefusal
-or15-other card rd rs none = refl
-or15-other card rd rs (some f) = refl
+-- a check that may refuse, ahead of the rest
+if-other : (b : Bool) (r : Refusal) (f : Unit {0} → PlanOutcome) → Other (noPlan r) → Other (f tt) → Other (onRefusal (refusedIf b r) f)
+if-other true r f p q = p
+if-other false r f p q = q
 
-from-other : (card : List ℕ) (rd : Reading) (rs : List ℕ) → Other (planFrom card rd rs)
-unfolding planFrom
-from-other card rd rs = either-plan (hasOrder (rd .steps) rs) (listedOr15 card rd rs (missingSource card rd rs)) (circular (rd .steps) rs) (or15-other card rd rs (missingSource card rd rs)) refl
+at-other : (o : Option ℕ) (r : ℕ → Refusal) (f : Unit {0} → PlanOutcome) → ((n : ℕ) → Other (noPlan (r n))) → Other (f tt) → Other (onRefusal (refusedAt o r) f)
+at-other none r f p q = q
+at-other (some n) r f p q = p n
 
-roots-other : (card targets : List ℕ) (rd : Reading) (o : Option ℕ) → Other (planRoots card targets rd o)
-unfolding planRoots numberOfRefusal
-roots-other card targets rd (some p) = refl
-roots-other card targets rd none =
-    let ts = targetFiles targets rd in
-    either-plan (noRoot rd ts) (noPlan NoRoot) (planFrom card rd (roots rd ts)) refl (from-other card rd (roots rd ts))
+module _ (i : Inputs) (rd : Reading) where
+  ordered-other : Other (planOrdered i rd)
+  unfolding planOrdered planSources planListed numberOfRefusal
+  ordered-other =
+      either-plan (hasOrder (rd .steps) (rootsOf i rd)) (planSources i rd) (circular (rd .steps) (rootsOf i rd))
+      (at-other (missingSource (i .card) rd (rootsOf i rd)) MissingSource (λ _. planListed i rd) (λ f. refl) refl) refl
 
-read-other : (card targets : List ℕ) (r : Read) → EarlyRead r → Other (planRead card targets r)
-unfolding planRead numberOfRefusal
-read-other card targets (refusedWith r) p = rw (ne-eqb (numberOfRefusal r) 14 (λ (e : numberOfRefusal r ≡ 14). omega (arith, leb-true (numberOfRefusal r) 10 p)))
-read-other card targets (accepted rd) p = either-plan (soundCard card) (planRoots card targets rd (badTarget (rd .files) targets)) (noPlan BadCard) (roots-other card targets rd (badTarget (rd .files) targets)) refl
+  read-other : Other (planRead i rd)
+  unfolding planRead planTargets planRooted numberOfRefusal
+  read-other =
+      if-other (not (soundCard (i .card))) BadCard (λ _. planTargets i rd) refl
+      (at-other (badTarget (rd .files) (i .targets)) BadTarget (λ _. planRooted i rd) (λ p. refl)
+      (if-other (noRoot rd (targetFiles (i .targets) rd)) NoRoot (λ _. planOrdered i rd) refl ordered-other))
+
+manifest-other : (i : Inputs) (r : Read) → EarlyRead r → Other (planManifest i r)
+unfolding planManifest
+manifest-other i (refusedWith r) p = rw (ne-eqb (numberOfRefusal r) 14 (λ (e : numberOfRefusal r ≡ 14). omega (arith, leb-true (numberOfRefusal r) 10 p)))
+manifest-other i (accepted rd) p = read-other i rd
 
 -- No outcome but a circle has the number 14.
-pub ask-other : (manifest card targets : List ℕ) (room : ℕ) → Other (planAsk manifest card targets room)
+pub ask-other : (i : Inputs) (room : ℕ) → Other (planAsk i room)
 unfolding planAsk numberOfRefusal
-ask-other manifest card targets room = either-plan (ltb room leastList) (noPlan ShortBuffer) (planRead card targets (readManifest manifest)) refl (read-other card targets (readManifest manifest) (manifest-early manifest))
+ask-other i room =
+    either-plan (ltb room leastList) (noPlan ShortBuffer) (planManifest i (readManifest (i .manifest))) refl
+    (manifest-other i (readManifest (i .manifest)) (manifest-early (i .manifest)))
 
-pub not-14 : (manifest card targets : List ℕ) (room : ℕ) {r : Refusal} → planAsk manifest card targets room ≡ noPlan r → eqb (numberOfRefusal r) 14 ≡ false
-not-14 manifest card targets room {r} e = not-true (eqb (numberOfRefusal r) 14) (rw e at (ask-other manifest card targets room))
+pub not-14 : (i : Inputs) (room : ℕ) {r : Refusal} → planAsk i room ≡ noPlan r → eqb (numberOfRefusal r) 14 ≡ false
+not-14 i room {r} e = not-true (eqb (numberOfRefusal r) 14) (rw e at (ask-other i room))
 
 -- No refusal has the number 0.
 pub not-0 : (r : Refusal) → numberOfRefusal r ≡ 0 → ⊥

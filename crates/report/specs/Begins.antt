@@ -7,7 +7,7 @@ use lib.ListN.{length, take}
 use Rattle.lists.specs.Tests.{ifB}
 use Rattle.spec.specs.Limits.{leastList}
 use Rattle.spec.specs.Answers.{Said}
-use Rattle.spec.specs.PlanAsk.{planAsk}
+use Rattle.spec.specs.PlanAsk.{Inputs, planAsk}
 use Rattle.spec.specs.Promises.{filled, PlanMeets}
 use Rattle.answers.specs.declared.Numbers.{Numbers as Two}
 use Rattle.answers.specs.Numbers.{said}
@@ -74,11 +74,11 @@ pub record Planned (s : Two) (list line : List ℕ) : Type 0 where
   pub shown : s .number ≡ 14 → s .value ≤ length list
   pub rooms : Rooms list line
 
--- manifest, card, targets, list and line at entry, answer, list and line at exit: the list holds what the plan ask promises, the line what
+-- the plan ask's inputs, list and line at entry, answer, list and line at exit: the list holds what the plan ask promises, the line what
 -- follows from that, and what is written in all is what the program may write
-pub record Begins (manifest card targets list line : List ℕ) (r : Begun) (listExit lineExit : List ℕ) : Type 0 where
+pub record Begins (i : Inputs) (list line : List ℕ) (r : Begun) (listExit lineExit : List ℕ) : Type 0 where
   pub says : Said
-  pub planned : PlanMeets (planAsk manifest card targets (length list)) list says listExit
-  pub opens : Opens (planOpening manifest says listExit) line r lineExit
+  pub planned : PlanMeets (planAsk i (length list)) list says listExit
+  pub opens : Opens (planOpening (i .manifest) says listExit) line r lineExit
   pub within : Within r listExit lineExit
-  pub right : Outputs manifest (planAsk manifest card targets (length list)) (writtenBy r manifest listExit lineExit)
+  pub right : Outputs (i .manifest) (planAsk i (length list)) (writtenBy r (i .manifest) listExit lineExit)

@@ -2,6 +2,7 @@
 ghost use mathlib.Core.Path.{_≡_};
 ghost use Prim.Native.Nat.{_≤_};
 ghost use lib.ListN.{length};
+ghost use Rattle.spec.specs.PlanAsk.{inputsOf};
 ghost use Rattle.answers.specs.Numbers.{said};
 ghost use Rattle.printing.specs.Writes.{lineRoom, Leaves};
 ghost use Rattle.report.specs.Output.{command, outcomeSays, checkTexts, stepLine};
@@ -98,7 +99,7 @@ pub fn begin(
     line: &mut [u8],
 ) -> Begun
     requires { ⌜ Rooms (now list) (now line) ⌝ }
-    ensures { λ r. ⌜ Begins (now (manifest .entry)) (now (card .entry)) (now (targets .entry)) (now (list .entry)) (now (line .entry)) r (now (list .exit)) (now (line .exit)) ⌝ }
+    ensures { λ r. ⌜ Begins (inputsOf (now (manifest .entry)) (now (card .entry)) (now (targets .entry))) (now (list .entry)) (now (line .entry)) r (now (list .exit)) (now (line .exit)) ⌝ }
 {
     let n = of_plan(plan(manifest, card, targets, list));
     begin_planned(manifest, n, list, line)

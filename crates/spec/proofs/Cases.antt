@@ -6,7 +6,7 @@ use mathlib.Core.Path.{_≡_, refl}
 use Rattle.lists.specs.Text.{bytes}
 use Rattle.spec.specs.declared.Wanted.the-variants.{Description}
 use Rattle.spec.specs.Answers.{numberOfRefusal, placeOfRefusal}
-use Rattle.spec.specs.PlanAsk.{PlanOutcome, planAsk, listed, circular, noPlan}
+use Rattle.spec.specs.PlanAsk.{PlanOutcome, inputsOf, planAsk, listed, circular, noPlan}
 use Rattle.spec.specs.TextAsk.{TextOutcome, textAsk, text, noText}
 use Rattle.spec.specs.Marked.{on, plan, command}
 
@@ -21,7 +21,7 @@ unfolding numberOfRefusal placeOfRefusal
 shownText (text t) = 0 ∷ t
 shownText (noText r) = numberOfRefusal r ∷ placeOfRefusal r ∷ []
 
-limit-list-buffer-511 : shownPlan (planAsk (bytes "") (0 ∷ 0 ∷ 0 ∷ 0 ∷ 16 ∷ 0 ∷ 0 ∷ 0 ∷ 16 ∷ 0 ∷ 0 ∷ 0 ∷ 16 ∷ 0 ∷ 0 ∷ 0 ∷ []) (bytes "") 511) ≡ 1 ∷ 0 ∷ []
+limit-list-buffer-511 : shownPlan (planAsk (inputsOf (bytes "") (0 ∷ 0 ∷ 0 ∷ 0 ∷ 16 ∷ 0 ∷ 0 ∷ 0 ∷ 16 ∷ 0 ∷ 0 ∷ 0 ∷ 16 ∷ 0 ∷ 0 ∷ 0 ∷ []) (bytes "")) 511) ≡ 1 ∷ 0 ∷ []
 unfolding shownPlan planAsk
 limit-list-buffer-511 = refl
 
@@ -125,7 +125,7 @@ card-names-prefix : shownPlan (plan (bytes "") (on "a" 5 ∷ on "ab" 5 ∷ on "a
 unfolding shownPlan planAsk
 card-names-prefix = refl
 
-card-name-offset-gap : shownPlan (planAsk (bytes "") (2 ∷ 0 ∷ 0 ∷ 0 ∷ 16 ∷ 0 ∷ 0 ∷ 0 ∷ 48 ∷ 0 ∷ 0 ∷ 0 ∷ 51 ∷ 0 ∷ 0 ∷ 0 ∷ 0 ∷ 0 ∷ 0 ∷ 0 ∷ 1 ∷ 0 ∷ 0 ∷ 0 ∷ 5 ∷ 0 ∷ 0 ∷ 0 ∷ 0 ∷ 0 ∷ 0 ∷ 0 ∷ 2 ∷ 0 ∷ 0 ∷ 0 ∷ 1 ∷ 0 ∷ 0 ∷ 0 ∷ 5 ∷ 0 ∷ 0 ∷ 0 ∷ 0 ∷ 0 ∷ 0 ∷ 0 ∷ 97 ∷ 120 ∷ 98 ∷ []) (bytes "") 512) ≡ 11 ∷ 0 ∷ []
+card-name-offset-gap : shownPlan (planAsk (inputsOf (bytes "") (2 ∷ 0 ∷ 0 ∷ 0 ∷ 16 ∷ 0 ∷ 0 ∷ 0 ∷ 48 ∷ 0 ∷ 0 ∷ 0 ∷ 51 ∷ 0 ∷ 0 ∷ 0 ∷ 0 ∷ 0 ∷ 0 ∷ 0 ∷ 1 ∷ 0 ∷ 0 ∷ 0 ∷ 5 ∷ 0 ∷ 0 ∷ 0 ∷ 0 ∷ 0 ∷ 0 ∷ 0 ∷ 2 ∷ 0 ∷ 0 ∷ 0 ∷ 1 ∷ 0 ∷ 0 ∷ 0 ∷ 5 ∷ 0 ∷ 0 ∷ 0 ∷ 0 ∷ 0 ∷ 0 ∷ 0 ∷ 97 ∷ 120 ∷ 98 ∷ []) (bytes "")) 512) ≡ 11 ∷ 0 ∷ []
 unfolding shownPlan planAsk
 card-name-offset-gap = refl
 

@@ -1,8 +1,8 @@
 -- Demand 3, from the definitions: past the checks ahead of 14, a circle is refused exactly when no order of the needed steps exists, and a
--- real one can be shown; otherwise, and if no needed source is missing, the list is the least one that keeps the two rules of `KeepsBothRules`.
+-- real one can be shown; otherwise, and if no check after 14 refuses, the list is the least one that keeps the two rules of `KeepsBothRules`.
 use Prim.Native.Nat.{ℕ, _<_}
 use native.Mathlib.Omega.{arith}
-use mathlib.Core.Path.{_≡_, sym, _∙_}
+use mathlib.Core.Path.{_≡_, refl, sym, _∙_}
 use mathlib.Core.Logic.{_⊎_, inl, inr, _↔_}
 use mathlib.Core.Bool.{true, false, not, true≢false}
 use mathlib.Core.Option.{Option, none, some}
@@ -22,10 +22,12 @@ use Rattle.spec.specs.Reading.{Step, Reading}
 use Rattle.spec.specs.Graph.{makersOf, before, needed, neededOrder, hasOrder}
 use Rattle.spec.specs.Stale.{Verdict, unknown, verdicts, told, phonyStep, isStale, staleNeeded, listOf}
 use Rattle.spec.specs.Words.{Needed, input, Upstream, NeededOrder, NeededCircle, Told, Stale, StaleList}
-use Rattle.spec.specs.PlanAsk.{listed, circular, cardTime, missingSource, listedOr15, planFrom}
+use Rattle.spec.specs.declared.Refusal.{Refusal}
+use Rattle.spec.specs.declared.Refusal.the-variants.{MissingSource}
+use Rattle.spec.specs.PlanAsk.{Inputs, listed, circular, noPlan, rootsOf, cardTime, missingSource, refusedAt, onRefusal, planListed, planSources, planOrdered}
 use Rattle.spec.proofs.Graph.{in-before, in-needed, in-upstream, needed-low}
 use Rattle.spec.proofs.Stale.{verdict-local}
-use Rattle.spec.proofs.Sources.{MissingIn, missing-none}
+use Rattle.spec.proofs.Sources.{MissingIn, missing-none, none-missing}
 
 module _ (steps : List Step) (targets : List ℕ) where
   wanted : (s : ℕ) → In (needed steps targets) s ↔ Needed steps targets s
@@ -110,70 +112,101 @@ pub record LowerThan (l r : List ℕ) : Type 0 where
   pub alike : take place l ≡ take place r
   pub lower : getD l place 0 < getD r place 0
 
--- what is listed where the needed steps have an order and no needed source is missing
-pub record Listing (card : List ℕ) (rd : Reading) (targets : List ℕ) : Type 0 where
+-- no check after 14 refuses
+abbrev pub Unrefused : Inputs → Reading → Type 0
+Unrefused i rd = (r : Refusal) → ¬ (planSources i rd ≡ noPlan r)
+
+-- what is listed where the needed steps have an order and no check after 14 refuses
+pub record Listing (i : Inputs) (rd : Reading) : Type 0 where
   pub list : List ℕ
-  pub outcome : planFrom card rd targets ≡ listed list
+  pub outcome : planOrdered i rd ≡ listed list
   -- stale and fresh are what document 01's sentences say, and these fix them
   pub verdicts : ℕ → Verdict
-  pub sentences : Told (rd .steps) (cardTime card rd) targets verdicts
-  pub fixed : (v : ℕ → Verdict) → Told (rd .steps) (cardTime card rd) targets v → (s : ℕ) → Needed (rd .steps) targets s → v s ≡ verdicts s
+  pub sentences : Told (rd .steps) (cardTime (i .card) rd) (rootsOf i rd) verdicts
+  pub fixed : (v : ℕ → Verdict) → Told (rd .steps) (cardTime (i .card) rd) (rootsOf i rd) v → (s : ℕ) → Needed (rd .steps) (rootsOf i rd) s → v s ≡ verdicts s
   -- every stale needed command step once and nothing else, each after every stale command step upstream of it
-  pub both-rules : KeepsBothRules (rd .steps) targets verdicts list
+  pub both-rules : KeepsBothRules (rd .steps) (rootsOf i rd) verdicts list
   -- at each place the lowest-numbered that may stand there
-  pub least : StaleList (rd .steps) targets verdicts list
+  pub least : StaleList (rd .steps) (rootsOf i rd) verdicts list
   -- every other list that keeps both rules has the higher step number where the two first differ
-  pub lowest : (r : List ℕ) → KeepsBothRules (rd .steps) targets verdicts r → (list ≡ r) ⊎ LowerThan list r
+  pub lowest : (r : List ℕ) → KeepsBothRules (rd .steps) (rootsOf i rd) verdicts r → (list ≡ r) ⊎ LowerThan list r
 
-pub record Demand3 (card : List ℕ) (rd : Reading) (targets : List ℕ) : Type 0 where
+pub record Demand3 (i : Inputs) (rd : Reading) : Type 0 where
   -- a circle is refused exactly when no order of the needed steps has each one after the makers of all its inputs
-  pub circle : (planFrom card rd targets ≡ circular (rd .steps) targets) ↔ (¬ ((l : List ℕ) × NeededOrder (rd .steps) targets l))
+  pub circle : (planOrdered i rd ≡ circular (rd .steps) (rootsOf i rd)) ↔ (¬ ((l : List ℕ) × NeededOrder (rd .steps) (rootsOf i rd) l))
   -- and there is a real one to show
-  pub real : (¬ ((l : List ℕ) × NeededOrder (rd .steps) targets l)) → (c : List ℕ) × NeededCircle (rd .steps) targets c
+  pub real : (¬ ((l : List ℕ) × NeededOrder (rd .steps) (rootsOf i rd) l)) → (c : List ℕ) × NeededCircle (rd .steps) (rootsOf i rd) c
   -- an order and a circle exclude each other
-  pub exclude : (l c : List ℕ) → NeededOrder (rd .steps) targets l → NeededCircle (rd .steps) targets c → ⊥
-  -- otherwise, if no needed source is missing, the list
-  pub listing : (l : List ℕ) → NeededOrder (rd .steps) targets l → ((f : ℕ) → ¬ MissingIn card rd targets f) → Listing card rd targets
+  pub exclude : (l c : List ℕ) → NeededOrder (rd .steps) (rootsOf i rd) l → NeededCircle (rd .steps) (rootsOf i rd) c → ⊥
+  -- otherwise, if no check after 14 refuses, the list
+  pub listing : (l : List ℕ) → NeededOrder (rd .steps) (rootsOf i rd) l → Unrefused i rd → Listing i rd
+  -- which is to say, if no needed source is missing
+  pub unrefused : Unrefused i rd ↔ ((f : ℕ) → ¬ MissingIn (i .card) rd (rootsOf i rd) f)
 
-module _ (card : List ℕ) (rd : Reading) (targets : List ℕ) where
-  plan-circle : hasOrder (rd .steps) targets ≡ false → planFrom card rd targets ≡ circular (rd .steps) targets
-  unfolding planFrom
+module _ (i : Inputs) (rd : Reading) where
+  plan-circle : hasOrder (rd .steps) (rootsOf i rd) ≡ false → planOrdered i rd ≡ circular (rd .steps) (rootsOf i rd)
+  unfolding planOrdered
   plan-circle e = rw e
 
-  plan-list : hasOrder (rd .steps) targets ≡ true → missingSource card rd targets ≡ none
-      → planFrom card rd targets ≡ listed (listOf (rd .steps) (cardTime card rd) targets)
-  unfolding planFrom listedOr15
-  plan-list e f = rw (e, f)
+  past-circle : hasOrder (rd .steps) (rootsOf i rd) ≡ true → planOrdered i rd ≡ planSources i rd
+  unfolding planOrdered
+  past-circle e = rw e
 
-  or15-not-circular : (o : Option ℕ) → ¬ (listedOr15 card rd targets o ≡ circular (rd .steps) targets)
-  unfolding listedOr15
+  plan-list : missingSource (i .card) rd (rootsOf i rd) ≡ none → planSources i rd ≡ listed (listOf (rd .steps) (cardTime (i .card) rd) (rootsOf i rd))
+  unfolding planSources planListed
+  plan-list e = rw e
+
+  plan-missing : {f : ℕ} → missingSource (i .card) rd (rootsOf i rd) ≡ some f → planSources i rd ≡ noPlan (MissingSource f)
+  unfolding planSources
+  plan-missing e = rw e
+
+  -- the one check after 14 is 15
+  none-absent : Unrefused i rd → missingSource (i .card) rd (rootsOf i rd) ≡ none
+  none-absent u = go (missingSource (i .card) rd (rootsOf i rd)) refl
+    where
+      go : (o : Option ℕ) → missingSource (i .card) rd (rootsOf i rd) ≡ o → o ≡ none
+      go none e = refl
+      go (some f) e = absurd (u (MissingSource f) (plan-missing e))
+
+  absent-none : missingSource (i .card) rd (rootsOf i rd) ≡ none → Unrefused i rd
+  absent-none e r k = list-no-refusal (sym (plan-list e) ∙ k)
+    where
+      list-no-refusal : {l : List ℕ} → listed l ≡ noPlan r → ⊥
+      list-no-refusal d = let z : _≡_ {A = ℕ} 0 1 = cc in omega arith
+
+  or15-not-circular : (o : Option ℕ) → ¬ (onRefusal (refusedAt o MissingSource) (λ _. planListed i rd) ≡ circular (rd .steps) (rootsOf i rd))
+  unfolding planListed
   or15-not-circular none e = let z : _≡_ {A = ℕ} 0 1 = cc in omega arith
   or15-not-circular (some f) e = let z : _≡_ {A = ℕ} 0 1 = cc in omega arith
 
-  circle-plan : planFrom card rd targets ≡ circular (rd .steps) targets → hasOrder (rd .steps) targets ≡ false
-  unfolding planFrom
+  circle-plan : planOrdered i rd ≡ circular (rd .steps) (rootsOf i rd) → hasOrder (rd .steps) (rootsOf i rd) ≡ false
+  unfolding planSources
   circle-plan e =
-      split (hasOrder (rd .steps) targets)
-      (λ (h : hasOrder (rd .steps) targets ≡ true). absurd (or15-not-circular (missingSource card rd targets) (rw h at e)))
-      (λ (h : hasOrder (rd .steps) targets ≡ false). h)
+      split (hasOrder (rd .steps) (rootsOf i rd))
+      (λ (h : hasOrder (rd .steps) (rootsOf i rd) ≡ true). absurd (or15-not-circular (missingSource (i .card) rd (rootsOf i rd)) (sym (past-circle h) ∙ e)))
+      (λ (h : hasOrder (rd .steps) (rootsOf i rd) ≡ false). h)
 
-  pub demand3 : Demand3 card rd targets
-  demand3 = record {
-    circle = (λ e. no-order (rd .steps) targets .1 (circle-plan e), λ f. plan-circle (no-order (rd .steps) targets .0 f));
-    real = λ f. (circleOf (needed (rd .steps) targets) (before (rd .steps)), some-circle (rd .steps) targets (no-order (rd .steps) targets .0 f));
-    exclude = λ l c o k. order-no-circle o k;
-    listing = λ l o m. record {
-      list = listOf (rd .steps) (cardTime card rd) targets;
-      outcome = plan-list (has-order (rd .steps) targets o) (missing-none card rd targets m);
-      verdicts = told (rd .steps) (cardTime card rd) targets;
-      sentences = told-along (rd .steps) targets (cardTime card rd) (order-right (rd .steps) targets (has-order (rd .steps) targets o));
-      fixed = λ v p s n. told-once (rd .steps) targets (cardTime card rd) o v (told (rd .steps) (cardTime card rd) targets) p
-          (told-along (rd .steps) targets (cardTime card rd) (order-right (rd .steps) targets (has-order (rd .steps) targets o))) s n;
-      both-rules = least-order (list-right (rd .steps) targets (cardTime card rd) o);
-      least = list-right (rd .steps) targets (cardTime card rd) o;
-      lowest = λ r k. elim (first-difference (list-right (rd .steps) targets (cardTime card rd) o) k) [
-        | inl e ↦ inl e
-        | inr d ↦ inr (record { place = d .0; within = d .1; alike = d .2; lower = d .3 })
-      ];
-    };
-  }
+  pub demand3 : Demand3 i rd
+  demand3 =
+      let rs = rootsOf i rd in
+      let card = cardTime (i .card) rd in
+      record {
+        circle = (λ e. no-order (rd .steps) rs .1 (circle-plan e), λ f. plan-circle (no-order (rd .steps) rs .0 f));
+        real = λ f. (circleOf (needed (rd .steps) rs) (before (rd .steps)), some-circle (rd .steps) rs (no-order (rd .steps) rs .0 f));
+        exclude = λ l c o k. order-no-circle o k;
+        listing = λ l o u. record {
+          list = listOf (rd .steps) card rs;
+          outcome = past-circle (has-order (rd .steps) rs o) ∙ plan-list (none-absent u);
+          verdicts = told (rd .steps) card rs;
+          sentences = told-along (rd .steps) rs card (order-right (rd .steps) rs (has-order (rd .steps) rs o));
+          fixed = λ v p s n. told-once (rd .steps) rs card o v (told (rd .steps) card rs) p
+              (told-along (rd .steps) rs card (order-right (rd .steps) rs (has-order (rd .steps) rs o))) s n;
+          both-rules = least-order (list-right (rd .steps) rs card o);
+          least = list-right (rd .steps) rs card o;
+          lowest = λ r k. elim (first-difference (list-right (rd .steps) rs card o) k) [
+            | inl e ↦ inl e
+            | inr d ↦ inr (record { place = d .0; within = d .1; alike = d .2; lower = d .3 })
+          ];
+        };
+        unrefused = (λ u. none-missing (i .card) rd rs (none-absent u), λ n. absent-none (missing-none (i .card) rd rs n));
+      }

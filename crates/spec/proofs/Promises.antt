@@ -1,14 +1,17 @@
 -- The promises can be kept on every input, and they fix every outcome but the circle.
-use Prim.Native.Nat.{ℕ}
+use Prim.Native.Nat.{ℕ, _-_}
+use native.Mathlib.Omega.{arith}
 use mathlib.Core.Path.{_≡_, refl, sym, _∙_}
-use mathlib.Core.Bool.{true, false}
+use mathlib.Core.Bool.{true, false, not}
 use mathlib.Core.Option.{Option, none, some}
-use mathlib.Core.List.{List}
+use mathlib.Core.List.{List, []}
 use lib.Dec.{ltb}
 use lib.ListN.{length}
 use Rattle.lists.specs.Tests.{split}
+use Rattle.lists.specs.Fill.{zeroed, zeroed-all}
 use Rattle.orders.specs.Circle.{circleOf}
-use Rattle.spec.specs.declared.Refusal.the-variants.{Circle}
+use Rattle.spec.specs.declared.Refusal.{Refusal}
+use Rattle.spec.specs.declared.Refusal.the-variants.{BadCard, BadTarget, NoRoot, Circle, MissingSource}
 use Rattle.spec.specs.declared.PlanAnswer.{PlanAnswer}
 use Rattle.spec.specs.declared.PlanAnswer.the-variants.{Listed, Refused as PlanRefused}
 use Rattle.spec.specs.declared.TextAnswer.{TextAnswer}
@@ -19,12 +22,17 @@ use Rattle.spec.specs.Reading.{Step, Reading}
 use Rattle.spec.specs.Manifest.{Read, accepted, refusedWith, readManifest}
 use Rattle.spec.specs.Card.{soundCard}
 use Rattle.spec.specs.Targets.{badTarget}
-use Rattle.spec.specs.Graph.{before, needed, hasOrder, noRoot, roots}
-use Rattle.spec.specs.PlanAsk.{PlanOutcome, listed, circular, noPlan, targetFiles, missingSource, listedOr15, planFrom, planRoots, planRead, planAsk}
+use Rattle.spec.specs.Graph.{before, needed, hasOrder, noRoot}
+use Rattle.spec.specs.PlanAsk.{Inputs, PlanOutcome, listed, circular, noPlan, rootsOf, targetFiles, missingSource, onRefusal, refusedIf, refusedAt, planListed, planSources, planOrdered, planRooted, planTargets, planRead, planManifest, planAsk}
 use Rattle.spec.specs.TextAsk.{TextOutcome, text, noText, textAsk}
 use Rattle.spec.specs.Answers.{Said, planSays, textSays}
 use Rattle.spec.specs.Promises.{filled, leftBy, Is, PlanMeets, PlanPromise, TextMeets, TextPromise}
 use Rattle.spec.proofs.Demand3.{some-circle}
+
+-- a buffer that is cleared
+pub cleared : (lent : List ℕ) → zeroed lent 0 (length lent) ≡ filled [] lent
+unfolding filled
+cleared lent = let z : length lent - 0 ≡ length lent = omega arith in zeroed-all lent ∙ rw z
 
 -- an outcome that is a circle has no order
 abbrev Sound : PlanOutcome → Type 0
@@ -32,36 +40,39 @@ Sound (listed l) = Unit {0}
 Sound (circular steps targets) = hasOrder steps targets ≡ false
 Sound (noPlan r) = Unit {0}
 
-or15-sound : (card : List ℕ) (rd : Reading) (rs : List ℕ) (o : Option ℕ) → Sound (listedOr15 card rd rs o)
-unfolding listedOr15
-or15-sound card rd rs none = tt
-or15-sound card rd rs (some f) = tt
+-- a check before it does not matter
+after-sound : (o : Option Refusal) (f : Unit {0} → PlanOutcome) → Sound (f tt) → Sound (onRefusal o f)
+after-sound none f s = s
+after-sound (some r) f s = tt
 
-from-sound : (card : List ℕ) (rd : Reading) (rs : List ℕ) → Sound (planFrom card rd rs)
-unfolding planFrom
-from-sound card rd rs =
-    split (hasOrder (rd .steps) rs) (λ (e : hasOrder (rd .steps) rs ≡ true). rw e (or15-sound card rd rs (missingSource card rd rs)))
-    (λ (e : hasOrder (rd .steps) rs ≡ false). rw e e)
+module _ (i : Inputs) (rd : Reading) where
+  sources-sound : Sound (planSources i rd)
+  unfolding planSources planListed
+  sources-sound = after-sound (refusedAt (missingSource (i .card) rd (rootsOf i rd)) MissingSource) (λ _. planListed i rd) tt
 
-roots-sound : (card targets : List ℕ) (rd : Reading) (o : Option ℕ) → Sound (planRoots card targets rd o)
-unfolding planRoots
-roots-sound card targets rd (some p) = tt
-roots-sound card targets rd none =
-    let ts = targetFiles targets rd in
-    split (noRoot rd ts) (λ (e : noRoot rd ts ≡ true). rw e tt) (λ (e : noRoot rd ts ≡ false). rw e (from-sound card rd (roots rd ts)))
+  ordered-sound : Sound (planOrdered i rd)
+  unfolding planOrdered
+  ordered-sound =
+      split (hasOrder (rd .steps) (rootsOf i rd)) (λ (e : hasOrder (rd .steps) (rootsOf i rd) ≡ true). rw e sources-sound)
+      (λ (e : hasOrder (rd .steps) (rootsOf i rd) ≡ false). rw e e)
 
-read-sound : (card targets : List ℕ) (r : Read) → Sound (planRead card targets r)
-unfolding planRead
-read-sound card targets (refusedWith r) = tt
-read-sound card targets (accepted rd) =
-    split (soundCard card) (λ (e : soundCard card ≡ true). rw e (roots-sound card targets rd (badTarget (rd .files) targets)))
-    (λ (e : soundCard card ≡ false). rw e tt)
+  read-sound : Sound (planRead i rd)
+  unfolding planRead planTargets planRooted
+  read-sound =
+      after-sound (refusedIf (not (soundCard (i .card))) BadCard) (λ _. planTargets i rd)
+      (after-sound (refusedAt (badTarget (rd .files) (i .targets)) BadTarget) (λ _. planRooted i rd)
+      (after-sound (refusedIf (noRoot rd (targetFiles (i .targets) rd)) NoRoot) (λ _. planOrdered i rd) ordered-sound))
 
-ask-sound : (manifest card targets : List ℕ) (room : ℕ) → Sound (planAsk manifest card targets room)
+manifest-sound : (i : Inputs) (r : Read) → Sound (planManifest i r)
+unfolding planManifest
+manifest-sound i (refusedWith r) = tt
+manifest-sound i (accepted rd) = read-sound i rd
+
+ask-sound : (i : Inputs) (room : ℕ) → Sound (planAsk i room)
 unfolding planAsk
-ask-sound manifest card targets room =
+ask-sound i room =
     split (ltb room leastList) (λ (e : ltb room leastList ≡ true). rw e tt)
-    (λ (e : ltb room leastList ≡ false). rw e (read-sound card targets (readManifest manifest)))
+    (λ (e : ltb room leastList ≡ false). rw e (manifest-sound i (readManifest (i .manifest))))
 
 plan-kept : (o : PlanOutcome) (lent : List ℕ) → Sound o → (answer : PlanAnswer) × (exit : List ℕ) × PlanMeets o lent (planSays answer) exit
 unfolding PlanMeets planSays
@@ -77,9 +88,8 @@ text-kept (text t) lent = (Written (length t), filled t lent, record { says = re
 text-kept (noText r) lent = (TextRefused r, leftBy r lent, record { says = refl; leaves = refl })
 
 -- on every input some answer meets the promise
-pub plan-possible : (manifest card targets lent : List ℕ) → (answer : PlanAnswer) × (exit : List ℕ) × PlanPromise manifest card targets lent answer exit
-plan-possible manifest card targets lent =
-    plan-kept (planAsk manifest card targets (length lent)) lent (ask-sound manifest card targets (length lent))
+pub plan-possible : (i : Inputs) (lent : List ℕ) → (answer : PlanAnswer) × (exit : List ℕ) × PlanPromise i lent answer exit
+plan-possible i lent = plan-kept (planAsk i (length lent)) lent (ask-sound i (length lent))
 
 pub text-possible : (manifest : List ℕ) (step : ℕ) (wanted : Wanted) (lent : List ℕ) → (answer : TextAnswer) × (exit : List ℕ) × TextPromise manifest step wanted lent answer exit
 text-possible manifest step wanted lent = text-kept (textAsk manifest step wanted (length lent)) lent
@@ -100,11 +110,10 @@ plan-fixed (listed l) lent a b x y n p q = is-same p q
 plan-fixed (circular steps targets) lent a b x y n p q = absurd (n steps targets refl)
 plan-fixed (noPlan r) lent a b x y n p q = is-same p q
 
-pub plan-unique : (manifest card targets lent : List ℕ) (a b : PlanAnswer) (x y : List ℕ)
-    → ((steps : List Step) (rs : List ℕ) → ¬ (planAsk manifest card targets (length lent) ≡ circular steps rs))
-    → PlanPromise manifest card targets lent a x → PlanPromise manifest card targets lent b y → Same (planSays a) (planSays b) x y
-plan-unique manifest card targets lent a b x y n p q =
-    plan-fixed (planAsk manifest card targets (length lent)) lent (planSays a) (planSays b) x y n p q
+pub plan-unique : (i : Inputs) (lent : List ℕ) (a b : PlanAnswer) (x y : List ℕ)
+    → ((steps : List Step) (rs : List ℕ) → ¬ (planAsk i (length lent) ≡ circular steps rs))
+    → PlanPromise i lent a x → PlanPromise i lent b y → Same (planSays a) (planSays b) x y
+plan-unique i lent a b x y n p q = plan-fixed (planAsk i (length lent)) lent (planSays a) (planSays b) x y n p q
 
 -- every text is fixed
 text-fixed : (o : TextOutcome) (lent : List ℕ) (a b : Said) (x y : List ℕ) → TextMeets o lent a x → TextMeets o lent b y → Same a b x y

@@ -13,7 +13,7 @@ use Rattle.spec.specs.declared.TextAnswer.{TextAnswer}
 use Rattle.spec.specs.declared.TextAnswer.the-variants.{Refused as TextRefused}
 use Rattle.spec.specs.declared.Wanted.the-variants.{Command}
 use Rattle.spec.specs.Answers.{numberOfRefusal, Said, refusalSays, planSays, textSays}
-use Rattle.spec.specs.PlanAsk.{PlanOutcome, planAsk, listed}
+use Rattle.spec.specs.PlanAsk.{PlanOutcome, inputsOf, planAsk, listed}
 use Rattle.spec.specs.TextAsk.{TextOutcome, textAsk, text}
 use Rattle.spec.specs.Promises.{filled, counts, Is, PlanMeets, PlanPromise, TextMeets, TextPromise}
 use Rattle.spec.specs.Marked.{on, cardOf, bench}
@@ -54,45 +54,45 @@ refusal-number (LongText s) e = omega arith
 refusal-number (NoCommand s) e = omega arith
 
 module _ (lent : List ℕ) (room : length lent ≡ 512) where
-  bench-both : planAsk bench bothStale [] (length lent) ≡ listed (0 ∷ 1 ∷ [])
+  bench-both : planAsk (inputsOf bench bothStale []) (length lent) ≡ listed (0 ∷ 1 ∷ [])
   bench-both = rw room (marked .m0)
 
-  bench-one : planAsk bench oneStale [] (length lent) ≡ listed (1 ∷ [])
+  bench-one : planAsk (inputsOf bench oneStale []) (length lent) ≡ listed (1 ∷ [])
   bench-one = rw room (marked .m1)
 
-  both-said : (answer : PlanAnswer) (exit : List ℕ) → PlanPromise bench bothStale [] lent answer exit → planSays answer ≡ counts 2
-  both-said answer exit p = says-list (planAsk bench bothStale [] (length lent)) lent exit (0 ∷ 1 ∷ []) (planSays answer) bench-both p .says
+  both-said : (answer : PlanAnswer) (exit : List ℕ) → PlanPromise (inputsOf bench bothStale []) lent answer exit → planSays answer ≡ counts 2
+  both-said answer exit p = says-list (planAsk (inputsOf bench bothStale []) (length lent)) lent exit (0 ∷ 1 ∷ []) (planSays answer) bench-both p .says
 
   -- one that refuses everything, whatever the refusal; so also one that shows an invented circle
-  pub refuses : (r : Refusal) (exit : List ℕ) → PlanPromise bench bothStale [] lent (Refused r) exit → ⊥
+  pub refuses : (r : Refusal) (exit : List ℕ) → PlanPromise (inputsOf bench bothStale []) lent (Refused r) exit → ⊥
   unfolding planSays refusalSays
   refuses r exit p = refusal-number r (ap (λ (s : Said). s .number) (both-said (Refused r) exit p))
 
   -- an invented list length
-  pub length-fixed : (n : ℕ) (exit : List ℕ) → PlanPromise bench bothStale [] lent (Listed n) exit → n ≡ 2
+  pub length-fixed : (n : ℕ) (exit : List ℕ) → PlanPromise (inputsOf bench bothStale []) lent (Listed n) exit → n ≡ 2
   unfolding planSays
   length-fixed n exit p = ap (λ (s : Said). s .value) (both-said (Listed n) exit p)
 
   -- one that lists none
-  pub lists-none : (exit : List ℕ) → PlanPromise bench bothStale [] lent (Listed 0) exit → ⊥
+  pub lists-none : (exit : List ℕ) → PlanPromise (inputsOf bench bothStale []) lent (Listed 0) exit → ⊥
   lists-none exit p = let e = length-fixed 0 exit p in omega arith
 
   -- a reader that returns an empty graph: what is right for the empty manifest is wrong for the bench
-  empty-said : planAsk [] bothStale [] (length lent) ≡ listed []
+  empty-said : planAsk (inputsOf [] bothStale []) (length lent) ≡ listed []
   unfolding planAsk
   empty-said = rw room
 
-  pub empty-graph : (answer : PlanAnswer) (exit : List ℕ) → PlanPromise [] bothStale [] lent answer exit → PlanPromise bench bothStale [] lent answer exit → ⊥
+  pub empty-graph : (answer : PlanAnswer) (exit : List ℕ) → PlanPromise (inputsOf [] bothStale []) lent answer exit → PlanPromise (inputsOf bench bothStale []) lent answer exit → ⊥
   empty-graph answer exit p q =
-      let a = says-list (planAsk [] bothStale [] (length lent)) lent exit [] (planSays answer) empty-said p .says in
+      let a = says-list (planAsk (inputsOf [] bothStale []) (length lent)) lent exit [] (planSays answer) empty-said p .says in
       let z : _≡_ {A = ℕ} 0 2 = ap (λ (s : Said). s .value) (sym a ∙ both-said answer exit q) in
       omega arith
 
   -- one that lists all steps, whatever the card: all commands, or all three steps
-  pub lists-all : (n : ℕ) (exit : List ℕ) → 1 < n → PlanPromise bench oneStale [] lent (Listed n) exit → ⊥
+  pub lists-all : (n : ℕ) (exit : List ℕ) → 1 < n → PlanPromise (inputsOf bench oneStale []) lent (Listed n) exit → ⊥
   unfolding planSays
   lists-all n exit h p =
-      let e : n ≡ 1 = ap (λ (s : Said). s .value) (says-list (planAsk bench oneStale [] (length lent)) lent exit (1 ∷ []) (planSays (Listed n)) bench-one p .says) in
+      let e : n ≡ 1 = ap (λ (s : Said). s .value) (says-list (planAsk (inputsOf bench oneStale []) (length lent)) lent exit (1 ∷ []) (planSays (Listed n)) bench-one p .says) in
       omega arith
 
 says-text : (o : TextOutcome) (lent exit t : List ℕ) (said : Said) → o ≡ text t → TextMeets o lent said exit → Is said exit (counts (length t)) (filled t lent)

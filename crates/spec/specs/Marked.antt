@@ -12,7 +12,7 @@ use Rattle.spec.specs.Card.{Entry, soundCard, cardEntries, timeIn}
 use Rattle.spec.specs.declared.PlanAnswer.{PlanAnswer}
 use Rattle.spec.specs.Answers.{planSays}
 use Rattle.spec.specs.Promises.{Is, filled, refused14, PlanPromise}
-use Rattle.spec.specs.PlanAsk.{PlanOutcome, planAsk, listed}
+use Rattle.spec.specs.PlanAsk.{PlanOutcome, inputsOf, planAsk, listed}
 use Rattle.spec.specs.TextAsk.{TextOutcome, textAsk, text}
 
 -- a number as so many little-endian bytes
@@ -42,7 +42,7 @@ bench =
     "cflags = -O1\nrule cc\n  command = cc $cflags -c $in -o $out\nbuild b.o: cc b.c\nbuild a.o: cc a.c | t.h\n  cflags = -O2\nbuild axis: phony a.o b.o\ndefault axis\n"
 
 abbrev pub plan : List ℕ → List Entry → String → PlanOutcome
-plan manifest card targets = planAsk manifest (cardOf card) (bytes targets) 512
+plan manifest card targets = planAsk (inputsOf manifest (cardOf card) (bytes targets)) 512
 
 abbrev pub command : List ℕ → ℕ → TextOutcome
 command manifest s = textAsk manifest s Command 8192
@@ -76,7 +76,7 @@ pub record Marked : Type 0 where
   pub m6 : command (bytes "v = 1\nrule r\n  command = x $v\nbuild a: r\nv = 2\n") 0 ≡ text (bytes "x 2")
   -- (M7) `build a: phony a`, target a: 14, circle 0: whatever answers must say so, and write that circle
   pub m7 : (lent : List ℕ) (answer : PlanAnswer) (exit : List ℕ) → length lent ≡ 512
-      → PlanPromise (bytes "build a: phony a\n") (cardOf []) (bytes "a\n") lent answer exit → Is (planSays answer) exit (refused14 1) (filled (0 ∷ []) lent)
+      → PlanPromise (inputsOf (bytes "build a: phony a\n") (cardOf []) (bytes "a\n")) lent answer exit → Is (planSays answer) exit (refused14 1) (filled (0 ∷ []) lent)
   -- (M8) a circle no target reaches: no 14
   pub m8 : plan (bytes "build a: phony a\nbuild b: phony\n") [] "b\n" ≡ listed []
   -- (M9) order-only input newer: fresh

@@ -2,7 +2,7 @@
 use Prim.Native.Nat.{ℕ}
 use mathlib.Core.List.{List, [], map}
 use mathlib.Core.Option.{Option, none, some}
-use mathlib.Core.Bool.{_&&_}
+use mathlib.Core.Bool.{Bool, true, false, not, _&&_}
 use lib.Dec.{eqb, ltb}
 use lib.ListN.{length, getD}
 use Rattle.spec.specs.declared.Refusal.{Refusal}
@@ -16,6 +16,15 @@ use Rattle.spec.specs.Card.{soundCard, cardEntries, timeIn}
 use Rattle.spec.specs.Targets.{Target, targetsOf, badTarget}
 use Rattle.spec.specs.Graph.{roots, noRoot, isNeededSource, hasOrder}
 use Rattle.spec.specs.Stale.{listOf}
+
+-- what is lent to the plan ask: the manifest, the card of file times and the target list
+pub record Inputs : Type 0 where
+  pub manifest : List ℕ
+  pub card : List ℕ
+  pub targets : List ℕ
+
+abbrev pub inputsOf : List ℕ → List ℕ → List ℕ → Inputs
+inputsOf manifest card targets = record { manifest = manifest; card = card; targets = targets }
 
 pub data PlanOutcome : Type 0 where
   -- the listed steps
@@ -40,33 +49,65 @@ unfolding find upTo isNeededSource cardTime
 missingSource card rd rs =
     find (λ f. eqb (cardTime card rd f) 0 && isNeededSource (rd .steps) rs f) (upTo (length (rd .files)))
 
-unfoldable pub listedOr15 : List ℕ → Reading → List ℕ → Option ℕ → PlanOutcome
-unfolding listOf cardTime
-listedOr15 card rd rs none = listed (listOf (rd .steps) (cardTime card rd) rs)
-listedOr15 card rd rs (some f) = noPlan (MissingSource f)
+-- the targets, or what stands for them
+abbrev pub rootsOf : Inputs → Reading → List ℕ
+rootsOf i rd = roots rd (targetFiles (i .targets) rd)
 
--- 14 and 15, then the list
-unfoldable pub planFrom : List ℕ → Reading → List ℕ → PlanOutcome
-unfolding hasOrder listedOr15 missingSource
-planFrom card rd rs = ifB (hasOrder (rd .steps) rs) (λ _. listedOr15 card rd rs (missingSource card rd rs)) (λ _. circular (rd .steps) rs)
+-- ------------------------------------------------------------------ the checks from 11 on, each with what comes after it
 
--- 12 and 13
-unfoldable pub planRoots : List ℕ → List ℕ → Reading → Option ℕ → PlanOutcome
-unfolding targetFiles noRoot planFrom roots
-planRoots card targets rd (some place) = noPlan (BadTarget place)
-planRoots card targets rd none =
-    let ts = targetFiles targets rd in
-    ifB (noRoot rd ts) (λ _. noPlan NoRoot) (λ _. planFrom card rd (roots rd ts))
+-- a check that refuses, or what comes after it
+abbrev pub onRefusal : Option Refusal → (Unit {0} → PlanOutcome) → PlanOutcome
+onRefusal none goOn = goOn tt
+onRefusal (some r) goOn = noPlan r
 
--- "then 11 to 15 for a plan"
-unfoldable pub planRead : List ℕ → List ℕ → Read → PlanOutcome
-unfolding soundCard planRoots badTarget
-planRead card targets (refusedWith r) = noPlan r
-planRead card targets (accepted rd) =
-    ifB (soundCard card) (λ _. planRoots card targets rd (badTarget (rd .files) targets)) (λ _. noPlan BadCard)
+-- this refusal, if so
+abbrev pub refusedIf : Bool → Refusal → Option Refusal
+refusedIf true r = some r
+refusedIf false r = none
 
--- the outcome for this manifest, card, target list and length of the lent list buffer
-unfoldable pub planAsk : List ℕ → List ℕ → List ℕ → ℕ → PlanOutcome
-unfolding planRead readManifest
-planAsk manifest card targets room =
-    ifB (ltb room leastList) (λ _. noPlan ShortBuffer) λ _. planRead card targets (readManifest manifest)
+-- this refusal at the place, if there is one
+abbrev pub refusedAt : Option ℕ → (ℕ → Refusal) → Option Refusal
+refusedAt none r = none
+refusedAt (some place) r = some (r place)
+
+-- the list
+unfoldable pub planListed : Inputs → Reading → PlanOutcome
+unfolding listOf cardTime roots targetFiles
+planListed i rd = listed (listOf (rd .steps) (cardTime (i .card) rd) (rootsOf i rd))
+
+-- 15, then the list
+unfoldable pub planSources : Inputs → Reading → PlanOutcome
+unfolding missingSource roots targetFiles planListed
+planSources i rd = onRefusal (refusedAt (missingSource (i .card) rd (rootsOf i rd)) MissingSource) λ _. planListed i rd
+
+-- 14, then 15
+unfoldable pub planOrdered : Inputs → Reading → PlanOutcome
+unfolding hasOrder roots targetFiles planSources
+planOrdered i rd = ifB (hasOrder (rd .steps) (rootsOf i rd)) (λ _. planSources i rd) (λ _. circular (rd .steps) (rootsOf i rd))
+
+-- 13, then 14
+unfoldable pub planRooted : Inputs → Reading → PlanOutcome
+unfolding noRoot targetFiles planOrdered
+planRooted i rd = onRefusal (refusedIf (noRoot rd (targetFiles (i .targets) rd)) NoRoot) λ _. planOrdered i rd
+
+-- 12, then 13
+unfoldable pub planTargets : Inputs → Reading → PlanOutcome
+unfolding badTarget planRooted
+planTargets i rd = onRefusal (refusedAt (badTarget (rd .files) (i .targets)) BadTarget) λ _. planRooted i rd
+
+-- 11, then 12: "then 11 to 15 for a plan"
+unfoldable pub planRead : Inputs → Reading → PlanOutcome
+unfolding soundCard planTargets
+planRead i rd = onRefusal (refusedIf (not (soundCard (i .card))) BadCard) λ _. planTargets i rd
+
+-- ------------------------------------------------------------------ the ask
+
+unfoldable pub planManifest : Inputs → Read → PlanOutcome
+unfolding planRead
+planManifest i (refusedWith r) = noPlan r
+planManifest i (accepted rd) = planRead i rd
+
+-- the outcome for these inputs and this length of the lent list buffer
+unfoldable pub planAsk : Inputs → ℕ → PlanOutcome
+unfolding planManifest readManifest
+planAsk i room = ifB (ltb room leastList) (λ _. noPlan ShortBuffer) λ _. planManifest i (readManifest (i .manifest))

@@ -13,7 +13,7 @@ use Rattle.spec.specs.declared.Wanted.{Wanted}
 use Rattle.spec.specs.Answers.{numberOfRefusal, Said, refusalSays, planSays, textSays}
 use Rattle.spec.specs.Reading.{Step}
 use Rattle.spec.specs.Words.{NeededCircle}
-use Rattle.spec.specs.PlanAsk.{PlanOutcome, planAsk, listed, circular, noPlan}
+use Rattle.spec.specs.PlanAsk.{Inputs, PlanOutcome, planAsk, listed, circular, noPlan}
 use Rattle.spec.specs.TextAsk.{TextOutcome, textAsk, text, noText}
 
 -- "After an answer or a circle, what lies beyond it is zero."
@@ -50,10 +50,9 @@ PlanMeets (listed l) lent said exit = Is said exit (counts (length l)) (filled l
 PlanMeets (circular steps targets) lent said exit = Shows steps targets lent said exit
 PlanMeets (noPlan r) lent said exit = Is said exit (refusalSays r) (leftBy r lent)
 
--- the plan ask: manifest, card, target list, list buffer at entry, answer, list buffer at exit
-abbrev pub PlanPromise : List ℕ → List ℕ → List ℕ → List ℕ → PlanAnswer → List ℕ → Type 0
-PlanPromise manifest card targets lent answer exit =
-    PlanMeets (planAsk manifest card targets (length lent)) lent (planSays answer) exit
+-- the plan ask: its inputs, list buffer at entry, answer, list buffer at exit
+abbrev pub PlanPromise : Inputs → List ℕ → PlanAnswer → List ℕ → Type 0
+PlanPromise i lent answer exit = PlanMeets (planAsk i (length lent)) lent (planSays answer) exit
 
 unfoldable pub TextMeets : TextOutcome → List ℕ → Said → List ℕ → Type 0
 TextMeets (text t) lent said exit = Is said exit (counts (length t)) (filled t lent)

@@ -10,26 +10,26 @@ use Rattle.ask_plan.proofs.plan_buffered.Tie as tie
 table-requires : tie.Need-table-requires
 table-requires c κs = search needs
 
-slice-aggregate-plan-in : tie.Need-slice-aggregate-plan-in
-slice-aggregate-plan-in c = sym (length-replicate {A = ℕ} 60000 0)
+slice-aggregate-plan-manifest : tie.Need-slice-aggregate-plan-manifest
+slice-aggregate-plan-manifest c = sym (length-replicate {A = ℕ} 60000 0)
 
-slice-aggregate-plan-in-2 : tie.Need-slice-aggregate-plan-in-2
-slice-aggregate-plan-in-2 c = sym (length-replicate {A = ℕ} 3072 0)
+slice-aggregate-plan-manifest-2 : tie.Need-slice-aggregate-plan-manifest-2
+slice-aggregate-plan-manifest-2 c = sym (length-replicate {A = ℕ} 3072 0)
 
-slice-aggregate-plan-in-3 : tie.Need-slice-aggregate-plan-in-3
-slice-aggregate-plan-in-3 c = sym (length-replicate {A = ℕ} 133728 0)
+slice-aggregate-plan-manifest-3 : tie.Need-slice-aggregate-plan-manifest-3
+slice-aggregate-plan-manifest-3 c = sym (length-replicate {A = ℕ} 133728 0)
 
-slice-aggregate-plan-in-4 : tie.Need-slice-aggregate-plan-in-4
-slice-aggregate-plan-in-4 c = sym (length-replicate {A = ℕ} 4608 0)
+slice-aggregate-plan-manifest-4 : tie.Need-slice-aggregate-plan-manifest-4
+slice-aggregate-plan-manifest-4 c = sym (length-replicate {A = ℕ} 4608 0)
 
-slice-aggregate-plan-in-5 : tie.Need-slice-aggregate-plan-in-5
-slice-aggregate-plan-in-5 c = sym (length-replicate {A = ℕ} 61440 0)
+slice-aggregate-plan-manifest-5 : tie.Need-slice-aggregate-plan-manifest-5
+slice-aggregate-plan-manifest-5 c = sym (length-replicate {A = ℕ} 61440 0)
 
-slice-aggregate-plan-in-6 : tie.Need-slice-aggregate-plan-in-6
-slice-aggregate-plan-in-6 c = sym (length-replicate {A = ℕ} 2048 0)
+slice-aggregate-plan-manifest-6 : tie.Need-slice-aggregate-plan-manifest-6
+slice-aggregate-plan-manifest-6 c = sym (length-replicate {A = ℕ} 2048 0)
 
-plan-in-requires : tie.Need-plan-in-requires
-plan-in-requires c κs = record { roomy = roomy (c .before .before .before .before .before .before .before .before .table .ensures) (length-replicate {A = ℕ} 60000 0) (length-replicate {A = ℕ} 3072 0) (length-replicate {A = ℕ} 133728 0) (length-replicate {A = ℕ} 4608 0) (length-replicate {A = ℕ} 61440 0) (length-replicate {A = ℕ} 2048 0); room = c .before .before .before .before .before .before .before .before .before .before .before .before .before .pre }
+plan-manifest-requires : tie.Need-plan-manifest-requires
+plan-manifest-requires c κs = record { roomy = roomy (c .before .before .before .before .before .before .before .before .table .ensures) (length-replicate {A = ℕ} 60000 0) (length-replicate {A = ℕ} 3072 0) (length-replicate {A = ℕ} 133728 0) (length-replicate {A = ℕ} 4608 0) (length-replicate {A = ℕ} 61440 0) (length-replicate {A = ℕ} 2048 0); room = c .before .before .before .before .before .before .before .before .before .before .before .before .before .pre }
 
 same-length : tie.Need-same-length
 same-length c = search needs
@@ -42,12 +42,12 @@ plan-buffered-spec =
     tie.close
     (tie.spec
     table-requires
-    slice-aggregate-plan-in
-    slice-aggregate-plan-in-2
-    slice-aggregate-plan-in-3
-    slice-aggregate-plan-in-4
-    slice-aggregate-plan-in-5
-    slice-aggregate-plan-in-6
-    plan-in-requires
+    slice-aggregate-plan-manifest
+    slice-aggregate-plan-manifest-2
+    slice-aggregate-plan-manifest-3
+    slice-aggregate-plan-manifest-4
+    slice-aggregate-plan-manifest-5
+    slice-aggregate-plan-manifest-6
+    plan-manifest-requires
     same-length
     returns)

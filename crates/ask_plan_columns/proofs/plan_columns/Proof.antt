@@ -61,14 +61,14 @@ part-defaults-start c = let s = spread (c .before .before .before .before .befor
 part-defaults-end : tie.Need-part-defaults-end
 part-defaults-end c = let s = spread (c .before .before .before .before .before .before .before .before .before .before .pre .tabled) in search needs
 
-plan-graph-requires : tie.Need-plan-graph-requires
-plan-graph-requires c κs = askable (c .before .before .before .before .before .before .before .before .before .before .before .before .pre)
+plan-rooted-requires : tie.Need-plan-rooted-requires
+plan-rooted-requires c κs = askable (c .before .before .before .before .before .before .before .before .before .before .before .before .pre)
 
 same-length : tie.Need-same-length
 same-length c = search needs
 
 returns : tie.Need-returns
-returns c = planned (c .before .before .plan-graph .ensures)
+returns c = planned (c .before .before .plan-rooted .ensures)
 
 pub plan-columns-spec : {M : Type 1} → statement M
 plan-columns-spec =
@@ -92,6 +92,6 @@ plan-columns-spec =
     sub-defaults
     part-defaults-start
     part-defaults-end
-    plan-graph-requires
+    plan-rooted-requires
     same-length
     returns)

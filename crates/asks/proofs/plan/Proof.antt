@@ -1,11 +1,12 @@
 -- `asks::plan` meets its contract.
+use Rattle.spec.specs.PlanAsk.{inputsOf}
 use Rattle.asks.proofs.Short.{short-list}
 use borrow.Author.Needs.{needs}
 use Rattle.asks.proofs.plan.Statement.{statement}
 use Rattle.asks.proofs.plan.Tie as tie
 
 returns : tie.Need-returns
-returns c = short-list (c .before .before .before .before .before .args .manifest .now) (c .before .before .before .before .before .args .card .now) (c .before .before .before .before .before .args .targets .now) (c .before .before .before .before .before .args .list .now) (c .if1 .taken)
+returns c = short-list (inputsOf (c .before .before .before .before .before .args .manifest .now) (c .before .before .before .before .before .args .card .now) (c .before .before .before .before .before .args .targets .now)) (c .before .before .before .before .before .args .list .now) (c .if1 .taken)
 
 plan-buffered-requires : tie.Need-plan-buffered-requires
 plan-buffered-requires c κs = search needs

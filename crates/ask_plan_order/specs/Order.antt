@@ -1,0 +1,25 @@
+-- What 14 asks and promises, with 15 and the list after it.
+use Prim.Native.Nat.{ℕ}
+use mathlib.Core.Path.{_≡_}
+use mathlib.Core.List.{List}
+use lib.ListN.{length}
+use Rattle.spec.specs.declared.PlanAnswer.{PlanAnswer}
+use Rattle.spec.specs.Reading.{Reading}
+use Rattle.spec.specs.Answers.{planSays}
+use Rattle.spec.specs.PlanAsk.{Inputs, rootsOf, planOrdered}
+use Rattle.spec.specs.Promises.{PlanMeets}
+use Rattle.ask_plan_list.specs.Stages.{Staged, StageAsked}
+use Rattle.ask_plan_sources.specs.Sources.{Numbers}
+
+pub record RootsAsked (mentions ends phony made times roots list : List ℕ) : Type 0 where
+  pub asked : StageAsked mentions ends phony made times list
+  pub roots-low : Numbers roots made
+
+-- with room for an order
+pub record SpaceAsked (mentions ends phony made times roots order list : List ℕ) : Type 0 where
+  pub asked : RootsAsked mentions ends phony made times roots list
+  pub long : length order ≡ length phony
+
+pub record PlansOrdered (mentions ends phony made times roots list : List ℕ) (answer : PlanAnswer) (exit : List ℕ) : Type 0 where
+  pub plans : (i : Inputs) (rd : Reading) → Staged i rd mentions ends phony made times → roots ≡ rootsOf i rd
+      → PlanMeets (planOrdered i rd) list (planSays answer) exit

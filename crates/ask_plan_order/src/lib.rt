@@ -1,0 +1,64 @@
+// A stage of the plan ask: 14, then 15.
+ghost use Rattle.ask_plan_order.specs.Order.{RootsAsked, SpaceAsked, PlansOrdered};
+use ask_plan_sources::plan_sources;
+use graph_order::Sorting;
+use graph_order::order_needed;
+use spec::PlanAnswer;
+use spec::Refusal;
+use spec::limits::STEPS;
+
+// 14 where the needed steps have no order, with a circle in the list; else 15. `order` is working space.
+fn sort_then_plan(
+    mentions: &[u32],
+    ends: &[u32],
+    phony: &[u32],
+    made: &[u32],
+    times: &[u64],
+    roots: &[u32],
+    order: &mut [u32],
+    list: &mut [u32],
+) -> PlanAnswer
+    requires { ⌜ SpaceAsked (now mentions) (now ends) (now phony) (now made) (now times) (now roots) (now order) (now list) ⌝ }
+    ensures { λ r. ⌜ PlansOrdered (now (mentions .entry)) (now (ends .entry)) (now (phony .entry)) (now (made .entry)) (now (times .entry)) (now (roots .entry)) (now (list .entry)) r (now (list .exit)) ⌝ }
+{
+    match order_needed(mentions, ends, made, roots, order, list) {
+        Sorting::Ordered(k) => plan_sources(
+            mentions,
+            ends,
+            phony,
+            made,
+            times,
+            roots,
+            &order[..k],
+            list,
+        ),
+        Sorting::Circular(k) => PlanAnswer::Refused(Refusal::Circle(k)),
+    }
+}
+
+// The same, with the working space.
+pub fn plan_ordered(
+    mentions: &[u32],
+    ends: &[u32],
+    phony: &[u32],
+    made: &[u32],
+    times: &[u64],
+    roots: &[u32],
+    list: &mut [u32],
+) -> PlanAnswer
+    requires { ⌜ RootsAsked (now mentions) (now ends) (now phony) (now made) (now times) (now roots) (now list) ⌝ }
+    ensures { λ r. ⌜ PlansOrdered (now (mentions .entry)) (now (ends .entry)) (now (phony .entry)) (now (made .entry)) (now (times .entry)) (now (roots .entry)) (now (list .entry)) r (now (list .exit)) ⌝ }
+{
+    let n = phony.len();
+    let mut order = [0u32; STEPS];
+    sort_then_plan(
+        mentions,
+        ends,
+        phony,
+        made,
+        times,
+        roots,
+        &mut order[..n],
+        list,
+    )
+}

@@ -1,0 +1,40 @@
+-- `ask_plan_reading::plan_read` meets its contract.
+use mathlib.Core.Path.{sym, _∙_}
+use Rattle.ask_plan_reading.proofs.Outcomes.{bad-card, good-card}
+use borrow.Author.Tests.{not-true, not-false}
+use borrow.Author.Needs.{needs}
+use Rattle.ask_plan_reading.proofs.plan_read.Statement.{statement}
+use Rattle.ask_plan_reading.proofs.plan_read.Tie as tie
+
+sound-requires : tie.Need-sound-requires
+sound-requires c κs = search needs
+
+zero-from-requires : tie.Need-zero-from-requires
+zero-from-requires c κs = search needs
+
+same-length : tie.Need-same-length
+same-length c = search needs
+
+returns : tie.Need-returns
+returns c = bad-card (sym (c .before .before .before .before .before .sound .ensures) ∙ not-true _ (c .before .before .before .before .if1 .taken)) (c .before .before .zero-from .ensures)
+
+plan-targets-requires : tie.Need-plan-targets-requires
+plan-targets-requires c κs = record { asked = c .before .before .before .before .before .before .before .before .before .pre; sound = sym (c .before .before .sound .ensures) ∙ not-false _ (c .before .if1 .left) }
+
+same-length-2 : tie.Need-same-length-2
+same-length-2 c = search needs
+
+returns-2 : tie.Need-returns-2
+returns-2 c = good-card (sym (c .before .before .before .before .before .sound .ensures) ∙ not-false _ (c .before .before .before .before .if1 .left)) (c .before .before .plan-targets .ensures)
+
+pub plan-read-spec : {M : Type 1} → statement M
+plan-read-spec =
+    tie.close
+    (tie.spec
+    sound-requires
+    zero-from-requires
+    same-length
+    returns
+    plan-targets-requires
+    same-length-2
+    returns-2)
