@@ -1,5 +1,4 @@
 // A build line is written: its files are mentioned, and its step is put into the graph's columns.
-ghost use Prim.Native.Nat.{_<_};
 ghost use Rattle.apply_steps.specs.Asks.{StepAsks, Writes};
 use apply_files::Mentioned;
 use apply_step_columns::put_step;

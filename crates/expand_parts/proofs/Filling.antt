@@ -2,8 +2,8 @@
 use Prim.Native.Nat.{ℕ, _+_, _*_, _-_, _≤_, _<_}
 use mathlib.Core.Bool.{true, false}
 use mathlib.Core.List.{List, []}
-use mathlib.Core.Path.{_≡_, refl, _∙_}
-use native.Mathlib.Nat.{le-refl, le-trans}
+use mathlib.Core.Path.{_≡_, _∙_}
+use native.Mathlib.Nat.{le-trans}
 use native.Mathlib.Omega.{arith}
 use lib.ListN.{length, drop}
 use Rattle.lists.specs.Tests.{split}
@@ -11,7 +11,7 @@ use Rattle.lists.specs.Parts.{part-none}
 use Rattle.hold_bindings.specs.Log.{Logged}
 use Rattle.hold_bindings.specs.Held.{maxTexts, HoldsBindings}
 use Rattle.expand_parts.specs.declared.Run.{Run}
-use Rattle.expand_parts.specs.Runs.{expanded, bytesOf, leftOf, Begins, Going, most, Filled}
+use Rattle.expand_parts.specs.Runs.{expanded, bytesOf, leftOf, Begins, Going, most}
 
 pub bytes-none : (raw texts : List ℕ) (r : Run) → r .to ≤ r .from → bytesOf raw texts r ≡ []
 unfolding bytesOf
@@ -38,9 +38,6 @@ pub record Filling (t raw texts bind : List ℕ) (count : ℕ) (r x : Run) : Typ
   pub most : most raw x ≤ most raw r
   pub left : (log : List Logged) → HoldsBindings log texts bind count → leftOf log raw texts r ≡ leftOf log raw texts x
 
-pub fill-begin : {t raw texts bind : List ℕ} {count : ℕ} {r : Run} → Going t raw texts bind count r → Filling t raw texts bind count r r
-fill-begin g = record { going = g; most = le-refl _; left = λ log h. refl }
-
 module _ {t raw texts bind : List ℕ} {count : ℕ} {r x : Run} (f : Filling t raw texts bind count r x) where
   pub fill-on : {y : Run} → x .to ≤ x .from → Begins raw texts bind count (x .next) y → Filling t raw texts bind count r y
   fill-on {y} h b =
@@ -51,6 +48,3 @@ module _ {t raw texts bind : List ℕ} {count : ℕ} {r x : Run} (f : Filling t 
             le-trans (fewer (length raw) (x .next) (y .next) (y .to - y .from) (b .forward) (b .placed .within) (b .bounded)) (no-more _ _ _ (f .most));
         left = λ log k. f .left log k ∙ left-none log raw texts x h ∙ b .gives log k;
       }
-
-  pub fill-end : (x .to ≤ x .from → length raw ≤ x .next) → Filled raw texts bind count r x
-  fill-end h = record { placed = f .going .placed; most = f .most; last = h; left = f .left }

@@ -1,6 +1,6 @@
 // The list of the pending steps.
 ghost use mathlib.Core.Path.{_≡_};
-ghost use Prim.Native.Nat.{_+_, _<_};
+ghost use Prim.Native.Nat.{_<_};
 ghost use lib.ListN.{length};
 ghost use Rattle.hold_columns.specs.Columns.{Files, inputsIn, Shown};
 ghost use Rattle.graph_list.specs.Listing.{allClear, Looks, LookAsked, PassAsked, Passed, ListAsked, leastIn, StaleListAsked, SpaceAsked, StaleListed};

@@ -1,6 +1,6 @@
 // Which steps are stale.
 ghost use mathlib.Core.Path.{_≡_};
-ghost use Prim.Native.Nat.{ℕ, _+_, _<_, max};
+ghost use Prim.Native.Nat.{ℕ, _<_, max};
 ghost use lib.ListN.{length, getD};
 ghost use Rattle.lists.specs.Members.{_∈_};
 ghost use Rattle.hold_columns.specs.Columns.{bit, Files, Placed};

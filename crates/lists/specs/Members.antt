@@ -3,7 +3,7 @@ use mathlib.Core.Path.{_≡_, refl, sym, ap, ap₂}
 use mathlib.Core.Logic.{_⊎_, inl, inr}
 use mathlib.Core.Bool.{Bool, true, false, not, cond, _&&_, _||_, true≢false, false≢true}
 use mathlib.Core.Option.{Option, none, some, Option·none-ne-some, Option·some-injective}
-use mathlib.Core.List.{List, [], _∷_, _++_, map}
+use mathlib.Core.List.{List, [], _∷_, _++_}
 use Prim.Native.Nat.{ℕ, zero, suc, _+_, _≤_, _<_}
 use native.Mathlib.Nat.{not-suc-le-zero, le-of-suc-le-suc, le-of-lt}
 use native.Mathlib.Decide.{decLt, ℕ-discrete}
@@ -183,11 +183,6 @@ any-append p (x ∷ l) r = rw (any-append p l r) (or-assoc (p x) (any p l) (any 
     or-assoc : (a b c : Bool) → a || (b || c) ≡ (a || b) || c
     or-assoc true b c = refl
     or-assoc false b c = refl
-
-pub any-map : {A B : Type 0} (p : B → Bool) (f : A → B) (l : List A) → any p (map f l) ≡ any (λ x. p (f x)) l
-unfolding any
-any-map p f [] = refl
-any-map p f (x ∷ l) = ap (λ (b : Bool). p (f x) || b) (any-map p f l)
 
 pub any-cons : {A : Type 0} (p : A → Bool) (x : A) (l : List A) → any p (x ∷ l) ≡ p x || any p l
 unfolding any

@@ -12,10 +12,7 @@ use lib.Seq.{drop-cons, take-append-seam}
 use Rattle.lists.specs.Parts.{part}
 use Rattle.lists.specs.Tests.{ifB, split}
 
--- The class of one byte, and that of all others.
-abbrev pub is : ℕ → ℕ → Bool
-is b x = eqb x b
-
+-- The class of all bytes but one.
 abbrev pub isNot : ℕ → ℕ → Bool
 isNot b x = not (eqb x b)
 

@@ -1,6 +1,6 @@
 -- A circle, computed where `greedy` stops short: from a step that it lacks to one before it that it lacks too, until one comes again.
 use mathlib.Core.Path.{_≡_, refl, sym}
-use mathlib.Core.Logic.{_↔_, inl, inr}
+use mathlib.Core.Logic.{inl, inr}
 use mathlib.Core.Bool.{true, false, not, cond}
 use mathlib.Core.Option.{Option, none, some}
 use mathlib.Core.List.{List, [], _∷_, _++_}
@@ -118,7 +118,3 @@ module _ (want : List ℕ) (before : ℕ → List ℕ) where
 
   pub circle-not-whole : {c : List ℕ} → IsCircle (In want) (By before) c → whole want before ≡ false
   circle-not-whole o = split (whole want before) (λ (e : whole want before ≡ true). absurd (order-no-circle (whole-order want before e) o)) (λ (e : whole want before ≡ false). e)
-
-  -- a circle exists exactly where greedy is not whole
-  pub some-circle : ((c : List ℕ) × IsCircle (In want) (By before) c) ↔ (whole want before ≡ false)
-  some-circle = (λ o. circle-not-whole (o .1), λ e. (circleOf want before, not-whole-circle e))

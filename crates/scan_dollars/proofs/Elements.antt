@@ -12,7 +12,7 @@ use lib.ListN.{length, drop, getD}
 use Rattle.lists.specs.Tests.{ifB}
 use Rattle.lists.specs.Parts.{part, part-none, length-part}
 use Rattle.lists.specs.Runs.{Reads, run, afterRun, part-run}
-use Rattle.spec.specs.Bytes.{newline, openBrace, closeBrace, shortByte, classOf}
+use Rattle.spec.specs.Bytes.{closeBrace, shortByte, classOf}
 use Rattle.spec.specs.Dollars.{escaped}
 use Rattle.spec.specs.Lines.{isSpace}
 use Rattle.spec.specs.Forms.{nameOf, afterName}

@@ -4,8 +4,8 @@ use mathlib.Core.List.{List}
 use mathlib.Core.Path.{_≡_, refl}
 use native.Mathlib.Numerals.{add-one}
 use native.Mathlib.Omega.{arith}
-use lib.ListN.{length, drop, getD}
-use lib.Seq.{drop-cons, drop-drop}
+use lib.ListN.{length, getD}
+use lib.Seq.{drop-cons}
 use Rattle.spec.specs.Card.{littleEndian, numberAt}
 use Rattle.windows.specs.Windows.{Byte}
 use Rattle.scan_numbers.specs.Numbers.{Number}
@@ -17,11 +17,6 @@ number-cons s at size h = rw (drop-cons s at 0 h, add-one at)
 pub number-none : (s : List ℕ) (at : ℕ) → numberAt at 0 s ≡ 0
 unfolding numberAt littleEndian
 number-none s at = refl
-
--- a place in what is left after p bytes
-pub number-drop : (s : List ℕ) (p at size : ℕ) → numberAt at size (drop p s) ≡ numberAt (p + at) size s
-unfolding numberAt
-number-drop s p at size = rw (drop-drop at p s)
 
 module _ (s : List ℕ) (at : ℕ) (h : at + 4 ≤ length s) where
   four-bytes : (size : ℕ) → numberAt at (suc (suc (suc (suc size)))) s ≡ getD s at 0 + getD s (at + 1) 0 * 256 + getD s (at + 2) 0 * 65536 + getD s (at + 3) 0 * 16777216 + numberAt (at + 4) size s * 4294967296

@@ -12,7 +12,7 @@ use lib.ListN.{length}
 use Rattle.lists.specs.Tests.{ifB, split, differ}
 use Rattle.lists.specs.Runs.{run, afterRun}
 use Rattle.spec.specs.Basics.{isEmpty}
-use Rattle.spec.specs.Bytes.{newline, space, dollar, colon, bar, openBrace, closeBrace, shortByte, nameByte, classOf}
+use Rattle.spec.specs.Bytes.{newline, space, dollar, openBrace, closeBrace, shortByte, nameByte, classOf}
 use Rattle.spec.specs.Dollars.{Scan, plain, afterJoin, afterDollar, inBraces, inName, bad, afterPlain, escaped, afterEscape, turn, isBad, endsBad, lastDollar, badFrom, badDollar}
 use Rattle.spec.specs.Lines.{isSpace}
 use Rattle.spec.specs.Forms.{nameOf, afterName, pathStop, endsPath, pathFrom, afterPath}

@@ -7,7 +7,7 @@ use mathlib.Core.Path.{_≡_, refl}
 use mathlib.Core.List.{List, [], _∷_, map}
 use Rattle.spec.specs.declared.Refusal.{Refusal}
 use Rattle.spec.specs.declared.Refusal.the-variants.{ShortBuffer, LongManifest, BadByte, BadLine, BadDollar, NotYet, BadRule, BadPath, OverLimit, BadVersion, BadCard, BadTarget, NoRoot, Circle, MissingSource, EndlessText, LongText, NoCommand}
-use Rattle.spec.specs.Answers.{numberOfRefusal, placeOfRefusal, standsInText, refusalSays, Place, inText, spot, placed}
+use Rattle.spec.specs.Answers.{numberOfRefusal, placeOfRefusal, standsInText, refusalSays, inText, spot, placed}
 
 abbrev rows : ℕ → List Refusal
 rows p =

@@ -24,8 +24,6 @@ pub const RECORDS: usize = 1024;
 
 pub const CARD: usize = 49152;
 
-pub const TIME: usize = 9223372036854775807;
-
 pub const TARGETS: usize = 4096;
 // the least numbers of a list buffer
 pub const LIST: usize = 512;

@@ -6,7 +6,7 @@ use lib.ListN.{length, drop}
 use Rattle.lists.specs.Tests.{ifB}
 use Rattle.spec.specs.Dollars.{plain, badDollar}
 use Rattle.spec.specs.Lines.{indent, lineFrom, endedFrom, isComment, isBlank, isIndented}
-use Rattle.spec.specs.Forms.{Fault, noForm, wrongDollar, notYet, Cut, fits, fails, pathFrom, afterPath, Paths}
+use Rattle.spec.specs.Forms.{noForm, wrongDollar, notYet, Cut, fits, fails, pathFrom, afterPath, Paths}
 use Rattle.scan_dollars.specs.Element.{restOf, element}
 
 -- 0 for none, p + 1 for place p

@@ -1,6 +1,5 @@
 // The step that a text is asked of: its rule and its files.
 ghost use mathlib.Core.Path.{_≡_};
-ghost use Prim.Native.Nat.{_<_};
 ghost use Rattle.text_step.specs.Steps.{HasRule, Declares, outputsFrom, InGraph, PickAsk, Picks, Reads, Asks};
 use crate::StepAsked;
 use hold_bindings::FoundEntry;

@@ -1,5 +1,4 @@
 -- `cases::run_all` meets its contract.
-use Prim.Native.Nat.{_-_}
 use mathlib.Core.Path.{_≡_}
 use lib.ListN.{length}
 use borrow.Author.Needs.{needs}

@@ -1,5 +1,4 @@
 -- `hold_keys::key_name` meets its contract.
-use Prim.Native.Nat.{ℕ}
 use mathlib.Core.Path.{_≡_}
 use native.Mathlib.Omega.{arith}
 use Rattle.spec.specs.Basics.{concat}

@@ -1,7 +1,6 @@
 -- `text_step::steps::picked` meets its contract.
 use native.Mathlib.Omega.{arith}
 use Rattle.text_step.proofs.Picking.{pick-rule, pick-graph, picks}
-use borrow.Author.Needs.{needs}
 use Rattle.text_step.proofs.steps.picked.Statement.{statement}
 use Rattle.text_step.proofs.steps.picked.Tie as tie
 
