@@ -22,6 +22,7 @@ use Rattle.apply_path_checks.proofs.Wrong.{any-input, any-output}
 use Rattle.apply_equal_outputs.specs.Kept.{Kept}
 use Rattle.apply_equal_outputs.specs.Sorted.{RoomAsks, Twice}
 use Rattle.apply_bad_paths.specs.Asks.{LineAsks, InputsChecked, Checked}
+use Rattle.hold_reading.specs.Buffers.{Buffers}
 
 -- ---- the inputs
 
@@ -32,21 +33,21 @@ empty-inputs rd b =
     any-append isEmpty (expanded rd (b .ins)) (expanded rd (b .implicit) ++ expanded rd (b .orderOnly))
     ∙ ap (λ (x : Bool). any isEmpty (expanded rd (b .ins)) || x) (any-append isEmpty (expanded rd (b .implicit)) (expanded rd (b .orderOnly)))
 
-module _ {l names index texts bind graph : List ℕ} {c : Counts} where
-  empties : {at : ℕ} {r : Bool} → AnyWrong Input l names index texts bind graph c at r → {ps : List (List ℕ)} → PathsAt l at ps → {log : List Logged} (rd : Reading)
-      → HoldsReading log names index texts bind graph c rd → any isEmpty (expanded rd ps) ≡ r
+module _ {l : List ℕ} {bs : Buffers} {c : Counts} where
+  empties : {at : ℕ} {r : Bool} → AnyWrong Input l bs c at r → {ps : List (List ℕ)} → PathsAt l at ps → {log : List Logged} (rd : Reading)
+      → HoldsReading log bs c rd → any isEmpty (expanded rd ps) ≡ r
   empties a {ps} w {log} rd h = any-input rd (expanded rd ps) ∙ sym (a .answer ps w log rd h)
 
-  module _ {p : BuildPlaces} {r : Bool} (a : AnyWrong Input l names index texts bind graph c (p .ins) r) where
-    pub ins-wrong : r ≡ true → InputsChecked l names index texts bind graph c p true
+  module _ {p : BuildPlaces} {r : Bool} (a : AnyWrong Input l bs c (p .ins) r) where
+    pub ins-wrong : r ≡ true → InputsChecked l bs c p true
     ins-wrong e = record { answer = λ b w log rd h. sym (empty-inputs rd b ∙ rw (empties a (w .ins) rd h ∙ e)) }
 
-    module _ (e : r ≡ false) {s : Bool} (d : AnyWrong Input l names index texts bind graph c (p .implicit) s) where
-      pub implicit-wrong : s ≡ true → InputsChecked l names index texts bind graph c p true
+    module _ (e : r ≡ false) {s : Bool} (d : AnyWrong Input l bs c (p .implicit) s) where
+      pub implicit-wrong : s ≡ true → InputsChecked l bs c p true
       implicit-wrong f =
           record { answer = λ b w log rd h. sym (empty-inputs rd b ∙ rw (empties a (w .ins) rd h ∙ e, empties d (w .implicit) rd h ∙ f)) }
 
-      pub order-wrong : s ≡ false → {u : Bool} → AnyWrong Input l names index texts bind graph c (p .order) u → InputsChecked l names index texts bind graph c p u
+      pub order-wrong : s ≡ false → {u : Bool} → AnyWrong Input l bs c (p .order) u → InputsChecked l bs c p u
       order-wrong f g =
           record {
             answer = λ b w log rd h.
@@ -72,27 +73,27 @@ bad-parts outs ps rd =
 pub kept-same : (graph : List ℕ) → Kept graph graph
 kept-same graph = record { long = refl; columns = refl }
 
-module _ {l names index texts bind graph : List ℕ} {c : Counts} {p : BuildPlaces} {r : Bool} (a : AnyWrong Output l names index texts bind graph c (p .outs) r) where
-  line-parts : (b : BuildLine) → Stands l p b → {log : List Logged} (rd : Reading) → HoldsReading log names index texts bind graph c rd
+module _ {l : List ℕ} {bs : Buffers} {c : Counts} {p : BuildPlaces} {r : Bool} (a : AnyWrong Output l bs c (p .outs) r) where
+  line-parts : (b : BuildLine) → Stands l p b → {log : List Logged} (rd : Reading) → HoldsReading log bs c rd
       → badPaths (expandedLine rd b .outs) (inputsOfLine (expandedLine rd b)) rd ≡ r || (any isEmpty (inputsOfLine (expandedLine rd b)) || twice (expandedLine rd b .outs))
   unfolding expandedLine
   line-parts b w {log} rd h =
       bad-parts (expandedLine rd b .outs) (inputsOfLine (expandedLine rd b)) rd
       ∙ ap (λ (x : Bool). x || (any isEmpty (inputsOfLine (expandedLine rd b)) || twice (expandedLine rd b .outs))) (sym (a .answer (b .outs) (w .outs) log rd h))
 
-  pub line-output : r ≡ true → Checked l names index texts bind graph c p graph true
-  line-output e = record { kept = kept-same graph; answer = λ b w log rd h. sym (line-parts b w rd h ∙ rw e) }
+  pub line-output : r ≡ true → Checked l bs c p (bs .graph) true
+  line-output e = record { kept = kept-same (bs .graph); answer = λ b w log rd h. sym (line-parts b w rd h ∙ rw e) }
 
-  module _ (e : r ≡ false) {s : Bool} (i : InputsChecked l names index texts bind graph c p s) where
-    pub line-input : s ≡ true → Checked l names index texts bind graph c p graph true
-    line-input f = record { kept = kept-same graph; answer = λ b w log rd h. sym (line-parts b w rd h ∙ rw (e, sym (i .answer b w log rd h) ∙ f)) }
+  module _ (e : r ≡ false) {s : Bool} (i : InputsChecked l bs c p s) where
+    pub line-input : s ≡ true → Checked l bs c p (bs .graph) true
+    line-input f = record { kept = kept-same (bs .graph); answer = λ b w log rd h. sym (line-parts b w rd h ∙ rw (e, sym (i .answer b w log rd h) ∙ f)) }
 
-    twice-outs : {graph′ : List ℕ} {u : Bool} → Twice l texts bind graph c (p .outs) graph′ u → (b : BuildLine) → Stands l p b → {log : List Logged} (rd : Reading) → HoldsReading log names index texts bind graph c rd
+    twice-outs : {graph′ : List ℕ} {u : Bool} → Twice l (bs .texts) (bs .bind) (bs .graph) c (p .outs) graph′ u → (b : BuildLine) → Stands l p b → {log : List Logged} (rd : Reading) → HoldsReading log bs c rd
         → twice (expandedLine rd b .outs) ≡ u
     unfolding expandedLine
     twice-outs x b w {log} rd h = sym (x .answer (b .outs) (w .outs) log rd (h .bound))
 
-    pub line-twice : s ≡ false → {graph′ : List ℕ} {u : Bool} → Twice l texts bind graph c (p .outs) graph′ u → Checked l names index texts bind graph c p graph′ u
+    pub line-twice : s ≡ false → {graph′ : List ℕ} {u : Bool} → Twice l (bs .texts) (bs .bind) (bs .graph) c (p .outs) graph′ u → Checked l bs c p graph′ u
     line-twice f x =
         record {
           kept = x .kept;
@@ -101,14 +102,14 @@ module _ {l names index texts bind graph : List ℕ} {c : Counts} {p : BuildPlac
 
 -- ---- what the calls ask
 
-module _ {t l names index texts bind graph word : List ℕ} {c : Counts} {p : BuildPlaces} (a : LineAsks t l names index texts bind graph word c p) {word′ : List ℕ} (e : length word′ ≡ length word) where
-  pub line-asks : LineAsks t l names index texts bind graph word′ c p
+module _ {t l : List ℕ} {bs : Buffers} {word : List ℕ} {c : Counts} {p : BuildPlaces} (a : LineAsks t l bs word c p) {word′ : List ℕ} (e : length word′ ≡ length word) where
+  pub line-asks : LineAsks t l bs word′ c p
   line-asks = record { table = a .table; short = a .short; line = a .line; stands = a .stands; room = omega (arith, a .room); scratch = a .scratch; whole = a .whole }
 
-  pub list-asks : {at : ℕ} → at ≤ length l → PathAsks t l names index texts bind graph word′ c at
+  pub list-asks : {at : ℕ} → at ≤ length l → PathAsks t l bs word′ c at
   list-asks h = record { table = a .table; short = a .short; within = h; room = omega (arith, a .room); whole = a .whole }
 
-pub room-asks : {t l names index texts bind graph word : List ℕ} {c : Counts} {p : BuildPlaces} → LineAsks t l names index texts bind graph word c p → RoomAsks t l texts bind graph c (p .outs)
+pub room-asks : {t l : List ℕ} {bs : Buffers} {word : List ℕ} {c : Counts} {p : BuildPlaces} → LineAsks t l bs word c p → RoomAsks t l (bs .texts) (bs .bind) (bs .graph) c (p .outs)
 room-asks a =
     record {
       list =

@@ -1,5 +1,6 @@
 // The refusals under 8 of a build line: an empty path, an output of an earlier step, two equal outputs.
 ghost use Rattle.apply_bad_paths.specs.Asks.{LineAsks, InputsChecked, Checked};
+ghost use Rattle.hold_reading.specs.Buffers.{buffers};
 use apply_equal_outputs::has_equal_outputs;
 use apply_path_checks::PathKind;
 use apply_path_checks::has_wrong;
@@ -19,8 +20,8 @@ fn has_wrong_input(
     word: &mut [u8],
     c: Counts,
 ) -> bool
-    requires { ⌜ LineAsks (now t) (now l) (now names) (now index) (now texts) (now bind) (now graph) (now word) c p ⌝ }
-    ensures { λ r. ⌜ InputsChecked (now (l .entry)) (now (names .entry)) (now (index .entry)) (now (texts .entry)) (now (bind .entry)) (now (graph .entry)) c p r ⌝ }
+    requires { ⌜ LineAsks (now t) (now l) (buffers (now names) (now index) (now texts) (now bind) (now graph)) (now word) c p ⌝ }
+    ensures { λ r. ⌜ InputsChecked (now (l .entry)) (buffers (now (names .entry)) (now (index .entry)) (now (texts .entry)) (now (bind .entry)) (now (graph .entry))) c p r ⌝ }
 {
     let kind = PathKind::Input;
     let at = p.ins;
@@ -49,8 +50,8 @@ pub fn bad_paths(
     word: &mut [u8],
     c: Counts,
 ) -> bool
-    requires { ⌜ LineAsks (now t) (now l) (now names) (now index) (now texts) (now bind) (now graph) (now word) c p ⌝ }
-    ensures { λ r. ⌜ Checked (now (l .entry)) (now (names .entry)) (now (index .entry)) (now (texts .entry)) (now (bind .entry)) (now (graph .entry)) c p (now (graph .exit)) r ⌝ }
+    requires { ⌜ LineAsks (now t) (now l) (buffers (now names) (now index) (now texts) (now bind) (now graph)) (now word) c p ⌝ }
+    ensures { λ r. ⌜ Checked (now (l .entry)) (buffers (now (names .entry)) (now (index .entry)) (now (texts .entry)) (now (bind .entry)) (now (graph .entry))) c p (now (graph .exit)) r ⌝ }
 {
     let kind = PathKind::Output;
     let at = p.outs;

@@ -23,26 +23,27 @@ use Rattle.apply_bad_paths.specs.Asks.{Checked}
 use Rattle.apply_equal_outputs.proofs.Behind.{held-kept, whole-kept}
 use Rattle.apply_steps.specs.Asks.{StepAsks, Writes}
 use Rattle.apply_builds.specs.Asks.{BuildAsks}
+use Rattle.hold_reading.specs.Buffers.{Buffers, withGraph}
 
-module _ {l names index texts bind graph : List ℕ} {c : Counts} {p : BuildPlaces} (start : ℕ) {r : Bool}
-    (d : (log : List Logged) (rd : Reading) → Bound log texts bind c rd → r ≡ declared (part l (p .rule) (p .ins)) rd) where
-  rule-known : {b : BuildLine} → Stands l p b → {log : List Logged} {rd : Reading} → HoldsReading log names index texts bind graph c rd → declared (expandedLine rd b .rule) rd ≡ r
+module _ {l : List ℕ} {bs : Buffers} {c : Counts} {p : BuildPlaces} (start : ℕ) {r : Bool}
+    (d : (log : List Logged) (rd : Reading) → Bound log (bs .texts) (bs .bind) c rd → r ≡ declared (part l (p .rule) (p .ins)) rd) where
+  rule-known : {b : BuildLine} → Stands l p b → {log : List Logged} {rd : Reading} → HoldsReading log bs c rd → declared (expandedLine rd b .rule) rd ≡ r
   unfolding expandedLine
   rule-known {b} w {log} {rd} h = rw (w .rule) (sym (d log rd (h .bound)))
 
   pub line-unknown : r ≡ false → {b : BuildLine} → Stands l p b → {names′ index′ graph′ : List ℕ}
-      → AddsFiles names index texts bind graph c (λ rd. addStep start (expandedLine rd b) rd) names′ index′ graph′ (Refused (BadRule start))
+      → AddsFiles bs c (λ rd. addStep start (expandedLine rd b) rd) names′ index′ graph′ (Refused (BadRule start))
   unfolding addStep
   line-unknown e w = record { agrees = λ log rd h. rw (rule-known w h ∙ e) refuses }
 
-  module _ (e : r ≡ true) {graph₁ : List ℕ} {s : Bool} (k : Checked l names index texts bind graph c p graph₁ s) where
+  module _ (e : r ≡ true) {graph₁ : List ℕ} {s : Bool} (k : Checked l bs c p graph₁ s) where
     pub line-bad : s ≡ true → {b : BuildLine} → Stands l p b → {names′ index′ graph′ : List ℕ}
-        → AddsFiles names index texts bind graph c (λ rd. addStep start (expandedLine rd b) rd) names′ index′ graph′ (Refused (BadPath start))
+        → AddsFiles bs c (λ rd. addStep start (expandedLine rd b) rd) names′ index′ graph′ (Refused (BadPath start))
     unfolding addStep
     line-bad f {b} w = record { agrees = λ log rd h. rw (rule-known w h ∙ e, sym (k .answer b w log rd h) ∙ f) refuses }
 
-    pub line-written : s ≡ false → {names′ index′ graph′ : List ℕ} {x : LineAnswer} → Writes l names index texts bind graph₁ c start p names′ index′ graph′ x
-        → {b : BuildLine} → Stands l p b → AddsFiles names index texts bind graph c (λ rd. addStep start (expandedLine rd b) rd) names′ index′ graph′ x
+    pub line-written : s ≡ false → {names′ index′ graph′ : List ℕ} {x : LineAnswer} → Writes l (withGraph bs graph₁) c start p names′ index′ graph′ x
+        → {b : BuildLine} → Stands l p b → AddsFiles bs c (λ rd. addStep start (expandedLine rd b) rd) names′ index′ graph′ x
     line-written f y {b} w =
         record {
           agrees = λ log rd h. y .agrees b w log rd (held-kept (k .kept) h) (record { known = rule-known w h ∙ e; sound = sym (k .answer b w log rd h) ∙ f });
@@ -50,8 +51,8 @@ module _ {l names index texts bind graph : List ℕ} {c : Counts} {p : BuildPlac
 
 -- ---- what the parts ask
 
-module _ {t l names index texts bind graph word : List ℕ} {c : Counts} {p : BuildPlaces} (a : BuildAsks t l names index texts bind graph word c p) where
-  pub step-asks : {graph₁ word′ : List ℕ} → Kept graph graph₁ → length word′ ≡ length word → StepAsks t l names index texts bind graph₁ word′ c p
+module _ {t l : List ℕ} {bs : Buffers} {word : List ℕ} {c : Counts} {p : BuildPlaces} (a : BuildAsks t l bs word c p) where
+  pub step-asks : {graph₁ word′ : List ℕ} → Kept (bs .graph) graph₁ → length word′ ≡ length word → StepAsks t l (withGraph bs graph₁) word′ c p
   step-asks k w =
       record {
         table = a .table;

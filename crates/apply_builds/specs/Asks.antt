@@ -11,14 +11,15 @@ use Rattle.cut_forms.specs.declared.BuildPlaces.{BuildPlaces}
 use Rattle.hold_reading.specs.Adds.{Whole}
 use Rattle.hold_reading.specs.declared.Counts.{Counts}
 use Rattle.apply_equal_outputs.specs.Kept.{columnsEnd}
+use Rattle.hold_reading.specs.Buffers.{Buffers}
 
 -- The word buffer has room for any path within its limit, and behind the columns of the graph is room for the table of its outputs.
-pub record BuildAsks (t l names index texts bind graph word : List ℕ) (c : Counts) (p : BuildPlaces) : Type 0 where
+pub record BuildAsks (t l : List ℕ) (bs : Buffers) (word : List ℕ) (c : Counts) (p : BuildPlaces) : Type 0 where
   pub table : t ≡ classes
   pub short : length l ≤ maxManifest
   pub line : BuildLine
   pub stands : Stands l p line
   pub room : maxValue ≤ length word
-  pub scratch : columnsEnd + maxManifest ≤ length graph
-  pub names-room : maxWritten ≤ length names
-  pub whole : Whole names index texts bind graph c
+  pub scratch : columnsEnd + maxManifest ≤ length (bs .graph)
+  pub names-room : maxWritten ≤ length (bs .names)
+  pub whole : Whole bs c

@@ -4,6 +4,7 @@ ghost use Rattle.spec.specs.Statements.{addStep, expandedLine};
 ghost use Rattle.cut_forms.specs.Statements.{Stands};
 ghost use Rattle.hold_reading.specs.Adds.{AddsFiles};
 ghost use Rattle.apply_builds.specs.Asks.{BuildAsks};
+ghost use Rattle.hold_reading.specs.Buffers.{buffers};
 use apply_bad_paths::bad_paths;
 use apply_steps::write_step;
 use cut_forms::BuildPlaces;
@@ -26,8 +27,8 @@ pub fn add_step(
     word: &mut [u8],
     c: Counts,
 ) -> LineAnswer
-    requires { ⌜ BuildAsks (now t) (now l) (now names) (now index) (now texts) (now bind) (now graph) (now word) c p ⌝ }
-    ensures { λ r. ⌜ ((b : BuildLine) → Stands (now (l .entry)) p b → AddsFiles (now (names .entry)) (now (index .entry)) (now (texts .entry)) (now (bind .entry)) (now (graph .entry)) c (λ rd. addStep start (expandedLine rd b) rd) (now (names .exit)) (now (index .exit)) (now (graph .exit)) r) ⌝ }
+    requires { ⌜ BuildAsks (now t) (now l) (buffers (now names) (now index) (now texts) (now bind) (now graph)) (now word) c p ⌝ }
+    ensures { λ r. ⌜ ((b : BuildLine) → Stands (now (l .entry)) p b → AddsFiles (buffers (now (names .entry)) (now (index .entry)) (now (texts .entry)) (now (bind .entry)) (now (graph .entry))) c (λ rd. addStep start (expandedLine rd b) rd) (now (names .exit)) (now (index .exit)) (now (graph .exit)) r) ⌝ }
 {
     let from = p.rule;
     let to = p.ins;

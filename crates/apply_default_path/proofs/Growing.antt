@@ -14,14 +14,15 @@ use Rattle.hold_reading.specs.declared.Counts.{Counts}
 use Rattle.hold_reading.specs.Held.{capacities, Bound, Graphed, HoldsReading}
 use Rattle.apply_files.proofs.Limits.{Within}
 use Rattle.apply_default_path.specs.Defaults.{defaulted, countedDefault}
+use Rattle.hold_reading.specs.Buffers.{Buffers, withGraph}
 
 -- where the number goes
 pub default-room : {log : List Logged} {graph : List ℕ} {c : Counts} {rd : Reading} → Graphed log graph c rd → c .mentions < maxMentions → 8192 + c .defaults < length graph
 default-room {graph = graph} {rd = rd} g l =
     omega (arith, lies-column capacities graph (g .mentions ∷ g .ends ∷ g .phony ∷ g .made ∷ g .ruleOf ∷ rd .defaults ∷ []) 5 (g .lies) (omega arith) .within, g .few-mentions)
 
-module _ {log : List Logged} {names index texts bind graph : List ℕ} {c : Counts} {rd : Reading} (h : HoldsReading log names index texts bind graph c rd) (n k : ℕ) (w : Within n c) (b : k < length (rd .files)) where
-  bound-more : Bound log texts bind (countedDefault n c) (defaulted k n rd)
+module _ {log : List Logged} {bs : Buffers} {c : Counts} {rd : Reading} (h : HoldsReading log bs c rd) (n k : ℕ) (w : Within n c) (b : k < length (rd .files)) where
+  bound-more : Bound log (bs .texts) (bs .bind) (countedDefault n c) (defaulted k n rd)
   unfolding defaulted
   bound-more =
       let d = h .bound in
@@ -51,7 +52,7 @@ module _ {log : List Logged} {names index texts bind graph : List ℕ} {c : Coun
         | no s ↦ (let z : i ≡ length (rd .defaults) = omega arith in rw (z, getD-append-seam (rd .defaults) k [] 0) b)
       ]
 
-  graphed-more : Graphed log (set graph (8192 + c .defaults) k) (countedDefault n c) (defaulted k n rd)
+  graphed-more : Graphed log (set (bs .graph) (8192 + c .defaults) k) (countedDefault n c) (defaulted k n rd)
   unfolding defaulted
   graphed-more =
       let g = h .graphed in
@@ -63,7 +64,7 @@ module _ {log : List Logged} {names index texts bind graph : List ℕ} {c : Coun
         ruleOf = g .ruleOf;
         lies =
             rw (g .defaults-counted)
-            (lies-push k capacities graph (g .mentions ∷ g .ends ∷ g .phony ∷ g .made ∷ g .ruleOf ∷ rd .defaults ∷ []) 5 (g .lies) (omega arith)
+            (lies-push k capacities (bs .graph) (g .mentions ∷ g .ends ∷ g .phony ∷ g .made ∷ g .ruleOf ∷ rd .defaults ∷ []) 5 (g .lies) (omega arith)
             (omega (arith, w .few, g .few-mentions, g .defaults-counted)));
         tables = g .tables;
         ruled-all = g .ruled-all;
@@ -76,6 +77,6 @@ module _ {log : List Logged} {names index texts bind graph : List ℕ} {c : Coun
         defaults-low = low-more;
       }
 
-  pub default-held : HoldsReading log names index texts bind (set graph (8192 + c .defaults) k) (countedDefault n c) (defaulted k n rd)
+  pub default-held : HoldsReading log (withGraph bs (set (bs .graph) (8192 + c .defaults) k)) (countedDefault n c) (defaulted k n rd)
   unfolding defaulted
   default-held = record { named = h .named; bound = bound-more; graphed = graphed-more; short = h .short }

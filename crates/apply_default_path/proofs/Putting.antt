@@ -24,6 +24,7 @@ use Rattle.apply_files.proofs.Limits.{path-within}
 use Rattle.apply_default_path.specs.declared.AddedDefault.the-variants.{Added, Over}
 use Rattle.apply_default_path.specs.Defaults.{countedDefault, Puts, Named·is, Names}
 use Rattle.apply_default_path.proofs.Growing.{default-held}
+use Rattle.hold_reading.specs.Buffers.{Buffers}
 
 -- ---- `put_default`
 
@@ -42,9 +43,9 @@ module _ {names index graph : List ℕ} {c : Counts} {path : List ℕ} {r : Foun
 
 -- ---- `add_default`
 
-module _ (raw : List ℕ) {names index texts bind graph word word′ : List ℕ} {c : Counts} {n : ℕ}
-    (x : (log : List Logged) → HoldsBindings log texts bind (c .entries) → Written word (expanded log raw) word′ n) where
-  pub default-over : overCounted n c ≡ true → Names names index texts bind graph c raw graph Over
+module _ (raw : List ℕ) {bs : Buffers} {word word′ : List ℕ} {c : Counts} {n : ℕ}
+    (x : (log : List Logged) → HoldsBindings log (bs .texts) (bs .bind) (c .entries) → Written word (expanded log raw) word′ n) where
+  pub default-over : overCounted n c ≡ true → Names bs c raw (bs .graph) Over
   unfolding Named·is
   default-over o =
       record {
@@ -52,8 +53,8 @@ module _ (raw : List ℕ) {names index texts bind graph word word′ : List ℕ}
             rw (path-held (h .bound) raw, ← x log (h .bound .held) .count) o;
       }
 
-  pub default-added : n ≤ length word′ → overCounted n c ≡ false → {graph′ : List ℕ} {d : Counts} → Puts names index graph c (take n word′) graph′ d
-      → Names names index texts bind graph c raw graph′ (Added d)
+  pub default-added : n ≤ length word′ → overCounted n c ≡ false → {graph′ : List ℕ} {d : Counts} → Puts (bs .names) (bs .index) (bs .graph) c (take n word′) graph′ d
+      → Names bs c raw graph′ (Added d)
   unfolding Named·is
   default-added l o p =
       record {
@@ -61,5 +62,5 @@ module _ (raw : List ℕ) {names index texts bind graph word word′ : List ℕ}
             let w = x log (h .bound .held) in
             let q : take n word′ ≡ pathOf rd raw = written-whole w (rw (written-long w) at l) ∙ sym (path-held (h .bound) raw) in
             let s : length (pathOf rd raw) ≡ n = ap length (path-held (h .bound) raw) ∙ sym (w .count) in
-            (rw s o, rw (← q) (p .held texts bind log rd h (rw q m)));
+            (rw s o, rw (← q) (p .held (bs .texts) (bs .bind) log rd h (rw q m)));
       }

@@ -12,6 +12,7 @@ use Rattle.apply_path_checks.specs.Checks.{pathOf, Files}
 use Rattle.apply_files.specs.Path.{overCounted}
 use Rattle.apply_default_path.specs.declared.AddedDefault.{AddedDefault}
 use Rattle.apply_default_path.specs.declared.AddedDefault.the-variants.{Added, Over}
+use Rattle.hold_reading.specs.Buffers.{Buffers, buffers, withGraph}
 
 -- the reading with a default more: a file's number, and its path's bytes
 unfoldable pub defaulted : ℕ → ℕ → Reading → Reading
@@ -38,14 +39,14 @@ pub record PutAsks (names index graph : List ℕ) (c : Counts) (path : List ℕ)
 
 -- The path of an output is a default more, whatever is bound.
 pub record Puts (names index graph : List ℕ) (c : Counts) (path graph′ : List ℕ) (d : Counts) : Type 0 where
-  pub held : (texts bind : List ℕ) (log : List Logged) (rd : Reading) → HoldsReading log names index texts bind graph c rd → isMade path rd ≡ true
-      → HoldsReading log names index texts bind graph′ d (defaulted (numberOf path (rd .files)) (length path) rd)
+  pub held : (texts bind : List ℕ) (log : List Logged) (rd : Reading) → HoldsReading log (buffers names index texts bind graph) c rd → isMade path rd ≡ true
+      → HoldsReading log (buffers names index texts bind graph′) d (defaulted (numberOf path (rd .files)) (length path) rd)
 
-unfoldable pub Named·is : (names index texts bind graph′ : List ℕ) → Counts → (path : List ℕ) → List Logged → Reading → AddedDefault → Type 0
-Named·is names index texts bind graph′ c path log rd (Added d) =
-    (overCounted (length path) c ≡ false) × HoldsReading log names index texts bind graph′ d (defaulted (numberOf path (rd .files)) (length path) rd)
-Named·is names index texts bind graph′ c path log rd Over = overCounted (length path) c ≡ true
+unfoldable pub Named·is : (bs : Buffers) → Counts → (path : List ℕ) → List Logged → Reading → AddedDefault → Type 0
+Named·is bs c path log rd (Added d) =
+    (overCounted (length path) c ≡ false) × HoldsReading log bs d (defaulted (numberOf path (rd .files)) (length path) rd)
+Named·is bs c path log rd Over = overCounted (length path) c ≡ true
 
-pub record Names (names index texts bind graph : List ℕ) (c : Counts) (raw graph′ : List ℕ) (r : AddedDefault) : Type 0 where
-  pub answer : (log : List Logged) (rd : Reading) → HoldsReading log names index texts bind graph c rd → isMade (pathOf rd raw) rd ≡ true
-      → Named·is names index texts bind graph′ c (pathOf rd raw) log rd r
+pub record Names (bs : Buffers) (c : Counts) (raw graph′ : List ℕ) (r : AddedDefault) : Type 0 where
+  pub answer : (log : List Logged) (rd : Reading) → HoldsReading log bs c rd → isMade (pathOf rd raw) rd ≡ true
+      → Named·is (withGraph bs graph′) c (pathOf rd raw) log rd r

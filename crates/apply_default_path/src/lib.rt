@@ -1,6 +1,7 @@
 // One path of a default line: its limits, and the output's number behind the defaults.
 ghost use Rattle.apply_path_checks.specs.Checks.{RawAsks};
 ghost use Rattle.apply_default_path.specs.Defaults.{PutAsks, Puts, Names};
+ghost use Rattle.hold_reading.specs.Buffers.{buffers};
 use apply_files::over;
 use arena::put;
 use expand_dollars::expand;
@@ -51,8 +52,8 @@ pub fn add_default(
     word: &mut [u8],
     c: Counts,
 ) -> AddedDefault
-    requires { ⌜ RawAsks (now t) (now raw) (now names) (now index) (now texts) (now bind) (now graph) (now word) c ⌝ }
-    ensures { λ r. ⌜ Names (now (names .entry)) (now (index .entry)) (now (texts .entry)) (now (bind .entry)) (now (graph .entry)) c (now (raw .entry)) (now (graph .exit)) r ⌝ }
+    requires { ⌜ RawAsks (now t) (now raw) (buffers (now names) (now index) (now texts) (now bind) (now graph)) (now word) c ⌝ }
+    ensures { λ r. ⌜ Names (buffers (now (names .entry)) (now (index .entry)) (now (texts .entry)) (now (bind .entry)) (now (graph .entry))) c (now (raw .entry)) (now (graph .exit)) r ⌝ }
 {
     let n = expand(t, raw, texts, bind, c.entries, word);
     if over(n, c) {

@@ -27,22 +27,23 @@ use Rattle.apply_default_path.specs.declared.AddedDefault.the-variants.{Added, 
 use Rattle.apply_default_path.specs.Defaults.{defaulted, Named·is, Names}
 use Rattle.apply_defaults.specs.Sound.{soundDefaults}
 use Rattle.apply_defaults.proofs.Outcomes.{sound-over, sound-on, sound-end}
+use Rattle.hold_reading.specs.Buffers.{Buffers, withGraph}
 
 -- The reading so far, and what is left of the line.
-pub record Reached (log : List Logged) (names index texts bind graph : List ℕ) (d : Counts) (start : ℕ) (rd : Reading) (ps qs : List (List ℕ)) : Type 0 where
+pub record Reached (log : List Logged) (bs : Buffers) (d : Counts) (start : ℕ) (rd : Reading) (ps qs : List (List ℕ)) : Type 0 where
   pub reading : Reading
-  pub holds : HoldsReading log names index texts bind graph d reading
+  pub holds : HoldsReading log bs d reading
   pub right : any (wrongPath Default reading) (expanded reading qs) ≡ false
   pub left : soundDefaults start (expanded rd ps) rd ≡ soundDefaults start (expanded reading qs) reading
 
-pub record Adding (l names index texts bind graph₀ : List ℕ) (c : Counts) (start at : ℕ) (graph : List ℕ) (d : Counts) (i : ℕ) : Type 0 where
+pub record Adding (l : List ℕ) (bs : Buffers) (c : Counts) (start at : ℕ) (graph : List ℕ) (d : Counts) (i : ℕ) : Type 0 where
   pub within : i ≤ length l
   pub rest : (ps : List (List ℕ)) → PathsAt l at ps
-      → (qs : List (List ℕ)) × PathsAt l i qs × ((log : List Logged) (rd : Reading) → HoldsReading log names index texts bind graph₀ c rd → Reached log names index texts bind graph d start rd ps qs)
+      → (qs : List (List ℕ)) × PathsAt l i qs × ((log : List Logged) (rd : Reading) → HoldsReading log bs c rd → Reached log (withGraph bs graph) d start rd ps qs)
 
-pub add-begin : {l names index texts bind graph : List ℕ} {c : Counts} (start : ℕ) {at : ℕ}
-    → AnyWrong Default l names index texts bind graph c at false → at ≤ length l
-    → Adding l names index texts bind graph c start at graph c at
+pub add-begin : {l : List ℕ} {bs : Buffers} {c : Counts} (start : ℕ) {at : ℕ}
+    → AnyWrong Default l bs c at false → at ≤ length l
+    → Adding l bs c start at (bs .graph) c at
 add-begin start a b =
     record {
       within = b;
@@ -61,24 +62,24 @@ expanded-same k n rd qs = refl
 
 -- ---- a turn
 
-module _ {l names index texts bind graph₀ : List ℕ} {c : Counts} {start at : ℕ} {graph : List ℕ} {d : Counts} {i : ℕ}
-    (x : Adding l names index texts bind graph₀ c start at graph d i) where
-  pub add-whole : {ps : List (List ℕ)} → PathsAt l at ps → Whole names index texts bind graph₀ c → Whole names index texts bind graph d
+module _ {l : List ℕ} {bs : Buffers} {c : Counts} {start at : ℕ} {graph : List ℕ} {d : Counts} {i : ℕ}
+    (x : Adding l bs c start at graph d i) where
+  pub add-whole : {ps : List (List ℕ)} → PathsAt l at ps → Whole bs c → Whole (withGraph bs graph) d
   add-whole {ps} w h =
       let (qs, v, s) = x .rest ps w in
       let r = s (h .log) (h .reading) (h .holds) in
       record { log = h .log; reading = r .reading; holds = r .holds }
 
-  module _ {from to : ℕ} (n : PathNext l i from to) {graph′ : List ℕ} {r : AddedDefault} (m : Names names index texts bind graph d (part l from to) graph′ r) where
+  module _ {from to : ℕ} (n : PathNext l i from to) {graph′ : List ℕ} {r : AddedDefault} (m : Names (withGraph bs graph) d (part l from to) graph′ r) where
     -- the path of this turn, and those behind it
     turn : (ps : List (List ℕ)) → PathsAt l at ps
-        → (us : List (List ℕ)) × PathsAt l to us × ((log : List Logged) (rd : Reading) → HoldsReading log names index texts bind graph₀ c rd → Reached log names index texts bind graph d start rd ps (part l from to ∷ us))
+        → (us : List (List ℕ)) × PathsAt l to us × ((log : List Logged) (rd : Reading) → HoldsReading log bs c rd → Reached log (withGraph bs graph) d start rd ps (part l from to ∷ us))
     turn ps w =
         let (qs, v, s) = x .rest ps w in
         let (us, q, u) = walk-on n v in
         (us, u, λ log rd h. rw q at (s log rd h))
 
-    module _ {log : List Logged} {rd : Reading} {ps us : List (List ℕ)} (z : Reached log names index texts bind graph d start rd ps (part l from to ∷ us)) where
+    module _ {log : List Logged} {rd : Reading} {ps us : List (List ℕ)} (z : Reached log (withGraph bs graph) d start rd ps (part l from to ∷ us)) where
       split-right : wrongPath Default (z .reading) (pathOf (z .reading) (part l from to)) || any (wrongPath Default (z .reading)) (expanded (z .reading) us) ≡ false
       split-right =
           sym (any-cons (wrongPath Default (z .reading)) (pathOf (z .reading) (part l from to)) (expanded (z .reading) us))
@@ -97,7 +98,7 @@ module _ {l names index texts bind graph₀ : List ℕ} {c : Counts} {start at :
       left-cons : soundDefaults start (expanded rd ps) rd ≡ soundDefaults start (pathOf (z .reading) (part l from to) ∷ expanded (z .reading) us) (z .reading)
       left-cons = z .left ∙ ap (λ (y : List (List ℕ)). soundDefaults start y (z .reading)) (expanded-cons (z .reading) (part l from to) us)
 
-      reach-on : {e : Counts} → r ≡ Added e → Reached log names index texts bind graph′ e start rd ps us
+      reach-on : {e : Counts} → r ≡ Added e → Reached log (withGraph bs graph′) e start rd ps us
       unfolding Named·is
       reach-on e =
           let p = pathOf (z .reading) (part l from to) in
@@ -119,7 +120,7 @@ module _ {l names index texts bind graph₀ : List ℕ} {c : Counts} {start at :
           let p = pathOf (z .reading) (part l from to) in
           left-cons ∙ sound-over (z .holds) start p (expanded (z .reading) us) (rw e at (m .answer log (z .reading) (z .holds) here-made))
 
-    pub add-on : {e : Counts} → r ≡ Added e → Adding l names index texts bind graph₀ c start at graph′ e to
+    pub add-on : {e : Counts} → r ≡ Added e → Adding l bs c start at graph′ e to
     add-on e =
         record {
           within = n .within;
@@ -129,13 +130,13 @@ module _ {l names index texts bind graph₀ : List ℕ} {c : Counts} {start at :
         }
 
     pub add-over : r ≡ Over → {ps : List (List ℕ)} → PathsAt l at ps → {graph″ : List ℕ}
-        → AddsFiles names index texts bind graph₀ c (λ rd. soundDefaults start (expanded rd ps) rd) names index graph″ (Refused (OverLimit start))
+        → AddsFiles bs c (λ rd. soundDefaults start (expanded rd ps) rd) (bs .names) (bs .index) graph″ (Refused (OverLimit start))
     add-over e {ps} w =
         let (us, u, s) = turn ps w in
         record { agrees = λ log rd h. rw (reach-over (s log rd h) e) refuses }
 
   pub add-end : ((ps : List (List ℕ)) → PathsAt l i ps → ps ≡ []) → {ps : List (List ℕ)} → PathsAt l at ps
-      → AddsFiles names index texts bind graph₀ c (λ rd. soundDefaults start (expanded rd ps) rd) names index graph (Goes d Nothing)
+      → AddsFiles bs c (λ rd. soundDefaults start (expanded rd ps) rd) (bs .names) (bs .index) graph (Goes d Nothing)
   unfolding joined expanded
   add-end f {ps} w =
       let (qs, v, s) = x .rest ps w in

@@ -22,26 +22,27 @@ use Rattle.apply_path_checks.specs.Checks.{AnyWrong}
 use Rattle.apply_path_checks.proofs.Wrong.{any-default}
 use Rattle.apply_defaults.specs.Asks.{DefaultAsks}
 use Rattle.apply_defaults.specs.Sound.{soundDefaults, SoundAsks}
+use Rattle.hold_reading.specs.Buffers.{Buffers}
 
-module _ {l names index texts bind graph : List ℕ} {c : Counts} {at : ℕ} (start : ℕ) {r : Bool} (a : AnyWrong Default l names index texts bind graph c at r) where
-  wrong : {ps : List (List ℕ)} → PathsAt l at ps → {log : List Logged} {rd : Reading} → HoldsReading log names index texts bind graph c rd
+module _ {l : List ℕ} {bs : Buffers} {c : Counts} {at : ℕ} (start : ℕ) {r : Bool} (a : AnyWrong Default l bs c at r) where
+  wrong : {ps : List (List ℕ)} → PathsAt l at ps → {log : List Logged} {rd : Reading} → HoldsReading log bs c rd
       → any isEmpty (expanded rd ps) || any (λ p. not (isMade p rd)) (expanded rd ps) ≡ r
   wrong {ps} w {log} {rd} h = any-default rd (expanded rd ps) ∙ sym (a .answer ps w log rd h)
 
   pub line-wrong : r ≡ true → {ps : List (List ℕ)} → PathsAt l at ps → {names′ index′ graph′ : List ℕ}
-      → AddsFiles names index texts bind graph c (λ rd. addDefaults start (expanded rd ps) rd) names′ index′ graph′ (Refused (BadPath start))
+      → AddsFiles bs c (λ rd. addDefaults start (expanded rd ps) rd) names′ index′ graph′ (Refused (BadPath start))
   unfolding addDefaults
   line-wrong e w = record { agrees = λ log rd h. rw (wrong w h ∙ e) refuses }
 
   pub line-sound : r ≡ false → {ps : List (List ℕ)} → PathsAt l at ps → {names′ index′ graph′ : List ℕ} {x : LineAnswer}
-      → AddsFiles names index texts bind graph c (λ rd. soundDefaults start (expanded rd ps) rd) names′ index′ graph′ x
-      → AddsFiles names index texts bind graph c (λ rd. addDefaults start (expanded rd ps) rd) names′ index′ graph′ x
+      → AddsFiles bs c (λ rd. soundDefaults start (expanded rd ps) rd) names′ index′ graph′ x
+      → AddsFiles bs c (λ rd. addDefaults start (expanded rd ps) rd) names′ index′ graph′ x
   unfolding addDefaults soundDefaults
   line-sound e w x = record { agrees = λ log rd h. rw (wrong w h ∙ e) (x .agrees log rd h) }
 
 -- what the rest of the line asks
-pub sound-asks : {t l names index texts bind graph word word′ : List ℕ} {c : Counts} {at : ℕ} {r : Bool} → DefaultAsks t l names index texts bind graph word c at → length word′ ≡ length word
-    → AnyWrong Default l names index texts bind graph c at r → r ≡ false → SoundAsks t l names index texts bind graph word′ c at
+pub sound-asks : {t l : List ℕ} {bs : Buffers} {word word′ : List ℕ} {c : Counts} {at : ℕ} {r : Bool} → DefaultAsks t l bs word c at → length word′ ≡ length word
+    → AnyWrong Default l bs c at r → r ≡ false → SoundAsks t l bs word′ c at
 sound-asks a w m e =
     record {
       asks = record { table = a .table; short = a .short; raw = a .raw; stands = a .stands; room = omega (arith, a .room); whole = a .whole };

@@ -24,6 +24,7 @@ use Rattle.apply_files.specs.Path.{overCounted}
 use Rattle.apply_files.proofs.Limits.{counted-over}
 use Rattle.apply_default_path.specs.Defaults.{defaulted}
 use Rattle.apply_defaults.specs.Sound.{soundDefaults}
+use Rattle.hold_reading.specs.Buffers.{Buffers}
 
 refused-over : (start : ℕ) (ps : List (List ℕ)) (rd : Reading) → overPaths ps || overCounts (mentioned ps rd) ≡ true → soundDefaults start ps rd ≡ refused (OverLimit start)
 unfolding soundDefaults
@@ -31,7 +32,7 @@ refused-over start ps rd e = rw e
 
 -- ---- one path more
 
-module _ {log : List Logged} {names index texts bind graph : List ℕ} {c : Counts} {rd : Reading} (h : HoldsReading log names index texts bind graph c rd) (start : ℕ) (p : List ℕ) (qs : List (List ℕ)) where
+module _ {log : List Logged} {bs : Buffers} {c : Counts} {rd : Reading} (h : HoldsReading log bs c rd) (start : ℕ) (p : List ℕ) (qs : List (List ℕ)) where
   pub sound-over : overCounted (length p) c ≡ true → soundDefaults start (p ∷ qs) rd ≡ refused (OverLimit start)
   unfolding overLine
   sound-over o = refused-over start (p ∷ qs) rd (counted-over c rd (h .graphed .mentions-counted) (h .bound .written-counted) p o qs)
@@ -60,7 +61,7 @@ module _ {log : List Logged} {names index texts bind graph : List ℕ} {c : Coun
 
 -- ---- no more path
 
-pub sound-end : {log : List Logged} {names index texts bind graph : List ℕ} {c : Counts} {rd : Reading} → HoldsReading log names index texts bind graph c rd → (start : ℕ)
+pub sound-end : {log : List Logged} {bs : Buffers} {c : Counts} {rd : Reading} → HoldsReading log bs c rd → (start : ℕ)
     → soundDefaults start [] rd ≡ goesOn rd noBlock
 unfolding soundDefaults overPaths any overCounts mentioned withDefaults numbersOf sum
 sound-end {c = c} {rd = rd} h start =

@@ -8,11 +8,12 @@ use Rattle.scan_classes.specs.Table.{classes}
 use Rattle.cut_forms.specs.Paths.{PathsAt}
 use Rattle.hold_reading.specs.Adds.{Whole}
 use Rattle.hold_reading.specs.declared.Counts.{Counts}
+use Rattle.hold_reading.specs.Buffers.{Buffers}
 
-pub record DefaultAsks (t l names index texts bind graph word : List ℕ) (c : Counts) (at : ℕ) : Type 0 where
+pub record DefaultAsks (t l : List ℕ) (bs : Buffers) (word : List ℕ) (c : Counts) (at : ℕ) : Type 0 where
   pub table : t ≡ classes
   pub short : length l ≤ maxManifest
   pub raw : List (List ℕ)
   pub stands : PathsAt l at raw
   pub room : maxValue ≤ length word
-  pub whole : Whole names index texts bind graph c
+  pub whole : Whole bs c

@@ -10,6 +10,7 @@ use Rattle.hold_reading.specs.declared.Counts.{Counts}
 use Rattle.apply_path_checks.specs.declared.PathKind.the-variants.{Default}
 use Rattle.apply_path_checks.specs.Checks.{AnyWrong}
 use Rattle.apply_defaults.specs.Asks.{DefaultAsks}
+use Rattle.hold_reading.specs.Buffers.{Buffers}
 
 unfoldable pub soundDefaults : ℕ → List (List ℕ) → Reading → Outcome
 unfolding mentioned overPaths overCounts withDefaults
@@ -17,6 +18,6 @@ soundDefaults start ps rd =
     let after = mentioned ps rd in
     ifB (overPaths ps || overCounts after) (λ _. refused (OverLimit start)) λ _. goesOn (withDefaults ps after) noBlock
 
-pub record SoundAsks (t l names index texts bind graph word : List ℕ) (c : Counts) (at : ℕ) : Type 0 where
-  pub asks : DefaultAsks t l names index texts bind graph word c at
-  pub right : AnyWrong Default l names index texts bind graph c at false
+pub record SoundAsks (t l : List ℕ) (bs : Buffers) (word : List ℕ) (c : Counts) (at : ℕ) : Type 0 where
+  pub asks : DefaultAsks t l bs word c at
+  pub right : AnyWrong Default l bs c at false

@@ -6,6 +6,7 @@ ghost use Rattle.cut_forms.specs.Paths.{PathsAt};
 ghost use Rattle.hold_reading.specs.Adds.{AddsFiles};
 ghost use Rattle.apply_defaults.specs.Asks.{DefaultAsks};
 ghost use Rattle.apply_defaults.specs.Sound.{soundDefaults, SoundAsks};
+ghost use Rattle.hold_reading.specs.Buffers.{buffers};
 use apply_default_path::AddedDefault;
 use apply_default_path::add_default;
 use apply_path_checks::PathKind;
@@ -31,8 +32,8 @@ fn add_sound(
     word: &mut [u8],
     c: Counts,
 ) -> LineAnswer
-    requires { ⌜ SoundAsks (now t) (now l) (now names) (now index) (now texts) (now bind) (now graph) (now word) c at ⌝ }
-    ensures { λ r. ⌜ ((ps : List (List ℕ)) → PathsAt (now (l .entry)) at ps → AddsFiles (now (names .entry)) (now (index .entry)) (now (texts .entry)) (now (bind .entry)) (now (graph .entry)) c (λ rd. soundDefaults start (expanded rd ps) rd) (now (names .entry)) (now (index .entry)) (now (graph .exit)) r) ⌝ }
+    requires { ⌜ SoundAsks (now t) (now l) (buffers (now names) (now index) (now texts) (now bind) (now graph)) (now word) c at ⌝ }
+    ensures { λ r. ⌜ ((ps : List (List ℕ)) → PathsAt (now (l .entry)) at ps → AddsFiles (buffers (now (names .entry)) (now (index .entry)) (now (texts .entry)) (now (bind .entry)) (now (graph .entry))) c (λ rd. soundDefaults start (expanded rd ps) rd) (now (names .entry)) (now (index .entry)) (now (graph .exit)) r) ⌝ }
 {
     let mut d = c;
     let mut i = at;
@@ -70,8 +71,8 @@ pub fn add_defaults(
     word: &mut [u8],
     c: Counts,
 ) -> LineAnswer
-    requires { ⌜ DefaultAsks (now t) (now l) (now names) (now index) (now texts) (now bind) (now graph) (now word) c at ⌝ }
-    ensures { λ r. ⌜ ((ps : List (List ℕ)) → PathsAt (now (l .entry)) at ps → AddsFiles (now (names .entry)) (now (index .entry)) (now (texts .entry)) (now (bind .entry)) (now (graph .entry)) c (λ rd. addDefaults start (expanded rd ps) rd) (now (names .entry)) (now (index .entry)) (now (graph .exit)) r) ⌝ }
+    requires { ⌜ DefaultAsks (now t) (now l) (buffers (now names) (now index) (now texts) (now bind) (now graph)) (now word) c at ⌝ }
+    ensures { λ r. ⌜ ((ps : List (List ℕ)) → PathsAt (now (l .entry)) at ps → AddsFiles (buffers (now (names .entry)) (now (index .entry)) (now (texts .entry)) (now (bind .entry)) (now (graph .entry))) c (λ rd. addDefaults start (expanded rd ps) rd) (now (names .entry)) (now (index .entry)) (now (graph .exit)) r) ⌝ }
 {
     let kind = PathKind::Default;
     if has_wrong(t, l, at, kind, names, index, texts, bind, graph, word, c) {

@@ -8,6 +8,7 @@ use Rattle.hold_reading.specs.declared.Counts.{Counts}
 use Rattle.hold_reading.specs.Held.{capacities, Graphed, HoldsReading}
 use Rattle.hold_reading.specs.Adds.{Whole}
 use Rattle.apply_equal_outputs.specs.Kept.{Kept}
+use Rattle.hold_reading.specs.Buffers.{Buffers, withGraph}
 
 graphed-kept : {log : List Logged} {graph graph′ : List ℕ} {c : Counts} {rd : Reading} → Kept graph graph′ → Graphed log graph c rd → Graphed log graph′ c rd
 graphed-kept {graph = graph} {graph′ = graph′} {rd = rd} k g =
@@ -29,9 +30,9 @@ graphed-kept {graph = graph} {graph′ = graph′} {rd = rd} k g =
       defaults-low = g .defaults-low;
     }
 
-pub held-kept : {log : List Logged} {names index texts bind graph graph′ : List ℕ} {c : Counts} {rd : Reading} → Kept graph graph′ → HoldsReading log names index texts bind graph c rd
-    → HoldsReading log names index texts bind graph′ c rd
+pub held-kept : {log : List Logged} {bs : Buffers} {graph′ : List ℕ} {c : Counts} {rd : Reading} → Kept (bs .graph) graph′ → HoldsReading log bs c rd
+    → HoldsReading log (withGraph bs graph′) c rd
 held-kept k h = record { named = h .named; bound = h .bound; graphed = graphed-kept k (h .graphed); short = h .short }
 
-pub whole-kept : {names index texts bind graph graph′ : List ℕ} {c : Counts} → Kept graph graph′ → Whole names index texts bind graph c → Whole names index texts bind graph′ c
+pub whole-kept : {bs : Buffers} {graph′ : List ℕ} {c : Counts} → Kept (bs .graph) graph′ → Whole bs c → Whole (withGraph bs graph′) c
 whole-kept k w = record { log = w .log; reading = w .reading; holds = held-kept k (w .holds) }

@@ -23,6 +23,7 @@ use Rattle.apply_files.specs.Lines.{Line, Columns, Writing, madeWith, wi
 use Rattle.apply_files.specs.Path.{countedPath, Again, First}
 use Rattle.apply_files.proofs.Columns.{push-mention, push-made}
 use Rattle.apply_files.proofs.Limits.{Within, line-files, path-short}
+use Rattle.hold_reading.specs.Buffers.{Buffers, buffers, withFiles}
 
 -- ---- the names after a mention
 
@@ -55,8 +56,8 @@ made-new p files made h =
 
 -- ---- what is held then
 
-module _ {names index texts bind graph : List ℕ} {c : Counts} {h : Line} (w : Writing names index texts bind graph c h) (p : List ℕ) (l : Within (length p) c) where
-  bound-path : (files : ℕ) → Bound (h .log) texts bind (countedPath files (length p) c) (mentioned (p ∷ []) (h .reading))
+module _ {bs : Buffers} {c : Counts} {h : Line} (w : Writing bs c h) (p : List ℕ) (l : Within (length p) c) where
+  bound-path : (files : ℕ) → Bound (h .log) (bs .texts) (bs .bind) (countedPath files (length p) c) (mentioned (p ∷ []) (h .reading))
   unfolding mentioned sum
   bound-path files =
       let b = w .bound in
@@ -81,7 +82,7 @@ module _ {names index texts bind graph : List ℕ} {c : Counts} {h : Line} (w : 
   path-held : {names′ index′ graph′ : List ℕ} {files k : ℕ} → named.Mentioned (h .reading .files) p k names′ index′ files
       → Columns graph′ (h .mentions ++ (k ∷ [])) (h .ends) (h .phony) (madeWith p (h .reading .files) (h .made)) (h .ruleOf) (h .reading .defaults)
       → length (madeWith p (h .reading .files) (h .made)) ≡ files
-      → Writing names′ index′ texts bind graph′ (countedPath files (length p) c) (withPath p h)
+      → Writing (withFiles bs names′ index′ graph′) (countedPath files (length p) c) (withPath p h)
   unfolding withPath mentioned
   path-held {files = files} m q f =
       record {
@@ -102,8 +103,8 @@ module _ {names index texts bind graph : List ℕ} {c : Counts} {h : Line} (w : 
 -- ---- by the answer
 
 module _ {names index graph path names′ index′ : List ℕ} {c : Counts} {r : Added} (a : AddsName names index (c .files) path names′ index′ r) (l : Within (length path) c)
-    {texts bind : List ℕ} {h : Line} (w : Writing names index texts bind graph c h) where
-  pub path-old : {k : ℕ} {graph′ : List ℕ} {d : Counts} → r ≡ Old k → Again graph c k (length path) graph′ d → AddedPaths names′ index′ texts bind graph′ h (path ∷ []) (On d)
+    {texts bind : List ℕ} {h : Line} (w : Writing (buffers names index texts bind graph) c h) where
+  pub path-old : {k : ℕ} {graph′ : List ℕ} {d : Counts} → r ≡ Old k → Again graph c k (length path) graph′ d → AddedPaths (buffers names′ index′ texts bind graph′) h (path ∷ []) (On d)
   unfolding withPaths
   path-old {k} e g =
       let m = after-old a (w .named) e in
@@ -111,7 +112,7 @@ module _ {names index graph path names′ index′ : List ℕ} {c : Counts} {r :
       rw (g .stored, g .counted)
       (on (path-held w path l m (rw z (push-mention (w .columns) k (c .paths) (w .paths-counted) (mentions-short w path l))) (rw z (w .filed ∙ sym (w .named .counted)))) (path-short path l))
 
-  pub path-new : {k : ℕ} {graph′ : List ℕ} {d : Counts} → r ≡ New k → First graph c k (length path) graph′ d → AddedPaths names′ index′ texts bind graph′ h (path ∷ []) (On d)
+  pub path-new : {k : ℕ} {graph′ : List ℕ} {d : Counts} → r ≡ New k → First graph c k (length path) graph′ d → AddedPaths (buffers names′ index′ texts bind graph′) h (path ∷ []) (On d)
   unfolding withPaths
   path-new {k} e g =
       let m = after-new a (w .named) e in
@@ -124,7 +125,7 @@ module _ {names index graph path names′ index′ : List ℕ} {c : Counts} {r :
       (rw z (omega (arith, length-append (h .made) (0 ∷ []), w .filed, w .named .counted))))
       (path-short path l))
 
-  pub path-full : maxWritten ≤ length names → r ≡ Full → {graph′ : List ℕ} → AddedPaths names′ index′ texts bind graph′ h (path ∷ []) Over
+  pub path-full : maxWritten ≤ length names → r ≡ Full → {graph′ : List ℕ} → AddedPaths (buffers names′ index′ texts bind graph′) h (path ∷ []) Over
   path-full n e =
       let x = after-full a (w .named) e (omega (arith, w .bound .shared, l .low)) in
       over (line-files path (h .reading) (x .0) (x .1))

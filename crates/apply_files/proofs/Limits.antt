@@ -19,6 +19,7 @@ use Rattle.hold_names.proofs.Numbers.{mention-none, mention-old, mention-new, m
 use Rattle.hold_reading.specs.declared.Counts.{Counts}
 use Rattle.apply_files.specs.Lines.{Line, Writing, overLine}
 use Rattle.apply_files.specs.Path.{overCounted}
+use Rattle.hold_reading.specs.Buffers.{Buffers}
 
 pub or-on : (a b : Bool) → b ≡ true → a || b ≡ true
 or-on a b e = rw e (or-true a)
@@ -142,7 +143,7 @@ counted-over c rd m n p e =
       ]
     ]
 
-pub path-over : {names index texts bind graph : List ℕ} {c : Counts} {h : Line} → Writing names index texts bind graph c h → (p : List ℕ) → overCounted (length p) c ≡ true
+pub path-over : {bs : Buffers} {c : Counts} {h : Line} → Writing bs c h → (p : List ℕ) → overCounted (length p) c ≡ true
     → (more : List (List ℕ)) → overLine (p ∷ more) (h .reading) ≡ true
 path-over {c = c} {h = h} w p e = counted-over c (h .reading) (w .mentions-counted) (w .bound .written-counted) p e
 

@@ -16,6 +16,7 @@ use Rattle.hold_reading.specs.declared.Counts.{Counts}
 use Rattle.hold_reading.specs.Held.{Bound, capacities}
 use Rattle.apply_files.specs.declared.Mentioned.{Mentioned}
 use Rattle.apply_files.specs.declared.Mentioned.the-variants.{On, Over}
+use Rattle.hold_reading.specs.Buffers.{Buffers}
 
 -- what is held: the log, the reading, and the columns of the graph but the defaults
 pub record Line : Type 0 where
@@ -31,10 +32,10 @@ pub record Line : Type 0 where
 pub record Columns (graph mentions ends phony made ruleOf defaults : List ℕ) : Type 0 where
   pub lies : Lies capacities graph (mentions ∷ ends ∷ phony ∷ made ∷ ruleOf ∷ defaults ∷ [])
 
-pub record Writing (names index texts bind graph : List ℕ) (c : Counts) (h : Line) : Type 0 where
-  pub named : HoldsNames names index (c .files) (h .reading .files)
-  pub bound : Bound (h .log) texts bind c (h .reading)
-  pub columns : Columns graph (h .mentions) (h .ends) (h .phony) (h .made) (h .ruleOf) (h .reading .defaults)
+pub record Writing (bs : Buffers) (c : Counts) (h : Line) : Type 0 where
+  pub named : HoldsNames (bs .names) (bs .index) (c .files) (h .reading .files)
+  pub bound : Bound (h .log) (bs .texts) (bs .bind) c (h .reading)
+  pub columns : Columns (bs .graph) (h .mentions) (h .ends) (h .phony) (h .made) (h .ruleOf) (h .reading .defaults)
   pub filed : length (h .made) ≡ length (h .reading .files)
   pub paths-counted : c .paths ≡ length (h .mentions)
   pub defaults-counted : c .defaults ≡ length (h .reading .defaults)
@@ -70,6 +71,6 @@ unfoldable pub overLine : List (List ℕ) → Reading → Bool
 overLine ps rd = overPaths ps || overCounts (mentioned ps rd)
 
 -- The paths are mentioned, or the line is over a limit, whatever it mentions after them.
-pub data AddedPaths (names index texts bind graph : List ℕ) (h : Line) (ps : List (List ℕ)) : Mentioned → Type 0 where
-  on : {c : Counts} → Writing names index texts bind graph c (withPaths ps h) → overPaths ps ≡ false → AddedPaths names index texts bind graph h ps (On c)
-  over : ((more : List (List ℕ)) → overLine (ps ++ more) (h .reading) ≡ true) → AddedPaths names index texts bind graph h ps Over
+pub data AddedPaths (bs : Buffers) (h : Line) (ps : List (List ℕ)) : Mentioned → Type 0 where
+  on : {c : Counts} → Writing bs c (withPaths ps h) → overPaths ps ≡ false → AddedPaths bs h ps (On c)
+  over : ((more : List (List ℕ)) → overLine (ps ++ more) (h .reading) ≡ true) → AddedPaths bs h ps Over

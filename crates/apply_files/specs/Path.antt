@@ -10,6 +10,7 @@ use Rattle.hold_reading.specs.declared.Counts.{Counts}
 use Rattle.hold_reading.specs.Held.{madeStart}
 use Rattle.apply_files.specs.declared.Mentioned.{Mentioned}
 use Rattle.apply_files.specs.Lines.{Line, Writing, AddedPaths}
+use Rattle.hold_reading.specs.Buffers.{buffers}
 
 -- is a path of n bytes over a limit by the counts; files are not counted here
 unfoldable pub overCounted : ℕ → Counts → Bool
@@ -47,7 +48,7 @@ pub record Fits (path names index graph : List ℕ) (c : Counts) : Type 0 where
   pub names-long : maxWritten ≤ length names
   pub within : overCounted (length path) c ≡ false
   pub line : Line
-  pub writing : Writing names index texts bind graph c line
+  pub writing : Writing (buffers names index texts bind graph) c line
 
 pub record AddsPath (path names index graph : List ℕ) (c : Counts) (names′ index′ graph′ : List ℕ) (r : Mentioned) : Type 0 where
-  pub adds : (texts bind : List ℕ) (h : Line) → Writing names index texts bind graph c h → AddedPaths names′ index′ texts bind graph′ h (path ∷ []) r
+  pub adds : (texts bind : List ℕ) (h : Line) → Writing (buffers names index texts bind graph) c h → AddedPaths (buffers names′ index′ texts bind graph′) h (path ∷ []) r

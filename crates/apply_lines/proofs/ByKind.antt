@@ -18,28 +18,29 @@ use Rattle.hold_reading.specs.Binds.{Meets}
 use Rattle.apply_indented.specs.Asks.{Asks}
 use Rattle.apply_statements.specs.Asks.{LineAsks, LineMeets}
 use Rattle.apply_statements.proofs.Outcomes.{binding-met, line-as, between-sound}
+use Rattle.hold_reading.specs.Buffers.{Buffers, withBindings}
 
 -- k is the kind that was found, and it is the one that is named.
-module _ (l : Line) {k : LineKind} (a : k ≡ kindOf (l .text)) {names index texts bind graph : List ℕ} {c : Counts} {o : Open} where
-  pub comment-read : k ≡ Comment → LineMeets names index texts bind graph c o (readLine l) names index texts bind graph (Goes c o)
+module _ (l : Line) {k : LineKind} (a : k ≡ kindOf (l .text)) {bs : Buffers} {c : Counts} {o : Open} where
+  pub comment-read : k ≡ Comment → LineMeets bs c o (readLine l) bs (Goes c o)
   unfolding readLine
   comment-read e = record { agrees = λ log rd b h p. rw (is-comment (l .text) (sym e ∙ a)) (goes h p) }
 
-  pub blank-read : {r : LineAnswer} → k ≡ Blank → Meets texts bind c o close texts bind r → LineMeets names index texts bind graph c o (readLine l) names index texts bind graph r
+  pub blank-read : {r : LineAnswer} → k ≡ Blank → Meets (bs .texts) (bs .bind) c o close (bs .texts) (bs .bind) r → LineMeets bs c o (readLine l) bs r
   unfolding readLine
   blank-read e m = let w = is-blank (l .text) (sym e ∙ a) in line-as (λ rd b. rw (w .0, w .1)) (binding-met m)
 
-  pub indented-read : {texts′ bind′ : List ℕ} {r : LineAnswer} → k ≡ Indented → Meets texts bind c o (readIndented l) texts′ bind′ r
-      → LineMeets names index texts bind graph c o (readLine l) names index texts′ bind′ graph r
+  pub indented-read : {texts′ bind′ : List ℕ} {r : LineAnswer} → k ≡ Indented → Meets (bs .texts) (bs .bind) c o (readIndented l) texts′ bind′ r
+      → LineMeets bs c o (readLine l) (withBindings bs texts′ bind′) r
   unfolding readLine
   indented-read e m = let w = is-indented (l .text) (sym e ∙ a) in line-as (λ rd b. rw (w .0, w .1, w .2)) (binding-met m)
 
-  pub statement-read : {names′ index′ texts′ bind′ graph′ : List ℕ} {r : LineAnswer} → k ≡ Statement
-      → LineMeets names index texts bind graph c o (λ rd b. andThen (close rd b) (readStatement l)) names′ index′ texts′ bind′ graph′ r
-      → LineMeets names index texts bind graph c o (readLine l) names′ index′ texts′ bind′ graph′ r
+  pub statement-read : {bs′ : Buffers} {r : LineAnswer} → k ≡ Statement
+      → LineMeets bs c o (λ rd b. andThen (close rd b) (readStatement l)) bs′ r
+      → LineMeets bs c o (readLine l) bs′ r
   unfolding readLine
   statement-read e m = let w = is-statement (l .text) (sym e ∙ a) in line-as (λ rd b. rw (w .0, w .1, w .2)) m
 
-pub indented-asks : {t : List ℕ} {start : ℕ} {l names index texts bind graph word : List ℕ} {c : Counts} {o : Open}
-    → LineAsks t start l names index texts bind graph word c o → Asks t start l texts bind word c o
+pub indented-asks : {t : List ℕ} {start : ℕ} {l : List ℕ} {bs : Buffers} {word : List ℕ} {c : Counts} {o : Open}
+    → LineAsks t start l bs word c o → Asks t start l (bs .texts) (bs .bind) word c o
 indented-asks a = record { cut = a .cut; room = omega (arith, a .room .word-room); sound = between-sound (a .between) }

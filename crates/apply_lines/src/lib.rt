@@ -2,6 +2,7 @@
 ghost use Rattle.spec.specs.Manifest.{readLine};
 ghost use Rattle.scan_cursor.specs.Spans.{lineOf};
 ghost use Rattle.apply_statements.specs.Asks.{LineAsks, LineMeets};
+ghost use Rattle.hold_reading.specs.Buffers.{buffers};
 use apply_indented::read_indented;
 use apply_rules::close;
 use apply_statements::read_file_line;
@@ -24,8 +25,8 @@ pub fn read_line(
     word: &mut [u8],
     s: State,
 ) -> LineAnswer
-    requires { ⌜ LineAsks (now t) (line .start) (now l) (now names) (now index) (now texts) (now bind) (now graph) (now word) (s .counts) (s .open) ⌝ }
-    ensures { λ r. ⌜ LineMeets (now (names .entry)) (now (index .entry)) (now (texts .entry)) (now (bind .entry)) (now (graph .entry)) (s .counts) (s .open) (readLine (lineOf (line .start) (now (l .entry)) (line .ended))) (now (names .exit)) (now (index .exit)) (now (texts .exit)) (now (bind .exit)) (now (graph .exit)) r ⌝ }
+    requires { ⌜ LineAsks (now t) (line .start) (now l) (buffers (now names) (now index) (now texts) (now bind) (now graph)) (now word) (s .counts) (s .open) ⌝ }
+    ensures { λ r. ⌜ LineMeets (buffers (now (names .entry)) (now (index .entry)) (now (texts .entry)) (now (bind .entry)) (now (graph .entry))) (s .counts) (s .open) (readLine (lineOf (line .start) (now (l .entry)) (line .ended))) (buffers (now (names .exit)) (now (index .exit)) (now (texts .exit)) (now (bind .exit)) (now (graph .exit))) r ⌝ }
 {
     let c = s.counts;
     let block = s.open;

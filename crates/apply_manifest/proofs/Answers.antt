@@ -27,6 +27,7 @@ use Rattle.apply_statements.proofs.Outcomes.{close-none}
 use Rattle.apply_manifest.specs.Manifests.{Roomy, LinesAsk, TopAsk, LinesRead, Held, IsRead}
 use Rattle.apply_manifest.specs.declared.ReadAnswer.{ReadAnswer}
 use Rattle.apply_manifest.specs.declared.ReadAnswer.the-variants.{Accepted, Refused as NotRead}
+use Rattle.hold_reading.specs.Buffers.{Buffers}
 
 -- ---- the end of the manifest closes a block
 
@@ -57,27 +58,27 @@ module _ (m : List ℕ) (f : FirstBad) (h : length m ≤ maxManifest) (e : place
     unfolding readManifest placeOf ifSound
     lines-decide = rw (le-ltb maxManifest (length m) h, sym e, k)
 
-    pub lines-refused : {names index texts bind graph : List ℕ} {r : Refusal} → LinesRead m names index texts bind graph (Refused r) → readManifest m ≡ refusedWith r
+    pub lines-refused : {bs : Buffers} {r : Refusal} → LinesRead m bs (Refused r) → readManifest m ≡ refusedWith r
     unfolding readOf
     lines-refused a = lines-decide ∙ rw (agreed-refused (a .agrees))
 
-    pub lines-accepted : {names index texts bind graph : List ℕ} {c : Counts} {o : Open} → LinesRead m names index texts bind graph (Goes c o) → Held m names index texts bind graph c
+    pub lines-accepted : {bs : Buffers} {c : Counts} {o : Open} → LinesRead m bs (Goes c o) → Held m bs c
     unfolding readOf joined
     lines-accepted a =
         let g = agreed-on (a .agrees) in
         let n : g .block ≡ noBlock = lines-none (linesOf m) nothingRead noBlock (g .outcome) in
         record { log = g .log; reading = g .reading; is = lines-decide ∙ ap readOf (g .outcome); holds = rw n at (g .holds) }
 
-pub lines-ask : {t m names index texts bind graph word : List ℕ} → Roomy t names index texts bind graph word → length m ≤ maxManifest
-    → LinesAsk t m names index texts bind graph word
+pub lines-ask : {t m : List ℕ} {bs : Buffers} {word : List ℕ} → Roomy t bs word → length m ≤ maxManifest
+    → LinesAsk t m bs word
 lines-ask a h = record { short = h; roomy = a }
 
 -- the names are cleared
-pub top-ask : {t m names index texts bind graph word cleared : List ℕ} → LinesAsk t m names index texts bind graph word → cleared ≡ zeroed index 2048 3072
-    → TopAsk t m names cleared texts bind graph word
-top-ask {names = names} {index = index} a e =
+pub top-ask : {t m : List ℕ} {bs : Buffers} {word cleared : List ℕ} → LinesAsk t m bs word → cleared ≡ zeroed (bs .index) 2048 3072
+    → TopAsk t m (bs .names) cleared (bs .texts) (bs .bind) (bs .graph) word
+top-ask {bs = bs} a e =
     let r = a .roomy in
-    let l : length (zeroed index 2048 3072) ≡ length index = length-zeroed index 2048 3072 (omega arith) (omega (arith, r .numbers-room)) in
+    let l : length (zeroed (bs .index) 2048 3072) ≡ length index = length-zeroed (bs .index) 2048 3072 (omega arith) (omega (arith, r .numbers-room)) in
     rw e
     (record {
       short = a .short;
@@ -90,16 +91,16 @@ top-ask {names = names} {index = index} a e =
             texts-room = r .texts-room;
             bind-room = r .bind-room;
           };
-      empty = holds-none names index (r .names-small) (r .numbers-room);
+      empty = holds-none (bs .names) (bs .index) (r .names-small) (r .numbers-room);
     })
 
 -- ---- by the answer
 
-module _ (m names index texts bind graph : List ℕ) {x : ReadAnswer} (a : IsRead m names index texts bind graph x) where
-  pub read-accepted : {c : Counts} → x ≡ Accepted c → Held m names index texts bind graph c
+module _ (m : List ℕ) (bs : Buffers) {x : ReadAnswer} (a : IsRead m bs x) where
+  pub read-accepted : {c : Counts} → x ≡ Accepted c → Held m bs c
   unfolding IsRead
-  read-accepted e = subst (IsRead m names index texts bind graph) e a
+  read-accepted e = subst (IsRead m bs) e a
 
   pub read-refused : {r : Refusal} → x ≡ NotRead r → readManifest m ≡ refusedWith r
   unfolding IsRead
-  read-refused e = subst (IsRead m names index texts bind graph) e a
+  read-refused e = subst (IsRead m bs) e a

@@ -6,10 +6,11 @@ use native.Mathlib.Omega.{arith}
 use lib.ListN.{length}
 use Rattle.scan_classes.specs.Table.{classes}
 use Rattle.apply_manifest.specs.Manifests.{Roomy}
+use Rattle.hold_reading.specs.Buffers.{Buffers}
 
-module _ {t names index texts bind graph word : List ℕ} (e : t ≡ classes) (n : length names ≡ 60000) (f : length index ≡ 3072) (x : length texts ≡ 133728)
-    (b : length bind ≡ 4608) (g : length graph ≡ 61440) (w : length word ≡ 2048) where
-  pub roomy : Roomy t names index texts bind graph word
+module _ {t : List ℕ} {bs : Buffers} {word : List ℕ} (e : t ≡ classes) (n : length (bs .names) ≡ 60000) (f : length (bs .index) ≡ 3072) (x : length (bs .texts) ≡ 133728)
+    (b : length (bs .bind) ≡ 4608) (g : length (bs .graph) ≡ 61440) (w : length word ≡ 2048) where
+  pub roomy : Roomy t bs word
   roomy =
       record {
         table = e;

@@ -26,28 +26,29 @@ use Rattle.hold_reading.proofs.Lift.{met, sound}
 use Rattle.hold_reading.proofs.Agreement.{noCounts, start-held, agreed-on, agreed-refused}
 use Rattle.apply_statements.specs.Asks.{Between, LineAsks, LineMeets}
 use Rattle.apply_manifest.specs.Manifests.{TopAsk, LinesRead}
+use Rattle.hold_reading.specs.Buffers.{Buffers}
 
 -- the buffers have the lengths that they began with
-pub record Same (names₀ index₀ texts₀ bind₀ graph₀ word₀ names index texts bind graph word : List ℕ) : Type 0 where
-  pub names-same : length names ≡ length names₀
-  pub ends-same : length index ≡ length index₀
-  pub texts-same : length texts ≡ length texts₀
-  pub bind-same : length bind ≡ length bind₀
-  pub graph-same : length graph ≡ length graph₀
+pub record Same (bs₀ : Buffers) (word₀ : List ℕ) (bs : Buffers) (word : List ℕ) : Type 0 where
+  pub names-same : length (bs .names) ≡ length (bs₀ .names)
+  pub ends-same : length (bs .index) ≡ length (bs₀ .index)
+  pub texts-same : length (bs .texts) ≡ length (bs₀ .texts)
+  pub bind-same : length (bs .bind) ≡ length (bs₀ .bind)
+  pub graph-same : length (bs .graph) ≡ length (bs₀ .graph)
   pub word-same : length word ≡ length word₀
 
-pub same-begin : {names index texts bind graph word : List ℕ} → Same names index texts bind graph word names index texts bind graph word
+pub same-begin : {bs : Buffers} {word : List ℕ} → Same bs word bs word
 same-begin = record { names-same = refl; ends-same = refl; texts-same = refl; bind-same = refl; graph-same = refl; word-same = refl }
 
 -- before the line that starts at place i
-pub record Turning (m names index texts bind graph : List ℕ) (c : Counts) (o : Open) (i : ℕ) : Type 0 where
+pub record Turning (m : List ℕ) (bs : Buffers) (c : Counts) (o : Open) (i : ℕ) : Type 0 where
   pub within : i ≤ length m
-  pub between : Between names index texts bind graph c o
+  pub between : Between bs c o
   pub left : readLines (linesFrom i (drop i m)) (between .reading) (between .block) ≡ readLines (linesOf m) nothingRead noBlock
 
-pub turn-begin : {t m names index texts bind graph word : List ℕ} → TopAsk t m names index texts bind graph word → Turning m names index texts bind graph noCounts Nothing 0
+pub turn-begin : {t m : List ℕ} {bs : Buffers} {word : List ℕ} → TopAsk t m bs word → Turning m bs noCounts Nothing 0
 unfolding sum
-turn-begin {m = m} {names = names} {index = index} {texts = texts} {bind = bind} {graph = graph} a =
+turn-begin {m = m} {bs = bs} a =
     record {
       within = omega arith;
       between =
@@ -55,17 +56,17 @@ turn-begin {m = m} {names = names} {index = index} {texts = texts} {bind = bind}
             log = [];
             reading = nothingRead;
             block = noBlock;
-            holds = start-held names index texts bind graph (a .empty) (a .roomy .texts-room) (a .roomy .bind-room) (omega (arith, a .roomy .room .scratch));
+            holds = start-held bs (a .empty) (a .roomy .texts-room) (a .roomy .bind-room) (omega (arith, a .roomy .room .scratch));
             opens = nothing;
           };
       left = ap (λ (ls : List Line). readLines ls nothingRead noBlock) (sym (lines-begin m));
     }
 
-module _ {m names index texts bind graph : List ℕ} {c : Counts} {o : Open} {i : ℕ} (w : Turning m names index texts bind graph c o i) where
+module _ {m : List ℕ} {bs : Buffers} {c : Counts} {o : Open} {i : ℕ} (w : Turning m bs c o i) where
   -- what a line asks
-  pub turn-asks : {t names₀ index₀ texts₀ bind₀ graph₀ word₀ word : List ℕ} {s : LineBounds} → TopAsk t m names₀ index₀ texts₀ bind₀ graph₀ word₀
-      → Same names₀ index₀ texts₀ bind₀ graph₀ word₀ names index texts bind graph word → LineSpan m i s
-      → LineAsks t i (part m i (s .end)) names index texts bind graph word c o
+  pub turn-asks : {t : List ℕ} {bs₀ : Buffers} {word₀ word : List ℕ} {s : LineBounds} → TopAsk t m bs₀ word₀
+      → Same bs₀ word₀ bs word → LineSpan m i s
+      → LineAsks t i (part m i (s .end)) bs word c o
   turn-asks {s = s} a e l =
       let r = a .roomy .room in
       record {
@@ -86,9 +87,9 @@ module _ {m names index texts bind graph : List ℕ} {c : Counts} {o : Open} {i 
     unfolding readLines
     turn-left = rw (l .lines) at (w .left)
 
-    pub turn-on : {names′ index′ texts′ bind′ graph′ : List ℕ} {d : Counts} {q : Open}
-        → LineMeets names index texts bind graph c o (readLine (lineOf i (part m i (s .end)) (s .ended))) names′ index′ texts′ bind′ graph′ (Goes d q)
-        → Turning m names′ index′ texts′ bind′ graph′ d q (s .next)
+    pub turn-on : {bs′ : Buffers} {d : Counts} {q : Open}
+        → LineMeets bs c o (readLine (lineOf i (part m i (s .end)) (s .ended))) bs′ (Goes d q)
+        → Turning m bs′ d q (s .next)
     unfolding andThen
     turn-on k =
         let g = agreed-on (k .agrees (w .between .log) (w .between .reading) (w .between .block) (w .between .holds) (w .between .opens)) in
@@ -98,22 +99,22 @@ module _ {m names index texts bind graph : List ℕ} {c : Counts} {o : Open} {i 
           left = rw (g .outcome) at turn-left;
         }
 
-    pub turn-refused : {names′ index′ texts′ bind′ graph′ : List ℕ} {r : Refusal}
-        → LineMeets names index texts bind graph c o (readLine (lineOf i (part m i (s .end)) (s .ended))) names′ index′ texts′ bind′ graph′ (Refused r)
-        → LinesRead m names′ index′ texts′ bind′ graph′ (Refused r)
+    pub turn-refused : {bs′ : Buffers} {r : Refusal}
+        → LineMeets bs c o (readLine (lineOf i (part m i (s .end)) (s .ended))) bs′ (Refused r)
+        → LinesRead m bs′ (Refused r)
     unfolding andThen
     turn-refused k =
         let e = agreed-refused (k .agrees (w .between .log) (w .between .reading) (w .between .block) (w .between .holds) (w .between .opens)) in
         record { agrees = rw (← turn-left, e) refuses }
 
   -- the manifest's end
-  pub turn-sound : SoundBlock texts bind c o
+  pub turn-sound : SoundBlock (bs .texts) (bs .bind) c o
   turn-sound = sound (w .between .reading) (w .between .holds) (w .between .opens)
 
-  pub turn-end : {r : LineAnswer} → length m ≤ i → Meets texts bind c o close texts bind r → LinesRead m names index texts bind graph r
+  pub turn-end : {r : LineAnswer} → length m ≤ i → Meets (bs .texts) (bs .bind) c o close (bs .texts) (bs .bind) r → LinesRead m bs r
   unfolding readLines
   turn-end {r} h k =
       let e : close (w .between .reading) (w .between .block) ≡ readLines (linesOf m) nothingRead noBlock = rw (lines-end m i h) at (w .left) in
       record {
-        agrees = subst (λ (out : Outcome). Agrees names index texts bind graph out r) e (met (w .between .reading) (w .between .holds) (w .between .opens) k);
+        agrees = subst (λ (out : Outcome). Agrees bs out r) e (met (w .between .reading) (w .between .holds) (w .between .opens) k);
       }

@@ -18,38 +18,39 @@ use Rattle.hold_reading.specs.Held.{HoldsReading, Agrees}
 use Rattle.apply_statements.specs.Asks.{Room}
 use Rattle.apply_manifest.specs.declared.ReadAnswer.{ReadAnswer}
 use Rattle.apply_manifest.specs.declared.ReadAnswer.the-variants.{Accepted, Refused}
+use Rattle.hold_reading.specs.Buffers.{Buffers}
 
 -- room in the buffers for any manifest, whatever they hold
-pub record Roomy (t names index texts bind graph word : List ℕ) : Type 0 where
+pub record Roomy (t : List ℕ) (bs : Buffers) (word : List ℕ) : Type 0 where
   pub table : t ≡ classes
-  pub room : Room names graph word
-  pub names-small : length names < 2 ^ 32
-  pub numbers-room : maxNumbers ≤ length index
-  pub texts-room : maxTexts ≤ length texts
-  pub bind-room : maxRows ≤ length bind
+  pub room : Room (bs .names) (bs .graph) word
+  pub names-small : length (bs .names) < 2 ^ 32
+  pub numbers-room : maxNumbers ≤ length (bs .index)
+  pub texts-room : maxTexts ≤ length (bs .texts)
+  pub bind-room : maxRows ≤ length (bs .bind)
 
 -- the same, for a manifest that is not too long
-pub record LinesAsk (t m names index texts bind graph word : List ℕ) : Type 0 where
+pub record LinesAsk (t m : List ℕ) (bs : Buffers) (word : List ℕ) : Type 0 where
   pub short : length m ≤ maxManifest
-  pub roomy : Roomy t names index texts bind graph word
+  pub roomy : Roomy t bs word
 
 -- the same, with no names held
-pub record TopAsk (t m names index texts bind graph word : List ℕ) : Type 0 where
+pub record TopAsk (t m : List ℕ) (bs : Buffers) (word : List ℕ) : Type 0 where
   pub short : length m ≤ maxManifest
-  pub roomy : Roomy t names index texts bind graph word
-  pub empty : HoldsNames names index 0 []
+  pub roomy : Roomy t bs word
+  pub empty : HoldsNames (bs .names) (bs .index) 0 []
 
 -- The answer agrees with the lines of the manifest, read from the top.
-pub record LinesRead (m names index texts bind graph : List ℕ) (r : LineAnswer) : Type 0 where
-  pub agrees : Agrees names index texts bind graph (readLines (linesOf m) nothingRead noBlock) r
+pub record LinesRead (m : List ℕ) (bs : Buffers) (r : LineAnswer) : Type 0 where
+  pub agrees : Agrees bs (readLines (linesOf m) nothingRead noBlock) r
 
 -- The manifest is accepted, and the buffers hold what was read.
-pub record Held (m names index texts bind graph : List ℕ) (c : Counts) : Type 0 where
+pub record Held (m : List ℕ) (bs : Buffers) (c : Counts) : Type 0 where
   pub log : List Logged
   pub reading : Reading
   pub is : readManifest m ≡ accepted reading
-  pub holds : HoldsReading log names index texts bind graph c reading
+  pub holds : HoldsReading log bs c reading
 
-unfoldable pub IsRead : List ℕ → List ℕ → List ℕ → List ℕ → List ℕ → List ℕ → ReadAnswer → Type 0
-IsRead m names index texts bind graph (Accepted c) = Held m names index texts bind graph c
-IsRead m names index texts bind graph (Refused r) = readManifest m ≡ refusedWith r
+unfoldable pub IsRead : List ℕ → Buffers → ReadAnswer → Type 0
+IsRead m bs (Accepted c) = Held m bs c
+IsRead m bs (Refused r) = readManifest m ≡ refusedWith r

@@ -1,5 +1,6 @@
 // The manifest reader: 2 and 3 for the whole manifest, then its lines from the top.
 ghost use Rattle.apply_manifest.specs.Manifests.{Roomy, LinesAsk, TopAsk, LinesRead, IsRead};
+ghost use Rattle.hold_reading.specs.Buffers.{buffers};
 use apply_lines::read_line;
 use apply_rules::close;
 use hold_names::clear;
@@ -33,8 +34,8 @@ fn read_from_top(
     graph: &mut [u32],
     word: &mut [u8],
 ) -> LineAnswer
-    requires { ⌜ TopAsk (now t) (now m) (now names) (now index) (now texts) (now bind) (now graph) (now word) ⌝ }
-    ensures { λ r. ⌜ LinesRead (now (m .entry)) (now (names .exit)) (now (index .exit)) (now (texts .exit)) (now (bind .exit)) (now (graph .exit)) r ⌝ }
+    requires { ⌜ TopAsk (now t) (now m) (buffers (now names) (now index) (now texts) (now bind) (now graph)) (now word) ⌝ }
+    ensures { λ r. ⌜ LinesRead (now (m .entry)) (buffers (now (names .exit)) (now (index .exit)) (now (texts .exit)) (now (bind .exit)) (now (graph .exit))) r ⌝ }
 {
     let mut c = Counts {
         files: 0,
@@ -96,8 +97,8 @@ fn read_lines(
     graph: &mut [u32],
     word: &mut [u8],
 ) -> LineAnswer
-    requires { ⌜ LinesAsk (now t) (now m) (now names) (now index) (now texts) (now bind) (now graph) (now word) ⌝ }
-    ensures { λ r. ⌜ LinesRead (now (m .entry)) (now (names .exit)) (now (index .exit)) (now (texts .exit)) (now (bind .exit)) (now (graph .exit)) r ⌝ }
+    requires { ⌜ LinesAsk (now t) (now m) (buffers (now names) (now index) (now texts) (now bind) (now graph)) (now word) ⌝ }
+    ensures { λ r. ⌜ LinesRead (now (m .entry)) (buffers (now (names .exit)) (now (index .exit)) (now (texts .exit)) (now (bind .exit)) (now (graph .exit))) r ⌝ }
 {
     clear(index);
     read_from_top(t, m, names, index, texts, bind, graph, word)
@@ -114,8 +115,8 @@ pub fn read(
     graph: &mut [u32],
     word: &mut [u8],
 ) -> ReadAnswer
-    requires { ⌜ Roomy (now t) (now names) (now index) (now texts) (now bind) (now graph) (now word) ⌝ }
-    ensures { λ r. ⌜ IsRead (now (m .entry)) (now (names .exit)) (now (index .exit)) (now (texts .exit)) (now (bind .exit)) (now (graph .exit)) r ⌝ }
+    requires { ⌜ Roomy (now t) (buffers (now names) (now index) (now texts) (now bind) (now graph)) (now word) ⌝ }
+    ensures { λ r. ⌜ IsRead (now (m .entry)) (buffers (now (names .exit)) (now (index .exit)) (now (texts .exit)) (now (bind .exit)) (now (graph .exit))) r ⌝ }
 {
     if MANIFEST < m.len() {
         return ReadAnswer::Refused(Refusal::LongManifest);

@@ -21,10 +21,11 @@ use Rattle.apply_files.specs.Lines.{over}
 use Rattle.apply_files.specs.Path.{overCounted, Fits, AddsPath}
 use Rattle.apply_mentions.specs.Asks.{Asks, Mentions}
 use Rattle.apply_files.proofs.Limits.{path-over, path-within}
+use Rattle.hold_reading.specs.Buffers.{Buffers}
 
-module _ {t raw names index texts bind graph word : List ℕ} {c : Counts} (a : Asks t raw names index texts bind graph word c) {word′ : List ℕ} {k : ℕ}
-    (x : (log : List Logged) → HoldsBindings log texts bind (c .entries) → Written word (runs.expanded log raw) word′ k) where
-  pub mention-over : {names′ index′ graph′ : List ℕ} → overCounted k c ≡ true → Mentions raw names index texts bind graph c names′ index′ graph′ Over
+module _ {t raw : List ℕ} {bs : Buffers} {word : List ℕ} {c : Counts} (a : Asks t raw bs word c) {word′ : List ℕ} {k : ℕ}
+    (x : (log : List Logged) → HoldsBindings log (bs .texts) (bs .bind) (c .entries) → Written word (runs.expanded log raw) word′ k) where
+  pub mention-over : {names′ index′ graph′ : List ℕ} → overCounted k c ≡ true → Mentions raw bs c names′ index′ graph′ Over
   unfolding expanded
   mention-over h =
       record {
@@ -42,23 +43,23 @@ module _ {t raw names index texts bind graph word : List ℕ} {c : Counts} (a : 
         let w = x (a .line .log) (a .writing .bound .held) in
         ap length (written-whole w path-fits) ∙ sym (w .count)
 
-    pub mention-fits : Fits (take k word′) names index graph c
+    pub mention-fits : Fits (take k word′) (bs .names) (bs .index) (bs .graph) c
     mention-fits =
         record {
-          texts = texts;
-          bind = bind;
+          texts = (bs .texts);
+          bind = (bs .bind);
           names-long = a .room .names-long;
           within = rw path-counted h;
           line = a .line;
           writing = a .writing;
         }
 
-    pub mention-marked : {names′ index′ graph′ : List ℕ} {r : Mentioned} → AddsPath (take k word′) names index graph c names′ index′ graph′ r
-        → Mentions raw names index texts bind graph c names′ index′ graph′ r
+    pub mention-marked : {names′ index′ graph′ : List ℕ} {r : Mentioned} → AddsPath (take k word′) (bs .names) (bs .index) (bs .graph) c names′ index′ graph′ r
+        → Mentions raw bs c names′ index′ graph′ r
     unfolding expanded
     mention-marked m =
         record {
           marks = λ l w.
               let e : expand (fileVar (l .reading .vars)) raw ≡ runs.expanded (l .log) raw = expanded-vars (l .log) (l .reading .vars) raw (w .bound .vars) in
-              rw (e ∙ sym (written-whole (x (l .log) (w .bound .held)) path-fits)) (m .adds texts bind l w);
+              rw (e ∙ sym (written-whole (x (l .log) (w .bound .held)) path-fits)) (m .adds (bs .texts) (bs .bind) l w);
         }

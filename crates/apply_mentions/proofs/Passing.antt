@@ -18,22 +18,23 @@ use Rattle.apply_files.specs.declared.Mentioned.the-variants.{On, Over}
 use Rattle.apply_files.specs.Lines.{Line, Writing, withPath, withPaths, overLine, AddedPaths, on, over}
 use Rattle.apply_mentions.specs.Asks.{Room, Asks, Mentions, ListAsks, MentionsAll}
 use Rattle.apply_files.proofs.Limits.{line-later, short-append, short-none}
+use Rattle.hold_reading.specs.Buffers.{Buffers, withFiles}
 
 -- ---- answers
 
-module _ {names index texts bind graph : List ℕ} {h : Line} {ps : List (List ℕ)} where
-  pub marks-on : {c : Counts} → AddedPaths names index texts bind graph h ps (On c) → Writing names index texts bind graph c (withPaths ps h)
+module _ {bs : Buffers} {h : Line} {ps : List (List ℕ)} where
+  pub marks-on : {c : Counts} → AddedPaths bs h ps (On c) → Writing bs c (withPaths ps h)
   marks-on (on w s) = w
 
-  pub marks-short : {c : Counts} → AddedPaths names index texts bind graph h ps (On c) → overPaths ps ≡ false
+  pub marks-short : {c : Counts} → AddedPaths bs h ps (On c) → overPaths ps ≡ false
   marks-short (on w s) = s
 
-  pub marks-over : AddedPaths names index texts bind graph h ps Over → (more : List (List ℕ)) → overLine (ps ++ more) (h .reading) ≡ true
+  pub marks-over : AddedPaths bs h ps Over → (more : List (List ℕ)) → overLine (ps ++ more) (h .reading) ≡ true
   marks-over (over f) = f
 
 -- one path, then the others
-module _ {names index texts bind graph : List ℕ} (p : List ℕ) (ps : List (List ℕ)) (h : Line) where
-  pub marks-cons : {r : Mentioned} → overPaths (p ∷ []) ≡ false → AddedPaths names index texts bind graph (withPath p h) ps r → AddedPaths names index texts bind graph h (p ∷ ps) r
+module _ {bs : Buffers} (p : List ℕ) (ps : List (List ℕ)) (h : Line) where
+  pub marks-cons : {r : Mentioned} → overPaths (p ∷ []) ≡ false → AddedPaths bs (withPath p h) ps r → AddedPaths bs h (p ∷ ps) r
   unfolding withPaths withPath
   marks-cons q (on w s) = on w (short-append (p ∷ []) ps q s)
   marks-cons q (over f) = over (λ more. line-later (p ∷ []) (ps ++ more) (h .reading) (f more))
@@ -45,25 +46,25 @@ expanded-same a b e raw = rw e
 -- ---- the loop
 
 -- of a line that was held, and its list
-pub record Going (l : List ℕ) (h : Line) (raw : List (List ℕ)) (names index texts bind graph : List ℕ) (i : ℕ) (d : Counts) : Type 0 where
+pub record Going (l : List ℕ) (h : Line) (raw : List (List ℕ)) (bs : Buffers) (i : ℕ) (d : Counts) : Type 0 where
   pub line : Line
   pub rest : List (List ℕ)
   pub stands : PathsAt l i rest
-  pub writing : Writing names index texts bind graph d line
+  pub writing : Writing bs d line
   pub vars : line .reading .vars ≡ h .reading .vars
-  pub left : {names′ index′ graph′ : List ℕ} {r : Mentioned} → AddedPaths names′ index′ texts bind graph′ line (expanded (h .reading) rest) r
-      → AddedPaths names′ index′ texts bind graph′ h (expanded (h .reading) raw) r
+  pub left : {names′ index′ graph′ : List ℕ} {r : Mentioned} → AddedPaths (withFiles bs names′ index′ graph′) line (expanded (h .reading) rest) r
+      → AddedPaths (withFiles bs names′ index′ graph′) h (expanded (h .reading) raw) r
 
-pub record Passing (t l : List ℕ) (at : ℕ) (names₀ index₀ texts bind graph₀ word₀ : List ℕ) (c : Counts) (names index graph word : List ℕ) (i : ℕ) (d : Counts) : Type 0 where
-  pub asks : ListAsks t l names₀ index₀ texts bind graph₀ word₀ c at
-  pub names-long : length names ≡ length names₀
-  pub ends-long : length index ≡ length index₀
-  pub graph-long : length graph ≡ length graph₀
+pub record Passing (t l : List ℕ) (at : ℕ) (bs₀ : Buffers) (word₀ : List ℕ) (c : Counts) (names index graph word : List ℕ) (i : ℕ) (d : Counts) : Type 0 where
+  pub asks : ListAsks t l bs₀ word₀ c at
+  pub names-long : length names ≡ length (bs₀ .names)
+  pub ends-long : length index ≡ length (bs₀ .index)
+  pub graph-long : length graph ≡ length (bs₀ .graph)
   pub word-long : length word ≡ length word₀
-  pub going : (raw : List (List ℕ)) → PathsAt l at raw → (h : Line) → Writing names₀ index₀ texts bind graph₀ c h → Going l h raw names index texts bind graph i d
+  pub going : (raw : List (List ℕ)) → PathsAt l at raw → (h : Line) → Writing bs₀ c h → Going l h raw (withFiles bs₀ names index graph) i d
 
-pub pass-begin : {t l names index texts bind graph word : List ℕ} {c : Counts} {at : ℕ} → ListAsks t l names index texts bind graph word c at
-    → Passing t l at names index texts bind graph word c names index graph word at c
+pub pass-begin : {t l : List ℕ} {bs : Buffers} {word : List ℕ} {c : Counts} {at : ℕ} → ListAsks t l bs word c at
+    → Passing t l at bs word c (bs .names) (bs .index) (bs .graph) word at c
 pass-begin a =
     record {
       asks = a;
@@ -75,10 +76,10 @@ pass-begin a =
     }
 
 -- a path of the list that was held
-module _ {l : List ℕ} {h : Line} {raw : List (List ℕ)} {names index texts bind graph : List ℕ} {i : ℕ} {d : Counts} (g : Going l h raw names index texts bind graph i d)
+module _ {l : List ℕ} {h : Line} {raw : List (List ℕ)} {bs : Buffers} {i : ℕ} {d : Counts} (g : Going l h raw bs i d)
     {from to : ℕ} (n : PathNext l i from to) where
-  going-on : {names′ index′ graph′ : List ℕ} {e : Counts} → Mentions (part l from to) names index texts bind graph d names′ index′ graph′ (On e)
-      → Going l h raw names′ index′ texts bind graph′ to e
+  going-on : {names′ index′ graph′ : List ℕ} {e : Counts} → Mentions (part l from to) bs d names′ index′ graph′ (On e)
+      → Going l h raw (withFiles bs names′ index′ graph′) to e
   unfolding expanded withPaths withPath mentioned
   going-on m =
       let (qs, e, s) = walk-on n (g .stands) in
@@ -93,17 +94,17 @@ module _ {l : List ℕ} {h : Line} {raw : List (List ℕ)} {names index texts bi
         left = λ x. g .left (rw e (marks-cons p (expanded (h .reading) qs) (g .line) (marks-short k) x));
       }
 
-  going-over : {names′ index′ graph′ : List ℕ} → Mentions (part l from to) names index texts bind graph d names′ index′ graph′ Over
-      → AddedPaths names′ index′ texts bind graph′ h (expanded (h .reading) raw) Over
+  going-over : {names′ index′ graph′ : List ℕ} → Mentions (part l from to) bs d names′ index′ graph′ Over
+      → AddedPaths (withFiles bs names′ index′ graph′) h (expanded (h .reading) raw) Over
   unfolding expanded
   going-over m =
       let (qs, e, s) = walk-on n (g .stands) in
       let k = rw (expanded-same (g .line .reading) (h .reading) (g .vars) (part l from to ∷ [])) at (m .marks (g .line) (g .writing)) in
       g .left (rw e (over (λ more. marks-over k (expanded (h .reading) qs ++ more))))
 
-module _ {t l : List ℕ} {at : ℕ} {names₀ index₀ texts bind graph₀ word₀ : List ℕ} {c : Counts} {names index graph word : List ℕ} {i : ℕ} {d : Counts}
-    (x : Passing t l at names₀ index₀ texts bind graph₀ word₀ c names index graph word i d) where
-  abbrev here : Going l (x .asks .line) (x .asks .raw) names index texts bind graph i d
+module _ {t l : List ℕ} {at : ℕ} {bs₀ : Buffers} {word₀ : List ℕ} {c : Counts} {names index graph word : List ℕ} {i : ℕ} {d : Counts}
+    (x : Passing t l at bs₀ word₀ c names index graph word i d) where
+  abbrev here : Going l (x .asks .line) (x .asks .raw) (withFiles bs₀ names index graph) i d
   here = x .going (x .asks .raw) (x .asks .stands) (x .asks .line) (x .asks .writing)
 
   pub pass-within : i ≤ length l
@@ -118,7 +119,7 @@ module _ {t l : List ℕ} {at : ℕ} {names₀ index₀ texts bind graph₀ word
       }
 
   module _ {from to : ℕ} (n : PathNext l i from to) where
-    pub pass-asks : Asks t (part l from to) names index texts bind graph word d
+    pub pass-asks : Asks t (part l from to) (withFiles bs₀ names index graph) word d
     pass-asks =
         record {
           table = x .asks .table;
@@ -130,8 +131,8 @@ module _ {t l : List ℕ} {at : ℕ} {names₀ index₀ texts bind graph₀ word
         }
 
     pub pass-on : {names′ index′ graph′ word′ : List ℕ} {e : Counts} → length names′ ≡ length names → length index′ ≡ length index → length graph′ ≡ length graph
-        → length word′ ≡ length word → Mentions (part l from to) names index texts bind graph d names′ index′ graph′ (On e)
-        → Passing t l at names₀ index₀ texts bind graph₀ word₀ c names′ index′ graph′ word′ to e
+        → length word′ ≡ length word → Mentions (part l from to) (withFiles bs₀ names index graph) d names′ index′ graph′ (On e)
+        → Passing t l at bs₀ word₀ c names′ index′ graph′ word′ to e
     pass-on a b f w m =
         record {
           asks = x .asks;
@@ -142,11 +143,11 @@ module _ {t l : List ℕ} {at : ℕ} {names₀ index₀ texts bind graph₀ word
           going = λ raw s h k. going-on (x .going raw s h k) n m;
         }
 
-    pub pass-over : {names′ index′ graph′ : List ℕ} → Mentions (part l from to) names index texts bind graph d names′ index′ graph′ Over
-        → MentionsAll l at names₀ index₀ texts bind graph₀ c names′ index′ graph′ Over
+    pub pass-over : {names′ index′ graph′ : List ℕ} → Mentions (part l from to) (withFiles bs₀ names index graph) d names′ index′ graph′ Over
+        → MentionsAll l at bs₀ c names′ index′ graph′ Over
     pass-over m = record { marks = λ raw s h k. going-over (x .going raw s h k) n m }
 
-  pub pass-end : ((rest : List (List ℕ)) → PathsAt l i rest → rest ≡ []) → MentionsAll l at names₀ index₀ texts bind graph₀ c names index graph (On d)
+  pub pass-end : ((rest : List (List ℕ)) → PathsAt l i rest → rest ≡ []) → MentionsAll l at bs₀ c names index graph (On d)
   unfolding expanded withPaths
   pass-end f =
       record {

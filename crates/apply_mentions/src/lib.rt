@@ -1,5 +1,6 @@
 // Files mentioned by a line: each path is expanded and marked in the graph's columns.
 ghost use Rattle.apply_mentions.specs.Asks.{Asks, Mentions, ListAsks, MentionsAll};
+ghost use Rattle.hold_reading.specs.Buffers.{buffers};
 use apply_files::Mentioned;
 use apply_files::add_path;
 use apply_files::over;
@@ -20,8 +21,8 @@ pub fn mention(
     word: &mut [u8],
     c: Counts,
 ) -> Mentioned
-    requires { ⌜ Asks (now t) (now raw) (now names) (now index) (now texts) (now bind) (now graph) (now word) c ⌝ }
-    ensures { λ r. ⌜ Mentions (now (raw .entry)) (now (names .entry)) (now (index .entry)) (now (texts .entry)) (now (bind .entry)) (now (graph .entry)) c (now (names .exit)) (now (index .exit)) (now (graph .exit)) r ⌝ }
+    requires { ⌜ Asks (now t) (now raw) (buffers (now names) (now index) (now texts) (now bind) (now graph)) (now word) c ⌝ }
+    ensures { λ r. ⌜ Mentions (now (raw .entry)) (buffers (now (names .entry)) (now (index .entry)) (now (texts .entry)) (now (bind .entry)) (now (graph .entry))) c (now (names .exit)) (now (index .exit)) (now (graph .exit)) r ⌝ }
 {
     let n = expand(t, raw, texts, bind, c.entries, word);
     if over(n, c) {
@@ -43,8 +44,8 @@ pub fn mention_all(
     word: &mut [u8],
     c: Counts,
 ) -> Mentioned
-    requires { ⌜ ListAsks (now t) (now l) (now names) (now index) (now texts) (now bind) (now graph) (now word) c at ⌝ }
-    ensures { λ r. ⌜ MentionsAll (now (l .entry)) at (now (names .entry)) (now (index .entry)) (now (texts .entry)) (now (bind .entry)) (now (graph .entry)) c (now (names .exit)) (now (index .exit)) (now (graph .exit)) r ⌝ }
+    requires { ⌜ ListAsks (now t) (now l) (buffers (now names) (now index) (now texts) (now bind) (now graph)) (now word) c at ⌝ }
+    ensures { λ r. ⌜ MentionsAll (now (l .entry)) at (buffers (now (names .entry)) (now (index .entry)) (now (texts .entry)) (now (bind .entry)) (now (graph .entry))) c (now (names .exit)) (now (index .exit)) (now (graph .exit)) r ⌝ }
 {
     let mut i = at;
     let mut d = c;

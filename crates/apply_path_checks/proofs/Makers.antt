@@ -34,6 +34,7 @@ use Rattle.apply_path_checks.specs.declared.PathKind.{PathKind}
 use Rattle.apply_path_checks.specs.declared.PathKind.the-variants.{Input, Output, Default}
 use Rattle.apply_path_checks.specs.Checks.{pathOf, wrongPath, Filed, Files, Makes, MadeAsks, RawAsks}
 use Rattle.apply_path_checks.proofs.Wrong.{path-held}
+use Rattle.hold_reading.specs.Buffers.{Buffers, buffers}
 
 -- ---- makers
 
@@ -86,7 +87,7 @@ unknown-unmade {rd = rd} g path m =
     sym (output-entry g (numberOf path (rd .files)) ∙ rw (number-missing path (rd .files) m, z))
 
 -- An output's path is among the files.
-pub made-among : {log : List Logged} {names index texts bind graph : List ℕ} {c : Counts} {rd : Reading} → HoldsReading log names index texts bind graph c rd → (p : List ℕ) → isMade p rd ≡ true
+pub made-among : {log : List Logged} {bs : Buffers} {c : Counts} {rd : Reading} → HoldsReading log bs c rd → (p : List ℕ) → isMade p rd ≡ true
     → among p (rd .files) ≡ true
 made-among {rd = rd} h p m =
     split (among p (rd .files))
@@ -99,17 +100,17 @@ missing-unmade h {path} f e = unknown-unmade (h .graphed) path (find-missing f (
 
 -- ---- a path in the word buffer
 
-pub long-unmade : {log : List Logged} {names index texts bind graph : List ℕ} {c : Counts} {rd : Reading} → HoldsReading log names index texts bind graph c rd → (path : List ℕ)
+pub long-unmade : {log : List Logged} {bs : Buffers} {c : Counts} {rd : Reading} → HoldsReading log bs c rd → (path : List ℕ)
     → maxPath < length path → false ≡ isMade path rd
 long-unmade {rd = rd} h path b =
     split (among path (rd .files))
     (λ (e : among path (rd .files) ≡ true). absurd (omega (arith, among-short path (rd .files) (h .short) e)))
     (λ (e : among path (rd .files) ≡ false). unknown-unmade (h .graphed) path e)
 
-pub filed : {log : List Logged} {names index texts bind graph : List ℕ} {c : Counts} {rd : Reading} → HoldsReading log names index texts bind graph c rd → Filed log names index graph c rd
+pub filed : {log : List Logged} {bs : Buffers} {c : Counts} {rd : Reading} → HoldsReading log bs c rd → Filed log (bs .names) (bs .index) (bs .graph) c rd
 filed h = record { named = h .named; graphed = h .graphed }
 
-pub files-held : {names index texts bind graph : List ℕ} {c : Counts} → Whole names index texts bind graph c → Files names index graph c
+pub files-held : {bs : Buffers} {c : Counts} → Whole bs c → Files (bs .names) (bs .index) (bs .graph) c
 files-held w = record { log = w .log; reading = w .reading; filed = filed (w .holds) }
 
 -- ---- what the functions on one path answer
@@ -132,13 +133,13 @@ some-byte (b ∷ s) e = refl
 module _ (raw : List ℕ) {texts bind word word′ : List ℕ} {c : Counts} {n : ℕ}
     (x : (log : List Logged) → HoldsBindings log texts bind (c .entries) → Written word (expanded log raw) word′ n) where
   module _ {names index graph : List ℕ} where
-    pub word-counted : Whole names index texts bind graph c → n ≤ length word′ → length (take n word′) ≡ n
+    pub word-counted : Whole (buffers names index texts bind graph) c → n ≤ length word′ → length (take n word′) ≡ n
     word-counted w l = let k = x (w .log) (w .holds .bound .held) in ap length (written-whole k (rw (written-long k) at l)) ∙ sym (k .count)
 
-    pub made-asks : {t : List ℕ} → RawAsks t raw names index texts bind graph word c → MadeAsks names index graph word′ c
+    pub made-asks : {t : List ℕ} → RawAsks t raw (buffers names index texts bind graph) word c → MadeAsks names index graph word′ c
     made-asks a = record { room = omega (arith, a .room, written-long (x (a .whole .log) (a .whole .holds .bound .held))); files = files-held (a .whole) }
 
-    module _ {log : List Logged} {rd : Reading} (h : HoldsReading log names index texts bind graph c rd) where
+    module _ {log : List Logged} {rd : Reading} (h : HoldsReading log (buffers names index texts bind graph) c rd) where
       path-long : length (pathOf rd raw) ≡ n
       path-long = ap length (path-held (h .bound) raw) ∙ sym (x log (h .bound .held) .count)
 
@@ -153,22 +154,22 @@ module _ (raw : List ℕ) {texts bind word word′ : List ℕ} {c : Counts} {n :
           let w = x log (h .bound .held) in
           sym (m .answer (pathOf rd raw) (sym path-long) (λ l. written-whole w (rw (written-long w) at l) ∙ sym (path-held (h .bound) raw)) texts bind log rd h)
 
-    pub empty-wrong : (kind : PathKind) → n ≡ 0 → (log : List Logged) (rd : Reading) → HoldsReading log names index texts bind graph c rd → true ≡ wrongPath kind rd (pathOf rd raw)
+    pub empty-wrong : (kind : PathKind) → n ≡ 0 → (log : List Logged) (rd : Reading) → HoldsReading log (buffers names index texts bind graph) c rd → true ≡ wrongPath kind rd (pathOf rd raw)
     unfolding wrongPath
     empty-wrong Input e log rd h = sym (path-empty h e)
     empty-wrong Output e log rd h = sym (rw (path-empty h e))
     empty-wrong Default e log rd h = sym (rw (path-empty h e))
 
     module _ (kind : PathKind) (e : n ≡ 0 → ⊥) where
-      pub input-right : kind ≡ Input → (log : List Logged) (rd : Reading) → HoldsReading log names index texts bind graph c rd → false ≡ wrongPath kind rd (pathOf rd raw)
+      pub input-right : kind ≡ Input → (log : List Logged) (rd : Reading) → HoldsReading log (buffers names index texts bind graph) c rd → false ≡ wrongPath kind rd (pathOf rd raw)
       unfolding wrongPath
       input-right k log rd h = rw k (sym (path-some h e))
 
       module _ {r : Bool} (m : Makes names index graph word′ c n r) where
-        pub output-wrong : kind ≡ Output → (log : List Logged) (rd : Reading) → HoldsReading log names index texts bind graph c rd → r ≡ wrongPath kind rd (pathOf rd raw)
+        pub output-wrong : kind ≡ Output → (log : List Logged) (rd : Reading) → HoldsReading log (buffers names index texts bind graph) c rd → r ≡ wrongPath kind rd (pathOf rd raw)
         unfolding wrongPath
         output-wrong k log rd h = rw k (sym (rw (path-some h e) (made-path h m)))
 
-        pub default-wrong : kind ≡ Default → (log : List Logged) (rd : Reading) → HoldsReading log names index texts bind graph c rd → not r ≡ wrongPath kind rd (pathOf rd raw)
+        pub default-wrong : kind ≡ Default → (log : List Logged) (rd : Reading) → HoldsReading log (buffers names index texts bind graph) c rd → not r ≡ wrongPath kind rd (pathOf rd raw)
         unfolding wrongPath
         default-wrong k log rd h = rw k (sym (rw (path-some h e) (ap not (made-path h m))))

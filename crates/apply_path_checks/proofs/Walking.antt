@@ -23,6 +23,7 @@ use Rattle.hold_reading.specs.Adds.{Whole}
 use Rattle.apply_path_checks.specs.declared.PathKind.{PathKind}
 use Rattle.apply_path_checks.specs.Checks.{pathOf, wrongPath, AnyWrong}
 use Rattle.apply_path_checks.proofs.Wrong.{expanded-cons, expanded-none}
+use Rattle.hold_reading.specs.Buffers.{Buffers}
 
 -- A path of a line is ready to be expanded.
 pub ready-path : {t l texts bind : List ℕ} {count i from to : ℕ} → t ≡ classes → length l ≤ maxManifest → SoundBindings texts bind count → PathNext l i from to
@@ -36,26 +37,26 @@ ready-path {l = l} {from = from} {to = to} e s h p =
       held = h;
     }
 
-pub table-held : {names index texts bind graph : List ℕ} {c : Counts} → Whole names index texts bind graph c → SoundBindings texts bind (c .entries)
+pub table-held : {bs : Buffers} {c : Counts} → Whole bs c → SoundBindings (bs .texts) (bs .bind) (c .entries)
 table-held w = record { log = w .log; held = w .holds .bound .held }
 
 -- ---- the walk
 
 -- The walk from place `at` on has come to place i, and no path so far is wrong.
-pub record Looked (kind : PathKind) (l names index texts bind graph : List ℕ) (c : Counts) (at i : ℕ) : Type 0 where
+pub record Looked (kind : PathKind) (l : List ℕ) (bs : Buffers) (c : Counts) (at i : ℕ) : Type 0 where
   pub within : i ≤ length l
   pub rest : (ps : List (List ℕ)) → PathsAt l at ps
-      → (qs : List (List ℕ)) × PathsAt l i qs × ((log : List Logged) (rd : Reading) → HoldsReading log names index texts bind graph c rd → any (wrongPath kind rd) (expanded rd ps) ≡ any (wrongPath kind rd) (expanded rd qs))
+      → (qs : List (List ℕ)) × PathsAt l i qs × ((log : List Logged) (rd : Reading) → HoldsReading log bs c rd → any (wrongPath kind rd) (expanded rd ps) ≡ any (wrongPath kind rd) (expanded rd qs))
 
-pub look-begin : {kind : PathKind} {l names index texts bind graph : List ℕ} {c : Counts} {at : ℕ} → at ≤ length l → Looked kind l names index texts bind graph c at at
+pub look-begin : {kind : PathKind} {l : List ℕ} {bs : Buffers} {c : Counts} {at : ℕ} → at ≤ length l → Looked kind l bs c at at
 look-begin h = record { within = h; rest = λ ps w. (ps, w, λ log rd k. refl) }
 
-module _ {kind : PathKind} {l names index texts bind graph : List ℕ} {c : Counts} {at i : ℕ} (x : Looked kind l names index texts bind graph c at i) where
+module _ {kind : PathKind} {l : List ℕ} {bs : Buffers} {c : Counts} {at i : ℕ} (x : Looked kind l bs c at i) where
   module _ {from to : ℕ} (n : PathNext l i from to) {r : Bool}
-      (e : (log : List Logged) (rd : Reading) → HoldsReading log names index texts bind graph c rd → r ≡ wrongPath kind rd (pathOf rd (part l from to))) where
+      (e : (log : List Logged) (rd : Reading) → HoldsReading log bs c rd → r ≡ wrongPath kind rd (pathOf rd (part l from to))) where
     -- the path of this turn, and those behind it
     turn : (ps : List (List ℕ)) → PathsAt l at ps
-        → (us : List (List ℕ)) × PathsAt l to us × ((log : List Logged) (rd : Reading) → HoldsReading log names index texts bind graph c rd → any (wrongPath kind rd) (expanded rd ps) ≡ r || any (wrongPath kind rd) (expanded rd us))
+        → (us : List (List ℕ)) × PathsAt l to us × ((log : List Logged) (rd : Reading) → HoldsReading log bs c rd → any (wrongPath kind rd) (expanded rd ps) ≡ r || any (wrongPath kind rd) (expanded rd us))
     turn ps w =
         let (qs, v, s) = x .rest ps w in
         let (us, q, u) = walk-on n v in (
@@ -69,7 +70,7 @@ module _ {kind : PathKind} {l names index texts bind graph : List ℕ} {c : Coun
               ∙ ap (λ (b : Bool). b || any (wrongPath kind rd) (expanded rd us)) (sym (e log rd k)),
         )
 
-    pub look-more : r ≡ false → Looked kind l names index texts bind graph c at to
+    pub look-more : r ≡ false → Looked kind l bs c at to
     look-more f =
         record {
           within = n .within;
@@ -78,7 +79,7 @@ module _ {kind : PathKind} {l names index texts bind graph : List ℕ} {c : Coun
               (us, u, λ log rd k. s log rd k ∙ ap (λ (b : Bool). b || any (wrongPath kind rd) (expanded rd us)) f);
         }
 
-    pub look-found : r ≡ true → AnyWrong kind l names index texts bind graph c at true
+    pub look-found : r ≡ true → AnyWrong kind l bs c at true
     look-found f =
         record {
           answer = λ ps w log rd k.
@@ -86,7 +87,7 @@ module _ {kind : PathKind} {l names index texts bind graph : List ℕ} {c : Coun
               sym (s log rd k ∙ ap (λ (b : Bool). b || any (wrongPath kind rd) (expanded rd us)) f);
         }
 
-  pub look-end : ((ps : List (List ℕ)) → PathsAt l i ps → ps ≡ []) → AnyWrong kind l names index texts bind graph c at false
+  pub look-end : ((ps : List (List ℕ)) → PathsAt l i ps → ps ≡ []) → AnyWrong kind l bs c at false
   look-end f =
       record {
         answer = λ ps w log rd k.

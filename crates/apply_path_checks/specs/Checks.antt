@@ -20,6 +20,7 @@ use Rattle.hold_reading.specs.Adds.{Whole}
 use Rattle.hold_reading.specs.declared.Counts.{Counts}
 use Rattle.apply_path_checks.specs.declared.PathKind.{PathKind}
 use Rattle.apply_path_checks.specs.declared.PathKind.the-variants.{Input, Output, Default}
+use Rattle.hold_reading.specs.Buffers.{Buffers, buffers}
 
 -- "Paths .. are expanded at once with the file's variables as they then stand."
 unfoldable pub pathOf : Reading → List ℕ → List ℕ
@@ -53,24 +54,24 @@ pub record MadeAsks (names index graph word : List ℕ) (c : Counts) : Type 0 wh
 -- whether a path of n bytes, which is in the word buffer if it fits there, is the output of an earlier step
 pub record Makes (names index graph word : List ℕ) (c : Counts) (n : ℕ) (r : Bool) : Type 0 where
   pub answer : (path : List ℕ) → n ≡ length path → (n ≤ length word → take n word ≡ path) → (texts bind : List ℕ) (log : List Logged) (rd : Reading)
-      → HoldsReading log names index texts bind graph c rd → r ≡ isMade path rd
+      → HoldsReading log (buffers names index texts bind graph) c rd → r ≡ isMade path rd
 
 -- ---- raw paths
 
 -- a raw path, and all that is held
-pub record RawAsks (t raw names index texts bind graph word : List ℕ) (c : Counts) : Type 0 where
-  pub ready : Ready t raw texts bind (c .entries) 0
+pub record RawAsks (t raw : List ℕ) (bs : Buffers) (word : List ℕ) (c : Counts) : Type 0 where
+  pub ready : Ready t raw (bs .texts) (bs .bind) (c .entries) 0
   pub room : maxValue ≤ length word
-  pub whole : Whole names index texts bind graph c
+  pub whole : Whole bs c
 
 -- the same for a list of paths
-pub record PathAsks (t l names index texts bind graph word : List ℕ) (c : Counts) (at : ℕ) : Type 0 where
+pub record PathAsks (t l : List ℕ) (bs : Buffers) (word : List ℕ) (c : Counts) (at : ℕ) : Type 0 where
   pub table : t ≡ classes
   pub short : length l ≤ maxManifest
   pub within : at ≤ length l
   pub room : maxValue ≤ length word
-  pub whole : Whole names index texts bind graph c
+  pub whole : Whole bs c
 
 -- whether any path of the list is wrong, whatever reading is held
-pub record AnyWrong (kind : PathKind) (l names index texts bind graph : List ℕ) (c : Counts) (at : ℕ) (r : Bool) : Type 0 where
-  pub answer : (ps : List (List ℕ)) → PathsAt l at ps → (log : List Logged) (rd : Reading) → HoldsReading log names index texts bind graph c rd → r ≡ any (wrongPath kind rd) (expanded rd ps)
+pub record AnyWrong (kind : PathKind) (l : List ℕ) (bs : Buffers) (c : Counts) (at : ℕ) (r : Bool) : Type 0 where
+  pub answer : (ps : List (List ℕ)) → PathsAt l at ps → (log : List Logged) (rd : Reading) → HoldsReading log bs c rd → r ≡ any (wrongPath kind rd) (expanded rd ps)

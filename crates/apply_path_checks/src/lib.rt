@@ -5,6 +5,7 @@ ghost use Rattle.spec.specs.Reading.{Reading, isMade};
 ghost use Rattle.hold_bindings.specs.Log.{Logged};
 ghost use Rattle.hold_reading.specs.Held.{HoldsReading};
 ghost use Rattle.apply_path_checks.specs.Checks.{pathOf, wrongPath, Filed, Files, MadeAsks, Makes, RawAsks, PathAsks, AnyWrong};
+ghost use Rattle.hold_reading.specs.Buffers.{buffers};
 use cut_forms::ListPath;
 use cut_forms::paths::next_path;
 use expand_dollars::expand;
@@ -57,8 +58,8 @@ fn is_wrong(
     word: &mut [u8],
     c: Counts,
 ) -> bool
-    requires { ⌜ RawAsks (now t) (now raw) (now names) (now index) (now texts) (now bind) (now graph) (now word) c ⌝ }
-    ensures { λ r. ⌜ ((log : List Logged) (rd : Reading) → HoldsReading log (now (names .entry)) (now (index .entry)) (now (texts .entry)) (now (bind .entry)) (now (graph .entry)) c rd → r ≡ wrongPath kind rd (pathOf rd (now (raw .entry)))) ⌝ }
+    requires { ⌜ RawAsks (now t) (now raw) (buffers (now names) (now index) (now texts) (now bind) (now graph)) (now word) c ⌝ }
+    ensures { λ r. ⌜ ((log : List Logged) (rd : Reading) → HoldsReading log (buffers (now (names .entry)) (now (index .entry)) (now (texts .entry)) (now (bind .entry)) (now (graph .entry))) c rd → r ≡ wrongPath kind rd (pathOf rd (now (raw .entry)))) ⌝ }
 {
     let n = expand(t, raw, texts, bind, c.entries, word);
     if n == 0 {
@@ -85,8 +86,8 @@ pub fn has_wrong(
     word: &mut [u8],
     c: Counts,
 ) -> bool
-    requires { ⌜ PathAsks (now t) (now l) (now names) (now index) (now texts) (now bind) (now graph) (now word) c start ⌝ }
-    ensures { λ r. ⌜ AnyWrong kind (now (l .entry)) (now (names .entry)) (now (index .entry)) (now (texts .entry)) (now (bind .entry)) (now (graph .entry)) c start r ⌝ }
+    requires { ⌜ PathAsks (now t) (now l) (buffers (now names) (now index) (now texts) (now bind) (now graph)) (now word) c start ⌝ }
+    ensures { λ r. ⌜ AnyWrong kind (now (l .entry)) (buffers (now (names .entry)) (now (index .entry)) (now (texts .entry)) (now (bind .entry)) (now (graph .entry))) c start r ⌝ }
 {
     let mut i = start;
     loop {

@@ -34,32 +34,33 @@ use Rattle.apply_variables.specs.Asks.{Asks as ValueAsks}
 use Rattle.apply_builds.specs.Asks.{BuildAsks}
 use Rattle.apply_defaults.specs.Asks.{DefaultAsks}
 use Rattle.apply_statements.specs.Asks.{Between, LineAsks, LineMeets}
+use Rattle.hold_reading.specs.Buffers.{Buffers, withFiles, withBindings}
 
 -- ---- lines that bind, and lines that mention files
 
-module _ {names index texts bind graph : List ℕ} {c : Counts} where
-  pub binding-met : {o : Open} {line : Reading → Block → Outcome} {texts′ bind′ : List ℕ} {r : LineAnswer} → Meets texts bind c o line texts′ bind′ r
-      → LineMeets names index texts bind graph c o line names index texts′ bind′ graph r
+module _ {bs : Buffers} {c : Counts} where
+  pub binding-met : {o : Open} {line : Reading → Block → Outcome} {texts′ bind′ : List ℕ} {r : LineAnswer} → Meets (bs .texts) (bs .bind) c o line texts′ bind′ r
+      → LineMeets bs c o line (withBindings bs texts′ bind′) r
   binding-met m = record { agrees = λ log rd b h p. met rd h p m }
 
-  pub adding-met : {line : Reading → Outcome} {names′ index′ graph′ : List ℕ} {r : LineAnswer} → AddsFiles names index texts bind graph c line names′ index′ graph′ r
-      → LineMeets names index texts bind graph c Nothing (λ rd b. line rd) names′ index′ texts bind graph′ r
+  pub adding-met : {line : Reading → Outcome} {names′ index′ graph′ : List ℕ} {r : LineAnswer} → AddsFiles bs c line names′ index′ graph′ r
+      → LineMeets bs c Nothing (λ rd b. line rd) (withFiles bs names′ index′ graph′) r
   adding-met m = record { agrees = λ log rd b h p. m .agrees log rd (rw (joined-none rd p) at h) }
 
-  pub refused-met : {o : Open} {line : Reading → Block → Outcome} {names′ index′ texts′ bind′ graph′ : List ℕ} {r : Refusal} → ((rd : Reading) (b : Block) → line rd b ≡ refused r)
-      → LineMeets names index texts bind graph c o line names′ index′ texts′ bind′ graph′ (Refused r)
+  pub refused-met : {o : Open} {line : Reading → Block → Outcome} {bs′ : Buffers} {r : Refusal} → ((rd : Reading) (b : Block) → line rd b ≡ refused r)
+      → LineMeets bs c o line bs′ (Refused r)
   refused-met e = record { agrees = λ log rd b h p. rw (e rd b) refuses }
 
-  pub line-as : {o : Open} {line line′ : Reading → Block → Outcome} {names′ index′ texts′ bind′ graph′ : List ℕ} {r : LineAnswer} → ((rd : Reading) (b : Block) → line rd b ≡ line′ rd b)
-      → LineMeets names index texts bind graph c o line′ names′ index′ texts′ bind′ graph′ r → LineMeets names index texts bind graph c o line names′ index′ texts′ bind′ graph′ r
+  pub line-as : {o : Open} {line line′ : Reading → Block → Outcome} {bs′ : Buffers} {r : LineAnswer} → ((rd : Reading) (b : Block) → line rd b ≡ line′ rd b)
+      → LineMeets bs c o line′ bs′ r → LineMeets bs c o line bs′ r
   line-as e m = record { agrees = λ log rd b h p. rw (e rd b) (m .agrees log rd b h p) }
 
   -- ---- what is held when no block is open
 
-  pub between-sound : {o : Open} → Between names index texts bind graph c o → SoundBlock texts bind c o
+  pub between-sound : {o : Open} → Between bs c o → SoundBlock (bs .texts) (bs .bind) c o
   between-sound w = sound (w .reading) (w .holds) (w .opens)
 
-  pub between-whole : Between names index texts bind graph c Nothing → Whole names index texts bind graph c
+  pub between-whole : Between bs c Nothing → Whole bs c
   between-whole w = record { log = w .log; reading = w .reading; holds = rw (joined-none (w .reading) (w .opens)) at (w .holds) }
 
 -- ---- a form
@@ -68,46 +69,46 @@ cut-read : (l : Line) {x : Form} → cutStatement (l .text) ≡ fits x → l .en
 unfolding readStatement ifCut
 cut-read l e n rd b = rw (e, n)
 
-module _ (l : Line) {names index texts bind graph : List ℕ} {c : Counts} {r : LineAnswer} where
+module _ (l : Line) {bs : Buffers} {c : Counts} {r : LineAnswer} where
   pub rule-read : {texts′ bind′ : List ℕ} {from to : ℕ} → (l .ended ≡ true) × RuleAt (l .text) (cutStatement (l .text)) from to
-      → Meets texts bind c Nothing (λ rd b. startRule (l .start) (part (l .text) from to) rd) texts′ bind′ r
-      → LineMeets names index texts bind graph c Nothing (readStatement l) names index texts′ bind′ graph r
+      → Meets (bs .texts) (bs .bind) c Nothing (λ rd b. startRule (l .start) (part (l .text) from to) rd) texts′ bind′ r
+      → LineMeets bs c Nothing (readStatement l) (withBindings bs texts′ bind′) r
   unfolding statement
   rule-read a m = line-as (λ rd b. cut-read l (a .1 .cut) (a .0) rd b) (binding-met m)
 
   pub build-read : {names′ index′ graph′ : List ℕ} {p : BuildPlaces} → (l .ended ≡ true) × BuildAt (l .text) (cutStatement (l .text)) p
-      → ((x : BuildLine) → Stands (l .text) p x → AddsFiles names index texts bind graph c (λ rd. addStep (l .start) (expandedLine rd x) rd) names′ index′ graph′ r)
-      → LineMeets names index texts bind graph c Nothing (readStatement l) names′ index′ texts bind graph′ r
+      → ((x : BuildLine) → Stands (l .text) p x → AddsFiles bs c (λ rd. addStep (l .start) (expandedLine rd x) rd) names′ index′ graph′ r)
+      → LineMeets bs c Nothing (readStatement l) (withFiles bs names′ index′ graph′) r
   unfolding statement
   build-read a m = line-as (λ rd b. cut-read l (a .1 .cut) (a .0) rd b) (adding-met (m (a .1 .line) (a .1 .stands)))
 
   pub default-read : {names′ index′ graph′ : List ℕ} {at : ℕ} → (l .ended ≡ true) × DefaultAt (l .text) (cutStatement (l .text)) at
-      → ((ps : List (List ℕ)) → PathsAt (l .text) at ps → AddsFiles names index texts bind graph c (λ rd. addDefaults (l .start) (expanded rd ps) rd) names′ index′ graph′ r)
-      → LineMeets names index texts bind graph c Nothing (readStatement l) names′ index′ texts bind graph′ r
+      → ((ps : List (List ℕ)) → PathsAt (l .text) at ps → AddsFiles bs c (λ rd. addDefaults (l .start) (expanded rd ps) rd) names′ index′ graph′ r)
+      → LineMeets bs c Nothing (readStatement l) (withFiles bs names′ index′ graph′) r
   unfolding statement
   default-read a m = line-as (λ rd b. cut-read l (a .1 .cut) (a .0) rd b) (adding-met (m (a .1 .raw) (a .1 .stands)))
 
   pub var-read : {texts′ bind′ : List ℕ} {from to at : ℕ} → SoundBinding l (cutStatement (l .text)) from to at
-      → Meets texts bind c Nothing (λ rd b. addVar (l .start) (part (l .text) from to) (expand (fileVar (rd .vars)) (part (l .text) at (length (l .text)))) rd) texts′ bind′ r
-      → LineMeets names index texts bind graph c Nothing (readStatement l) names index texts′ bind′ graph r
+      → Meets (bs .texts) (bs .bind) c Nothing (λ rd b. addVar (l .start) (part (l .text) from to) (expand (fileVar (rd .vars)) (part (l .text) at (length (l .text)))) rd) texts′ bind′ r
+      → LineMeets bs c Nothing (readStatement l) (withBindings bs texts′ bind′) r
   unfolding statement
   var-read {at = at} a m =
       line-as
       (λ rd b. cut-read l (a .places .cut) (a .ended) rd b ∙ rw (part-to-end (l .text) at))
       (binding-met m)
 
-pub wrong-read : (l : Line) {names index texts bind graph : List ℕ} {c : Counts} {r : Refusal} → Wrong l (cutStatement (l .text)) r
-    → LineMeets names index texts bind graph c Nothing (readStatement l) names index texts bind graph (Refused r)
+pub wrong-read : (l : Line) {bs : Buffers} {c : Counts} {r : Refusal} → Wrong l (cutStatement (l .text)) r
+    → LineMeets bs c Nothing (readStatement l) bs (Refused r)
 unfolding readStatement
 wrong-read l w = refused-met (λ rd b. w _)
 
 -- ---- what the lines ask
 
-module _ (l : Line) {t names index texts bind graph word : List ℕ} {c : Counts} (a : LineAsks t (l .start) (l .text) names index texts bind graph word c Nothing) where
+module _ (l : Line) {t : List ℕ} {bs : Buffers} {word : List ℕ} {c : Counts} (a : LineAsks t (l .start) (l .text) bs word c Nothing) where
   short : length (l .text) ≤ 49152
   short = a .cut .short
 
-  pub build-asks : {p : BuildPlaces} → (l .ended ≡ true) × BuildAt (l .text) (cutStatement (l .text)) p → BuildAsks t (l .text) names index texts bind graph word c p
+  pub build-asks : {p : BuildPlaces} → (l .ended ≡ true) × BuildAt (l .text) (cutStatement (l .text)) p → BuildAsks t (l .text) bs word c p
   build-asks s =
       record {
         table = a .cut .table;
@@ -120,7 +121,7 @@ module _ (l : Line) {t names index texts bind graph word : List ℕ} {c : Counts
         whole = between-whole (a .between);
       }
 
-  pub default-asks : {at : ℕ} → (l .ended ≡ true) × DefaultAt (l .text) (cutStatement (l .text)) at → DefaultAsks t (l .text) names index texts bind graph word c at
+  pub default-asks : {at : ℕ} → (l .ended ≡ true) × DefaultAt (l .text) (cutStatement (l .text)) at → DefaultAsks t (l .text) bs word c at
   default-asks s =
       record {
         table = a .cut .table;
@@ -131,7 +132,7 @@ module _ (l : Line) {t names index texts bind graph word : List ℕ} {c : Counts
         whole = between-whole (a .between);
       }
 
-  pub value-asks : {from to at : ℕ} → SoundBinding l (cutStatement (l .text)) from to at → ValueAsks t (part (l .text) at (length (l .text))) texts bind word c Nothing
+  pub value-asks : {from to at : ℕ} → SoundBinding l (cutStatement (l .text)) from to at → ValueAsks t (part (l .text) at (length (l .text))) (bs .texts) (bs .bind) word c Nothing
   value-asks {at = at} s =
       record {
         table = a .cut .table;
@@ -144,11 +145,11 @@ module _ (l : Line) {t names index texts bind graph word : List ℕ} {c : Counts
 -- ---- the block before
 
 -- what a closed block leaves
-record Closed (names index texts bind graph : List ℕ) (c : Counts) (out : Outcome) : Type 0 where
+record Closed (bs : Buffers) (c : Counts) (out : Outcome) : Type 0 where
   log : List Logged
   reading : Reading
   outcome : out ≡ goesOn reading noBlock
-  holds : HoldsReading log names index texts bind graph c (joined reading noBlock)
+  holds : HoldsReading log bs c (joined reading noBlock)
 
 pub close-none : (rd : Reading) (b : Block) {rd′ : Reading} {b′ : Block} → close rd b ≡ goesOn rd′ b′ → b′ ≡ noBlock
 unfolding close
@@ -159,8 +160,8 @@ close-none rd (ruleBlock k r) {rd′} {b′} e =
     (λ (t : hasKey (bytes "command") (r .keys) ≡ false). let f = rw t at e in cc)
 close-none rd (buildBlock s) e = cc
 
-module _ {names index texts bind graph : List ℕ} {c d : Counts} {o o′ : Open} (m : Meets texts bind c o close texts bind (Goes d o′)) where
-  closed : {log : List Logged} (rd : Reading) (b : Block) → HoldsReading log names index texts bind graph c (joined rd b) → Opens log b o → Closed names index texts bind graph d (close rd b)
+module _ {bs : Buffers} {c d : Counts} {o o′ : Open} (m : Meets (bs .texts) (bs .bind) c o close (bs .texts) (bs .bind) (Goes d o′)) where
+  closed : {log : List Logged} (rd : Reading) (b : Block) → HoldsReading log bs c (joined rd b) → Opens log b o → Closed bs d (close rd b)
   closed rd b h p =
       let g = agreed-on (met rd h p m) in
       let n : g .block ≡ noBlock = close-none rd b (g .outcome) in
@@ -171,7 +172,7 @@ module _ {names index texts bind graph : List ℕ} {c d : Counts} {o o′ : Open
         holds = rw n at (g .holds);
       }
 
-  pub closed-asks : {t : List ℕ} {start : ℕ} {l word : List ℕ} → LineAsks t start l names index texts bind graph word c o → LineAsks t start l names index texts bind graph word d Nothing
+  pub closed-asks : {t : List ℕ} {start : ℕ} {l word : List ℕ} → LineAsks t start l bs word c o → LineAsks t start l bs word d Nothing
   closed-asks a =
       let w = a .between in
       let z = closed (w .reading) (w .block) (w .holds) (w .opens) in
@@ -181,9 +182,9 @@ module _ {names index texts bind graph : List ℕ} {c d : Counts} {o o′ : Open
         between = record { log = z .log; reading = z .reading; block = noBlock; holds = z .holds; opens = nothing };
       }
 
-  pub closed-then : {line : Reading → Block → Outcome} {names′ index′ texts′ bind′ graph′ : List ℕ} {r : LineAnswer}
-      → LineMeets names index texts bind graph d Nothing line names′ index′ texts′ bind′ graph′ r
-      → LineMeets names index texts bind graph c o (λ rd b. andThen (close rd b) line) names′ index′ texts′ bind′ graph′ r
+  pub closed-then : {line : Reading → Block → Outcome} {bs′ : Buffers} {r : LineAnswer}
+      → LineMeets bs d Nothing line bs′ r
+      → LineMeets bs c o (λ rd b. andThen (close rd b) line) bs′ r
   unfolding andThen
   closed-then k =
       record {
@@ -192,7 +193,7 @@ module _ {names index texts bind graph : List ℕ} {c d : Counts} {o o′ : Open
             rw (z .outcome) (k .agrees (z .log) (z .reading) noBlock (z .holds) nothing);
       }
 
-pub not-closed : {names index texts bind graph : List ℕ} {c : Counts} {o : Open} {r : Refusal} (line : Reading → Block → Outcome) → Meets texts bind c o close texts bind (Refused r)
-    → LineMeets names index texts bind graph c o (λ rd b. andThen (close rd b) line) names index texts bind graph (Refused r)
+pub not-closed : {bs : Buffers} {c : Counts} {o : Open} {r : Refusal} (line : Reading → Block → Outcome) → Meets (bs .texts) (bs .bind) c o close (bs .texts) (bs .bind) (Refused r)
+    → LineMeets bs c o (λ rd b. andThen (close rd b) line) bs (Refused r)
 unfolding andThen
 not-closed line m = record { agrees = λ log rd b h p. rw (agreed-refused (met rd h p m)) refuses }

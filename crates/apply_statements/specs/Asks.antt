@@ -12,6 +12,7 @@ use Rattle.hold_reading.specs.declared.Open.{Open}
 use Rattle.hold_reading.specs.declared.LineAnswer.{LineAnswer}
 use Rattle.hold_reading.specs.Held.{joined, Opens, HoldsReading, Agrees}
 use Rattle.apply_equal_outputs.specs.Kept.{columnsEnd}
+use Rattle.hold_reading.specs.Buffers.{Buffers}
 
 -- room that no line uses up: for all names, for one word, and behind the columns of the graph
 pub record Room (names graph word : List ℕ) : Type 0 where
@@ -20,20 +21,20 @@ pub record Room (names graph word : List ℕ) : Type 0 where
   pub word-room : maxValue ≤ length word
 
 -- the buffers hold some reading and its open block
-pub record Between (names index texts bind graph : List ℕ) (c : Counts) (o : Open) : Type 0 where
+pub record Between (bs : Buffers) (c : Counts) (o : Open) : Type 0 where
   pub log : List Logged
   pub reading : Reading
   pub block : Block
-  pub holds : HoldsReading log names index texts bind graph c (joined reading block)
+  pub holds : HoldsReading log bs c (joined reading block)
   pub opens : Opens log block o
 
-pub record LineAsks (t : List ℕ) (start : ℕ) (l names index texts bind graph word : List ℕ) (c : Counts) (o : Open) : Type 0 where
+pub record LineAsks (t : List ℕ) (start : ℕ) (l : List ℕ) (bs : Buffers) (word : List ℕ) (c : Counts) (o : Open) : Type 0 where
   pub cut : CutAsks t start l
-  pub room : Room names graph word
-  pub between : Between names index texts bind graph c o
+  pub room : Room (bs .names) (bs .graph) word
+  pub between : Between bs c o
 
 -- The line's answer agrees with its outcome, whatever reading and block were held.
-pub record LineMeets (names index texts bind graph : List ℕ) (c : Counts) (o : Open) (line : Reading → Block → Outcome)
-    (names′ index′ texts′ bind′ graph′ : List ℕ) (r : LineAnswer) : Type 0 where
-  pub agrees : (log : List Logged) (rd : Reading) (b : Block) → HoldsReading log names index texts bind graph c (joined rd b) → Opens log b o
-      → Agrees names′ index′ texts′ bind′ graph′ (line rd b) r
+pub record LineMeets (bs : Buffers) (c : Counts) (o : Open) (line : Reading → Block → Outcome)
+    (bs′ : Buffers) (r : LineAnswer) : Type 0 where
+  pub agrees : (log : List Logged) (rd : Reading) (b : Block) → HoldsReading log bs c (joined rd b) → Opens log b o
+      → Agrees bs′ (line rd b) r

@@ -2,6 +2,7 @@
 ghost use Rattle.spec.specs.Manifest.{close, andThen, readStatement};
 ghost use Rattle.scan_cursor.specs.Spans.{lineOf};
 ghost use Rattle.apply_statements.specs.Asks.{LineAsks, LineMeets};
+ghost use Rattle.hold_reading.specs.Buffers.{buffers};
 use apply_builds::add_step;
 use apply_defaults::add_defaults;
 use apply_rules::close;
@@ -28,8 +29,8 @@ pub fn read_statement(
     word: &mut [u8],
     c: Counts,
 ) -> LineAnswer
-    requires { ⌜ LineAsks (now t) (line .start) (now l) (now names) (now index) (now texts) (now bind) (now graph) (now word) c Open.Nothing ⌝ }
-    ensures { λ r. ⌜ LineMeets (now (names .entry)) (now (index .entry)) (now (texts .entry)) (now (bind .entry)) (now (graph .entry)) c Open.Nothing (readStatement (lineOf (line .start) (now (l .entry)) (line .ended))) (now (names .exit)) (now (index .exit)) (now (texts .exit)) (now (bind .exit)) (now (graph .exit)) r ⌝ }
+    requires { ⌜ LineAsks (now t) (line .start) (now l) (buffers (now names) (now index) (now texts) (now bind) (now graph)) (now word) c Open.Nothing ⌝ }
+    ensures { λ r. ⌜ LineMeets (buffers (now (names .entry)) (now (index .entry)) (now (texts .entry)) (now (bind .entry)) (now (graph .entry))) c Open.Nothing (readStatement (lineOf (line .start) (now (l .entry)) (line .ended))) (buffers (now (names .exit)) (now (index .exit)) (now (texts .exit)) (now (bind .exit)) (now (graph .exit))) r ⌝ }
 {
     let start = line.start;
     match cut_file_line(t, start, l, line.ended) {
@@ -75,8 +76,8 @@ pub fn read_file_line(
     word: &mut [u8],
     s: State,
 ) -> LineAnswer
-    requires { ⌜ LineAsks (now t) (line .start) (now l) (now names) (now index) (now texts) (now bind) (now graph) (now word) (s .counts) (s .open) ⌝ }
-    ensures { λ r. ⌜ LineMeets (now (names .entry)) (now (index .entry)) (now (texts .entry)) (now (bind .entry)) (now (graph .entry)) (s .counts) (s .open) (λ rd b. andThen (close rd b) (readStatement (lineOf (line .start) (now (l .entry)) (line .ended)))) (now (names .exit)) (now (index .exit)) (now (texts .exit)) (now (bind .exit)) (now (graph .exit)) r ⌝ }
+    requires { ⌜ LineAsks (now t) (line .start) (now l) (buffers (now names) (now index) (now texts) (now bind) (now graph)) (now word) (s .counts) (s .open) ⌝ }
+    ensures { λ r. ⌜ LineMeets (buffers (now (names .entry)) (now (index .entry)) (now (texts .entry)) (now (bind .entry)) (now (graph .entry))) (s .counts) (s .open) (λ rd b. andThen (close rd b) (readStatement (lineOf (line .start) (now (l .entry)) (line .ended)))) (buffers (now (names .exit)) (now (index .exit)) (now (texts .exit)) (now (bind .exit)) (now (graph .exit))) r ⌝ }
 {
     let c = s.counts;
     let block = s.open;

@@ -22,6 +22,7 @@ use Rattle.apply_files.proofs.Limits.{line-later, short-append, mentioned-appen
 use Rattle.apply_mentions.proofs.Passing.{marks-on, marks-short, marks-over, expanded-same}
 use Rattle.apply_mentions.proofs.Closed.{paths-reading, paths-ends}
 use Rattle.apply_step_lists.specs.Lists.{withEnd, withLists, Listed, on, over, ListAsks, Lists, TwoAsks, Two, FourAsks, Four}
+use Rattle.hold_reading.specs.Buffers.{Buffers, withFiles, withGraph}
 
 -- ---- what lists come to
 
@@ -57,19 +58,19 @@ lists-vars pss h = ap (λ (rd : Reading). rd .vars) (lists-reading pss h)
 
 -- ---- answers
 
-module _ {names index texts bind graph : List ℕ} {h : Line} {pss : List (List (List ℕ))} where
-  pub listed-on : {c : Counts} → Listed names index texts bind graph h pss (On c) → Writing names index texts bind graph c (withLists pss h)
+module _ {bs : Buffers} {h : Line} {pss : List (List (List ℕ))} where
+  pub listed-on : {c : Counts} → Listed bs h pss (On c) → Writing bs c (withLists pss h)
   listed-on (on w s) = w
 
-  pub listed-short : {c : Counts} → Listed names index texts bind graph h pss (On c) → overPaths (concat pss) ≡ false
+  pub listed-short : {c : Counts} → Listed bs h pss (On c) → overPaths (concat pss) ≡ false
   listed-short (on w s) = s
 
-  pub listed-over : Listed names index texts bind graph h pss Over → (more : List (List ℕ)) → overLine (concat pss ++ more) (h .reading) ≡ true
+  pub listed-over : Listed bs h pss Over → (more : List (List ℕ)) → overLine (concat pss ++ more) (h .reading) ≡ true
   listed-over (over f) = f
 
-module _ {names index texts bind graph : List ℕ} (h : Line) (a b : List (List (List ℕ))) where
+module _ {bs : Buffers} (h : Line) (a b : List (List (List ℕ))) where
   -- some lists, then others
-  listed-then : {r : Mentioned} → overPaths (concat a) ≡ false → Listed names index texts bind graph (withLists a h) b r → Listed names index texts bind graph h (a ++ b) r
+  listed-then : {r : Mentioned} → overPaths (concat a) ≡ false → Listed bs (withLists a h) b r → Listed bs h (a ++ b) r
   listed-then q (on {c = c} w s) = on {c = c} (rw (lists-append a b h) w) (rw (concat-append a b) (short-append (concat a) (concat b) q s))
   listed-then q (over f) =
       over
@@ -77,14 +78,14 @@ module _ {names index texts bind graph : List ℕ} (h : Line) (a b : List (List 
       rw (concat-append a b, append-assoc (concat a) (concat b) more)
       (line-later (concat a) (concat b ++ more) (h .reading) (rw (← (lists-reading a h)) (f more))))
 
-  listed-stop : Listed names index texts bind graph h a Over → Listed names index texts bind graph h (a ++ b) Over
+  listed-stop : Listed bs h a Over → Listed bs h (a ++ b) Over
   listed-stop x =
       over (λ more. rw (concat-append a b, append-assoc (concat a) (concat b) more) (listed-over x (concat b ++ more)))
 
 -- ---- one list
 
-module _ {names index texts bind graph graph′ : List ℕ} {c : Counts} {h : Line} (w : Writing names index texts bind graph c h) where
-  ended-on : {e : ℕ} → length (h .ends) ≡ e → e < maxEnds → graph′ ≡ set graph (endsStart + e) (c .paths) → Writing names index texts bind graph′ c (withEnd h)
+module _ {bs : Buffers} {graph′ : List ℕ} {c : Counts} {h : Line} (w : Writing bs c h) where
+  ended-on : {e : ℕ} → length (h .ends) ≡ e → e < maxEnds → graph′ ≡ set (bs .graph) (endsStart + e) (c .paths) → Writing (withGraph bs graph′) c (withEnd h)
   unfolding withEnd
   ended-on q b g =
       record {
@@ -103,9 +104,9 @@ concat-one : (ps : List (List ℕ)) → concat (ps ∷ []) ≡ ps
 unfolding concat
 concat-one ps = append-nil ps
 
-module _ {l : List ℕ} {at : ℕ} {names index texts bind graph : List ℕ} {c : Counts} {names′ index′ graph₁ : List ℕ} where
-  pub one-on : {d : Counts} → MentionsAll l at names index texts bind graph c names′ index′ graph₁ (On d) → {e : ℕ} {graph′ : List ℕ} → e < maxEnds
-      → graph′ ≡ set graph₁ (endsStart + e) (d .paths) → Lists l at e names index texts bind graph c names′ index′ graph′ (On d)
+module _ {l : List ℕ} {at : ℕ} {bs : Buffers} {c : Counts} {names′ index′ graph₁ : List ℕ} where
+  pub one-on : {d : Counts} → MentionsAll l at bs c names′ index′ graph₁ (On d) → {e : ℕ} {graph′ : List ℕ} → e < maxEnds
+      → graph′ ≡ set graph₁ (endsStart + e) (d .paths) → Lists l at e bs c names′ index′ graph′ (On d)
   unfolding withLists
   one-on m b g =
       record {
@@ -115,14 +116,14 @@ module _ {l : List ℕ} {at : ℕ} {names index texts bind graph : List ℕ} {c 
             on (ended-on (marks-on k) (ap length (paths-ends ps h) ∙ q) b g) (rw (concat-one ps) (marks-short k));
       }
 
-  pub one-over : MentionsAll l at names index texts bind graph c names′ index′ graph₁ Over → {e : ℕ} → Lists l at e names index texts bind graph c names′ index′ graph₁ Over
+  pub one-over : MentionsAll l at bs c names′ index′ graph₁ Over → {e : ℕ} → Lists l at e bs c names′ index′ graph₁ Over
   one-over m =
       record { listed = λ raw s h w q. over (λ more. rw (concat-one (expanded (h .reading) raw)) (marks-over (m .marks raw s h w) more)) }
 
 -- what is held of the line then, for the store
-pub one-held : {t l names index texts bind graph word : List ℕ} {c : Counts} {at : ℕ} (a : mentions.ListAsks t l names index texts bind graph word c at)
-    → {names′ index′ graph′ : List ℕ} {d : Counts} → MentionsAll l at names index texts bind graph c names′ index′ graph′ (On d)
-    → Writing names′ index′ texts bind graph′ d (withPaths (expanded (a .line .reading) (a .raw)) (a .line))
+pub one-held : {t l : List ℕ} {bs : Buffers} {word : List ℕ} {c : Counts} {at : ℕ} (a : mentions.ListAsks t l bs word c at)
+    → {names′ index′ graph′ : List ℕ} {d : Counts} → MentionsAll l at bs c names′ index′ graph′ (On d)
+    → Writing (withFiles bs names′ index′ graph′) d (withPaths (expanded (a .line .reading) (a .raw)) (a .line))
 one-held a m = marks-on (m .marks (a .raw) (a .stands) (a .line) (a .writing))
 
 -- ---- room is kept
@@ -132,9 +133,9 @@ room-kept r a b = record { names-long = omega (arith, r .names-long, a); word-lo
 
 -- ---- two lists
 
-module _ {l : List ℕ} {at next e : ℕ} {names index texts bind graph : List ℕ} {c : Counts} {names₁ index₁ graph₁ : List ℕ} where
-  pub two-on : {d : Counts} {names′ index′ graph′ : List ℕ} {r : Mentioned} → Lists l at e names index texts bind graph c names₁ index₁ graph₁ (On d)
-      → Lists l next (e + 1) names₁ index₁ texts bind graph₁ d names′ index′ graph′ r → Two l at next e names index texts bind graph c names′ index′ graph′ r
+module _ {l : List ℕ} {at next e : ℕ} {bs : Buffers} {c : Counts} {names₁ index₁ graph₁ : List ℕ} where
+  pub two-on : {d : Counts} {names′ index′ graph′ : List ℕ} {r : Mentioned} → Lists l at e bs c names₁ index₁ graph₁ (On d)
+      → Lists l next (e + 1) (withFiles bs names₁ index₁ graph₁) d names′ index′ graph′ r → Two l at next e bs c names′ index′ graph′ r
   two-on x y =
       record {
         listed = λ first second s₁ s₂ h w q.
@@ -145,15 +146,15 @@ module _ {l : List ℕ} {at next e : ℕ} {names index texts bind graph : List �
             listed-then h a (expanded (h .reading) second ∷ []) (listed-short k) (rw z at m);
       }
 
-  pub two-over : Lists l at e names index texts bind graph c names₁ index₁ graph₁ Over → Two l at next e names index texts bind graph c names₁ index₁ graph₁ Over
+  pub two-over : Lists l at e bs c names₁ index₁ graph₁ Over → Two l at next e bs c names₁ index₁ graph₁ Over
   two-over x =
       record {
         listed = λ first second s₁ s₂ h w q.
             listed-stop h (expanded (h .reading) first ∷ []) (expanded (h .reading) second ∷ []) (x .listed first s₁ h w q);
       }
 
-module _ {t l names index texts bind graph word : List ℕ} {c : Counts} {at next e : ℕ} (a : TwoAsks t l names index texts bind graph word c at next e) where
-  pub two-first : ListAsks t l names index texts bind graph word c at e
+module _ {t l : List ℕ} {bs : Buffers} {word : List ℕ} {c : Counts} {at next e : ℕ} (a : TwoAsks t l bs word c at next e) where
+  pub two-first : ListAsks t l bs word c at e
   two-first =
       record {
         asks = record { table = a .table; short = a .short; raw = a .first; stands = a .first-stands; room = a .room; line = a .line; writing = a .writing };
@@ -161,8 +162,8 @@ module _ {t l names index texts bind graph word : List ℕ} {c : Counts} {at nex
         low = omega (arith, a .low);
       }
 
-  pub two-second : {names′ index′ graph′ word′ : List ℕ} {d : Counts} → length names′ ≡ length names → length word′ ≡ length word
-      → Lists l at e names index texts bind graph c names′ index′ graph′ (On d) → ListAsks t l names′ index′ texts bind graph′ word′ d next (e + 1)
+  pub two-second : {names′ index′ graph′ word′ : List ℕ} {d : Counts} → length names′ ≡ length (bs .names) → length word′ ≡ length word
+      → Lists l at e bs c names′ index′ graph′ (On d) → ListAsks t l (withFiles bs names′ index′ graph′) word′ d next (e + 1)
   two-second p q x =
       let pss = expanded (a .line .reading) (a .first) ∷ [] in
       record {
@@ -182,10 +183,10 @@ module _ {t l names index texts bind graph word : List ℕ} {c : Counts} {at nex
 
 -- ---- the four
 
-module _ {l : List ℕ} {p : BuildPlaces} {names index texts bind graph : List ℕ} {c : Counts} {names₁ index₁ graph₁ : List ℕ} where
-  pub four-on : {d : Counts} {names′ index′ graph′ : List ℕ} {r : Mentioned} → Two l (p .outs) (p .ins) (endPlace (c .steps) outsEnd) names index texts bind graph c names₁ index₁ graph₁ (On d)
-      → Two l (p .implicit) (p .order) (endPlace (c .steps) implicitEnd) names₁ index₁ texts bind graph₁ d names′ index′ graph′ r
-      → Four l names index texts bind graph c p names′ index′ graph′ r
+module _ {l : List ℕ} {p : BuildPlaces} {bs : Buffers} {c : Counts} {names₁ index₁ graph₁ : List ℕ} where
+  pub four-on : {d : Counts} {names′ index′ graph′ : List ℕ} {r : Mentioned} → Two l (p .outs) (p .ins) (endPlace (c .steps) outsEnd) bs c names₁ index₁ graph₁ (On d)
+      → Two l (p .implicit) (p .order) (endPlace (c .steps) implicitEnd) (withFiles bs names₁ index₁ graph₁) d names′ index′ graph′ r
+      → Four l bs c p names′ index′ graph′ r
   four-on x y =
       record {
         listed = λ b s h w q.
@@ -196,8 +197,8 @@ module _ {l : List ℕ} {p : BuildPlaces} {names index texts bind graph : List �
             listed-then h a (expanded (h .reading) (b .implicit) ∷ expanded (h .reading) (b .orderOnly) ∷ []) (listed-short k) (rw (z (b .implicit), z (b .orderOnly)) at m);
       }
 
-  pub four-over : Two l (p .outs) (p .ins) (endPlace (c .steps) outsEnd) names index texts bind graph c names₁ index₁ graph₁ Over
-      → Four l names index texts bind graph c p names₁ index₁ graph₁ Over
+  pub four-over : Two l (p .outs) (p .ins) (endPlace (c .steps) outsEnd) bs c names₁ index₁ graph₁ Over
+      → Four l bs c p names₁ index₁ graph₁ Over
   four-over x =
       record {
         listed = λ b s h w q.
@@ -205,8 +206,8 @@ module _ {l : List ℕ} {p : BuildPlaces} {names index texts bind graph : List �
             (x .listed (b .outs) (b .ins) (s .outs) (s .ins) h w q);
       }
 
-module _ {t l names index texts bind graph word : List ℕ} {c : Counts} {p : BuildPlaces} (a : FourAsks t l names index texts bind graph word c p) where
-  pub four-first : TwoAsks t l names index texts bind graph word c (p .outs) (p .ins) (endPlace (c .steps) outsEnd)
+module _ {t l : List ℕ} {bs : Buffers} {word : List ℕ} {c : Counts} {p : BuildPlaces} (a : FourAsks t l bs word c p) where
+  pub four-first : TwoAsks t l bs word c (p .outs) (p .ins) (endPlace (c .steps) outsEnd)
   four-first =
       record {
         table = a .table;
@@ -222,9 +223,9 @@ module _ {t l names index texts bind graph word : List ℕ} {c : Counts} {p : Bu
         low = omega (arith, a .few);
       }
 
-  pub four-second : {names′ index′ graph′ word′ : List ℕ} {d : Counts} → length names′ ≡ length names → length word′ ≡ length word
-      → Two l (p .outs) (p .ins) (endPlace (c .steps) outsEnd) names index texts bind graph c names′ index′ graph′ (On d)
-      → TwoAsks t l names′ index′ texts bind graph′ word′ d (p .implicit) (p .order) (endPlace (c .steps) implicitEnd)
+  pub four-second : {names′ index′ graph′ word′ : List ℕ} {d : Counts} → length names′ ≡ length (bs .names) → length word′ ≡ length word
+      → Two l (p .outs) (p .ins) (endPlace (c .steps) outsEnd) bs c names′ index′ graph′ (On d)
+      → TwoAsks t l (withFiles bs names′ index′ graph′) word′ d (p .implicit) (p .order) (endPlace (c .steps) implicitEnd)
   four-second x y m =
       let pss = expanded (a .line .reading) (a .raw .outs) ∷ expanded (a .line .reading) (a .raw .ins) ∷ [] in
       record {

@@ -20,6 +20,7 @@ use Rattle.apply_files.specs.declared.Mentioned.the-variants.{On, Over}
 use Rattle.apply_files.specs.Lines.{Line, Writing, withPaths, overLine}
 use Rattle.apply_mentions.specs.Asks as mentions
 use Rattle.apply_mentions.specs.Asks.{Room}
+use Rattle.hold_reading.specs.Buffers.{Buffers, withFiles}
 
 -- an end more, where the mentions end
 unfoldable pub withEnd : Line → Line
@@ -39,56 +40,56 @@ withLists [] h = h
 withLists (ps ∷ pss) h = withLists pss (withEnd (withPaths ps h))
 
 -- The lists are mentioned, or the line is over a limit, whatever it mentions after them.
-pub data Listed (names index texts bind graph : List ℕ) (h : Line) (pss : List (List (List ℕ))) : Mentioned → Type 0 where
-  on : {c : Counts} → Writing names index texts bind graph c (withLists pss h) → overPaths (concat pss) ≡ false → Listed names index texts bind graph h pss (On c)
-  over : ((more : List (List ℕ)) → overLine (concat pss ++ more) (h .reading) ≡ true) → Listed names index texts bind graph h pss Over
+pub data Listed (bs : Buffers) (h : Line) (pss : List (List (List ℕ))) : Mentioned → Type 0 where
+  on : {c : Counts} → Writing bs c (withLists pss h) → overPaths (concat pss) ≡ false → Listed bs h pss (On c)
+  over : ((more : List (List ℕ)) → overLine (concat pss ++ more) (h .reading) ≡ true) → Listed bs h pss Over
 
 -- ------------------------------------------------------------------ one list, whose end is number e of all
 
-pub record ListAsks (t l names index texts bind graph word : List ℕ) (c : Counts) (at e : ℕ) : Type 0 where
-  pub asks : mentions.ListAsks t l names index texts bind graph word c at
+pub record ListAsks (t l : List ℕ) (bs : Buffers) (word : List ℕ) (c : Counts) (at e : ℕ) : Type 0 where
+  pub asks : mentions.ListAsks t l bs word c at
   pub ended : length (asks .line .ends) ≡ e
   pub low : e < maxEnds
 
-pub record Lists (l : List ℕ) (at e : ℕ) (names index texts bind graph : List ℕ) (c : Counts) (names′ index′ graph′ : List ℕ) (r : Mentioned) : Type 0 where
-  pub listed : (raw : List (List ℕ)) → PathsAt l at raw → (h : Line) → Writing names index texts bind graph c h → length (h .ends) ≡ e
-      → Listed names′ index′ texts bind graph′ h (expanded (h .reading) raw ∷ []) r
+pub record Lists (l : List ℕ) (at e : ℕ) (bs : Buffers) (c : Counts) (names′ index′ graph′ : List ℕ) (r : Mentioned) : Type 0 where
+  pub listed : (raw : List (List ℕ)) → PathsAt l at raw → (h : Line) → Writing bs c h → length (h .ends) ≡ e
+      → Listed (withFiles bs names′ index′ graph′) h (expanded (h .reading) raw ∷ []) r
 
 -- ------------------------------------------------------------------ two lists
 
-pub record TwoAsks (t l names index texts bind graph word : List ℕ) (c : Counts) (at next e : ℕ) : Type 0 where
+pub record TwoAsks (t l : List ℕ) (bs : Buffers) (word : List ℕ) (c : Counts) (at next e : ℕ) : Type 0 where
   pub table : t ≡ classes
   pub short : length l ≤ maxManifest
   pub first : List (List ℕ)
   pub second : List (List ℕ)
   pub first-stands : PathsAt l at first
   pub second-stands : PathsAt l next second
-  pub room : Room names word
+  pub room : Room (bs .names) word
   pub line : Line
-  pub writing : Writing names index texts bind graph c line
+  pub writing : Writing bs c line
   pub ended : length (line .ends) ≡ e
   pub low : e + 1 < maxEnds
 
-pub record Two (l : List ℕ) (at next e : ℕ) (names index texts bind graph : List ℕ) (c : Counts) (names′ index′ graph′ : List ℕ) (r : Mentioned) : Type 0 where
-  pub listed : (first second : List (List ℕ)) → PathsAt l at first → PathsAt l next second → (h : Line) → Writing names index texts bind graph c h → length (h .ends) ≡ e
-      → Listed names′ index′ texts bind graph′ h (expanded (h .reading) first ∷ expanded (h .reading) second ∷ []) r
+pub record Two (l : List ℕ) (at next e : ℕ) (bs : Buffers) (c : Counts) (names′ index′ graph′ : List ℕ) (r : Mentioned) : Type 0 where
+  pub listed : (first second : List (List ℕ)) → PathsAt l at first → PathsAt l next second → (h : Line) → Writing bs c h → length (h .ends) ≡ e
+      → Listed (withFiles bs names′ index′ graph′) h (expanded (h .reading) first ∷ expanded (h .reading) second ∷ []) r
 
 -- ------------------------------------------------------------------ the four of a line
 
 abbrev pub listsOf : BuildLine → List (List (List ℕ))
 listsOf b = b .outs ∷ b .ins ∷ b .implicit ∷ b .orderOnly ∷ []
 
-pub record FourAsks (t l names index texts bind graph word : List ℕ) (c : Counts) (p : BuildPlaces) : Type 0 where
+pub record FourAsks (t l : List ℕ) (bs : Buffers) (word : List ℕ) (c : Counts) (p : BuildPlaces) : Type 0 where
   pub table : t ≡ classes
   pub short : length l ≤ maxManifest
   pub raw : BuildLine
   pub stands : Stands l p raw
-  pub room : Room names word
+  pub room : Room (bs .names) word
   pub line : Line
-  pub writing : Writing names index texts bind graph c line
+  pub writing : Writing bs c line
   pub ended : length (line .ends) ≡ endPlace (c .steps) outsEnd
   pub few : c .steps < maxSteps
 
-pub record Four (l names index texts bind graph : List ℕ) (c : Counts) (p : BuildPlaces) (names′ index′ graph′ : List ℕ) (r : Mentioned) : Type 0 where
-  pub listed : (b : BuildLine) → Stands l p b → (h : Line) → Writing names index texts bind graph c h → length (h .ends) ≡ endPlace (c .steps) outsEnd
-      → Listed names′ index′ texts bind graph′ h (expanded (h .reading) (b .outs) ∷ expanded (h .reading) (b .ins) ∷ expanded (h .reading) (b .implicit) ∷ expanded (h .reading) (b .orderOnly) ∷ []) r
+pub record Four (l : List ℕ) (bs : Buffers) (c : Counts) (p : BuildPlaces) (names′ index′ graph′ : List ℕ) (r : Mentioned) : Type 0 where
+  pub listed : (b : BuildLine) → Stands l p b → (h : Line) → Writing bs c h → length (h .ends) ≡ endPlace (c .steps) outsEnd
+      → Listed (withFiles bs names′ index′ graph′) h (expanded (h .reading) (b .outs) ∷ expanded (h .reading) (b .ins) ∷ expanded (h .reading) (b .implicit) ∷ expanded (h .reading) (b .orderOnly) ∷ []) r

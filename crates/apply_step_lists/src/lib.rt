@@ -1,5 +1,6 @@
 // The lists of a build line are mentioned, each with its end behind it.
 ghost use Rattle.apply_step_lists.specs.Lists.{ListAsks, Lists, TwoAsks, Two, FourAsks, Four};
+ghost use Rattle.hold_reading.specs.Buffers.{buffers};
 use apply_files::Mentioned;
 use apply_mentions::mention_all;
 use arena::put;
@@ -24,8 +25,8 @@ fn one(
     word: &mut [u8],
     c: Counts,
 ) -> Mentioned
-    requires { ⌜ ListAsks (now t) (now l) (now names) (now index) (now texts) (now bind) (now graph) (now word) c at e ⌝ }
-    ensures { λ r. ⌜ Lists (now (l .entry)) at e (now (names .entry)) (now (index .entry)) (now (texts .entry)) (now (bind .entry)) (now (graph .entry)) c (now (names .exit)) (now (index .exit)) (now (graph .exit)) r ⌝ }
+    requires { ⌜ ListAsks (now t) (now l) (buffers (now names) (now index) (now texts) (now bind) (now graph)) (now word) c at e ⌝ }
+    ensures { λ r. ⌜ Lists (now (l .entry)) at e (buffers (now (names .entry)) (now (index .entry)) (now (texts .entry)) (now (bind .entry)) (now (graph .entry))) c (now (names .exit)) (now (index .exit)) (now (graph .exit)) r ⌝ }
 {
     match mention_all(t, l, at, names, index, texts, bind, graph, word, c) {
         Mentioned::On(d) => {
@@ -51,8 +52,8 @@ fn two(
     word: &mut [u8],
     c: Counts,
 ) -> Mentioned
-    requires { ⌜ TwoAsks (now t) (now l) (now names) (now index) (now texts) (now bind) (now graph) (now word) c at next e ⌝ }
-    ensures { λ r. ⌜ Two (now (l .entry)) at next e (now (names .entry)) (now (index .entry)) (now (texts .entry)) (now (bind .entry)) (now (graph .entry)) c (now (names .exit)) (now (index .exit)) (now (graph .exit)) r ⌝ }
+    requires { ⌜ TwoAsks (now t) (now l) (buffers (now names) (now index) (now texts) (now bind) (now graph)) (now word) c at next e ⌝ }
+    ensures { λ r. ⌜ Two (now (l .entry)) at next e (buffers (now (names .entry)) (now (index .entry)) (now (texts .entry)) (now (bind .entry)) (now (graph .entry))) c (now (names .exit)) (now (index .exit)) (now (graph .exit)) r ⌝ }
 {
     match one(t, l, at, e, names, index, texts, bind, graph, word, c) {
         Mentioned::On(d) => one(t, l, next, e + 1, names, index, texts, bind, graph, word, d),
@@ -73,8 +74,8 @@ pub fn four(
     word: &mut [u8],
     c: Counts,
 ) -> Mentioned
-    requires { ⌜ FourAsks (now t) (now l) (now names) (now index) (now texts) (now bind) (now graph) (now word) c p ⌝ }
-    ensures { λ r. ⌜ Four (now (l .entry)) (now (names .entry)) (now (index .entry)) (now (texts .entry)) (now (bind .entry)) (now (graph .entry)) c p (now (names .exit)) (now (index .exit)) (now (graph .exit)) r ⌝ }
+    requires { ⌜ FourAsks (now t) (now l) (buffers (now names) (now index) (now texts) (now bind) (now graph)) (now word) c p ⌝ }
+    ensures { λ r. ⌜ Four (now (l .entry)) (buffers (now (names .entry)) (now (index .entry)) (now (texts .entry)) (now (bind .entry)) (now (graph .entry))) c p (now (names .exit)) (now (index .exit)) (now (graph .exit)) r ⌝ }
 {
     let outs = p.outs;
     let ins = p.ins;

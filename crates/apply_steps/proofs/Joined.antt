@@ -34,6 +34,7 @@ use Rattle.apply_step_columns.proofs.Numbered.{ruled-bit}
 use Rattle.apply_steps.proofs.Growing.{mentions-more, ends-more, map-more, makes-more}
 use Rattle.apply_steps.proofs.Fresh.{line-fresh}
 use Rattle.apply_steps.proofs.Stepped.{lineOf, pathsOf, filesWith, stepFor, lineAfter, step-mentions, step-ends, outs-among, steps-same, made-long, mentions-low, outs-part}
+use Rattle.hold_reading.specs.Buffers.{Buffers, withFiles}
 
 -- ---- a step more, at each place
 
@@ -80,11 +81,11 @@ module _ {log : List Logged} {texts bind : List ℕ} {d : Counts} {rd : Reading}
 
 -- ---- the graph
 
-module _ {log : List Logged} {names index texts bind graph : List ℕ} {c : Counts} {rd : Reading} (w : HoldsReading log names index texts bind graph c rd) (b : BuildLine)
+module _ {log : List Logged} {bs : Buffers} {c : Counts} {rd : Reading} (w : HoldsReading log bs c rd) (b : BuildLine)
     (few : c .steps < maxSteps) (clear : badPaths (b .outs) (inputsOfLine b) rd ≡ false) {names′ index′ graph₁ : List ℕ} {d : Counts} {made : List ℕ}
-    (x : Writing names′ index′ texts bind graph₁ d (lineAfter b (lineOf w) made)) (same : (f : ℕ) → getD made f 0 ≡ getD (w .graphed .made) f 0)
+    (x : Writing (withFiles bs names′ index′ graph₁) d (lineAfter b (lineOf w) made)) (same : (f : ℕ) → getD made f 0 ≡ getD (w .graphed .made) f 0)
     {n : ℕ} (r : Ruled log (b .rule) n) where
-  abbrev g : Graphed log graph c rd
+  abbrev g : Graphed log (bs .graph) c rd
   g = w .graphed
 
   abbrev step : Step
@@ -182,7 +183,7 @@ module _ {log : List Logged} {names index texts bind graph : List ℕ} {c : Coun
         }
 
     -- all that is held of the reading with the step
-    pub step-held : overPaths (pathsOf b) ≡ false → HoldsReading log names′ index′ texts bind graph′ (countedStep d) (withStep step (mentioned (pathsOf b) rd))
+    pub step-held : overPaths (pathsOf b) ≡ false → HoldsReading log (withFiles bs names′ index′ graph′) (countedStep d) (withStep step (mentioned (pathsOf b) rd))
     unfolding withStep mentioned
     step-held p =
         record {

@@ -33,6 +33,7 @@ use Rattle.hold_columns.specs.Columns.{outsEnd, endPlace}
 use Rattle.hold_columns.proofs.Places.{length-ends}
 use Rattle.apply_steps.proofs.Stepped.{lineOf, pathsOf, stepFor, lineAfter, lists-line, step-ready}
 use Rattle.apply_steps.proofs.Joined.{step-held}
+use Rattle.hold_reading.specs.Buffers.{Buffers, withFiles}
 
 -- ---- the rules' answer
 
@@ -52,7 +53,7 @@ module _ (start : ℕ) (b : BuildLine) (rd : Reading) (k : Clear b rd) where
   step-goes p q h = rw (k .known, k .sound, p, q, lt-leb maxSteps (length (rd .steps)) h)
 
 -- What is held is within the limits.
-not-over : {names index texts bind graph : List ℕ} {c : Counts} {h : Line} → Writing names index texts bind graph c h → overCounts (h .reading) ≡ false
+not-over : {bs : Buffers} {c : Counts} {h : Line} → Writing bs c h → overCounts (h .reading) ≡ false
 unfolding overCounts
 not-over {h = h} w =
     rw (
@@ -64,8 +65,8 @@ not-over {h = h} w =
 
 -- ---- the lists
 
-module _ {log : List Logged} {names index texts bind graph : List ℕ} {c : Counts} {rd : Reading} (w : HoldsReading log names index texts bind graph c rd) where
-  begins : Writing names index texts bind graph c (lineOf w)
+module _ {log : List Logged} {bs : Buffers} {c : Counts} {rd : Reading} (w : HoldsReading log bs c rd) where
+  begins : Writing bs c (lineOf w)
   begins =
       let g = w .graphed in
       record {
@@ -85,17 +86,17 @@ module _ {log : List Logged} {names index texts bind graph : List ℕ} {c : Coun
       omega (arith, ap length (w .graphed .tables .ended), length-ends 0 (rd .steps), w .bound .steps-counted)
 
   module _ {l : List ℕ} {p : BuildPlaces} {b : BuildLine} (s : Stands l p b) {names′ index′ graph′ : List ℕ} where
-    four-held : {d : Counts} → Four l names index texts bind graph c p names′ index′ graph′ (On d)
-        → Writing names′ index′ texts bind graph′ d (lineAfter (expandedLine rd b) (lineOf w) (withLists (listsOf (expandedLine rd b)) (lineOf w) .made))
+    four-held : {d : Counts} → Four l bs c p names′ index′ graph′ (On d)
+        → Writing (withFiles bs names′ index′ graph′) d (lineAfter (expandedLine rd b) (lineOf w) (withLists (listsOf (expandedLine rd b)) (lineOf w) .made))
     unfolding expandedLine
     four-held {d} f =
-        subst (λ (h : Line). Writing names′ index′ texts bind graph′ d h) (lists-line (expandedLine rd b) (lineOf w)) (listed-on (f .listed b s (lineOf w) begins ends-begun))
+        subst (λ (h : Line). Writing (withFiles bs names′ index′ graph′) d h) (lists-line (expandedLine rd b) (lineOf w)) (listed-on (f .listed b s (lineOf w) begins ends-begun))
 
-    four-short : {d : Counts} → Four l names index texts bind graph c p names′ index′ graph′ (On d) → overPaths (pathsOf (expandedLine rd b)) ≡ false
+    four-short : {d : Counts} → Four l bs c p names′ index′ graph′ (On d) → overPaths (pathsOf (expandedLine rd b)) ≡ false
     unfolding expandedLine
     four-short f = rw (← (concat-lists (expandedLine rd b))) (listed-short (f .listed b s (lineOf w) begins ends-begun))
 
-    four-past : Four l names index texts bind graph c p names′ index′ graph′ Over → overLine (pathsOf (expandedLine rd b)) rd ≡ true
+    four-past : Four l bs c p names′ index′ graph′ Over → overLine (pathsOf (expandedLine rd b)) rd ≡ true
     unfolding expandedLine
     four-past f =
         let a = concat (listsOf (expandedLine rd b)) in
@@ -103,20 +104,20 @@ module _ {log : List Logged} {names index texts bind graph : List ℕ} {c : Coun
 
 -- ---- `write_step`
 
-module _ (start : ℕ) {l names index texts bind graph : List ℕ} {c : Counts} {p : BuildPlaces} {names′ index′ graph′ : List ℕ} where
-  pub write-many : maxSteps ≤ c .steps → Writes l names index texts bind graph c start p names′ index′ graph′ (Refused (OverLimit start))
+module _ (start : ℕ) {l : List ℕ} {bs : Buffers} {c : Counts} {p : BuildPlaces} {names′ index′ graph′ : List ℕ} where
+  pub write-many : maxSteps ≤ c .steps → Writes l bs c start p names′ index′ graph′ (Refused (OverLimit start))
   write-many h =
       record {
         agrees = λ b s log rd w k. rw (step-many start (expandedLine rd b) rd k (omega (arith, w .bound .steps-counted))) refuses;
       }
 
-  pub write-over : Four l names index texts bind graph c p names′ index′ graph′ Over → Writes l names index texts bind graph c start p names′ index′ graph′ (Refused (OverLimit start))
+  pub write-over : Four l bs c p names′ index′ graph′ Over → Writes l bs c start p names′ index′ graph′ (Refused (OverLimit start))
   write-over f =
       record { agrees = λ b s log rd w k. rw (step-over start (expandedLine rd b) rd k (four-past w s f)) refuses }
 
-  pub write-goes : c .steps < maxSteps → {graph₁ : List ℕ} {d : Counts} → Four l names index texts bind graph c p names′ index′ graph₁ (On d) → {n : ℕ}
-      → ((log : List Logged) → bindings.HoldsBindings log texts bind (d .entries) → n ≡ ruleNumber (part l (p .rule) (p .ins)) log) → {e : Counts} → PutsStep graph₁ (c .paths) n d graph′ e
-      → Writes l names index texts bind graph c start p names′ index′ graph′ (Goes e OpenStep)
+  pub write-goes : c .steps < maxSteps → {graph₁ : List ℕ} {d : Counts} → Four l bs c p names′ index′ graph₁ (On d) → {n : ℕ}
+      → ((log : List Logged) → bindings.HoldsBindings log (bs .texts) (bs .bind) (d .entries) → n ≡ ruleNumber (part l (p .rule) (p .ins)) log) → {e : Counts} → PutsStep graph₁ (c .paths) n d graph′ e
+      → Writes l bs c start p names′ index′ graph′ (Goes e OpenStep)
   unfolding joined expandedLine
   write-goes few {d = d} f {n} r j =
       record {
@@ -132,8 +133,8 @@ module _ (start : ℕ) {l names index texts bind graph : List ℕ} {c : Counts} 
 
 -- ---- what the calls ask
 
-module _ {t l names index texts bind graph word : List ℕ} {c : Counts} {p : BuildPlaces} (a : StepAsks t l names index texts bind graph word c p) where
-  pub write-four : c .steps < maxSteps → FourAsks t l names index texts bind graph word c p
+module _ {t l : List ℕ} {bs : Buffers} {word : List ℕ} {c : Counts} {p : BuildPlaces} (a : StepAsks t l bs word c p) where
+  pub write-four : c .steps < maxSteps → FourAsks t l bs word c p
   write-four few =
       record {
         table = a .table;
@@ -147,11 +148,11 @@ module _ {t l names index texts bind graph word : List ℕ} {c : Counts} {p : Bu
         few = few;
       }
 
-  module _ {names′ index′ graph′ : List ℕ} {d : Counts} (f : Four l names index texts bind graph c p names′ index′ graph′ (On d)) where
-    pub write-rule : bindings.SoundBindings texts bind (d .entries)
+  module _ {names′ index′ graph′ : List ℕ} {d : Counts} (f : Four l bs c p names′ index′ graph′ (On d)) where
+    pub write-rule : bindings.SoundBindings (bs .texts) (bs .bind) (d .entries)
     write-rule = record { log = a .whole .log; held = four-held (a .whole .holds) (a .stands) f .bound .held }
 
-    pub write-columns : c .steps < maxSteps → {n : ℕ} (name : List ℕ) → ((log : List Logged) → bindings.HoldsBindings log texts bind (d .entries) → n ≡ ruleNumber name log)
+    pub write-columns : c .steps < maxSteps → {n : ℕ} (name : List ℕ) → ((log : List Logged) → bindings.HoldsBindings log (bs .texts) (bs .bind) (d .entries) → n ≡ ruleNumber name log)
         → PutStepAsks graph′ (c .paths) n d
     write-columns few name r =
         let w = a .whole .holds in

@@ -26,10 +26,11 @@ use Rattle.apply_step_columns.specs.StepColumns.{Ready, newestEnd}
 use Rattle.apply_step_lists.proofs.Listing.{lists-reading}
 use Rattle.apply_steps.proofs.Closed.{lists-log, lists-phony, lists-ruled, lists-mentions, lists-ends, endsAfter, concat-lists}
 use Rattle.hold_columns.proofs.Places.{part-mid, length-ends}
+use Rattle.hold_reading.specs.Buffers.{Buffers, withFiles}
 
 -- ---- the line that is held, before its first path and after its last
 
-abbrev pub lineOf : {log : List Logged} {names index texts bind graph : List ℕ} {c : Counts} {rd : Reading} → HoldsReading log names index texts bind graph c rd → Line
+abbrev pub lineOf : {log : List Logged} {bs : Buffers} {c : Counts} {rd : Reading} → HoldsReading log bs c rd → Line
 lineOf {log} {rd = rd} h =
     let g = h .graphed in
     record { log = log; reading = rd; mentions = g .mentions; ends = g .ends; phony = g .phony; made = g .made; ruleOf = g .ruleOf }
@@ -102,9 +103,9 @@ module _ (b : BuildLine) (rd : Reading) where
   pub outs-among : Among (b .outs) (filesWith b rd)
   outs-among = among-front (filesWith b rd) (b .outs) (inputsOfLine b) (among-all (rd .files) (pathsOf b))
 
-module _ {log : List Logged} {names index texts bind graph : List ℕ} {c : Counts} {rd : Reading} (w : HoldsReading log names index texts bind graph c rd) (b : BuildLine)
-    (few : c .steps < maxSteps) {names′ index′ graph₁ : List ℕ} {d : Counts} {made : List ℕ} (x : Writing names′ index′ texts bind graph₁ d (lineAfter b (lineOf w) made)) where
-  abbrev g : Graphed log graph c rd
+module _ {log : List Logged} {bs : Buffers} {c : Counts} {rd : Reading} (w : HoldsReading log bs c rd) (b : BuildLine)
+    (few : c .steps < maxSteps) {names′ index′ graph₁ : List ℕ} {d : Counts} {made : List ℕ} (x : Writing (withFiles bs names′ index′ graph₁) d (lineAfter b (lineOf w) made)) where
+  abbrev g : Graphed log (bs .graph) c rd
   g = w .graphed
 
   abbrev numbers : List ℕ

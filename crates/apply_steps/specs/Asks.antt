@@ -17,14 +17,15 @@ use Rattle.hold_reading.specs.declared.LineAnswer.{LineAnswer}
 use Rattle.hold_reading.specs.Held.{HoldsReading, Agrees}
 use Rattle.hold_reading.specs.Adds.{Whole}
 use Rattle.apply_mentions.specs.Asks.{Room}
+use Rattle.hold_reading.specs.Buffers.{Buffers, withFiles}
 
-pub record StepAsks (t l names index texts bind graph word : List ℕ) (c : Counts) (p : BuildPlaces) : Type 0 where
+pub record StepAsks (t l : List ℕ) (bs : Buffers) (word : List ℕ) (c : Counts) (p : BuildPlaces) : Type 0 where
   pub table : t ≡ classes
   pub short : length l ≤ maxManifest
   pub line : BuildLine
   pub stands : Stands l p line
-  pub room : Room names word
-  pub whole : Whole names index texts bind graph c
+  pub room : Room (bs .names) word
+  pub whole : Whole bs c
 
 -- A line whose paths are expanded has no 7 and no 8.
 pub record Clear (b : BuildLine) (rd : Reading) : Type 0 where
@@ -32,6 +33,6 @@ pub record Clear (b : BuildLine) (rd : Reading) : Type 0 where
   pub sound : badPaths (b .outs) (inputsOfLine b) rd ≡ false
 
 -- Its answer agrees with its outcome, whatever reading was held.
-pub record Writes (l names index texts bind graph : List ℕ) (c : Counts) (start : ℕ) (p : BuildPlaces) (names′ index′ graph′ : List ℕ) (r : LineAnswer) : Type 0 where
-  pub agrees : (b : BuildLine) → Stands l p b → (log : List Logged) (rd : Reading) → HoldsReading log names index texts bind graph c rd → Clear (expandedLine rd b) rd
-      → Agrees names′ index′ texts bind graph′ (addStep start (expandedLine rd b) rd) r
+pub record Writes (l : List ℕ) (bs : Buffers) (c : Counts) (start : ℕ) (p : BuildPlaces) (names′ index′ graph′ : List ℕ) (r : LineAnswer) : Type 0 where
+  pub agrees : (b : BuildLine) → Stands l p b → (log : List Logged) (rd : Reading) → HoldsReading log bs c rd → Clear (expandedLine rd b) rd
+      → Agrees (withFiles bs names′ index′ graph′) (addStep start (expandedLine rd b) rd) r

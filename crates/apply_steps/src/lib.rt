@@ -1,5 +1,6 @@
 // A build line is written: its files are mentioned, and its step is put into the graph's columns.
 ghost use Rattle.apply_steps.specs.Asks.{StepAsks, Writes};
+ghost use Rattle.hold_reading.specs.Buffers.{buffers};
 use apply_files::Mentioned;
 use apply_step_columns::put_step;
 use apply_step_columns::rule_number;
@@ -25,8 +26,8 @@ pub fn write_step(
     word: &mut [u8],
     c: Counts,
 ) -> LineAnswer
-    requires { ⌜ StepAsks (now t) (now l) (now names) (now index) (now texts) (now bind) (now graph) (now word) c p ⌝ }
-    ensures { λ r. ⌜ Writes (now (l .entry)) (now (names .entry)) (now (index .entry)) (now (texts .entry)) (now (bind .entry)) (now (graph .entry)) c start p (now (names .exit)) (now (index .exit)) (now (graph .exit)) r ⌝ }
+    requires { ⌜ StepAsks (now t) (now l) (buffers (now names) (now index) (now texts) (now bind) (now graph)) (now word) c p ⌝ }
+    ensures { λ r. ⌜ Writes (now (l .entry)) (buffers (now (names .entry)) (now (index .entry)) (now (texts .entry)) (now (bind .entry)) (now (graph .entry))) c start p (now (names .exit)) (now (index .exit)) (now (graph .exit)) r ⌝ }
 {
     if STEPS <= c.steps {
         return LineAnswer::Refused(Refusal::OverLimit(start));

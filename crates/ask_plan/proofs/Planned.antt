@@ -21,6 +21,7 @@ use Rattle.spec.proofs.Promises.{cleared}
 use Rattle.ask_plan_reading.specs.Asked.{ReadAsked, PlansRead}
 use Rattle.hold_reading.specs.declared.Counts.{Counts}
 use Rattle.apply_manifest.specs.Manifests.{Held}
+use Rattle.hold_reading.specs.Buffers.{Buffers}
 
 module _ (manifest card targets list : List ℕ) (room : leastList ≤ length list) where
   long : ltb (length list) leastList ≡ false
@@ -36,12 +37,12 @@ module _ (manifest card targets list : List ℕ) (room : leastList ≤ length li
       rw (long, e, n) (record { says = refl; leaves = z ∙ cleared list })
 
   -- 11 to 15, and the list
-  pub planned : {names index texts bind graph : List ℕ} {c : Counts} {r : PlanAnswer} {exit : List ℕ} → Held manifest names index texts bind graph c
-      → PlansRead card targets names index graph c list r exit → PlanPromise (inputsOf manifest card targets) list r exit
+  pub planned : {bs : Buffers} {c : Counts} {r : PlanAnswer} {exit : List ℕ} → Held manifest bs c
+      → PlansRead card targets (bs .names) (bs .index) (bs .graph) c list r exit → PlanPromise (inputsOf manifest card targets) list r exit
   unfolding planAsk planManifest
-  planned {texts = texts} {bind = bind} h p = rw (long, h .is) (p .plans manifest (h .log) texts bind (h .reading) (h .holds))
+  planned {bs = bs} h p = rw (long, h .is) (p .plans manifest (h .log) (bs .texts) (bs .bind) (h .reading) (h .holds))
 
-pub askable : {manifest names index texts bind graph : List ℕ} {c : Counts} {list : List ℕ} → leastList ≤ length list → Held manifest names index texts bind graph c
-    → ReadAsked names index graph c list
-askable {texts = texts} {bind = bind} r h =
-    record { texts = texts; bind = bind; whole = record { log = h .log; reading = h .reading; holds = h .holds }; room = r }
+pub askable : {manifest : List ℕ} {bs : Buffers} {c : Counts} {list : List ℕ} → leastList ≤ length list → Held manifest bs c
+    → ReadAsked (bs .names) (bs .index) (bs .graph) c list
+askable {bs = bs} r h =
+    record { texts = (bs .texts); bind = (bs .bind); whole = record { log = h .log; reading = h .reading; holds = h .holds }; room = r }

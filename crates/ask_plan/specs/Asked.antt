@@ -4,7 +4,8 @@ use mathlib.Core.List.{List}
 use lib.ListN.{length}
 use Rattle.spec.specs.Limits.{leastList}
 use Rattle.apply_manifest.specs.Manifests.{Roomy}
+use Rattle.hold_reading.specs.Buffers.{Buffers}
 
-pub record PlanAsked (t names index texts bind graph word list : List ℕ) : Type 0 where
-  pub roomy : Roomy t names index texts bind graph word
+pub record PlanAsked (t : List ℕ) (bs : Buffers) (word list : List ℕ) : Type 0 where
+  pub roomy : Roomy t bs word
   pub room : leastList ≤ length list

@@ -5,6 +5,7 @@ ghost use Rattle.spec.specs.Limits.{leastList};
 ghost use Rattle.spec.specs.PlanAsk.{inputsOf};
 ghost use Rattle.spec.specs.Promises.{PlanPromise};
 ghost use Rattle.ask_plan.specs.Asked.{PlanAsked};
+ghost use Rattle.hold_reading.specs.Buffers.{buffers};
 use apply_manifest::ReadAnswer;
 use apply_manifest::read;
 use ask_plan_reading::plan_read;
@@ -32,7 +33,7 @@ fn plan_manifest(
     word: &mut [u8],
     list: &mut [u32],
 ) -> PlanAnswer
-    requires { ⌜ PlanAsked (now t) (now names) (now index) (now texts) (now bind) (now graph) (now word) (now list) ⌝ }
+    requires { ⌜ PlanAsked (now t) (buffers (now names) (now index) (now texts) (now bind) (now graph)) (now word) (now list) ⌝ }
     ensures { λ r. ⌜ PlanPromise (inputsOf (now (manifest .entry)) (now (card .entry)) (now (targets .entry))) (now (list .entry)) r (now (list .exit)) ⌝ }
 {
     match read(t, manifest, names, index, texts, bind, graph, word) {

@@ -31,8 +31,9 @@ use Rattle.hold_reading.specs.Held.{HoldsReading}
 use Rattle.ask_plan_reading.proofs.Laws.{CardTimes, card-time}
 use Rattle.ask_plan_columns.specs.Columns.{Tabled, ColumnsAsked, PlansColumns}
 use Rattle.ask_plan_reading.specs.Asked.{ReadAsked, PlansTargets, PlansRead}
+use Rattle.hold_reading.specs.Buffers.{Buffers, buffers}
 
-pub tabled : {log : List Logged} {names index texts bind graph : List ℕ} {c : Counts} {rd : Reading} → HoldsReading log names index texts bind graph c rd → Tabled graph c rd
+pub tabled : {log : List Logged} {bs : Buffers} {c : Counts} {rd : Reading} → HoldsReading log bs c rd → Tabled (bs .graph) c rd
 tabled {log = log} h =
     record { log = log; graphed = h .graphed; files-counted = h .named .counted; steps-counted = h .bound .steps-counted }
 
@@ -78,7 +79,7 @@ time-at g (x ∷ l) (suc f) b = time-at g l f (le-of-suc-le-suc b)
 module _ {card targets names index graph : List ℕ} {c : Counts} (s : soundCard card ≡ true)
     {numbers : List ℕ} {r : Numbered} {k : ℕ} (n : NumbersTargets targets names index (c .files) numbers r) (e : r ≡ All k)
     {before times : List ℕ} (t : Timed card names index (c .files) before times) where
-  module _ {log : List Logged} {texts bind : List ℕ} {rd : Reading} (h : HoldsReading log names index texts bind graph c rd) where
+  module _ {log : List Logged} {texts bind : List ℕ} {rd : Reading} (h : HoldsReading log (buffers names index texts bind graph) c rd) where
     numbered : Numbers targets numbers (rd .files) k
     numbered = subst (Says targets numbers (rd .files)) e (n .says (rd .files) (h .named))
 

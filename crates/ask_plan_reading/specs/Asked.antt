@@ -15,12 +15,13 @@ use Rattle.hold_bindings.specs.Log.{Logged}
 use Rattle.hold_reading.specs.declared.Counts.{Counts}
 use Rattle.hold_reading.specs.Held.{HoldsReading}
 use Rattle.hold_reading.specs.Adds.{Whole}
+use Rattle.hold_reading.specs.Buffers.{buffers}
 
 -- the buffers hold some reading, and the list has the room that 1 asks for
 pub record ReadAsked (names index graph : List ℕ) (c : Counts) (list : List ℕ) : Type 0 where
   pub texts : List ℕ
   pub bind : List ℕ
-  pub whole : Whole names index texts bind graph c
+  pub whole : Whole (buffers names index texts bind graph) c
   pub room : leastList ≤ length list
 
 -- past 11
@@ -36,10 +37,10 @@ pub record SpaceAsked (card names index graph : List ℕ) (c : Counts) (times nu
 
 -- whatever manifest was read, and whatever reading was held, this is the plan ask's outcome for it: past 11
 pub record PlansTargets (card targets names index graph : List ℕ) (c : Counts) (list : List ℕ) (r : PlanAnswer) (exit : List ℕ) : Type 0 where
-  pub plans : (manifest : List ℕ) (log : List Logged) (texts bind : List ℕ) (rd : Reading) → HoldsReading log names index texts bind graph c rd
+  pub plans : (manifest : List ℕ) (log : List Logged) (texts bind : List ℕ) (rd : Reading) → HoldsReading log (buffers names index texts bind graph) c rd
       → PlanMeets (planTargets (inputsOf manifest card targets) rd) list (planSays r) exit
 
 -- and from 11 on
 pub record PlansRead (card targets names index graph : List ℕ) (c : Counts) (list : List ℕ) (r : PlanAnswer) (exit : List ℕ) : Type 0 where
-  pub plans : (manifest : List ℕ) (log : List Logged) (texts bind : List ℕ) (rd : Reading) → HoldsReading log names index texts bind graph c rd
+  pub plans : (manifest : List ℕ) (log : List Logged) (texts bind : List ℕ) (rd : Reading) → HoldsReading log (buffers names index texts bind graph) c rd
       → PlanMeets (planRead (inputsOf manifest card targets) rd) list (planSays r) exit

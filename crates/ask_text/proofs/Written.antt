@@ -17,6 +17,7 @@ use Rattle.hold_reading.specs.declared.Counts.{Counts}
 use Rattle.apply_manifest.specs.Manifests.{Held}
 use Rattle.text_step.specs.Asks.{TextAsk, TextOf}
 use Rattle.text_step.proofs.Promise.{text-asked, text-promised, refusal-promised}
+use Rattle.hold_reading.specs.Buffers.{Buffers}
 
 module _ (manifest buffer : List ℕ) (room : maxText ≤ length buffer) where
   -- 2 to 10
@@ -24,11 +25,11 @@ module _ (manifest buffer : List ℕ) (room : maxText ≤ length buffer) where
       → TextPromise manifest step wanted buffer (Refused r) exit
   unread step wanted e z = refusal-promised manifest buffer room step wanted e (z ∙ cleared buffer)
 
-  module _ {names index texts bind graph : List ℕ} {c : Counts} (h : Held manifest names index texts bind graph c) where
-    pub askable : {t : List ℕ} → t ≡ classes → TextAsk t names index texts bind graph c buffer
+  module _ {bs : Buffers} {c : Counts} (h : Held manifest bs c) where
+    pub askable : {t : List ℕ} → t ≡ classes → TextAsk t bs c buffer
     askable e = text-asked manifest buffer room (h .is) (h .holds) e
 
     -- 18, 16, 17, and the text
-    pub written : {step : ℕ} {wanted : Wanted} {r : TextAnswer} {exit : List ℕ} → TextOf names index texts bind graph c step wanted buffer exit r
+    pub written : {step : ℕ} {wanted : Wanted} {r : TextAnswer} {exit : List ℕ} → TextOf bs c step wanted buffer exit r
         → TextPromise manifest step wanted buffer r exit
     written p = text-promised manifest buffer room (h .is) (h .holds) p

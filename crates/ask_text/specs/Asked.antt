@@ -4,7 +4,8 @@ use mathlib.Core.List.{List}
 use lib.ListN.{length}
 use Rattle.spec.specs.Limits.{maxText}
 use Rattle.apply_manifest.specs.Manifests.{Roomy}
+use Rattle.hold_reading.specs.Buffers.{Buffers}
 
-pub record TextAsked (t names index texts bind graph word buffer : List ℕ) : Type 0 where
-  pub roomy : Roomy t names index texts bind graph word
+pub record TextAsked (t : List ℕ) (bs : Buffers) (word buffer : List ℕ) : Type 0 where
+  pub roomy : Roomy t bs word
   pub room : maxText ≤ length buffer

@@ -4,6 +4,7 @@ ghost use lib.ListN.{length};
 ghost use Rattle.spec.specs.Limits.{maxText};
 ghost use Rattle.spec.specs.Promises.{TextPromise};
 ghost use Rattle.ask_text.specs.Asked.{TextAsked};
+ghost use Rattle.hold_reading.specs.Buffers.{buffers};
 use apply_manifest::ReadAnswer;
 use apply_manifest::read;
 use hold_bindings::ROWS;
@@ -32,7 +33,7 @@ fn text_in(
     word: &mut [u8],
     buffer: &mut [u8],
 ) -> TextAnswer
-    requires { ⌜ TextAsked (now t) (now names) (now index) (now texts) (now bind) (now graph) (now word) (now buffer) ⌝ }
+    requires { ⌜ TextAsked (now t) (buffers (now names) (now index) (now texts) (now bind) (now graph)) (now word) (now buffer) ⌝ }
     ensures { λ r. ⌜ TextPromise (now (manifest .entry)) step wanted (now (buffer .entry)) r (now (buffer .exit)) ⌝ }
 {
     match read(t, manifest, names, index, texts, bind, graph, word) {

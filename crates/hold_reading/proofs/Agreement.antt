@@ -23,23 +23,24 @@ use Rattle.hold_reading.specs.declared.Counts.{Counts}
 use Rattle.hold_reading.specs.declared.Open.{Open}
 use Rattle.hold_reading.specs.declared.LineAnswer.the-variants.{Goes, Refused}
 use Rattle.hold_reading.specs.Held.{joined, Opens, capacities, HoldsReading, Agrees, goes, refuses}
+use Rattle.hold_reading.specs.Buffers.{Buffers}
 
 -- ---- by the answer
 
 -- The reading goes on, and is held.
-pub record GoesOn (names index texts bind graph : List ℕ) (c : Counts) (o : Open) (out : Outcome) : Type 0 where
+pub record GoesOn (bs : Buffers) (c : Counts) (o : Open) (out : Outcome) : Type 0 where
   pub log : List Logged
   pub reading : Reading
   pub block : Block
   pub outcome : out ≡ goesOn reading block
-  pub holds : HoldsReading log names index texts bind graph c (joined reading block)
+  pub holds : HoldsReading log bs c (joined reading block)
   pub opens : Opens log block o
 
-module _ {names index texts bind graph : List ℕ} where
-  pub agreed-on : {out : Outcome} {c : Counts} {o : Open} → Agrees names index texts bind graph out (Goes c o) → GoesOn names index texts bind graph c o out
+module _ {bs : Buffers} where
+  pub agreed-on : {out : Outcome} {c : Counts} {o : Open} → Agrees bs out (Goes c o) → GoesOn bs c o out
   agreed-on (goes {log = l} {rd = rd} {b = b} h p) = record { log = l; reading = rd; block = b; outcome = refl; holds = h; opens = p }
 
-  pub agreed-refused : {out : Outcome} {r : Refusal} → Agrees names index texts bind graph out (Refused r) → out ≡ refused r
+  pub agreed-refused : {out : Outcome} {r : Refusal} → Agrees bs out (Refused r) → out ≡ refused r
   agreed-refused refuses = refl
 
 -- ---- before the first line
@@ -56,16 +57,16 @@ none-over : overPaths [] ≡ false
 unfolding overPaths
 none-over = any-none (longerThan maxPath)
 
-module _ (names index texts bind graph : List ℕ) where
-  pub start-held : HoldsNames names index 0 [] → maxTexts ≤ length texts → maxRows ≤ length bind → sum capacities ≤ length graph
-      → HoldsReading [] names index texts bind graph noCounts (joined nothingRead noBlock)
+module _ (bs : Buffers) where
+  pub start-held : HoldsNames (bs .names) (bs .index) 0 [] → maxTexts ≤ length (bs .texts) → maxRows ≤ length (bs .bind) → sum capacities ≤ length (bs .graph)
+      → HoldsReading [] bs noCounts (joined nothingRead noBlock)
   unfolding joined boundBy rulesOf rulesIn valuesIn concat makers makersFrom madeBy Rattle.hold_columns.specs.Columns.endsFrom
   start-held n t b g =
       record {
         named = n;
         bound =
             record {
-              held = held-none texts bind t b;
+              held = held-none (bs .texts) (bs .bind) t b;
               vars = refl;
               rules = refl;
               blocks = λ s d. absurd (not-suc-le-zero d);
@@ -88,7 +89,7 @@ module _ (names index texts bind graph : List ℕ) where
               phony = [];
               made = [];
               ruleOf = [];
-              lies = none-lies capacities graph g;
+              lies = none-lies capacities (bs .graph) g;
               tables =
                   record {
                     mentioned = refl;

@@ -18,6 +18,7 @@ use Rattle.hold_reading.specs.declared.LineAnswer.the-variants.{Refused}
 use Rattle.hold_reading.specs.Held.{joined, Opens, nothing, Bound, Ruled, phony, declared, Graphed, HoldsReading, Agrees, goes, refuses}
 use Rattle.hold_reading.specs.Binds.{Known, SoundBlock, Beside, Binds, Meets}
 use Rattle.hold_reading.proofs.Bare.{same-count, same-rule, same-tables}
+use Rattle.hold_reading.specs.Buffers.{Buffers, withBindings}
 
 -- ---- the log grows
 
@@ -60,16 +61,16 @@ module _ {c c′ : Counts} {rd rd′ : Reading} (s : Beside c rd c′ rd′) whe
 
 -- ---- a line
 
-module _ {log : List Logged} {names index texts bind graph : List ℕ} {c : Counts} {rd : Reading} where
-  pub lifted : {texts′ bind′ : List ℕ} {out : Outcome} {r : LineAnswer} → HoldsReading log names index texts bind graph c rd → Binds log c rd texts′ bind′ out r
-      → Agrees names index texts′ bind′ graph out r
+module _ {log : List Logged} {bs : Buffers} {c : Counts} {rd : Reading} where
+  pub lifted : {texts′ bind′ : List ℕ} {out : Outcome} {r : LineAnswer} → HoldsReading log bs c rd → Binds log c rd texts′ bind′ out r
+      → Agrees (withBindings bs texts′ bind′) out r
   lifted h (Binds.goes more b o s) = goes (record { named = named-beside s (h .named); bound = b; graphed = graphed-beside s more (h .graphed); short = rw (s .files) (h .short) }) o
   lifted h Binds.refuses = refuses
 
-module _ {log : List Logged} {names index texts bind graph : List ℕ} {c : Counts} (rd : Reading) {b : Block} {o : Open}
-    (h : HoldsReading log names index texts bind graph c (joined rd b)) (p : Opens log b o) where
+module _ {log : List Logged} {bs : Buffers} {c : Counts} (rd : Reading) {b : Block} {o : Open}
+    (h : HoldsReading log bs c (joined rd b)) (p : Opens log b o) where
   -- what a line that binds asks
-  pub known : Known log texts bind c rd b o
+  pub known : Known log (bs .texts) (bs .bind) c rd b o
   known =
       record {
         bound = h .bound;
@@ -78,12 +79,12 @@ module _ {log : List Logged} {names index texts bind graph : List ℕ} {c : Coun
         few-mentions = omega (arith, h .graphed .mentions-counted, h .graphed .mentions-low);
       }
 
-  pub sound : SoundBlock texts bind c o
+  pub sound : SoundBlock (bs .texts) (bs .bind) c o
   sound = record { log = log; reading = rd; block = b; known = known }
 
   -- what it gives
-  pub met : {line : Reading → Block → Outcome} {texts′ bind′ : List ℕ} {r : LineAnswer} → Meets texts bind c o line texts′ bind′ r
-      → Agrees names index texts′ bind′ graph (line rd b) r
+  pub met : {line : Reading → Block → Outcome} {texts′ bind′ : List ℕ} {r : LineAnswer} → Meets (bs .texts) (bs .bind) c o line texts′ bind′ r
+      → Agrees (withBindings bs texts′ bind′) (line rd b) r
   met m = lifted h (m .agrees log rd b known)
 
 -- ---- what a line's laws begin with

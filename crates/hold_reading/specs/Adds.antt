@@ -8,13 +8,14 @@ use Rattle.hold_bindings.specs.Log.{Logged}
 use Rattle.hold_reading.specs.Held.{HoldsReading, Agrees}
 use Rattle.hold_reading.specs.declared.Counts.{Counts}
 use Rattle.hold_reading.specs.declared.LineAnswer.{LineAnswer}
+use Rattle.hold_reading.specs.Buffers.{Buffers, withFiles}
 
 -- the buffers hold some reading
-pub record Whole (names index texts bind graph : List ℕ) (c : Counts) : Type 0 where
+pub record Whole (bs : Buffers) (c : Counts) : Type 0 where
   pub log : List Logged
   pub reading : Reading
-  pub holds : HoldsReading log names index texts bind graph c reading
+  pub holds : HoldsReading log bs c reading
 
 -- The line's answer agrees with its outcome, whatever reading was held.
-pub record AddsFiles (names index texts bind graph : List ℕ) (c : Counts) (line : Reading → Outcome) (names′ index′ graph′ : List ℕ) (r : LineAnswer) : Type 0 where
-  pub agrees : (log : List Logged) (rd : Reading) → HoldsReading log names index texts bind graph c rd → Agrees names′ index′ texts bind graph′ (line rd) r
+pub record AddsFiles (bs : Buffers) (c : Counts) (line : Reading → Outcome) (names′ index′ graph′ : List ℕ) (r : LineAnswer) : Type 0 where
+  pub agrees : (log : List Logged) (rd : Reading) → HoldsReading log bs c rd → Agrees (withFiles bs names′ index′ graph′) (line rd) r

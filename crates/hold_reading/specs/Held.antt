@@ -23,6 +23,7 @@ use Rattle.hold_reading.specs.declared.Open.{Open}
 use Rattle.hold_reading.specs.declared.Open.the-variants.{Nothing, Rule as OpenRule, Step as OpenStep}
 use Rattle.hold_reading.specs.declared.LineAnswer.{LineAnswer}
 use Rattle.hold_reading.specs.declared.LineAnswer.the-variants.{Goes, Refused}
+use Rattle.hold_reading.specs.Buffers.{Buffers}
 
 -- the reading with its open block closed
 unfoldable pub joined : Reading → Block → Reading
@@ -112,15 +113,15 @@ pub record Graphed (log : List Logged) (graph : List ℕ) (c : Counts) (rd : Rea
   pub defaults-low : (i : ℕ) → i < length (rd .defaults) → getD (rd .defaults) i 0 < length (rd .files)
 
 -- all that is held of a reading
-pub record HoldsReading (log : List Logged) (names index texts bind graph : List ℕ) (c : Counts) (rd : Reading) : Type 0 where
-  pub named : HoldsNames names index (c .files) (rd .files)
-  pub bound : Bound log texts bind c rd
-  pub graphed : Graphed log graph c rd
+pub record HoldsReading (log : List Logged) (bs : Buffers) (c : Counts) (rd : Reading) : Type 0 where
+  pub named : HoldsNames (bs .names) (bs .index) (c .files) (rd .files)
+  pub bound : Bound log (bs .texts) (bs .bind) c rd
+  pub graphed : Graphed log (bs .graph) c rd
   -- every name was a path within its limit, so a longer expansion is no file's name
   pub short : overPaths (rd .files) ≡ false
 
 -- an outcome and an answer agree: what goes on is held, a refusal is the same and says nothing of the buffers
-pub data Agrees (names index texts bind graph : List ℕ) : Outcome → LineAnswer → Type 0 where
-  goes : {log : List Logged} {rd : Reading} {b : Block} {c : Counts} {o : Open} → HoldsReading log names index texts bind graph c (joined rd b) → Opens log b o
-      → Agrees names index texts bind graph (goesOn rd b) (Goes c o)
-  refuses : {r : Refusal} → Agrees names index texts bind graph (refused r) (Refused r)
+pub data Agrees (bs : Buffers) : Outcome → LineAnswer → Type 0 where
+  goes : {log : List Logged} {rd : Reading} {b : Block} {c : Counts} {o : Open} → HoldsReading log bs c (joined rd b) → Opens log b o
+      → Agrees bs (goesOn rd b) (Goes c o)
+  refuses : {r : Refusal} → Agrees bs (refused r) (Refused r)

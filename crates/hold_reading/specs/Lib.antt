@@ -1,3 +1,4 @@
+pub mod Buffers
 pub mod Held
 pub mod Binds
 pub mod Adds

@@ -20,34 +20,35 @@ use Rattle.scan_classes.specs.Table.{classes}
 use Rattle.apply_manifest.specs.Manifests.{Roomy, IsRead}
 use Rattle.test_manifest.specs.declared.ReadNumbers.{ReadNumbers}
 use Rattle.test_manifest.specs.Numbers.{bare, inNumbers, Judges, Reads}
+use Rattle.hold_reading.specs.Buffers.{Buffers}
 
-module _ {names index texts bind graph word : List ℕ} where
-  lacks : (Roomy classes names index texts bind graph word → ⊥) → Judges names index texts bind graph word false
+module _ {bs : Buffers} {word : List ℕ} where
+  lacks : (Roomy classes bs word → ⊥) → Judges bs word false
   lacks n = record { enough = λ e. differ e refl; lacking = λ e. n }
 
-  pub few-names : length names < maxWritten → Judges names index texts bind graph word false
+  pub few-names : length (bs .names) < maxWritten → Judges bs word false
   few-names h = lacks (λ p. omega (arith, p .room .names-room))
 
-  pub many-names : 4294967295 < length names → Judges names index texts bind graph word false
+  pub many-names : 4294967295 < length (bs .names) → Judges bs word false
   many-names h = lacks (λ p. omega (arith, p .names-small))
 
-  pub few-numbers : length index < maxNumbers → Judges names index texts bind graph word false
+  pub few-numbers : length (bs .index) < maxNumbers → Judges bs word false
   few-numbers h = lacks (λ p. omega (arith, p .numbers-room))
 
-  pub few-texts : length texts < maxTexts → Judges names index texts bind graph word false
+  pub few-texts : length (bs .texts) < maxTexts → Judges bs word false
   few-texts h = lacks (λ p. omega (arith, p .texts-room))
 
-  pub few-rows : length bind < maxRows → Judges names index texts bind graph word false
+  pub few-rows : length (bs .bind) < maxRows → Judges bs word false
   few-rows h = lacks (λ p. omega (arith, p .bind-room))
 
-  pub few-columns : length graph < columnsEnd + maxManifest → Judges names index texts bind graph word false
+  pub few-columns : length (bs .graph) < columnsEnd + maxManifest → Judges bs word false
   few-columns h = lacks (λ p. omega (arith, p .room .scratch))
 
-  pub short-word : length word < maxValue → Judges names index texts bind graph word false
+  pub short-word : length word < maxValue → Judges bs word false
   short-word h = lacks (λ p. omega (arith, p .room .word-room))
 
-  pub has-room : maxWritten ≤ length names → length names ≤ 4294967295 → maxNumbers ≤ length index → maxTexts ≤ length texts → maxRows ≤ length bind → columnsEnd + maxManifest ≤ length graph
-      → maxValue ≤ length word → Judges names index texts bind graph word true
+  pub has-room : maxWritten ≤ length (bs .names) → length (bs .names) ≤ 4294967295 → maxNumbers ≤ length (bs .index) → maxTexts ≤ length (bs .texts) → maxRows ≤ length (bs .bind) → columnsEnd + maxManifest ≤ length (bs .graph)
+      → maxValue ≤ length word → Judges bs word true
   has-room n s f x b g w = record {
     enough = λ e. record {
       table = refl;
@@ -60,19 +61,19 @@ module _ {names index texts bind graph word : List ℕ} where
     lacking = λ e. differ refl e;
   }
 
-module _ {m names index texts bind graph word : List ℕ} {b : Bool} (j : Judges names index texts bind graph word b) where
-  pub too-small : {r : ReadNumbers} → b ≡ false → r ≡ bare 255 0 → Reads m names index texts bind graph word r names index texts bind graph word
+module _ {m : List ℕ} {bs : Buffers} {word : List ℕ} {b : Bool} (j : Judges bs word b) where
+  pub too-small : {r : ReadNumbers} → b ≡ false → r ≡ bare 255 0 → Reads m bs word r bs word
   too-small e q = record {
     roomy = λ p. absurd (j .lacking e p);
     small = λ n. (q, record { names-stay = refl; index-stay = refl; texts-stay = refl; bind-stay = refl; graph-stay = refl; word-stay = refl });
   }
 
-  pub has-read : (a : ReadAnswer) {r : ReadNumbers} {names′ index′ texts′ bind′ graph′ word′ : List ℕ} → b ≡ true → IsRead m names′ index′ texts′ bind′ graph′ a → r ≡ inNumbers a
-      → Reads m names index texts bind graph word r names′ index′ texts′ bind′ graph′ word′
+  pub has-read : (a : ReadAnswer) {r : ReadNumbers} {bs′ : Buffers} {word′ : List ℕ} → b ≡ true → IsRead m bs′ a → r ≡ inNumbers a
+      → Reads m bs word r bs′ word′
   has-read a e i q = record { roomy = λ p. record { answer = a; read = i; says = q }; small = λ n. absurd (n (j .enough e)) }
 
 -- the table that is lent is the table of classes
-pub lent : {t names index texts bind graph word : List ℕ} → t ≡ classes → Roomy classes names index texts bind graph word → Roomy t names index texts bind graph word
+pub lent : {t : List ℕ} {bs : Buffers} {word : List ℕ} → t ≡ classes → Roomy classes bs word → Roomy t bs word
 lent e r = record { table = e; room = r .room; names-small = r .names-small; numbers-room = r .numbers-room; texts-room = r .texts-room; bind-room = r .bind-room }
 
 -- the numbers of an answer

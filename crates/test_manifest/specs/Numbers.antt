@@ -9,6 +9,7 @@ use Rattle.apply_manifest.specs.declared.ReadAnswer.{ReadAnswer}
 use Rattle.apply_manifest.specs.declared.ReadAnswer.the-variants.{Accepted, Refused}
 use Rattle.apply_manifest.specs.Manifests.{Roomy, IsRead}
 use Rattle.test_manifest.specs.declared.ReadNumbers.{ReadNumbers}
+use Rattle.hold_reading.specs.Buffers.{Buffers}
 
 -- a number and a place, and nothing counted
 abbrev pub bare : ℕ → ℕ → ReadNumbers
@@ -33,26 +34,26 @@ inNumbers (Accepted c) =
 inNumbers (Refused r) = bare (refusalSays r .number) (refusalSays r .value)
 
 -- a test that is true exactly where the buffers have room for any manifest
-pub record Judges (names index texts bind graph word : List ℕ) (r : Bool) : Type 0 where
-  pub enough : r ≡ true → Roomy classes names index texts bind graph word
-  pub lacking : r ≡ false → Roomy classes names index texts bind graph word → ⊥
+pub record Judges (bs : Buffers) (word : List ℕ) (r : Bool) : Type 0 where
+  pub enough : r ≡ true → Roomy classes bs word
+  pub lacking : r ≡ false → Roomy classes bs word → ⊥
 
 -- the manifest has been read into the buffers, or refused, and the numbers say which
-pub record ReadAs (m : List ℕ) (r : ReadNumbers) (names index texts bind graph : List ℕ) : Type 0 where
+pub record ReadAs (m : List ℕ) (r : ReadNumbers) (bs : Buffers) : Type 0 where
   pub answer : ReadAnswer
-  pub read : IsRead m names index texts bind graph answer
+  pub read : IsRead m bs answer
   pub says : r ≡ inNumbers answer
 
 -- buffers as they were
-pub record Untouched (names index texts bind graph word names′ index′ texts′ bind′ graph′ word′ : List ℕ) : Type 0 where
-  pub names-stay : names′ ≡ names
-  pub index-stay : index′ ≡ index
-  pub texts-stay : texts′ ≡ texts
-  pub bind-stay : bind′ ≡ bind
-  pub graph-stay : graph′ ≡ graph
+pub record Untouched (bs : Buffers) (word : List ℕ) (bs′ : Buffers) (word′ : List ℕ) : Type 0 where
+  pub names-stay : (bs′ .names) ≡ (bs .names)
+  pub index-stay : (bs′ .index) ≡ (bs .index)
+  pub texts-stay : (bs′ .texts) ≡ (bs .texts)
+  pub bind-stay : (bs′ .bind) ≡ (bs .bind)
+  pub graph-stay : (bs′ .graph) ≡ (bs .graph)
   pub word-stay : word′ ≡ word
 
 -- What the reader answers; or, where a buffer has no room for some manifest, 255 and the buffers as they were.
-pub record Reads (m names index texts bind graph word : List ℕ) (r : ReadNumbers) (names′ index′ texts′ bind′ graph′ word′ : List ℕ) : Type 0 where
-  pub roomy : Roomy classes names index texts bind graph word → ReadAs m r names′ index′ texts′ bind′ graph′
-  pub small : (Roomy classes names index texts bind graph word → ⊥) → (r ≡ bare 255 0) × Untouched names index texts bind graph word names′ index′ texts′ bind′ graph′ word′
+pub record Reads (m : List ℕ) (bs : Buffers) (word : List ℕ) (r : ReadNumbers) (bs′ : Buffers) (word′ : List ℕ) : Type 0 where
+  pub roomy : Roomy classes bs word → ReadAs m r bs′
+  pub small : (Roomy classes bs word → ⊥) → (r ≡ bare 255 0) × Untouched bs word bs′ word′

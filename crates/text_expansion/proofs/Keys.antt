@@ -20,15 +20,16 @@ use Rattle.text_memo.specs.Draft.{spanFor, Remembered, Behind, Remembers, Draft
 use Rattle.text_memo.proofs.Spans.{drafted-name}
 use Rattle.text_expansion.specs.Here.{Here}
 use Rattle.text_expansion.specs.Asks.{PlainAsk, WritesPlain, TextAsk, WritesText, NameAsk, WritesName, KeyAsk}
+use Rattle.hold_reading.specs.Buffers.{Buffers}
 
 -- ---- a name
 
-module _ {t names index texts bind graph name before : List ℕ} {a : Asked} {depth : ℕ} {d : Draft} (w : NameAsk t names index texts bind graph a name depth before d) where
-  pub in-scope : InScope texts bind a
+module _ {t : List ℕ} {bs : Buffers} {name before : List ℕ} {a : Asked} {depth : ℕ} {d : Draft} (w : NameAsk t bs a name depth before d) where
+  pub in-scope : InScope (bs .texts) (bs .bind) a
   in-scope = let q = w .asking in record { log = q .log; reading = q .reading; step = q .step; scope = q .here .scope }
 
-  module _ {source : Source} (l : Looks texts bind a (λ rd s. lookup rd s name) source) where
-    pub key-asked : {k : ℕ} → source ≡ Text k → KeyAsk t names index texts bind graph a name k depth before d
+  module _ {source : Source} (l : Looks (bs .texts) (bs .bind) a (λ rd s. lookup rd s name) source) where
+    pub key-asked : {k : ℕ} → source ≡ Text k → KeyAsk t bs a name k depth before d
     unfolding meaning
     key-asked {k} e =
         record {
@@ -37,18 +38,18 @@ module _ {t names index texts bind graph name before : List ℕ} {a : Asked} {de
           found = λ log rd s h. l .means log rd s (h .scope) ∙ ap (meaning rd s log) e;
         }
 
-    pub plain-asked : PlainAsk names index texts bind graph a source before d
+    pub plain-asked : PlainAsk bs a source before d
     plain-asked =
         let q = w .asking in
         record { reading = q .reading; step = q .step; files = q .here .files; free = q .remembers .free; value = l .value }
 
-    module _ {after : List ℕ} {r : Draft} (p : WritesPlain names index texts bind graph a source before d after r) where
-      as-it-is : {log : List Logged} {rd : Reading} {s : Step} (v : List ℕ) → Here names index texts bind graph a log rd s → meaning rd s log source ≡ asIs v → Remembers (textOf rd s deep) before d
+    module _ {after : List ℕ} {r : Draft} (p : WritesPlain bs a source before d after r) where
+      as-it-is : {log : List Logged} {rd : Reading} {s : Step} (v : List ℕ) → Here bs a log rd s → meaning rd s log source ≡ asIs v → Remembers (textOf rd s deep) before d
           → Drafted (textOf rd s deep) before d (textOf rd s deep name) after r
       as-it-is {log} {rd} {s} v h e k =
           rw (text-as-is rd s name v (l .means log rd s (h .scope) ∙ e)) (p .writes log rd s h v e (textOf rd s deep) k)
 
-      by-source : {log : List Logged} {rd : Reading} {s : Step} (y : Source) → source ≡ y → ((k : ℕ) → source ≡ Text k → ⊥) → Here names index texts bind graph a log rd s
+      by-source : {log : List Logged} {rd : Reading} {s : Step} (y : Source) → source ≡ y → ((k : ℕ) → source ≡ Text k → ⊥) → Here bs a log rd s
           → Remembers (textOf rd s deep) before d → Drafted (textOf rd s deep) before d (textOf rd s deep name) after r
       unfolding meaning
       by-source {log} {rd} {s} Inputs e n h k = as-it-is _ h (ap (meaning rd s log) e) k
@@ -58,12 +59,12 @@ module _ {t names index texts bind graph name before : List ℕ} {a : Asked} {de
       by-source {log} {rd} {s} (Text j) e n h k = absurd (n j e)
       by-source {log} {rd} {s} Unset e n h k = as-it-is _ h (ap (meaning rd s log) e) k
 
-      pub plain-written : ((k : ℕ) → source ≡ Text k → ⊥) → WritesName names index texts bind graph a name depth before d after r
+      pub plain-written : ((k : ℕ) → source ≡ Text k → ⊥) → WritesName bs a name depth before d after r
       plain-written n = record { writes = λ log rd s h c k. by-source source refl n h k }
 
 -- ---- a rule's key
 
-module _ {t names index texts bind graph name before : List ℕ} {a : Asked} {k depth : ℕ} {d : Draft} (w : KeyAsk t names index texts bind graph a name k depth before d) where
+module _ {t : List ℕ} {bs : Buffers} {name before : List ℕ} {a : Asked} {k depth : ℕ} {d : Draft} (w : KeyAsk t bs a name k depth before d) where
   -- where it stands already
 
   module _ {span : Span} (e : span ≡ spanFor d name) (b : span .from ≤ span .to) where
@@ -72,7 +73,7 @@ module _ {t names index texts bind graph name before : List ℕ} {a : Asked} {k 
         let q = w .ask .asking .remembers in
         record { ordered = b; written = rw e (q .kept name (rw e at b) .written); free = q .free }
 
-    pub again-written : {after : List ℕ} {r : Draft} → Writes before d (part before (span .from) (span .to)) after r → WritesName names index texts bind graph a name depth before d after r
+    pub again-written : {after : List ℕ} {r : Draft} → Writes before d (part before (span .from) (span .to)) after r → WritesName bs a name depth before d after r
     again-written {after} {r} p =
         record {
           writes = λ log rd s h c q.
@@ -88,11 +89,11 @@ module _ {t names index texts bind graph name before : List ℕ} {a : Asked} {k 
       let n : depth ≡ 0 → ⊥ = not-zero (q .reading) (q .step) depth name (w .ask .shallow) in
       omega arith
 
-  module _ {raw : List ℕ} (v : ValueOf texts bind k raw) where
-    raw-found : {log : List Logged} {rd : Reading} {s : Step} → Here names index texts bind graph a log rd s → lookup rd s name ≡ ofRule raw
+  module _ {raw : List ℕ} (v : ValueOf (bs .texts) (bs .bind) k raw) where
+    raw-found : {log : List Logged} {rd : Reading} {s : Step} → Here bs a log rd s → lookup rd s name ≡ ofRule raw
     raw-found {log} {rd} {s} h = w .found log rd s h ∙ ap ofRule (sym (v log (a .entries) (h .scope .bound) (w .there .low)))
 
-    pub text-asked : TextAsk t names index texts bind graph a raw (depth - 1) before d
+    pub text-asked : TextAsk t bs a raw (depth - 1) before d
     text-asked =
         let q = w .ask .asking in
         record {
@@ -107,8 +108,8 @@ module _ {t names index texts bind graph name before : List ℕ} {a : Asked} {k 
           shallow = text-shallow (q .reading) (q .step) depth name raw (w .ask .shallow) (raw-found (q .here));
         }
 
-    pub key-written : {after : List ℕ} {m r : Draft} → WritesText names index texts bind graph a raw (depth - 1) before d after m → Remembered m name (d .at) r
-        → WritesName names index texts bind graph a name depth before d after r
+    pub key-written : {after : List ℕ} {m r : Draft} → WritesText bs a raw (depth - 1) before d after m → Remembered m name (d .at) r
+        → WritesName bs a name depth before d after r
     key-written {after} {m} {r} p e =
         record {
           writes = λ log rd s h c q.

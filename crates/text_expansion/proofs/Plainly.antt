@@ -21,6 +21,7 @@ use Rattle.text_memo.specs.Draft.{Writes}
 use Rattle.text_memo.proofs.Spans.{drafted-none}
 use Rattle.text_expansion.specs.Here.{Files, Here}
 use Rattle.text_expansion.specs.Asks.{FilesAsk, PlainAsk, WritesPlain}
+use Rattle.hold_reading.specs.Buffers.{Buffers}
 
 -- ---- files
 
@@ -41,10 +42,10 @@ part-ask {graph = graph} {from = from} {to = to} w =
 as-is-one : {x v : List ℕ} → asIs x ≡ asIs v → x ≡ v
 as-is-one e = cc
 
-module _ {names index texts bind graph before after : List ℕ} {a : Asked} {source : Source} {d r : Draft} where
+module _ {bs : Buffers} {before after : List ℕ} {a : Asked} {source : Source} {d r : Draft} where
   plainly : (x : Reading → Step → List Logged → List ℕ) → ((rd : Reading) (s : Step) (log : List Logged) → meaning rd s log source ≡ asIs (x rd s log))
-      → ((log : List Logged) (rd : Reading) (s : Step) → Here names index texts bind graph a log rd s → Writes before d (x rd s log) after r)
-      → WritesPlain names index texts bind graph a source before d after r
+      → ((log : List Logged) (rd : Reading) (s : Step) → Here bs a log rd s → Writes before d (x rd s log) after r)
+      → WritesPlain bs a source before d after r
   plainly x e p =
       record {
         writes = λ log rd s h v q text k.
@@ -54,36 +55,36 @@ module _ {names index texts bind graph before after : List ℕ} {a : Asked} {sou
 
   -- files of the step between two places
   plain-files : (c from to : ℕ) (l : Step → List ℕ) → ((rd : Reading) (s : Step) (log : List Logged) → meaning rd s log source ≡ asIs (joinedBy c (namesOf rd (l s))))
-      → ((rd : Reading) (s : Step) → Files names index graph a rd s → part graph from to ≡ l s)
-      → ((files : List (List ℕ)) → HoldsNames names index (a .files) files → Writes before d (joinedBy c (namesIn files (part graph from to))) after r)
-      → WritesPlain names index texts bind graph a source before d after r
+      → ((rd : Reading) (s : Step) → Files (bs .names) (bs .index) (bs .graph) a rd s → part (bs .graph) from to ≡ l s)
+      → ((files : List (List ℕ)) → HoldsNames (bs .names) (bs .index) (a .files) files → Writes before d (joinedBy c (namesIn files (part (bs .graph) from to))) after r)
+      → WritesPlain bs a source before d after r
   unfolding namesOf
   plain-files c from to l e q w = plainly (λ rd s log. joinedBy c (namesOf rd (l s))) e (λ log rd s h. rw (← (q rd s (h .files))) (w (rd .files) (h .files .named)))
 
-  pub plain-inputs : source ≡ Inputs → ((files : List (List ℕ)) → HoldsNames names index (a .files) files → Writes before d (joinedBy space (namesIn files (part graph (a .ins) (a .rest)))) after r)
-      → WritesPlain names index texts bind graph a source before d after r
+  pub plain-inputs : source ≡ Inputs → ((files : List (List ℕ)) → HoldsNames (bs .names) (bs .index) (a .files) files → Writes before d (joinedBy space (namesIn files (part (bs .graph) (a .ins) (a .rest)))) after r)
+      → WritesPlain bs a source before d after r
   unfolding meaning
   plain-inputs e = plain-files space (a .ins) (a .rest) (λ s. s .ins) (λ rd s log. ap (meaning rd s log) e) (λ rd s f. f .ins)
 
-  pub plain-lines : source ≡ InputLines → ((files : List (List ℕ)) → HoldsNames names index (a .files) files → Writes before d (joinedBy newline (namesIn files (part graph (a .ins) (a .rest)))) after r)
-      → WritesPlain names index texts bind graph a source before d after r
+  pub plain-lines : source ≡ InputLines → ((files : List (List ℕ)) → HoldsNames (bs .names) (bs .index) (a .files) files → Writes before d (joinedBy newline (namesIn files (part (bs .graph) (a .ins) (a .rest)))) after r)
+      → WritesPlain bs a source before d after r
   unfolding meaning
   plain-lines e = plain-files newline (a .ins) (a .rest) (λ s. s .ins) (λ rd s log. ap (meaning rd s log) e) (λ rd s f. f .ins)
 
-  pub plain-outputs : source ≡ Outputs → ((files : List (List ℕ)) → HoldsNames names index (a .files) files → Writes before d (joinedBy space (namesIn files (part graph (a .outs) (a .ins)))) after r)
-      → WritesPlain names index texts bind graph a source before d after r
+  pub plain-outputs : source ≡ Outputs → ((files : List (List ℕ)) → HoldsNames (bs .names) (bs .index) (a .files) files → Writes before d (joinedBy space (namesIn files (part (bs .graph) (a .outs) (a .ins)))) after r)
+      → WritesPlain bs a source before d after r
   unfolding meaning
   plain-outputs e = plain-files space (a .outs) (a .ins) (λ s. s .outs) (λ rd s log. ap (meaning rd s log) e) (λ rd s f. f .outs)
 
-  pub plain-value : {k : ℕ} {raw : List ℕ} → PlainAsk names index texts bind graph a source before d → source ≡ Value k → ValueOf texts bind k raw → Writes before d raw after r
-      → WritesPlain names index texts bind graph a source before d after r
+  pub plain-value : {k : ℕ} {raw : List ℕ} → PlainAsk bs a source before d → source ≡ Value k → ValueOf (bs .texts) (bs .bind) k raw → Writes before d raw after r
+      → WritesPlain bs a source before d after r
   unfolding meaning
   plain-value {k} {raw} w e v p =
       plainly (λ rd s log. entryAt k log .value) (λ rd s log. ap (meaning rd s log) e)
       (λ log rd s h. rw (← (v log (a .entries) (h .scope .bound) (w .value k e .low))) p)
 
-module _ {names index texts bind graph before : List ℕ} {a : Asked} {source : Source} {d : Draft} where
-  pub plain-text : {k : ℕ} → source ≡ Text k → WritesPlain names index texts bind graph a source before d before d
+module _ {bs : Buffers} {before : List ℕ} {a : Asked} {source : Source} {d : Draft} where
+  pub plain-text : {k : ℕ} → source ≡ Text k → WritesPlain bs a source before d before d
   unfolding meaning
   plain-text {k} e =
       record {
@@ -93,6 +94,6 @@ module _ {names index texts bind graph before : List ℕ} {a : Asked} {source : 
             absurd (omega arith);
       }
 
-  pub plain-unset : source ≡ Unset → WritesPlain names index texts bind graph a source before d before d
+  pub plain-unset : source ≡ Unset → WritesPlain bs a source before d before d
   unfolding meaning
   plain-unset e = plainly (λ rd s log. []) (λ rd s log. ap (meaning rd s log) e) (λ log rd s h. record { drafts = λ text k. drafted-none k })

@@ -19,6 +19,7 @@ use Rattle.text_buffer.specs.Puts.{Open}
 use Rattle.text_memo.specs.declared.Draft.{Draft}
 use Rattle.text_memo.specs.Draft.{Remembers, Drafted}
 use Rattle.text_expansion.specs.Here.{Files, Here}
+use Rattle.hold_reading.specs.Buffers.{Buffers}
 
 -- files of the step, from a place of the mentions to another
 pub record FilesAsk (names index graph : List ℕ) (a : Asked) (from to : ℕ) (buffer : List ℕ) (d : Draft) : Type 0 where
@@ -32,54 +33,54 @@ pub record FilesAsk (names index graph : List ℕ) (a : Asked) (from to : ℕ) (
 
 -- ------------------------------------------------------------------ what is written as it is
 
-pub record PlainAsk (names index texts bind graph : List ℕ) (a : Asked) (source : Source) (buffer : List ℕ) (d : Draft) : Type 0 where
+pub record PlainAsk (bs : Buffers) (a : Asked) (source : Source) (buffer : List ℕ) (d : Draft) : Type 0 where
   pub reading : Reading
   pub step : Step
-  pub files : Files names index graph a reading step
+  pub files : Files (bs .names) (bs .index) (bs .graph) a reading step
   pub free : Open buffer (d .at)
-  pub value : (k : ℕ) → source ≡ Value k → There texts bind a k
+  pub value : (k : ℕ) → source ≡ Value k → There (bs .texts) (bs .bind) a k
 
-pub record WritesPlain (names index texts bind graph : List ℕ) (a : Asked) (source : Source) (before : List ℕ) (d : Draft) (after : List ℕ) (r : Draft) : Type 0 where
-  pub writes : (log : List Logged) (rd : Reading) (s : Step) → Here names index texts bind graph a log rd s → (v : List ℕ) → meaning rd s log source ≡ asIs v
+pub record WritesPlain (bs : Buffers) (a : Asked) (source : Source) (before : List ℕ) (d : Draft) (after : List ℕ) (r : Draft) : Type 0 where
+  pub writes : (log : List Logged) (rd : Reading) (s : Step) → Here bs a log rd s → (v : List ℕ) → meaning rd s log source ≡ asIs v
       → (text : List ℕ → List ℕ) → Remembers text before d → Drafted text before d v after r
 
 -- ------------------------------------------------------------------ rules' texts
 
 -- Some reading's step is held, and the draft remembers texts of its names.
-pub record Asking (names index texts bind graph : List ℕ) (a : Asked) (buffer : List ℕ) (d : Draft) : Type 0 where
+pub record Asking (bs : Buffers) (a : Asked) (buffer : List ℕ) (d : Draft) : Type 0 where
   pub log : List Logged
   pub reading : Reading
   pub step : Step
-  pub here : Here names index texts bind graph a log reading step
+  pub here : Here bs a log reading step
   pub remembers : Remembers (textOf reading step deep) buffer d
 
 -- a raw text
-pub record TextAsk (t names index texts bind graph : List ℕ) (a : Asked) (raw : List ℕ) (depth : ℕ) (buffer : List ℕ) (d : Draft) : Type 0 where
+pub record TextAsk (t : List ℕ) (bs : Buffers) (a : Asked) (raw : List ℕ) (depth : ℕ) (buffer : List ℕ) (d : Draft) : Type 0 where
   pub ready : Ready t raw 0
   pub low : depth ≤ deep
-  pub asking : Asking names index texts bind graph a buffer d
+  pub asking : Asking bs a buffer d
   pub shallow : any (goesDeep (asking .reading) (asking .step) depth) (refs raw) ≡ false
 
-pub record WritesText (names index texts bind graph : List ℕ) (a : Asked) (raw : List ℕ) (depth : ℕ) (before : List ℕ) (d : Draft) (after : List ℕ) (r : Draft) : Type 0 where
-  pub writes : (log : List Logged) (rd : Reading) (s : Step) → Here names index texts bind graph a log rd s → any (goesDeep rd s depth) (refs raw) ≡ false
+pub record WritesText (bs : Buffers) (a : Asked) (raw : List ℕ) (depth : ℕ) (before : List ℕ) (d : Draft) (after : List ℕ) (r : Draft) : Type 0 where
+  pub writes : (log : List Logged) (rd : Reading) (s : Step) → Here bs a log rd s → any (goesDeep rd s depth) (refs raw) ≡ false
       → Remembers (textOf rd s deep) before d → Drafted (textOf rd s deep) before d (expand (textOf rd s deep) raw) after r
 
 -- a name
-pub record NameAsk (t names index texts bind graph : List ℕ) (a : Asked) (name : List ℕ) (depth : ℕ) (buffer : List ℕ) (d : Draft) : Type 0 where
+pub record NameAsk (t : List ℕ) (bs : Buffers) (a : Asked) (name : List ℕ) (depth : ℕ) (buffer : List ℕ) (d : Draft) : Type 0 where
   pub table : t ≡ classes
   pub low : depth ≤ deep
-  pub asking : Asking names index texts bind graph a buffer d
+  pub asking : Asking bs a buffer d
   pub shallow : goesDeep (asking .reading) (asking .step) depth name ≡ false
 
-pub record WritesName (names index texts bind graph : List ℕ) (a : Asked) (name : List ℕ) (depth : ℕ) (before : List ℕ) (d : Draft) (after : List ℕ) (r : Draft) : Type 0 where
-  pub writes : (log : List Logged) (rd : Reading) (s : Step) → Here names index texts bind graph a log rd s → goesDeep rd s depth name ≡ false
+pub record WritesName (bs : Buffers) (a : Asked) (name : List ℕ) (depth : ℕ) (before : List ℕ) (d : Draft) (after : List ℕ) (r : Draft) : Type 0 where
+  pub writes : (log : List Logged) (rd : Reading) (s : Step) → Here bs a log rd s → goesDeep rd s depth name ≡ false
       → Remembers (textOf rd s deep) before d → Drafted (textOf rd s deep) before d (textOf rd s deep name) after r
 
 -- a rule's key, by its entry
-pub record KeyAsk (t names index texts bind graph : List ℕ) (a : Asked) (name : List ℕ) (k depth : ℕ) (buffer : List ℕ) (d : Draft) : Type 0 where
-  pub ask : NameAsk t names index texts bind graph a name depth buffer d
-  pub there : There texts bind a k
-  pub found : (log : List Logged) (rd : Reading) (s : Step) → Here names index texts bind graph a log rd s → lookup rd s name ≡ ofRule (entryAt k log .value)
+pub record KeyAsk (t : List ℕ) (bs : Buffers) (a : Asked) (name : List ℕ) (k depth : ℕ) (buffer : List ℕ) (d : Draft) : Type 0 where
+  pub ask : NameAsk t bs a name depth buffer d
+  pub there : There (bs .texts) (bs .bind) a k
+  pub found : (log : List Logged) (rd : Reading) (s : Step) → Here bs a log rd s → lookup rd s name ≡ ofRule (entryAt k log .value)
 
-abbrev pub WritesKey : (names index texts bind graph : List ℕ) (a : Asked) (name : List ℕ) (k depth : ℕ) (before : List ℕ) (d : Draft) (after : List ℕ) (r : Draft) → Type 0
-WritesKey names index texts bind graph a name k depth before d after r = WritesName names index texts bind graph a name depth before d after r
+abbrev pub WritesKey : (bs : Buffers) (a : Asked) (name : List ℕ) (k depth : ℕ) (before : List ℕ) (d : Draft) (after : List ℕ) (r : Draft) → Type 0
+WritesKey bs a name k depth before d after r = WritesName bs a name depth before d after r

@@ -9,6 +9,7 @@ use Rattle.hold_names.specs.Table.{HoldsNames}
 use Rattle.hold_bindings.specs.Log.{Logged}
 use Rattle.text_lookup.specs.declared.Asked.{Asked}
 use Rattle.text_lookup.specs.Scope.{Scope}
+use Rattle.hold_reading.specs.Buffers.{Buffers}
 
 -- its files: outputs, and behind them the explicit inputs, in the column of mentions that begins the graph
 pub record Files (names index graph : List ℕ) (a : Asked) (rd : Reading) (s : Step) : Type 0 where
@@ -20,6 +21,6 @@ pub record Files (names index graph : List ℕ) (a : Asked) (rd : Reading) (s : 
   pub ins : part graph (a .ins) (a .rest) ≡ s .ins
   pub low : (i : ℕ) → a .outs ≤ i → i < a .rest → getD graph i 0 < a .files
 
-pub record Here (names index texts bind graph : List ℕ) (a : Asked) (log : List Logged) (rd : Reading) (s : Step) : Type 0 where
-  pub scope : Scope texts bind a log rd s
-  pub files : Files names index graph a rd s
+pub record Here (bs : Buffers) (a : Asked) (log : List Logged) (rd : Reading) (s : Step) : Type 0 where
+  pub scope : Scope (bs .texts) (bs .bind) a log rd s
+  pub files : Files (bs .names) (bs .index) (bs .graph) a rd s

@@ -1,5 +1,6 @@
 // A step's text written into the lent buffer: a name's text as it is, or a rule's text expanded by the same lookup. Each rule key is expanded once.
 ghost use Rattle.text_expansion.specs.Asks.{TextAsk, NameAsk, KeyAsk, WritesText, WritesName, WritesKey};
+ghost use Rattle.hold_reading.specs.Buffers.{buffers};
 use hold_bindings::value;
 use plain::write_plain;
 use spec::limits::TEXT;
@@ -30,8 +31,8 @@ fn write_text(
     buffer: &mut [u8],
     d: Draft,
 ) -> Draft
-    requires { ⌜ TextAsk (now t) (now names) (now index) (now texts) (now bind) (now graph) a (now raw) depth (now buffer) d ⌝ }
-    ensures { λ r. ⌜ WritesText (now (names .entry)) (now (index .entry)) (now (texts .entry)) (now (bind .entry)) (now (graph .entry)) a (now (raw .entry)) depth (now (buffer .entry)) d (now (buffer .exit)) r ⌝ }
+    requires { ⌜ TextAsk (now t) (buffers (now names) (now index) (now texts) (now bind) (now graph)) a (now raw) depth (now buffer) d ⌝ }
+    ensures { λ r. ⌜ WritesText (buffers (now (names .entry)) (now (index .entry)) (now (texts .entry)) (now (bind .entry)) (now (graph .entry))) a (now (raw .entry)) depth (now (buffer .entry)) d (now (buffer .exit)) r ⌝ }
 {
     let mut x = d;
     let mut i = 0;
@@ -82,8 +83,8 @@ pub fn write_name(
     buffer: &mut [u8],
     d: Draft,
 ) -> Draft
-    requires { ⌜ NameAsk (now t) (now names) (now index) (now texts) (now bind) (now graph) a (now name) depth (now buffer) d ⌝ }
-    ensures { λ r. ⌜ WritesName (now (names .entry)) (now (index .entry)) (now (texts .entry)) (now (bind .entry)) (now (graph .entry)) a (now (name .entry)) depth (now (buffer .entry)) d (now (buffer .exit)) r ⌝ }
+    requires { ⌜ NameAsk (now t) (buffers (now names) (now index) (now texts) (now bind) (now graph)) a (now name) depth (now buffer) d ⌝ }
+    ensures { λ r. ⌜ WritesName (buffers (now (names .entry)) (now (index .entry)) (now (texts .entry)) (now (bind .entry)) (now (graph .entry))) a (now (name .entry)) depth (now (buffer .entry)) d (now (buffer .exit)) r ⌝ }
 {
     let source = lookup(texts, bind, a, name);
     if let Source::Text(k) = source {
@@ -120,8 +121,8 @@ fn write_key(
     buffer: &mut [u8],
     d: Draft,
 ) -> Draft
-    requires { ⌜ KeyAsk (now t) (now names) (now index) (now texts) (now bind) (now graph) a (now name) k depth (now buffer) d ⌝ }
-    ensures { λ r. ⌜ WritesKey (now (names .entry)) (now (index .entry)) (now (texts .entry)) (now (bind .entry)) (now (graph .entry)) a (now (name .entry)) k depth (now (buffer .entry)) d (now (buffer .exit)) r ⌝ }
+    requires { ⌜ KeyAsk (now t) (buffers (now names) (now index) (now texts) (now bind) (now graph)) a (now name) k depth (now buffer) d ⌝ }
+    ensures { λ r. ⌜ WritesKey (buffers (now (names .entry)) (now (index .entry)) (now (texts .entry)) (now (bind .entry)) (now (graph .entry))) a (now (name .entry)) k depth (now (buffer .entry)) d (now (buffer .exit)) r ⌝ }
 {
     let span = span_of(d, name);
     let from = span.from;

@@ -7,6 +7,7 @@ ghost use Rattle.hold_names.specs.Table.{HoldsNames};
 ghost use Rattle.text_buffer.specs.Puts.{namesIn};
 ghost use Rattle.text_memo.specs.Draft.{Writes};
 ghost use Rattle.text_expansion.specs.Asks.{FilesAsk, PlainAsk, WritesPlain};
+ghost use Rattle.hold_reading.specs.Buffers.{buffers};
 use hold_bindings::value;
 use text_buffer::put_files;
 use text_lookup::Asked;
@@ -54,8 +55,8 @@ pub fn write_plain(
     buffer: &mut [u8],
     d: Draft,
 ) -> Draft
-    requires { ⌜ PlainAsk (now names) (now index) (now texts) (now bind) (now graph) a source (now buffer) d ⌝ }
-    ensures { λ r. ⌜ WritesPlain (now (names .entry)) (now (index .entry)) (now (texts .entry)) (now (bind .entry)) (now (graph .entry)) a source (now (buffer .entry)) d (now (buffer .exit)) r ⌝ }
+    requires { ⌜ PlainAsk (buffers (now names) (now index) (now texts) (now bind) (now graph)) a source (now buffer) d ⌝ }
+    ensures { λ r. ⌜ WritesPlain (buffers (now (names .entry)) (now (index .entry)) (now (texts .entry)) (now (bind .entry)) (now (graph .entry))) a source (now (buffer .entry)) d (now (buffer .exit)) r ⌝ }
 {
     let outs = a.outs;
     let ins = a.ins;

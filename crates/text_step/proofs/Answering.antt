@@ -32,6 +32,7 @@ use Rattle.text_expansion.specs.Here.{Here}
 use Rattle.text_step.specs.Steps.{Picks, Reads}
 use Rattle.text_step.proofs.One.{sound-any}
 use Rattle.text_step.specs.Asks.{StepAsk, WholeAsk, WritesWhole, TextAt, TextAsk, TextOf}
+use Rattle.hold_reading.specs.Buffers.{Buffers}
 
 -- ---- the buffer
 
@@ -70,18 +71,18 @@ meets-text {before} {after} {exit} {s} {n} p h e =
 
 -- ---- one step
 
-module _ {t names index texts bind graph before : List ℕ} {a : Asked} (key : Key) (k : ℕ) (w : StepAsk t names index texts bind graph a before) {b : Bool}
-    (q : (log : List Logged) (rd : Reading) (s : Step) → Scope texts bind a log rd s → b ≡ leadsBack rd s deep [] (keyName key)) where
-  pub in-endless : {exit : List ℕ} → b ≡ true → exit ≡ zeroed before 0 (length before) → TextAt names index texts bind graph a k key before exit (Refused (EndlessText k))
+module _ {t : List ℕ} {bs : Buffers} {before : List ℕ} {a : Asked} (key : Key) (k : ℕ) (w : StepAsk t bs a before) {b : Bool}
+    (q : (log : List Logged) (rd : Reading) (s : Step) → Scope (bs .texts) (bs .bind) a log rd s → b ≡ leadsBack rd s deep [] (keyName key)) where
+  pub in-endless : {exit : List ℕ} → b ≡ true → exit ≡ zeroed before 0 (length before) → TextAt bs a k key before exit (Refused (EndlessText k))
   unfolding nameOutcome nameRefusal
   in-endless {exit} e z = record { meets = λ log rd h. rw (sym (q log rd (stepAt (rd .steps) k) (h .scope)) ∙ e) (meets-endless k before before refl z) }
 
   module _ (e : b ≡ false) where
-    pub wants : WholeAsk t names index texts bind graph a (keyName key) before
+    pub wants : WholeAsk t bs a (keyName key) before
     wants = record { asked = w; ended = sym (q (w .log) (w .reading) (w .step) (w .here .scope)) ∙ e }
 
-    module _ {after : List ℕ} {n : ℕ} (p : WritesWhole names index texts bind graph a (keyName key) before after n) {exit : List ℕ} where
-      pub in-long : maxText < n → exit ≡ zeroed after 0 (length after) → TextAt names index texts bind graph a k key before exit (Refused (LongText k))
+    module _ {after : List ℕ} {n : ℕ} (p : WritesWhole bs a (keyName key) before after n) {exit : List ℕ} where
+      pub in-long : maxText < n → exit ≡ zeroed after 0 (length after) → TextAt bs a k key before exit (Refused (LongText k))
       unfolding nameOutcome nameRefusal
       in-long h z =
           record {
@@ -93,7 +94,7 @@ module _ {t names index texts bind graph before : List ℕ} {a : Asked} (key : K
                 rw (f, g) (meets-long k before after (x .long) z);
           }
 
-      pub in-text : n ≤ maxText → exit ≡ zeroed after n (length after) → TextAt names index texts bind graph a k key before exit (Written n)
+      pub in-text : n ≤ maxText → exit ≡ zeroed after n (length after) → TextAt bs a k key before exit (Written n)
       unfolding nameOutcome nameRefusal
       in-text h z =
           record {
@@ -108,20 +109,20 @@ module _ {t names index texts bind graph before : List ℕ} {a : Asked} (key : K
 
 -- ---- the ask
 
-module _ {t names index texts bind graph before : List ℕ} {c : Counts} (w : TextAsk t names index texts bind graph c before) where
-  pub reads : Reads texts bind graph c
+module _ {t : List ℕ} {bs : Buffers} {before : List ℕ} {c : Counts} (w : TextAsk t bs c before) where
+  pub reads : Reads (bs .texts) (bs .bind) (bs .graph) c
   reads = record { log = w .log; reading = w .reading; bound = w .holds .bound; graphed = w .holds .graphed }
 
   pub no-command : {step : ℕ} (wanted : Wanted) {exit : List ℕ}
-      → ((log : List Logged) (rd : Reading) → Bound log texts bind c rd → Graphed log graph c rd → leb (length (rd .steps)) step || isPhony (stepAt (rd .steps) step .rule) ≡ true)
-      → exit ≡ zeroed before 0 (length before) → TextOf names index texts bind graph c step wanted before exit (Refused (NoCommand step))
+      → ((log : List Logged) (rd : Reading) → Bound log (bs .texts) (bs .bind) c rd → Graphed log (bs .graph) c rd → leb (length (rd .steps)) step || isPhony (stepAt (rd .steps) step .rule) ≡ true)
+      → exit ≡ zeroed before 0 (length before) → TextOf bs c step wanted before exit (Refused (NoCommand step))
   unfolding textOfStep
   no-command {step} wanted q z =
       record { meets = λ log rd h. rw (q log rd (h .bound) (h .graphed)) (meets-none step before before refl z) }
 
 -- the step that was picked, in any reading
-module _ {names index texts bind graph : List ℕ} {c : Counts} {step : ℕ} {a : Asked} (p : Picks texts bind graph c step a) where
-  pub picked-here : {log : List Logged} {rd : Reading} → HoldsReading log names index texts bind graph c rd → SoundRules rd → Here names index texts bind graph a log rd (stepAt (rd .steps) step)
+module _ {bs : Buffers} {c : Counts} {step : ℕ} {a : Asked} (p : Picks (bs .texts) (bs .bind) (bs .graph) c step a) where
+  pub picked-here : {log : List Logged} {rd : Reading} → HoldsReading log bs c rd → SoundRules rd → Here bs a log rd (stepAt (rd .steps) step)
   picked-here {log} {rd} h y =
       let x = p .picked log rd (h .bound) (h .graphed) in
       record {
@@ -147,7 +148,7 @@ module _ {names index texts bind graph : List ℕ} {c : Counts} {step : ℕ} {a 
             };
       }
 
-  pub step-asked : {t before : List ℕ} → TextAsk t names index texts bind graph c before → StepAsk t names index texts bind graph a before
+  pub step-asked : {t before : List ℕ} → TextAsk t bs c before → StepAsk t bs a before
   step-asked w =
       record {
         table = w .table;
@@ -158,8 +159,8 @@ module _ {names index texts bind graph : List ℕ} {c : Counts} {step : ℕ} {a 
         here = picked-here (w .holds) (w .sound);
       }
 
-  pub step-text : {t before exit : List ℕ} {wanted : Wanted} {key : Key} {r : TextAnswer} → TextAsk t names index texts bind graph c before → key ≡ wantedKey wanted
-      → TextAt names index texts bind graph a step key before exit r → TextOf names index texts bind graph c step wanted before exit r
+  pub step-text : {t before exit : List ℕ} {wanted : Wanted} {key : Key} {r : TextAnswer} → TextAsk t bs c before → key ≡ wantedKey wanted
+      → TextAt bs a step key before exit r → TextOf bs c step wanted before exit r
   unfolding textOfStep wantedName
   step-text w z q =
       record {

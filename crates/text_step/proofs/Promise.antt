@@ -23,18 +23,19 @@ use Rattle.hold_bindings.specs.Log.{Logged}
 use Rattle.hold_reading.specs.declared.Counts.{Counts}
 use Rattle.hold_reading.specs.Held.{HoldsReading}
 use Rattle.text_step.specs.Asks.{TextAsk, TextOf}
+use Rattle.hold_reading.specs.Buffers.{Buffers}
 
 module _ (manifest before : List ℕ) (h : maxText ≤ length before) where
   enough : ltb (length before) maxText ≡ false
   enough = le-ltb (length before) maxText h
 
   -- a manifest that was read
-  module _ {log : List Logged} {names index texts bind graph : List ℕ} {c : Counts} {rd : Reading} (e : readManifest manifest ≡ accepted rd)
-      (k : HoldsReading log names index texts bind graph c rd) where
-    pub text-asked : {t : List ℕ} → t ≡ classes → TextAsk t names index texts bind graph c before
+  module _ {log : List Logged} {bs : Buffers} {c : Counts} {rd : Reading} (e : readManifest manifest ≡ accepted rd)
+      (k : HoldsReading log bs c rd) where
+    pub text-asked : {t : List ℕ} → t ≡ classes → TextAsk t bs c before
     text-asked q = record { table = q; room = h; log = log; reading = rd; holds = k; sound = accepted-sound manifest rd e }
 
-    pub text-promised : {step : ℕ} {wanted : Wanted} {r : TextAnswer} {after : List ℕ} → TextOf names index texts bind graph c step wanted before after r
+    pub text-promised : {step : ℕ} {wanted : Wanted} {r : TextAnswer} {after : List ℕ} → TextOf bs c step wanted before after r
         → TextPromise manifest step wanted before r after
     unfolding textAsk textRead
     text-promised p = rw (enough, e) (p .meets log rd k)

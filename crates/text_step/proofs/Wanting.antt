@@ -18,13 +18,14 @@ use Rattle.text_memo.specs.Draft.{nothing}
 use Rattle.text_memo.proofs.Spans.{nothing-remembers}
 use Rattle.text_expansion.specs.Asks.{NameAsk, WritesName}
 use Rattle.text_step.specs.Asks.{StepAsk, WholeAsk, WritesWhole}
+use Rattle.hold_reading.specs.Buffers.{Buffers}
 
 shallow : (rd : Reading) (s : Step) (n : List ℕ) → leadsBack rd s deep [] n ≡ false → goesDeep rd s deep n ≡ false
 shallow rd s n e = sym (leads-back-deep rd s n) ∙ e
 
-module _ {t names index texts bind graph name buffer : List ℕ} {a : Asked} (w : WholeAsk t names index texts bind graph a name buffer) where
+module _ {t : List ℕ} {bs : Buffers} {name buffer : List ℕ} {a : Asked} (w : WholeAsk t bs a name buffer) where
   module _ {d : Draft} (z : d ≡ nothing) where
-    pub whole-asked : NameAsk t names index texts bind graph a name deep buffer d
+    pub whole-asked : NameAsk t bs a name deep buffer d
     whole-asked =
         let q = w .asked in
         record {
@@ -34,7 +35,7 @@ module _ {t names index texts bind graph name buffer : List ℕ} {a : Asked} (w 
           shallow = shallow (q .reading) (q .step) name (w .ended);
         }
 
-    pub whole-written : {after : List ℕ} {r : Draft} → WritesName names index texts bind graph a name deep buffer d after r → WritesWhole names index texts bind graph a name buffer after (r .at)
+    pub whole-written : {after : List ℕ} {r : Draft} → WritesName bs a name deep buffer d after r → WritesWhole bs a name buffer after (r .at)
     whole-written p =
         record {
           writes = λ log rd s h q.
@@ -51,15 +52,15 @@ module _ (key : Key) {k : ℕ} (e : k ≡ keyNumber (keyName key)) where
     is-name : n ≡ keyName key
     is-name = q ∙ ap (λ (j : ℕ). getD keyNames j []) e ∙ key-at (keyName key) (key-low key)
 
-    pub key-asked : {t names index texts bind graph buffer : List ℕ} {a : Asked} → WholeAsk t names index texts bind graph a (keyName key) buffer → WholeAsk t names index texts bind graph a n buffer
+    pub key-asked : {t : List ℕ} {bs : Buffers} {buffer : List ℕ} {a : Asked} → WholeAsk t bs a (keyName key) buffer → WholeAsk t bs a n buffer
     key-asked w = rw is-name w
 
-    pub key-written : {names index texts bind graph before after : List ℕ} {a : Asked} {r : ℕ} → WritesWhole names index texts bind graph a n before after r
-        → WritesWhole names index texts bind graph a (keyName key) before after r
+    pub key-written : {bs : Buffers} {before after : List ℕ} {a : Asked} {r : ℕ} → WritesWhole bs a n before after r
+        → WritesWhole bs a (keyName key) before after r
     key-written p = rw (← is-name) p
 
 -- ---- what the functions ask
 
-module _ {t names index texts bind graph buffer : List ℕ} {a : Asked} (w : StepAsk t names index texts bind graph a buffer) where
-  pub leads-asked : depth.Asks t texts bind a
+module _ {t : List ℕ} {bs : Buffers} {buffer : List ℕ} {a : Asked} (w : StepAsk t bs a buffer) where
+  pub leads-asked : depth.Asks t (bs .texts) (bs .bind) a
   leads-asked = record { table = w .table; within = record { log = w .log; reading = w .reading; step = w .step; scope = w .here .scope } }

@@ -22,43 +22,44 @@ use Rattle.hold_reading.specs.Held.{HoldsReading}
 use Rattle.text_lookup.specs.declared.Asked.{Asked}
 use Rattle.text_buffer.specs.Puts.{Puts}
 use Rattle.text_expansion.specs.Here.{Here}
+use Rattle.hold_reading.specs.Buffers.{Buffers}
 
 -- ------------------------------------------------------------------ one step
 
-pub record StepAsk (t names index texts bind graph : List ℕ) (a : Asked) (buffer : List ℕ) : Type 0 where
+pub record StepAsk (t : List ℕ) (bs : Buffers) (a : Asked) (buffer : List ℕ) : Type 0 where
   pub table : t ≡ classes
   pub room : maxText ≤ length buffer
   pub log : List Logged
   pub reading : Reading
   pub step : Step
-  pub here : Here names index texts bind graph a log reading step
+  pub here : Here bs a log reading step
 
 -- the same, for the text of a name that is not endless
-pub record WholeAsk (t names index texts bind graph : List ℕ) (a : Asked) (name buffer : List ℕ) : Type 0 where
-  pub asked : StepAsk t names index texts bind graph a buffer
+pub record WholeAsk (t : List ℕ) (bs : Buffers) (a : Asked) (name buffer : List ℕ) : Type 0 where
+  pub asked : StepAsk t bs a buffer
   pub ended : leadsBack (asked .reading) (asked .step) deep [] name ≡ false
 
-pub record WritesWhole (names index texts bind graph : List ℕ) (a : Asked) (name before after : List ℕ) (r : ℕ) : Type 0 where
-  pub writes : (log : List Logged) (rd : Reading) (s : Step) → Here names index texts bind graph a log rd s → leadsBack rd s deep [] name ≡ false
+pub record WritesWhole (bs : Buffers) (a : Asked) (name before after : List ℕ) (r : ℕ) : Type 0 where
+  pub writes : (log : List Logged) (rd : Reading) (s : Step) → Here bs a log rd s → leadsBack rd s deep [] name ≡ false
       → Puts before 0 (textOf rd s deep name) after r
 
 -- 16, 17 or the text of a key, and the whole buffer, for the step of this number in any reading that has it there
-pub record TextAt (names index texts bind graph : List ℕ) (a : Asked) (step : ℕ) (key : Key) (before after : List ℕ) (r : TextAnswer) : Type 0 where
-  pub meets : (log : List Logged) (rd : Reading) → Here names index texts bind graph a log rd (stepAt (rd .steps) step)
+pub record TextAt (bs : Buffers) (a : Asked) (step : ℕ) (key : Key) (before after : List ℕ) (r : TextAnswer) : Type 0 where
+  pub meets : (log : List Logged) (rd : Reading) → Here bs a log rd (stepAt (rd .steps) step)
       → TextMeets (nameOutcome step (keyName key) rd) before (textSays r) after
 
 -- ------------------------------------------------------------------ the ask
 
 -- Some reading is held, as a manifest gives it, and the buffer is long enough.
-pub record TextAsk (t names index texts bind graph : List ℕ) (c : Counts) (buffer : List ℕ) : Type 0 where
+pub record TextAsk (t : List ℕ) (bs : Buffers) (c : Counts) (buffer : List ℕ) : Type 0 where
   pub table : t ≡ classes
   pub room : maxText ≤ length buffer
   pub log : List Logged
   pub reading : Reading
-  pub holds : HoldsReading log names index texts bind graph c reading
+  pub holds : HoldsReading log bs c reading
   pub sound : SoundRules reading
 
 -- The answer and the whole buffer are what document 01 says, whatever reading is held.
-pub record TextOf (names index texts bind graph : List ℕ) (c : Counts) (step : ℕ) (wanted : Wanted) (before after : List ℕ) (r : TextAnswer) : Type 0 where
-  pub meets : (log : List Logged) (rd : Reading) → HoldsReading log names index texts bind graph c rd
+pub record TextOf (bs : Buffers) (c : Counts) (step : ℕ) (wanted : Wanted) (before after : List ℕ) (r : TextAnswer) : Type 0 where
+  pub meets : (log : List Logged) (rd : Reading) → HoldsReading log bs c rd
       → TextMeets (textOfStep step (wantedName wanted) rd) before (textSays r) after

@@ -3,6 +3,7 @@ ghost use mathlib.Core.Path.{_≡_};
 ghost use Rattle.spec.specs.Text.{keyName};
 ghost use Rattle.spec.specs.TextAsk.{wantedKey};
 ghost use Rattle.text_step.specs.Asks.{StepAsk, WholeAsk, WritesWhole, TextAt, TextAsk, TextOf};
+ghost use Rattle.hold_reading.specs.Buffers.{buffers};
 use hold_keys::key_name;
 use hold_keys::key_names;
 use hold_keys::number_of;
@@ -40,8 +41,8 @@ fn write_whole(
     name: &[u8],
     buffer: &mut [u8],
 ) -> usize
-    requires { ⌜ WholeAsk (now t) (now names) (now index) (now texts) (now bind) (now graph) a (now name) (now buffer) ⌝ }
-    ensures { λ r. ⌜ WritesWhole (now (names .entry)) (now (index .entry)) (now (texts .entry)) (now (bind .entry)) (now (graph .entry)) a (now (name .entry)) (now (buffer .entry)) (now (buffer .exit)) r ⌝ }
+    requires { ⌜ WholeAsk (now t) (buffers (now names) (now index) (now texts) (now bind) (now graph)) a (now name) (now buffer) ⌝ }
+    ensures { λ r. ⌜ WritesWhole (buffers (now (names .entry)) (now (index .entry)) (now (texts .entry)) (now (bind .entry)) (now (graph .entry))) a (now (name .entry)) (now (buffer .entry)) (now (buffer .exit)) r ⌝ }
 {
     let d = blank();
     let x = write_name(
@@ -72,8 +73,8 @@ fn write_key(
     key: Key,
     buffer: &mut [u8],
 ) -> usize
-    requires { ⌜ WholeAsk (now t) (now names) (now index) (now texts) (now bind) (now graph) a (keyName key) (now buffer) ⌝ }
-    ensures { λ r. ⌜ WritesWhole (now (names .entry)) (now (index .entry)) (now (texts .entry)) (now (bind .entry)) (now (graph .entry)) a (keyName key) (now (buffer .entry)) (now (buffer .exit)) r ⌝ }
+    requires { ⌜ WholeAsk (now t) (buffers (now names) (now index) (now texts) (now bind) (now graph)) a (keyName key) (now buffer) ⌝ }
+    ensures { λ r. ⌜ WritesWhole (buffers (now (names .entry)) (now (index .entry)) (now (texts .entry)) (now (bind .entry)) (now (graph .entry))) a (keyName key) (now (buffer .entry)) (now (buffer .exit)) r ⌝ }
 {
     let keys = key_names();
     let k = number_of(key);
@@ -103,8 +104,8 @@ pub fn text_at(
     key: Key,
     buffer: &mut [u8],
 ) -> TextAnswer
-    requires { ⌜ StepAsk (now t) (now names) (now index) (now texts) (now bind) (now graph) a (now buffer) ⌝ }
-    ensures { λ r. ⌜ TextAt (now (names .entry)) (now (index .entry)) (now (texts .entry)) (now (bind .entry)) (now (graph .entry)) a step key (now (buffer .entry)) (now (buffer .exit)) r ⌝ }
+    requires { ⌜ StepAsk (now t) (buffers (now names) (now index) (now texts) (now bind) (now graph)) a (now buffer) ⌝ }
+    ensures { λ r. ⌜ TextAt (buffers (now (names .entry)) (now (index .entry)) (now (texts .entry)) (now (bind .entry)) (now (graph .entry))) a step key (now (buffer .entry)) (now (buffer .exit)) r ⌝ }
 {
     if leads_back(t, texts, bind, a, key) {
         zero_from(buffer, 0);
@@ -141,8 +142,8 @@ pub fn text_of(
     wanted: Wanted,
     buffer: &mut [u8],
 ) -> TextAnswer
-    requires { ⌜ TextAsk (now t) (now names) (now index) (now texts) (now bind) (now graph) c (now buffer) ⌝ }
-    ensures { λ r. ⌜ TextOf (now (names .entry)) (now (index .entry)) (now (texts .entry)) (now (bind .entry)) (now (graph .entry)) c step wanted (now (buffer .entry)) (now (buffer .exit)) r ⌝ }
+    requires { ⌜ TextAsk (now t) (buffers (now names) (now index) (now texts) (now bind) (now graph)) c (now buffer) ⌝ }
+    ensures { λ r. ⌜ TextOf (buffers (now (names .entry)) (now (index .entry)) (now (texts .entry)) (now (bind .entry)) (now (graph .entry))) c step wanted (now (buffer .entry)) (now (buffer .exit)) r ⌝ }
 {
     match asked(texts, bind, graph, c, step) {
         StepAsked::NoCommand => {

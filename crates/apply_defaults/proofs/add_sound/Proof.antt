@@ -11,9 +11,10 @@ use Rattle.scan_raw.specs.Texts.{PathNext}
 use Rattle.apply_defaults.proofs.Adding.{Adding, add-begin, add-whole, add-on, add-over, add-end}
 use Rattle.apply_defaults.proofs.add_sound.Statement.{statement}
 use Rattle.apply_defaults.proofs.add_sound.Tie as tie
+use Rattle.hold_reading.specs.Buffers.{buffers}
 
 abbrev Inv-loop : tie.InvT-loop
-Inv-loop t start l at names index texts bind graph₀ word₀ d₀ i₀ graph word d i = (length graph ≡ length graph₀) × (length word ≡ length word₀) × Adding l names index texts bind graph₀ d₀ start at graph d i
+Inv-loop t start l at names index texts bind graph₀ word₀ d₀ i₀ graph word d i = (length graph ≡ length graph₀) × (length word ≡ length word₀) × Adding l (buffers names index texts bind graph₀) d₀ start at graph d i
 
 abbrev μ-loop : tie.MeasureT-loop
 μ-loop t start l at names index texts bind graph₀ word₀ d₀ i₀ graph word d i = length l - i

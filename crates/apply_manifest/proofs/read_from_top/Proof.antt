@@ -6,10 +6,11 @@ use lib.ListN.{length}
 use borrow.Author.Needs.{needs}
 use Rattle.apply_manifest.proofs.read_from_top.Statement.{statement}
 use Rattle.apply_manifest.proofs.read_from_top.Tie as tie
+use Rattle.hold_reading.specs.Buffers.{buffers}
 
 abbrev Inv-loop : tie.InvT-loop
 Inv-loop t m names₀ index₀ texts₀ bind₀ graph₀ word₀ c₀ block₀ i₀ names index texts bind graph word c block i =
-    Same names₀ index₀ texts₀ bind₀ graph₀ word₀ names index texts bind graph word × Turning m names index texts bind graph c block i
+    Same (buffers names₀ index₀ texts₀ bind₀ graph₀) word₀ (buffers names index texts bind graph) word × Turning m (buffers names index texts bind graph) c block i
 
 abbrev μ-loop : tie.MeasureT-loop
 μ-loop t m names₀ index₀ texts₀ bind₀ graph₀ word₀ c₀ block₀ i₀ names index texts bind graph word c block i = length m - i

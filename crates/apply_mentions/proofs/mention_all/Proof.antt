@@ -8,9 +8,10 @@ use Rattle.cut_forms.proofs.Walks.{goes-on, stops}
 use Rattle.apply_mentions.proofs.Passing.{Passing, pass-begin, pass-within, pass-asks, pass-on, pass-over, pass-end}
 use Rattle.apply_mentions.proofs.mention_all.Statement.{statement}
 use Rattle.apply_mentions.proofs.mention_all.Tie as tie
+use Rattle.hold_reading.specs.Buffers.{buffers}
 
 abbrev Inv-loop : tie.InvT-loop
-Inv-loop t l at names₀ index₀ texts bind graph₀ word₀ i₀ d₀ names index graph word i d = Passing t l at names₀ index₀ texts bind graph₀ word₀ d₀ names index graph word i d
+Inv-loop t l at names₀ index₀ texts bind graph₀ word₀ i₀ d₀ names index graph word i d = Passing t l at (buffers names₀ index₀ texts bind graph₀) word₀ d₀ names index graph word i d
 
 abbrev μ-loop : tie.MeasureT-loop
 μ-loop t l at names₀ index₀ texts bind graph₀ word₀ i₀ d₀ names index graph word i d = length l - i

@@ -10,9 +10,10 @@ use Rattle.cut_forms.proofs.Walks.{goes-on, stops}
 use Rattle.apply_path_checks.proofs.Walking.{ready-path, table-held, Looked, look-begin, look-more, look-found, look-end}
 use Rattle.apply_path_checks.proofs.has_wrong.Statement.{statement}
 use Rattle.apply_path_checks.proofs.has_wrong.Tie as tie
+use Rattle.hold_reading.specs.Buffers.{buffers}
 
 abbrev Inv-loop : tie.InvT-loop
-Inv-loop t l start kind names index texts bind graph word₀ c i₀ word i = (length word ≡ length word₀) × Looked kind l names index texts bind graph c start i
+Inv-loop t l start kind names index texts bind graph word₀ c i₀ word i = (length word ≡ length word₀) × Looked kind l (buffers names index texts bind graph) c start i
 
 abbrev μ-loop : tie.MeasureT-loop
 μ-loop t l start kind names index texts bind graph word₀ c i₀ word i = length l - i

@@ -35,6 +35,7 @@ use Rattle.text_references.proofs.piece_at.Reads as piece-at-reads
 use Rattle.text_expansion.proofs.plain.write_plain.Reads as write-plain-reads
 use Rattle.text_expansion.proofs.+write_key+write_name+write_text.{statement}
 use Rattle.text_expansion.proofs.+write_key+write_name+write_text.Tie.{close}
+use Rattle.hold_reading.specs.Buffers.{buffers}
 
 none-of : OneOf (0 ∷ 1 ∷ 2 ∷ 3 ∷ 5 ∷ []) 4 → ⊥
 none-of (inl e) = omega arith
@@ -147,7 +148,7 @@ write-name-returns-2 : (t : ℕ) → write-name-lts.Need-returns-2 (write-name-c
 write-name-returns-2 t c = plain-written (c .before .before .before .before .before .before .before .before .before .before .before .before .before .pre .1) (c .before .before .before .before .before .lookup .ensures) (c .before .before .write-plain .ensures) (no-text _ (c .before .before .before .before .match .keys2))
 
 abbrev write-text-Inv-loop : write-text-lts.InvT-loop
-write-text-Inv-loop t names index texts bind graph a raw depth buffer₀ x₀ i₀ buffer x i = Writing t names index texts bind graph a raw depth buffer₀ x₀ buffer x i
+write-text-Inv-loop t names index texts bind graph a raw depth buffer₀ x₀ i₀ buffer x i = Writing t (buffers names index texts bind graph) a raw depth buffer₀ x₀ buffer x i
 
 abbrev write-text-μ-loop : write-text-lts.MeasureT-loop
 write-text-μ-loop t names index texts bind graph a raw depth buffer₀ x₀ i₀ buffer x i = length raw - i
