@@ -1,4 +1,4 @@
--- A key stands at its number, so that a number below the count has one name; the keys of this edition are the first ones.
+-- A key stands at its number, so that a number below the count has one name; the keys of this edition come first.
 use Prim.Native.Nat.{ℕ, suc, _≤_, _<_}
 use mathlib.Core.List.{List, [], _∷_, _++_}
 use mathlib.Core.Bool.{true, false}

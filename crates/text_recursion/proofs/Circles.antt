@@ -19,11 +19,11 @@ or-one : (a b : Bool) → b ≡ true → a || b ≡ true
 or-one true b h = refl
 or-one false b h = h
 
-among-here : (n : List ℕ) (l : List (List ℕ)) → among n (n ∷ l) ≡ true
+pub among-here : (n : List ℕ) (l : List (List ℕ)) → among n (n ∷ l) ≡ true
 unfolding among any
 among-here n l = rw (eq-eqBytes {s = n} {t = n} refl)
 
-among-more : (n m : List ℕ) (l : List (List ℕ)) → among n l ≡ true → among n (m ∷ l) ≡ true
+pub among-more : (n m : List ℕ) (l : List (List ℕ)) → among n l ≡ true → among n (m ∷ l) ≡ true
 unfolding among any
 among-more n m l h = or-one (eqBytes n m) (any (eqBytes n) l) h
 

@@ -1,5 +1,5 @@
--- How deep a name's text goes into a rule's texts. The law in proofs/Circles.antt ties it to 16: a text leads back exactly where it goes `deep`
--- deep.
+-- How deep a name's text goes into a rule's texts. The law in proofs/Circles.antt ties it to 16: a text leads back
+-- exactly where it goes `deep` rule texts deep.
 use Prim.Native.Nat.{ℕ, zero, suc}
 use mathlib.Core.List.{List}
 use mathlib.Core.Bool.{Bool, true, false}
