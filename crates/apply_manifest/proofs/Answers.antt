@@ -27,7 +27,7 @@ use Rattle.apply_statements.proofs.Outcomes.{close-none}
 use Rattle.apply_manifest.specs.Manifests.{Roomy, LinesAsk, TopAsk, LinesRead, Held, IsRead}
 use Rattle.apply_manifest.specs.declared.ReadAnswer.{ReadAnswer}
 use Rattle.apply_manifest.specs.declared.ReadAnswer.the-variants.{Accepted, Refused as NotRead}
-use Rattle.hold_reading.specs.Buffers.{Buffers}
+use Rattle.hold_reading.specs.Buffers.{Buffers, withFiles}
 
 -- ---- the end of the manifest closes a block
 
@@ -75,10 +75,10 @@ lines-ask a h = record { short = h; roomy = a }
 
 -- the names are cleared
 pub top-ask : {t m : List ℕ} {bs : Buffers} {word cleared : List ℕ} → LinesAsk t m bs word → cleared ≡ zeroed (bs .index) 2048 3072
-    → TopAsk t m (bs .names) cleared (bs .texts) (bs .bind) (bs .graph) word
+    → TopAsk t m (withFiles bs (bs .names) cleared (bs .graph)) word
 top-ask {bs = bs} a e =
     let r = a .roomy in
-    let l : length (zeroed (bs .index) 2048 3072) ≡ length index = length-zeroed (bs .index) 2048 3072 (omega arith) (omega (arith, r .numbers-room)) in
+    let l : length (zeroed (bs .index) 2048 3072) ≡ length (bs .index) = length-zeroed (bs .index) 2048 3072 (omega arith) (omega (arith, r .numbers-room)) in
     rw e
     (record {
       short = a .short;
