@@ -5,7 +5,7 @@ use mathlib.Core.Bool.{Bool, false}
 use mathlib.Core.Path.{_≡_, refl, sym, _∙_, ap}
 use native.Mathlib.Omega.{arith}
 use Rattle.lists.specs.Members.{any}
-use Rattle.lists.specs.Tests.{differ, or-left, or-right}
+use Rattle.lists.specs.Tests.{differ, or-left, or-right, or-false}
 use Rattle.spec.specs.Dollars.{Piece, byte, ref, pieces, fill, expand, refsOf, refs}
 use Rattle.spec.specs.Reading.{Step, Reading}
 use Rattle.spec.specs.Text.{ruleKeys, Found, asIs, ofRule, lookup, textOf, deep}
@@ -33,11 +33,30 @@ module _ (p : List ℕ → Bool) (f g : List ℕ → List ℕ) (same : (m : List
   unfolding expand refs
   expand-same raw h = fill-same (pieces raw) h
 
+module _ (p q : List ℕ → Bool) (fewer : (m : List ℕ) → p m ≡ false → q m ≡ false) where
+  none-fewer : (l : List (List ℕ)) → any p l ≡ false → any q l ≡ false
+  unfolding any
+  none-fewer [] h = refl
+  none-fewer (n ∷ l) h = or-false (q n) (any q l) (fewer n (none-first p n l h)) (none-fewer l (none-later p n l h))
+
+  leads-fewer : (rd : Reading) (s : Step) (n : List ℕ) (f : Found) → lookup rd s n ≡ f → leadsTo rd s p n ≡ false → leadsTo rd s q n ≡ false
+  unfolding leadsTo
+  leads-fewer rd s n (asIs v) e h = rw e
+  leads-fewer rd s n (ofRule raw) e h = rw e (none-fewer (refs raw) (rw e at h))
+
 module _ (rd : Reading) (s : Step) where
   pub not-zero : (k : ℕ) (n : List ℕ) → goesDeep rd s k n ≡ false → k ≡ 0 → ⊥
   unfolding goesDeep
   not-zero zero n h z = differ refl h
   not-zero (suc k) n h z = omega arith
+
+  -- what does not go k rule texts deep goes no deeper
+  pub no-deeper : (k j : ℕ) (n : List ℕ) → goesDeep rd s k n ≡ false → k ≤ j → goesDeep rd s j n ≡ false
+  unfolding goesDeep
+  no-deeper zero j n h b = absurd (not-zero zero n h refl)
+  no-deeper (suc k) zero n h b = absurd (omega arith)
+  no-deeper (suc k) (suc j) n h b =
+      leads-fewer (goesDeep rd s k) (goesDeep rd s j) (λ m g. no-deeper k j m g (omega arith)) rd s n (lookup rd s n) refl h
 
   text-below : (k : ℕ) (n raw : List ℕ) → goesDeep rd s (suc k) n ≡ false → lookup rd s n ≡ ofRule raw → any (goesDeep rd s k) (refs raw) ≡ false
   unfolding goesDeep leadsTo

@@ -20,6 +20,7 @@ use Rattle.text_lookup.specs.Scope.{Scope}
 use Rattle.text_lookup.proofs.Standing.{found-key}
 use Rattle.text_recursion.specs.Depth.{leadsTo, goesDeep, marks, Deeper}
 use Rattle.text_recursion.proofs.Circles.{leads-back-deep}
+use Rattle.text_recursion.proofs.Depths.{no-deeper}
 
 -- ---- a name that is no rule's key leads nowhere
 
@@ -105,3 +106,8 @@ module _ {texts bind : List ℕ} {a : Asked} {k : ℕ} {d : List Bool} (l : Leve
   level-end h {log} {rd} {s} c n =
       let z : k ≡ deep = omega (arith, l .low) in
       sym (leads-back-deep rd s n ∙ ap (λ (j : ℕ). goesDeep rd s j n) (sym z) ∙ ap (λ (p : List ℕ → Bool). p n) (l .marked log rd s c))
+
+  -- a name that is not marked goes no deeper
+  pub level-out : {log : List Logged} {rd : Reading} {s : Step} → Scope texts bind a log rd s → (n : List ℕ) → marks d n ≡ false → false ≡ leadsBack rd s deep [] n
+  level-out {log} {rd} {s} c n e =
+      sym (leads-back-deep rd s n ∙ no-deeper rd s k deep n (ap (λ (p : List ℕ → Bool). p n) (l .marked log rd s c) ∙ e) (l .low))

@@ -91,12 +91,16 @@ pub fn leads_back(t: &[u8; 256], texts: &[u8], bind: &[u32], a: Asked, key: Key)
     requires { ⌜ Asks (now t) (now texts) (now bind) a ⌝ }
     ensures { λ r. ⌜ ((log : List Logged) (rd : Reading) (s : Step) → Scope (now (texts .entry)) (now (bind .entry)) a log rd s → r ≡ leadsBack rd s deep [] (keyName key)) ⌝ }
 {
+    let n = number_of(key);
     let mut d = [true; MARKS];
     let mut k: usize = 0;
     while k < DEEP {
         d = deeper(t, texts, bind, a, d);
+        // what does not go so deep goes no deeper
+        if !d[n] {
+            return false;
+        }
         k += 1;
     }
-    let n = number_of(key);
     d[n]
 }
