@@ -25,15 +25,10 @@ fn put_default(names: &[u8], index: &[u32], graph: &mut [u32], c: Counts, path: 
         FoundName::At(k) => {
             put(graph, DEFAULTS_START + c.defaults, k);
             Counts {
-                files: c.files,
-                steps: c.steps,
-                paths: c.paths,
                 defaults: c.defaults + 1,
-                entries: c.entries,
-                rules: c.rules,
-                bindings: c.bindings,
                 mentions: c.mentions + 1,
                 written: c.written + path.len(),
+                ..c
             }
         }
         FoundName::Missing => c,
