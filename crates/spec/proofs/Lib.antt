@@ -9,3 +9,4 @@ pub mod Marked
 pub mod WrongPlanners
 pub mod Answers
 pub mod Manifests
+pub mod Outcomes
