@@ -1,7 +1,7 @@
 -- The three demands of document 01 as theorems about the asks themselves, from the lent bytes to the filled buffer. What `plan` and `text` ensure at
 -- every call, with nothing required, is `PlanPromise` and `TextPromise` (src/lib.rt); that a call always ends, with an answer, is part of what the checker
 -- proves of a function.
-use Prim.Native.Nat.{ℕ}
+use Prim.Native.Nat.{ℕ, _≤_}
 use mathlib.Core.Logic.{_↔_}
 use mathlib.Core.Bool.{true, false}
 use mathlib.Core.List.{List, []}
@@ -17,7 +17,7 @@ use Rattle.spec.specs.declared.Refusal.the-variants.{MissingSource}
 use Rattle.spec.specs.declared.PlanAnswer.{PlanAnswer}
 use Rattle.spec.specs.declared.TextAnswer.{TextAnswer}
 use Rattle.spec.specs.declared.Wanted.{Wanted}
-use Rattle.spec.specs.Reading.{Reading}
+use Rattle.spec.specs.Reading.{Step, Reading}
 use Rattle.spec.specs.Answers.{Said, numberOfRefusal, refusalSays, planSays, textSays}
 use Rattle.spec.specs.Words.{NeededOrder, NeededCircle}
 use Rattle.spec.specs.Graph.{hasOrder}
@@ -25,46 +25,56 @@ use Rattle.spec.specs.PlanAsk.{Inputs, PlanOutcome, listed, circular, noPlan, r
 use Rattle.spec.specs.TextAsk.{TextOutcome, text, noText, textAsk}
 use Rattle.spec.specs.Promises.{filled, leftBy, counts, refused14, Is, Shows, PlanMeets, PlanPromise, TextMeets, TextPromise}
 use Rattle.spec.proofs.Checks.{PastChecks, past-checks}
+use Rattle.spec.proofs.Outcomes.{Not14, CircleRead, PlanWithin, plan-within, TextWithin, text-within}
 use Rattle.spec.proofs.Demand3.{Unrefused, Listing, demand3}
 
 -- ------------------------------------------------------------------ demand 1
 
 -- "Any manifest, card of file times and target list gets an answer, always. A refusal gives its number and place and leaves the buffers zero (a short
 -- buffer: untouched; a circle: written out)."
-pub data Demand1 (lent : List ℕ) (said : Said) (exit : List ℕ) : Type 0 where
-  -- the count, the list or the text, and zeros beyond
-  answers : (l : List ℕ) → said ≡ counts (length l) → exit ≡ filled l lent → Demand1 lent said exit
-  -- 14, the circle's length, the circle, and zeros beyond
-  shows : (c : List ℕ) → said ≡ refused14 (length c) → exit ≡ filled c lent → Demand1 lent said exit
+-- `Circle` says what circle there is to write out: for a plan one of the needed steps, for a text none.
+pub data Demand1 (Circle : List ℕ → Type 0) (lent : List ℕ) (said : Said) (exit : List ℕ) : Type 0 where
+  -- the count, the list or the text, which has room there, and zeros beyond
+  answers : (l : List ℕ) → length l ≤ length lent → said ≡ counts (length l) → exit ≡ filled l lent → Demand1 Circle lent said exit
+  -- 14, the length of a circle that there is, the circle, which has room there, and zeros beyond
+  shows : (c : List ℕ) → Circle c → length c ≤ length lent → said ≡ refused14 (length c) → exit ≡ filled c lent → Demand1 Circle lent said exit
   -- 1, and the buffer untouched
-  short : (r : Refusal) → numberOfRefusal r ≡ 1 → said ≡ refusalSays r → exit ≡ lent → Demand1 lent said exit
-  -- any other number and place, and zeros
-  refuses : (r : Refusal) → (numberOfRefusal r ≡ 1 → ⊥) → said ≡ refusalSays r → exit ≡ filled [] lent → Demand1 lent said exit
+  short : (r : Refusal) → numberOfRefusal r ≡ 1 → said ≡ refusalSays r → exit ≡ lent → Demand1 Circle lent said exit
+  -- any number but 1 and 14, its place, and zeros
+  refuses : (r : Refusal) → (numberOfRefusal r ≡ 1 → ⊥) → (numberOfRefusal r ≡ 14 → ⊥) → said ≡ refusalSays r → exit ≡ filled [] lent → Demand1 Circle lent said exit
 
-refusal-left : (r : Refusal) {lent exit : List ℕ} {said : Said} → Is said exit (refusalSays r) (leftBy r lent) → Demand1 lent said exit
+-- a text has no circle
+abbrev pub NoCircle : List ℕ → Type 0
+NoCircle c = ⊥
+
+refusal-left : (r : Refusal) {Circle : List ℕ → Type 0} {lent exit : List ℕ} {said : Said} → Not14 r → Is said exit (refusalSays r) (leftBy r lent)
+    → Demand1 Circle lent said exit
 unfolding leftBy
-refusal-left r {lent} i =
+refusal-left r n i =
     split (eqb (numberOfRefusal r) 1)
     (λ (e : eqb (numberOfRefusal r) 1 ≡ true). short r (eqb-true (numberOfRefusal r) 1 e) (i .says) (i .leaves ∙ rw e))
-    (λ (e : eqb (numberOfRefusal r) 1 ≡ false). refuses r (eqb-false (numberOfRefusal r) 1 e) (i .says) (i .leaves ∙ rw e))
+    (λ (e : eqb (numberOfRefusal r) 1 ≡ false). refuses r (eqb-false (numberOfRefusal r) 1 e) n (i .says) (i .leaves ∙ rw e))
 
-plan-left : (o : PlanOutcome) {lent exit : List ℕ} {said : Said} → PlanMeets o lent said exit → Demand1 lent said exit
+plan-left : (i : Inputs) (o : PlanOutcome) {lent exit : List ℕ} {said : Said} → PlanWithin i (length lent) o → PlanMeets o lent said exit
+    → Demand1 (CircleRead i) lent said exit
 unfolding PlanMeets
-plan-left (listed l) i = answers l (i .says) (i .leaves)
-plan-left (circular steps targets) i = shows (i .circle) (i .shown .says) (i .shown .leaves)
-plan-left (noPlan r) i = refusal-left r i
+plan-left i (listed l) w p = answers l w (p .says) (p .leaves)
+plan-left i (circular steps targets) w p = let (c, b) = w (p .circle) (p .real) in shows (p .circle) c b (p .shown .says) (p .shown .leaves)
+plan-left i (noPlan r) w p = refusal-left r w p
 
-text-left : (o : TextOutcome) {lent exit : List ℕ} {said : Said} → TextMeets o lent said exit → Demand1 lent said exit
+text-left : (o : TextOutcome) {lent exit : List ℕ} {said : Said} → TextWithin (length lent) o → TextMeets o lent said exit → Demand1 NoCircle lent said exit
 unfolding TextMeets
-text-left (text t) i = answers t (i .says) (i .leaves)
-text-left (noText r) i = refusal-left r i
+text-left (text t) w p = answers t w (p .says) (p .leaves)
+text-left (noText r) w p = refusal-left r w p
 
-pub plan-answers : (i : Inputs) (lent : List ℕ) (answer : PlanAnswer) (exit : List ℕ) → PlanPromise i lent answer exit → Demand1 lent (planSays answer) exit
-plan-answers i lent answer exit p = plan-left (planAsk i (length lent)) p
+pub plan-answers : (i : Inputs) (lent : List ℕ) (answer : PlanAnswer) (exit : List ℕ) → PlanPromise i lent answer exit
+    → Demand1 (CircleRead i) lent (planSays answer) exit
+plan-answers i lent answer exit p = plan-left i (planAsk i (length lent)) (plan-within i (length lent)) p
 
 pub text-answers : (manifest : List ℕ) (step : ℕ) (wanted : Wanted) (lent : List ℕ) (answer : TextAnswer) (exit : List ℕ)
-    → TextPromise manifest step wanted lent answer exit → Demand1 lent (textSays answer) exit
-text-answers manifest step wanted lent answer exit p = text-left (textAsk manifest step wanted (length lent)) p
+    → TextPromise manifest step wanted lent answer exit → Demand1 NoCircle lent (textSays answer) exit
+text-answers manifest step wanted lent answer exit p =
+    text-left (textAsk manifest step wanted (length lent)) (text-within (length lent) manifest step wanted) p
 
 -- ------------------------------------------------------------------ demand 2
 
@@ -78,6 +88,10 @@ module _ (i : Inputs) (lent : List ℕ) (answer : PlanAnswer) (exit : List ℕ) 
   pub plan-refused : {r : Refusal} → planAsk i (length lent) ≡ noPlan r → Is (planSays answer) exit (refusalSays r) (leftBy r lent)
   unfolding PlanMeets
   plan-refused e = subst (λ (o : PlanOutcome). PlanMeets o lent (planSays answer) exit) e p
+
+  pub plan-circled : {steps : List Step} {targets : List ℕ} → planAsk i (length lent) ≡ circular steps targets → Shows steps targets lent (planSays answer) exit
+  unfolding PlanMeets
+  plan-circled e = subst (λ (o : PlanOutcome). PlanMeets o lent (planSays answer) exit) e p
 
 module _ (manifest : List ℕ) (step : ℕ) (wanted : Wanted) (lent : List ℕ) (answer : TextAnswer) (exit : List ℕ) (p : TextPromise manifest step wanted lent answer exit) where
   pub text-written : {t : List ℕ} → textAsk manifest step wanted (length lent) ≡ text t → Is (textSays answer) exit (counts (length t)) (filled t lent)

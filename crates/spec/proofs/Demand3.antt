@@ -27,6 +27,7 @@ use Rattle.spec.specs.declared.Refusal.the-variants.{MissingSource}
 use Rattle.spec.specs.PlanAsk.{Inputs, listed, circular, noPlan, rootsOf, cardTime, missingSource, refusedAt, onRefusal, planListed, planSources, planOrdered}
 use Rattle.spec.proofs.Graph.{in-before, in-needed, in-upstream, needed-low}
 use Rattle.spec.proofs.Stale.{verdict-local}
+use Rattle.spec.proofs.StaleWords.{verdict-words}
 use Rattle.spec.proofs.Sources.{MissingIn, missing-none, none-missing}
 
 module _ (steps : List Step) (targets : List ℕ) where
@@ -66,15 +67,17 @@ module _ (steps : List Step) (targets : List ℕ) where
     -- the verdicts along any order of the needed steps
     pub told-along : {l : List ℕ} → NeededOrder steps targets l → Told steps card targets (verdicts steps card l)
     unfolding verdicts
-    told-along o s w =
-        along-solves (verdict-local steps card) needed-closed (computed-order o) unknown s (in-needed steps targets .1 w)
+    told-along {l} o s w =
+        verdict-words steps card (verdicts steps card l) s .0
+        (along-solves (verdict-local steps card) needed-closed (computed-order o) unknown s (in-needed steps targets .1 w))
 
     -- document 01's sentences fix the verdicts
     pub told-once : {l : List ℕ} → NeededOrder steps targets l → (v w : ℕ → Verdict) → Told steps card targets v → Told steps card targets w
         → (s : ℕ) → Needed steps targets s → v s ≡ w s
     told-once o v w p q s n =
         solution-unique (verdict-local steps card) needed-closed (computed-order o) v w
-        (λ t h. p t (in-needed steps targets .0 h)) (λ t h. q t (in-needed steps targets .0 h)) s (in-needed steps targets .1 n)
+        (λ t h. verdict-words steps card v t .1 (p t (in-needed steps targets .0 h)))
+        (λ t h. verdict-words steps card w t .1 (q t (in-needed steps targets .0 h))) s (in-needed steps targets .1 n)
 
     in-stale : {s : ℕ} → (s ∈ staleNeeded steps card targets) ↔ Stale steps targets (told steps card targets) s
     unfolding staleNeeded isStale

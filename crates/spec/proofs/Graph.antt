@@ -1,7 +1,7 @@
 -- The computed graph (makers, before, needed, upstream) says what document 01's words say.
-use Prim.Native.Nat.{ℕ, zero, suc, _+_, _<_}
+use Prim.Native.Nat.{ℕ, zero, suc, _+_, _≤_, _<_}
 use native.Mathlib.Omega.{arith}
-use mathlib.Core.Path.{_≡_, refl}
+use mathlib.Core.Path.{_≡_, refl, sym, subst}
 use mathlib.Core.Logic.{inl, inr, _↔_}
 use mathlib.Core.Bool.{true, false}
 use mathlib.Core.List.{List, [], _∷_, map}
@@ -13,7 +13,7 @@ use Rattle.orders.specs.Reach.{Closed, reach-least, reach-start, reach-closed}
 use Rattle.spec.specs.Basics.{concat}
 use Rattle.spec.specs.Reading.{Step}
 use Rattle.spec.specs.Graph.{inputs, noStep, stepAt, makersFrom, makers, makersOf, before, needed}
-use Rattle.spec.specs.Words.{Makes, Feeds, Needed, target, input, Upstream, maker, further}
+use Rattle.spec.specs.Words.{Makes, MakerOf, Feeds, Needed, target, input, Upstream, maker, further}
 
 in-makersFrom : (k : ℕ) (l : List Step) (f : ℕ) {m : ℕ} → m ∈ makersFrom k l f → (i : ℕ) × (i < length l) × (m ≡ k + i) × (f ∈ getD l i noStep .outs)
 unfolding makersFrom
@@ -49,6 +49,38 @@ in-makers steps f {m} = (
       record { step = omega arith; output = rw d o },
   λ w. let e : 0 + m ≡ m = omega arith in rw e at (makersFrom-in 0 steps f m (w .step) (w .output)),
 )
+
+-- the maker of a file: the first of `makers`
+
+makersFrom-first : (k : ℕ) (l : List Step) (f : ℕ) {m : ℕ} {ms : List ℕ} → makersFrom k l f ≡ m ∷ ms → {j : ℕ} → j ∈ makersFrom k l f → m ≤ j
+unfolding makersFrom
+makersFrom-first k [] f e h = absurd (not-in-nil h)
+makersFrom-first k (s ∷ l) f {m} {ms} e {j} h =
+    split (has f (s .outs))
+    (λ (t : has f (s .outs) ≡ true).
+    let d : k ∷ makersFrom (suc k) l f ≡ m ∷ ms = rw (t, makersFrom) at e in
+    let z : k ≡ m = cc in
+    let (i, b, q, o) = in-makersFrom k (s ∷ l) f h in omega arith)
+    (λ (t : has f (s .outs) ≡ false).
+    let d : makersFrom (suc k) l f ≡ m ∷ ms = rw (t, makersFrom) at e in
+    let h′ : j ∈ makersFrom (suc k) l f = rw (t, makersFrom) at h in
+    makersFrom-first (suc k) l f d h′)
+
+pub maker-first : (steps : List Step) (f : ℕ) {m : ℕ} {ms : List ℕ} → makers steps f ≡ m ∷ ms → MakerOf steps m f
+unfolding makers
+maker-first steps f {m} e = record {
+  made = in-makers steps f .0 (subst (λ (l : List ℕ). m ∈ l) (sym e) (here refl));
+  first = λ k b w. let h = makersFrom-first 0 steps f e (in-makers steps f .1 w) in omega (arith, h, b);
+}
+
+pub no-maker : (steps : List Step) (f : ℕ) → makers steps f ≡ [] → (m : ℕ) → ¬ Makes steps m f
+no-maker steps f e m w = not-in-nil (subst (λ (l : List ℕ). m ∈ l) e (in-makers steps f .1 w))
+
+pub maker-once : {steps : List Step} {m k f : ℕ} → MakerOf steps m f → MakerOf steps k f → m ≡ k
+maker-once {steps} {m} {k} {f} a b =
+    let p : ¬ (m < k) = λ h. b .first m h (a .made) in
+    let q : ¬ (k < m) = λ h. a .first k h (b .made) in
+    omega (arith, p, q)
 
 -- what a concatenation of lists holds
 pub in-concat : (g : ℕ → List ℕ) (fs : List ℕ) {m : ℕ} → m ∈ concat (map g fs) → (f : ℕ) × (f ∈ fs) × (m ∈ g f)

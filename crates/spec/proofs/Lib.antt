@@ -2,6 +2,7 @@ pub mod Cases
 pub mod Graph
 pub mod Stale
 pub mod Sources
+pub mod StaleWords
 pub mod Demand3
 pub mod Checks
 pub mod Promises
@@ -9,3 +10,4 @@ pub mod Marked
 pub mod WrongPlanners
 pub mod Answers
 pub mod Manifests
+pub mod Outcomes

@@ -1,14 +1,14 @@
 -- What any manifest is read into has sound rules, and a manifest is refused with 2 to 10 and nothing else: one walk over the reading's definitions.
-use Prim.Native.Nat.{ℕ, _≤_}
+use Prim.Native.Nat.{ℕ, _≤_, _<_}
 use mathlib.Core.List.{List, [], _∷_, _++_}
 use mathlib.Core.Option.{Option, none, some}
 use mathlib.Core.Bool.{Bool, true, false, not, _||_}
 use mathlib.Core.Path.{_≡_, refl, sym, subst}
 use native.Mathlib.Omega.{arith}
 use lib.Dec.{eqb, leb, ltb}
-use lib.ListN.{length}
-use borrow.Author.Tests.{not-false}
-use Rattle.lists.specs.Tests.{ifB, split, or-left}
+use lib.ListN.{length, length-append}
+use borrow.Author.Tests.{not-false, leb-false}
+use Rattle.lists.specs.Tests.{ifB, split, or-left, or-right}
 use Rattle.lists.specs.Text.{bytes}
 use Rattle.lists.specs.Bytes.{eqBytes, eqBytes-true}
 use Rattle.lists.specs.Members.{any}
@@ -31,13 +31,18 @@ pub record OfReading (r : Refusal) : Type 0 where
   pub least : 2 ≤ numberOfRefusal r
   pub most : numberOfRefusal r ≤ 10
 
-data SoundBlock : Block → Type 0 where
-  none-open : SoundBlock noBlock
-  rule-open : {start : ℕ} {r : Rule} → SoundKeys (r .keys) → SoundBlock (ruleBlock start r)
-  step-open : {s : Step} → SoundBlock (buildBlock s)
+-- sound rules, and no more steps than the limit
+abbrev Good : Reading → Type 0
+Good rd = SoundRules rd × (length (rd .steps) ≤ maxSteps)
+
+-- the open block, after n steps
+data SoundBlock (n : ℕ) : Block → Type 0 where
+  none-open : SoundBlock n noBlock
+  rule-open : {start : ℕ} {r : Rule} → SoundKeys (r .keys) → SoundBlock n (ruleBlock start r)
+  step-open : {s : Step} → n < maxSteps → SoundBlock n (buildBlock s)
 
 data Sound : Outcome → Type 0 where
-  on : {rd : Reading} {b : Block} → SoundRules rd → SoundBlock b → Sound (goesOn rd b)
+  on : {rd : Reading} {b : Block} → Good rd → SoundBlock (length (rd .steps)) b → Sound (goesOn rd b)
   off : {r : Refusal} → OfReading r → Sound (refused r)
 
 -- one or the other
@@ -95,13 +100,13 @@ rule-joins r rd h k n =
 
 -- ---- the forms
 
-sound-rule : (start : ℕ) (n : List ℕ) (rd : Reading) → SoundRules rd → Sound (startRule start n rd)
+sound-rule : (start : ℕ) (n : List ℕ) (rd : Reading) → Good rd → Sound (startRule start n rd)
 unfolding startRule
 sound-rule start n rd h =
     either (declared n rd) (off (bad-rule start))
     (either (longerThan maxName n || leb maxRules (length (rd .rules))) (off (over-limit start)) (on h (rule-open no-keys)))
 
-sound-key : (start k : ℕ) (r : Rule) (n raw : List ℕ) (rd : Reading) → SoundRules rd → SoundKeys (r .keys) → badDollar raw ≡ none
+sound-key : (start k : ℕ) (r : Rule) (n raw : List ℕ) (rd : Reading) → Good rd → SoundKeys (r .keys) → badDollar raw ≡ none
     → Sound (addKey start k r n raw rd)
 unfolding addKey countBinding
 sound-key start k r n raw rd h keys d =
@@ -110,45 +115,46 @@ sound-key start k r n raw rd h keys d =
     either (longerThan maxValue raw || overCounts (countBinding (length raw) rd)) (off (over-limit start))
     (on h (rule-open (more-keys n raw (r .keys) key keys)))
 
-sound-step : (start : ℕ) (b : BuildLine) (rd : Reading) → SoundRules rd → Sound (addStep start b rd)
+sound-step : (start : ℕ) (b : BuildLine) (rd : Reading) → Good rd → Sound (addStep start b rd)
 unfolding addStep stepOf mentioned
 sound-step start b rd h =
     either (not (declared (b .rule) rd)) (off (bad-rule start))
     (either (badPaths (b .outs) (inputsOfLine b) rd) (off (bad-path start))
-    (either
+    (otherwise
     (overPaths (b .outs ++ inputsOfLine b) || overCounts (mentioned (b .outs ++ inputsOfLine b) rd) || leb maxSteps (length (rd .steps)))
     (off (over-limit start))
-    (on h step-open)))
+    (λ e. on h (step-open (leb-false maxSteps (length (rd .steps))
+    (or-right (overPaths (b .outs ++ inputsOfLine b) || overCounts (mentioned (b .outs ++ inputsOfLine b) rd)) (leb maxSteps (length (rd .steps))) e))))))
 
-sound-bound : (start : ℕ) (s : Step) (n v : List ℕ) (rd : Reading) → SoundRules rd → Sound (addToBlock start s n v rd)
+sound-bound : (start : ℕ) (s : Step) (n v : List ℕ) (rd : Reading) → Good rd → length (rd .steps) < maxSteps → Sound (addToBlock start s n v rd)
 unfolding addToBlock countBinding
-sound-bound start s n v rd h = either (overBinding n v (countBinding (length v) rd)) (off (over-limit start)) (on h step-open)
+sound-bound start s n v rd h q = either (overBinding n v (countBinding (length v) rd)) (off (over-limit start)) (on h (step-open q))
 
-sound-var : (start : ℕ) (n v : List ℕ) (rd : Reading) → SoundRules rd → Sound (addVar start n v rd)
+sound-var : (start : ℕ) (n v : List ℕ) (rd : Reading) → Good rd → Sound (addVar start n v rd)
 unfolding addVar setVar countBinding
 sound-var start n v rd h =
     either (overBinding n v (countBinding (length v) rd)) (off (over-limit start))
     (either (wrongVersion n v) (off (bad-version start)) (on h none-open))
 
-sound-default : (start : ℕ) (ps : List (List ℕ)) (rd : Reading) → SoundRules rd → Sound (addDefaults start ps rd)
+sound-default : (start : ℕ) (ps : List (List ℕ)) (rd : Reading) → Good rd → Sound (addDefaults start ps rd)
 unfolding addDefaults withDefaults mentioned
 sound-default start ps rd h =
     either (any isEmpty ps || any (λ p. not (isMade p rd)) ps) (off (bad-path start))
     (either (overPaths ps || overCounts (mentioned ps rd)) (off (over-limit start)) (on h none-open))
 
-sound-statement : (start : ℕ) (x : Form) (rd : Reading) → SoundRules rd → Sound (statement start x rd)
+sound-statement : (start : ℕ) (x : Form) (rd : Reading) → Good rd → Sound (statement start x rd)
 unfolding statement
 sound-statement start (ruleForm n) rd h = sound-rule start n rd h
 sound-statement start (buildForm b) rd h = sound-step start (expandedLine rd b) rd h
 sound-statement start (defaultForm ps) rd h = sound-default start (expanded rd ps) rd h
 sound-statement start (bindingForm n raw) rd h = sound-var start n (expand (fileVar (rd .vars)) raw) rd h
 
-sound-line : (start : ℕ) (b : Block) (n raw : List ℕ) (rd : Reading) → SoundRules rd → SoundBlock b → badDollar raw ≡ none
+sound-line : (start : ℕ) (b : Block) (n raw : List ℕ) (rd : Reading) → Good rd → SoundBlock (length (rd .steps)) b → badDollar raw ≡ none
     → Sound (blockLine start b n raw rd)
 unfolding blockLine
 sound-line start noBlock n raw rd h k d = off (bad-line start)
 sound-line start (ruleBlock head r) n raw rd h (rule-open k) d = sound-key start head r n raw rd h k d
-sound-line start (buildBlock s) n raw rd h k d = sound-bound start s n (expand (fileVar (rd .vars)) raw) rd h
+sound-line start (buildBlock s) n raw rd h (step-open q) d = sound-bound start s n (expand (fileVar (rd .vars)) raw) rd h q
 
 -- ---- what an indented line is cut into: its value has no bad `$`
 
@@ -197,14 +203,14 @@ unfolding ifCut
 sound-cut l (fails e) f g = off (sound-fault l e)
 sound-cut l (fits x) f g = either (l .ended) (g x refl) (off (bad-line (l .start)))
 
-sound-form : (l : Line) (rd : Reading) (b : Block) (x : Form) → SoundRules rd → SoundBlock b → SoundCut (fits x) → Sound (indented l rd b x)
+sound-form : (l : Line) (rd : Reading) (b : Block) (x : Form) → Good rd → SoundBlock (length (rd .steps)) b → SoundCut (fits x) → Sound (indented l rd b x)
 unfolding indented SoundCut SoundForm
 sound-form l rd b (bindingForm n raw) h k d = sound-line (l .start) b n raw rd h k d
 sound-form l rd b (ruleForm n) h k d = off (bad-line (l .start))
 sound-form l rd b (buildForm x) h k d = off (bad-line (l .start))
 sound-form l rd b (defaultForm ps) h k d = off (bad-line (l .start))
 
-sound-indented : (l : Line) (rd : Reading) (b : Block) → SoundRules rd → SoundBlock b → Sound (readIndented l rd b)
+sound-indented : (l : Line) (rd : Reading) (b : Block) → Good rd → SoundBlock (length (rd .steps)) b → Sound (readIndented l rd b)
 unfolding readIndented
 sound-indented l rd noBlock h k = off (bad-line (l .start))
 sound-indented l rd (ruleBlock start r) h k =
@@ -214,20 +220,21 @@ sound-indented l rd (buildBlock s) h k =
     sound-cut l (cutIndented (l .text)) (indented l rd (buildBlock s)) λ x e.
     sound-form l rd (buildBlock s) x h k (subst (λ (c : Cut Form). SoundCut c) e (sound-binding (l .text)))
 
-sound-close : (rd : Reading) (b : Block) → SoundRules rd → SoundBlock b → Sound (close rd b)
-unfolding close withStep
+sound-close : (rd : Reading) (b : Block) → Good rd → SoundBlock (length (rd .steps)) b → Sound (close rd b)
+unfolding close withStep withRule
 sound-close rd noBlock h k = on h none-open
 sound-close rd (ruleBlock start r) h (rule-open k) =
-    either (hasKey (bytes "command") (r .keys)) (on (rule-joins r rd h k) none-open) (off (bad-rule start))
-sound-close rd (buildBlock s) h k = on h none-open
+    either (hasKey (bytes "command") (r .keys)) (on (rule-joins r rd (h .0) k, h .1) none-open) (off (bad-rule start))
+sound-close rd (buildBlock s) h (step-open q) =
+    let e : length (rd .steps ++ (s ∷ [])) ≤ maxSteps = rw (length-append (rd .steps) (s ∷ [])) (omega (arith, q)) in on (h .0, e) none-open
 
-sound-then : (o : Outcome) (f : Reading → Block → Outcome) → Sound o → ((rd : Reading) (b : Block) → SoundRules rd → SoundBlock b → Sound (f rd b))
+sound-then : (o : Outcome) (f : Reading → Block → Outcome) → Sound o → ((rd : Reading) (b : Block) → Good rd → SoundBlock (length (rd .steps)) b → Sound (f rd b))
     → Sound (andThen o f)
 unfolding andThen
 sound-then (goesOn rd b) f (on h k) g = g rd b h k
 sound-then (refused r) f (off a) g = off a
 
-sound-read : (l : Line) (rd : Reading) (b : Block) → SoundRules rd → SoundBlock b → Sound (readLine l rd b)
+sound-read : (l : Line) (rd : Reading) (b : Block) → Good rd → SoundBlock (length (rd .steps)) b → Sound (readLine l rd b)
 unfolding readLine readStatement
 sound-read l rd b h k =
     either (isComment (l .text)) (on h k)
@@ -236,7 +243,7 @@ sound-read l rd b h k =
     (sound-then (close rd b) (readStatement l) (sound-close rd b h k)
     (λ rd′ b′ h′ k′. sound-cut l (cutStatement (l .text)) (λ x. statement (l .start) x rd′) (λ x e. sound-statement (l .start) x rd′ h′)))))
 
-sound-lines : (ls : List Line) (rd : Reading) (b : Block) → SoundRules rd → SoundBlock b → Sound (readLines ls rd b)
+sound-lines : (ls : List Line) (rd : Reading) (b : Block) → Good rd → SoundBlock (length (rd .steps)) b → Sound (readLines ls rd b)
 unfolding readLines
 sound-lines [] rd b h k = sound-close rd b h k
 sound-lines (l ∷ ls) rd b h k = sound-then (readLine l rd b) (readLines ls) (sound-read l rd b h k) (sound-lines ls)
@@ -244,7 +251,7 @@ sound-lines (l ∷ ls) rd b h k = sound-then (readLine l rd b) (readLines ls) (s
 -- ---- the manifest
 
 data SoundRead : Read → Type 0 where
-  read-on : {rd : Reading} → SoundRules rd → SoundRead (accepted rd)
+  read-on : {rd : Reading} → Good rd → SoundRead (accepted rd)
   read-off : {r : Refusal} → OfReading r → SoundRead (refusedWith r)
 
 sound-of : {o : Outcome} → Sound o → SoundRead (readOf o)
@@ -265,9 +272,9 @@ too-long : OfReading LongManifest
 unfolding numberOfRefusal
 too-long = record { least = omega arith; most = omega arith }
 
-nothing-sound : SoundRules nothingRead
+nothing-sound : Good nothingRead
 unfolding keysOf
-nothing-sound n = no-keys
+nothing-sound = (λ n. no-keys, omega arith)
 
 sound-manifest : (s : List ℕ) → SoundRead (readManifest s)
 unfolding readManifest
@@ -280,12 +287,16 @@ of-refused : {x : Read} {r : Refusal} → SoundRead x → x ≡ refusedWith r �
 of-refused {r = r} (read-on h) e = absurd (let z : _≡_ {A = ℕ} 0 1 = cc in omega arith)
 of-refused {r = r} (read-off {r = q} a) e = let z : r ≡ q = cc in rw z a
 
-of-accepted : {x : Read} {rd : Reading} → SoundRead x → x ≡ accepted rd → SoundRules rd
-of-accepted {rd = rd} (read-on {rd = other} h) e = let z : other ≡ rd = cc in subst (λ (y : Reading). SoundRules y) z h
+of-accepted : {x : Read} {rd : Reading} → SoundRead x → x ≡ accepted rd → Good rd
+of-accepted {rd = rd} (read-on {rd = other} h) e = let z : other ≡ rd = cc in subst (λ (y : Reading). Good y) z h
 of-accepted {rd = rd} (read-off a) e = absurd (let z : _≡_ {A = ℕ} 0 1 = cc in omega arith)
 
 pub of-reading : (s : List ℕ) {r : Refusal} → readManifest s ≡ refusedWith r → OfReading r
 of-reading s e = of-refused (sound-manifest s) e
 
 pub accepted-sound : (s : List ℕ) (rd : Reading) → readManifest s ≡ accepted rd → SoundRules rd
-accepted-sound s rd e = of-accepted (sound-manifest s) e
+accepted-sound s rd e = of-accepted (sound-manifest s) e .0
+
+-- "512 steps"
+pub accepted-few : (s : List ℕ) (rd : Reading) → readManifest s ≡ accepted rd → length (rd .steps) ≤ maxSteps
+accepted-few s rd e = of-accepted (sound-manifest s) e .1

@@ -17,18 +17,18 @@ use Rattle.spec.specs.PlanAsk.{cardTime, missingSource}
 use Rattle.spec.specs.Words.{NeededSource, Missing}
 use Rattle.spec.proofs.Graph.{in-makers, in-needed}
 
-empty-none : (l : List ℕ) → isEmpty l ≡ true → (x : ℕ) → ¬ (x ∈ l)
+pub empty-none : (l : List ℕ) → isEmpty l ≡ true → (x : ℕ) → ¬ (x ∈ l)
 empty-none [] e x h = not-in-nil h
 empty-none (y ∷ l) e x h = absurd (true≢false (sym e))
 
-none-empty : (l : List ℕ) → ((x : ℕ) → ¬ (x ∈ l)) → isEmpty l ≡ true
+pub none-empty : (l : List ℕ) → ((x : ℕ) → ¬ (x ∈ l)) → isEmpty l ≡ true
 none-empty [] f = refl
 none-empty (y ∷ l) f = absurd (f y (here refl))
 
-or-left : (a b : Bool) → a ≡ true → (a || b) ≡ true
+pub or-left : (a b : Bool) → a ≡ true → (a || b) ≡ true
 or-left a b e = rw e
 
-or-right : (a b : Bool) → b ≡ true → (a || b) ≡ true
+pub or-right : (a b : Bool) → b ≡ true → (a || b) ≡ true
 or-right true b e = refl
 or-right false b e = e
 

@@ -1,16 +1,16 @@
--- Document 01's words about the graph of steps as statements that need not be computed: maker, needed, upstream, order, circle, list. The laws
--- show that the computed definitions meet them.
-use Prim.Native.Nat.{ℕ, _<_}
+-- Document 01's words about the graph of steps as statements that need not be computed: maker, needed, upstream, order,
+-- circle, stale, time, list. The laws show that the computed definitions meet them.
+use Prim.Native.Nat.{ℕ, _≤_, _<_}
 use mathlib.Core.List.{List}
 use mathlib.Core.Bool.{true, false}
 use mathlib.Core.Path.{_≡_}
-use mathlib.Core.Logic.{_⊎_}
+use mathlib.Core.Logic.{_⊎_, _↔_}
 use lib.ListN.{length}
 use Rattle.lists.specs.Members.{_∈_}
 use Rattle.orders.specs.Order.{IsOrder, IsCircle, IsLeast}
 use Rattle.spec.specs.Reading.{Step}
-use Rattle.spec.specs.Graph.{stepAt, inputs}
-use Rattle.spec.specs.Stale.{Verdict, verdict, phonyStep}
+use Rattle.spec.specs.Graph.{stepAt, inputs, counted}
+use Rattle.spec.specs.Stale.{Verdict, phonyStep}
 
 -- step m makes file f
 pub record Makes (steps : List Step) (m f : ℕ) : Type 0 where
@@ -52,9 +52,88 @@ NeededOrder steps targets l = IsOrder (Needed steps targets) (Feeds steps) l
 abbrev pub NeededCircle : List Step → List ℕ → List ℕ → Type 0
 NeededCircle steps targets c = IsCircle (Needed steps targets) (Feeds steps) c
 
--- what is told of the steps is what document 01 says of each needed one, given what is told of the others
+-- ------------------------------------------------------------------ stale and fresh, and the times of files
+
+-- Step m is the maker of file f. No other step of a manifest makes f, since 8 refuses an output made twice; of any
+-- other list of steps it is the first that does.
+pub record MakerOf (steps : List Step) (m f : ℕ) : Type 0 where
+  pub made : Makes steps m f
+  pub first : (k : ℕ) → k < m → ¬ Makes steps k f
+
+-- "A phony output that is missing": f, of step m
+pub record PhonyMissing (steps : List Step) (card : ℕ → ℕ) (m f : ℕ) : Type 0 where
+  pub made : MakerOf steps m f
+  pub phony : phonyStep steps m ≡ true
+  pub absent : card f ≡ 0
+
+-- file f has time t, where `card` gives the card's times and v what is told of the steps
+pub data TimeIs (steps : List Step) (card : ℕ → ℕ) (v : ℕ → Verdict) (f t : ℕ) : Type 0 where
+  -- "A phony output that is missing has" the time told of its step (`Sentences.time`)
+  by-maker : (m : ℕ) → PhonyMissing steps card m f → t ≡ v m .time → TimeIs steps card v f t
+  -- "Every other file has the card's time."
+  by-card : ((m : ℕ) → ¬ PhonyMissing steps card m f) → t ≡ card f → TimeIs steps card v f t
+
+-- t is the time of a non-order-only input of step s
+pub record InputTime (steps : List Step) (card : ℕ → ℕ) (v : ℕ → Verdict) (s t : ℕ) : Type 0 where
+  pub file : ℕ
+  pub input : file ∈ counted (stepAt steps s)
+  pub time : TimeIs steps card v file t
+
+-- t is the greatest number with this property, "0 if none"
+pub record Greatest (Is : ℕ → Type 0) (t : ℕ) : Type 0 where
+  pub none-above : (u : ℕ) → Is u → u ≤ t
+  pub attained : Is t ⊎ ((t ≡ 0) × ((u : ℕ) → ¬ Is u))
+
+-- "a non-order-only input's maker is stale"
+pub record MakerStale (steps : List Step) (v : ℕ → Verdict) (s : ℕ) : Type 0 where
+  pub file : ℕ
+  pub input : file ∈ counted (stepAt steps s)
+  pub step : ℕ
+  pub made : Makes steps step file
+  pub stale : v step .stale ≡ true
+
+-- "an output is missing"
+pub record OutputMissing (steps : List Step) (card : ℕ → ℕ) (s : ℕ) : Type 0 where
+  pub file : ℕ
+  pub output : file ∈ stepAt steps s .outs
+  pub absent : card file ≡ 0
+
+-- "an output's time is below the time of some non-order-only input"
+pub record OutputBelow (steps : List Step) (card : ℕ → ℕ) (v : ℕ → Verdict) (s : ℕ) : Type 0 where
+  pub file : ℕ
+  pub output : file ∈ stepAt steps s .outs
+  pub old : ℕ
+  pub time : TimeIs steps card v file old
+  pub new : ℕ
+  pub input : InputTime steps card v s new
+  pub below : old < new
+
+-- "a non-order-only input's maker is stale, an output is missing, or an output's time is below the time of some
+-- non-order-only input"
+pub data CommandStale (steps : List Step) (card : ℕ → ℕ) (v : ℕ → Verdict) (s : ℕ) : Type 0 where
+  maker-stale : MakerStale steps v s → CommandStale steps card v s
+  missing : OutputMissing steps card s → CommandStale steps card v s
+  below : OutputBelow steps card v s → CommandStale steps card v s
+
+-- "such a maker is stale, or .. it has no inputs at all and an output is missing"
+pub data PhonyStale (steps : List Step) (card : ℕ → ℕ) (v : ℕ → Verdict) (s : ℕ) : Type 0 where
+  such-maker : MakerStale steps v s → PhonyStale steps card v s
+  no-inputs : ((f : ℕ) → ¬ (f ∈ inputs (stepAt steps s))) → OutputMissing steps card s → PhonyStale steps card v s
+
+-- what document 01 says of step s, given what v tells of the others
+pub record Sentences (steps : List Step) (card : ℕ → ℕ) (v : ℕ → Verdict) (s : ℕ) : Type 0 where
+  -- "A command step is stale if a non-order-only input's maker is stale, an output is missing, or an output's time is
+  -- below the time of some non-order-only input. Equal times are fresh."
+  pub command : phonyStep steps s ≡ false → (v s .stale ≡ true) ↔ CommandStale steps card v s
+  -- "A phony step is stale if such a maker is stale, or if it has no inputs at all and an output is missing."
+  pub phony : phonyStep steps s ≡ true → (v s .stale ≡ true) ↔ PhonyStale steps card v s
+  -- "A phony output that is missing has the greatest time of the step's non-order-only inputs, 0 if none." It is told
+  -- of a command step too, and no file takes it from there.
+  pub time : Greatest (InputTime steps card v s) (v s .time)
+
+-- "Stale and fresh are told of needed steps": v tells of each needed one what document 01 says
 abbrev pub Told : List Step → (ℕ → ℕ) → List ℕ → (ℕ → Verdict) → Type 0
-Told steps card targets v = (s : ℕ) → Needed steps targets s → v s ≡ verdict steps card v s
+Told steps card targets v = (s : ℕ) → Needed steps targets s → Sentences steps card v s
 
 -- "the stale, needed command steps"
 pub record Stale (steps : List Step) (targets : List ℕ) (v : ℕ → Verdict) (s : ℕ) : Type 0 where
