@@ -8,12 +8,12 @@ extern "C" {
         name: *const u8,
         name_len: usize,
     ) -> u64;
-    fn kestrenyo_card_lookup(
+    fn kestrenyo_card_listed(
         card: *const u8,
         card_len: usize,
-        name: *const u8,
-        name_len: usize,
-    ) -> u64;
+        list: *const u8,
+        list_len: usize,
+    ) -> usize;
 }
 
 /// Whether a card breaks no rule.
@@ -28,16 +28,8 @@ pub fn time(card: &[u8], name: &[u8]) -> u64 {
     unsafe { kestrenyo_card_time(card.as_ptr(), card.len(), name.as_ptr(), name.len()) }
 }
 
-/// A card that is known to be sound, for lookups that test nothing again.
-pub struct Card<'a>(&'a [u8]);
-
-impl<'a> Card<'a> {
-    pub fn new(card: &'a [u8]) -> Option<Self> {
-        sound(card).then_some(Card(card))
-    }
-
-    pub fn time(&self, name: &[u8]) -> u64 {
-        // SAFETY: the card was found sound, which is all that the function asks.
-        unsafe { kestrenyo_card_lookup(self.0.as_ptr(), self.0.len(), name.as_ptr(), name.len()) }
-    }
+/// How many names of a list, each ended by a newline, a card lists: 0 where it is not sound.
+pub fn listed(card: &[u8], list: &[u8]) -> usize {
+    // SAFETY: the function is total and reads the two slices alone.
+    unsafe { kestrenyo_card_listed(card.as_ptr(), card.len(), list.as_ptr(), list.len()) }
 }

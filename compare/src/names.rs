@@ -1,23 +1,16 @@
 //! The proved table of names, in buffers of its own.
 
 extern "C" {
-    fn kestrenyo_names_find(
-        names: *const u8,
-        names_len: usize,
-        ends: *const u32,
-        ends_len: usize,
-        count: usize,
-        path: *const u8,
-        path_len: usize,
-    ) -> usize;
-    fn kestrenyo_names_add(
+    #[allow(clippy::too_many_arguments)]
+    fn kestrenyo_names_number(
+        list: *const u8,
+        list_len: usize,
         names: *mut u8,
         names_len: usize,
-        ends: *mut u32,
-        ends_len: usize,
-        count: usize,
-        path: *const u8,
-        path_len: usize,
+        index: *mut u32,
+        index_len: usize,
+        numbers: *mut u32,
+        numbers_len: usize,
     ) -> usize;
 }
 
@@ -32,68 +25,51 @@ pub enum Added {
     Full,
 }
 
-/// The two buffers and the count of names. They hold a table from the start, with no name, and
-/// `kestrenyo_names_add` leaves one: that is what the two functions ask.
+impl Added {
+    fn of(number: u32) -> Self {
+        match number as usize {
+            0 => Added::Full,
+            old if old % 2 == 1 => Added::Old(old / 2),
+            new => Added::New(new / 2 - 1),
+        }
+    }
+}
+
+/// The buffers of a table and of the numbers that it answers.
 pub struct Names {
     names: Vec<u8>,
-    ends: Vec<u32>,
-    count: usize,
+    index: Vec<u32>,
+    numbers: Vec<u32>,
 }
 
 impl Names {
-    /// Room for so many bytes, below 2^32, and 1,024 names.
-    pub fn new(bytes: usize) -> Self {
-        assert!(bytes < 1 << 32, "the ends of names are 32-bit numbers");
-        Names { names: vec![0; bytes], ends: vec![0; 3_072], count: 0 }
+    /// Room for so many bytes, 1,024 names and so many answers.
+    pub fn new(bytes: usize, answers: usize) -> Self {
+        Names { names: vec![0; bytes], index: vec![0; 3_072], numbers: vec![0; answers] }
     }
 
-    pub fn clear(&mut self) {
-        self.ends.fill(0);
-        self.count = 0;
-    }
-
-    pub fn find(&self, path: &[u8]) -> Option<usize> {
-        let (names, ends) = (&self.names, &self.ends);
-        // SAFETY: the buffers hold a table of `count` names.
-        let number = unsafe {
-            let (names, names_len) = (names.as_ptr(), names.len());
-            let (ends, ends_len) = (ends.as_ptr(), ends.len());
-            kestrenyo_names_find(
-                names,
-                names_len,
-                ends,
-                ends_len,
-                self.count,
-                path.as_ptr(),
-                path.len(),
+    /// Adds the names of a list, each ended by a newline, to a table of none; how many were added,
+    /// up to the first that is empty or has more than 255 bytes.
+    pub fn add(&mut self, list: &[u8]) -> Option<usize> {
+        let (names, index, numbers) = (&mut self.names, &mut self.index, &mut self.numbers);
+        // SAFETY: the function is total, reads the list and writes to the three buffers alone.
+        let answer = unsafe {
+            kestrenyo_names_number(
+                list.as_ptr(),
+                list.len(),
+                names.as_mut_ptr(),
+                names.len(),
+                index.as_mut_ptr(),
+                index.len(),
+                numbers.as_mut_ptr(),
+                numbers.len(),
             )
         };
-        number.checked_sub(1)
+        answer.checked_sub(1)
     }
 
-    pub fn add(&mut self, path: &[u8]) -> Added {
-        let (names, ends) = (&mut self.names, &mut self.ends);
-        // SAFETY: the buffers hold a table of `count` names.
-        let number = unsafe {
-            let (names, names_len) = (names.as_mut_ptr(), names.len());
-            let (ends, ends_len) = (ends.as_mut_ptr(), ends.len());
-            kestrenyo_names_add(
-                names,
-                names_len,
-                ends,
-                ends_len,
-                self.count,
-                path.as_ptr(),
-                path.len(),
-            )
-        };
-        match number {
-            0 => Added::Full,
-            old if old % 2 == 1 => Added::Old(old / 2),
-            new => {
-                self.count += 1;
-                Added::New(new / 2 - 1)
-            }
-        }
+    /// What adding name `k` of the list answered.
+    pub fn answer(&self, k: usize) -> Added {
+        Added::of(self.numbers[k])
     }
 }

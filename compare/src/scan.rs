@@ -9,7 +9,6 @@ extern "C" {
     fn kestrenyo_path(s: *const u8, s_len: usize, from: usize) -> usize;
     fn kestrenyo_paths(s: *const u8, s_len: usize, from: usize) -> usize;
     fn kestrenyo_bad_dollar(raw: *const u8, raw_len: usize) -> usize;
-    fn kestrenyo_bad_dollar_in(classes: *const u8, raw: *const u8, raw_len: usize) -> usize;
     fn kestrenyo_rule_word(word: *const u8, word_len: usize) -> u8;
     fn kestrenyo_key_word(word: *const u8, word_len: usize) -> u8;
     fn kestrenyo_line_end(m: *const u8, m_len: usize, from: usize) -> usize;
@@ -92,25 +91,4 @@ pub fn line_kind(line: &[u8]) -> u8 {
 /// The place of a manifest's first fault under 3.
 pub fn bad_byte(manifest: &[u8]) -> Option<usize> {
     unsafe { kestrenyo_bad_byte(manifest.as_ptr(), manifest.len()) }.checked_sub(1)
-}
-
-/// The table of classes, made once.
-pub struct Classes([u8; 256]);
-
-impl Classes {
-    pub fn new() -> Self {
-        Classes(std::array::from_fn(|byte| class(byte as u8)))
-    }
-
-    /// The place of the first bad `$` of a raw value.
-    pub fn bad_dollar(&self, raw: &[u8]) -> Option<usize> {
-        // SAFETY: the table has the class of each byte, which is all that the function asks.
-        unsafe { kestrenyo_bad_dollar_in(self.0.as_ptr(), raw.as_ptr(), raw.len()) }.checked_sub(1)
-    }
-}
-
-impl Default for Classes {
-    fn default() -> Self {
-        Classes::new()
-    }
 }

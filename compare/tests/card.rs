@@ -63,12 +63,19 @@ fn cards_agree() {
         let Ok(listed) = read else {
             damaged += 1;
             assert_eq!(card::time(&card, b"a"), 0, "seed {seed}");
+            assert_eq!(card::listed(&card, b"a\nb\n"), 0, "seed {seed}");
             continue;
         };
         sound += 1;
         let mut wanted: Vec<Vec<u8>> = (0..4).map(|_| name(&mut rng)).collect();
         wanted.push(Vec::new());
         wanted.extend(drawn.iter().take(20).map(|(name, _)| name.clone()));
+        let good = |name: &Vec<u8>| (1..=255).contains(&name.len()) && !name.contains(&b'\n');
+        let list: Vec<&Vec<u8>> = wanted.iter().filter(|name| good(name)).collect();
+        let count = list.iter().filter(|name| listed.iter().any(|(listed, _)| listed == *name));
+        let bytes: Vec<u8> =
+            list.iter().flat_map(|name| name.iter().chain(b"\n")).copied().collect();
+        assert_eq!(card::listed(&card, &bytes), count.count(), "seed {seed}");
         for name in wanted {
             let time =
                 listed.iter().find(|(listed, _)| *listed == name).map_or(0, |(_, time)| *time);

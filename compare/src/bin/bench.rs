@@ -4,10 +4,10 @@
 //! too, which gives the second planner its best: `RUSTFLAGS="-C llvm-args=-align-loops=64" cargo
 //! run --release --target-dir target/aligned --bin bench`.
 
-use compare::card::{self, Card};
+use compare::card;
 use compare::measure::{both, row};
 use compare::names::{Added, Names};
-use compare::scan::{self, Classes};
+use compare::scan;
 use second::bytes::{class, Class};
 use second::line::{self, Opening, Statement};
 use second::scan::Scanner;
@@ -129,50 +129,43 @@ fn scanners() {
             .map(|&start| Scanner::new(&manifest, start).value().map_or(0, <[u8]>::len))
             .sum::<usize>()
     };
-    let classes = Classes::new();
-    let (ours, theirs) = both(
-        || values.iter().filter(|value| classes.bad_dollar(value).is_none()).count(),
-        their_values,
-    );
-    row(&format!("manifest of 49 KB: {} values", values.len()), ours, theirs);
     let (ours, theirs) = both(
         || values.iter().filter(|value| scan::bad_dollar(value).is_none()).count(),
         their_values,
     );
-    row("  and a table for each", ours, theirs);
+    row(&format!("manifest of 49 KB: {} values, a table for each", values.len()), ours, theirs);
 }
 
 fn paths() -> Vec<Vec<u8>> {
     (0..1_024).map(|k| format!("src/module{:02}/file{k:05}.c", k % 40).into_bytes()).collect()
 }
 
+/// The names as a list, each ended by a newline.
+fn listing(names: &[Vec<u8>]) -> Vec<u8> {
+    names.iter().flat_map(|name| name.iter().chain(b"\n")).copied().collect()
+}
+
+/// As the second planner has it: a map from the path to its number.
+fn mapped(list: &[u8]) -> usize {
+    let mut map: HashMap<&[u8], u32> = HashMap::new();
+    for path in list.split(|&b| b == b'\n').filter(|path| !path.is_empty()) {
+        let next = map.len() as u32;
+        map.entry(path).or_insert(next);
+    }
+    map.len()
+}
+
 fn names() {
     let paths = paths();
-    let mut table = Names::new(60_000);
-    // as the second planner has it: a map from the path to its number
-    let (ours, theirs) = both(
-        || {
-            table.clear();
-            paths.iter().filter(|path| matches!(table.add(path), Added::New(_))).count()
-        },
-        || {
-            let mut map: HashMap<&[u8], u32> = HashMap::new();
-            for path in &paths {
-                let next = map.len() as u32;
-                map.entry(path).or_insert(next);
-            }
-            map.len()
-        },
-    );
-    row("names: 1,024 added", ours, theirs);
+    let mut table = Names::new(60_000, 2_048);
+    let once = listing(&paths);
+    let (ours, theirs) = both(|| table.add(&once), || mapped(&once));
+    row("names: a list of 1,024 added", ours, theirs);
 
-    let map: HashMap<&[u8], usize> =
-        paths.iter().enumerate().map(|(number, path)| (path.as_slice(), number)).collect();
-    let (ours, theirs) = both(
-        || paths.iter().filter_map(|path| table.find(path)).sum::<usize>(),
-        || paths.iter().filter_map(|path| map.get(path.as_slice())).sum::<usize>(),
-    );
-    row("names: 1,024 found", ours, theirs);
+    let twice = [once.clone(), once].concat();
+    let (ours, theirs) = both(|| table.add(&twice), || mapped(&twice));
+    assert_eq!(table.answer(2_047), Added::Old(1_023));
+    row("names: a list of 1,024 added, then found", ours, theirs);
 }
 
 fn cards() {
@@ -185,18 +178,14 @@ fn cards() {
     let (ours, theirs) = both(|| card::sound(&bytes), || second::card::read(&bytes).is_ok());
     row("card of 1,024: sound", ours, theirs);
 
-    let sound = Card::new(&bytes).expect("a sound card");
-    let listed = second::card::read(&bytes).expect("a sound card");
-    let (ours, theirs) = both(
-        || names.iter().map(|name| sound.time(name)).sum::<u64>(),
-        || {
-            let time = |name: &Vec<u8>| {
-                listed
-                    .binary_search_by(|(listed, _)| (*listed).cmp(name))
-                    .map_or(0, |k| listed[k].1)
-            };
-            names.iter().map(time).sum::<u64>()
-        },
-    );
-    row("card of 1,024: 1,024 lookups", ours, theirs);
+    let list = listing(&names);
+    let theirs_listed = || {
+        let listed = second::card::read(&bytes).expect("a sound card");
+        let is_listed =
+            |name: &&[u8]| listed.binary_search_by(|(listed, _)| (*listed).cmp(name)).is_ok();
+        list.split(|&b| b == b'\n').filter(is_listed).count()
+    };
+    assert_eq!(card::listed(&bytes, &list), theirs_listed());
+    let (ours, theirs) = both(|| card::listed(&bytes, &list), theirs_listed);
+    row("card of 1,024: sound, then 1,024 lookups", ours, theirs);
 }

@@ -1,4 +1,4 @@
--- The numbers of specs/ by what the scanners, the target list and the name table promise: a law for each answer.
+-- The numbers of specs/ by what the scanners and the target list promise: a law for each answer.
 use Prim.Native.Nat.{ℕ, suc, _+_, _-_, _*_, _≤_, min}
 use mathlib.Core.Bool.{true, false}
 use mathlib.Core.List.{List, [], _∷_}
@@ -26,12 +26,8 @@ use Rattle.scan_lines.specs.Endings.{LineEnded, LineOpen, kindOf}
 use Rattle.scan_targets.specs.declared.NextTarget.{NextTarget}
 use Rattle.scan_targets.specs.declared.NextTarget.the-variants.{End, Bad, Name}
 use Rattle.scan_targets.specs.Next.{nextIn}
-use Rattle.hold_names.specs.declared.FoundName.{FoundName}
-use Rattle.hold_names.specs.declared.Added.{Added}
-use Rattle.hold_names.specs.Table.{FindsName, AddsName}
 use Rattle.test_scan.specs.Scanners.{orNone, placeAfter, restNumber, dollarNumber, pathCut, pathNumber, pathsNumber, endNumber, kindNumber}
 use Rattle.test_scan.specs.Targets.{targetNumber}
-use Rattle.test_scan.specs.Names.{foundNumber, addedNumber, FindsNumber, AddsNumber}
 
 -- ---- a start that is no place is the end
 
@@ -180,16 +176,3 @@ targets (t ∷ ts) =
 
 pub target : (l : List Target) {x y : NextTarget} → x ≡ nextIn l → x ≡ y → numberOfNext y ≡ targetNumber l
 target l a e = ap numberOfNext (sym e ∙ a) ∙ targets l
-
--- ---- names
-
-pub finds-number : {names index : List ℕ} {count : ℕ} {p : List ℕ} {r : FoundName} {n : ℕ} → FindsName names index count p r → n ≡ foundNumber r → FindsNumber names index count p n
-finds-number f e = record { answer = λ files h. e ∙ ap foundNumber (f .answer files h) }
-
-pub adds-number : {names index : List ℕ} {count : ℕ} {p names′ index′ : List ℕ} {r : Added} {n : ℕ}
-    → AddsName names index count p names′ index′ r → n ≡ addedNumber r → AddsNumber names index count p names′ index′ n
-adds-number a e =
-    record {
-      answer = λ files h. e ∙ ap addedNumber (a .answer files h);
-      after = λ files h. rw (a .answer files h) at (a .after files h);
-    }

@@ -1,3 +1,4 @@
 pub mod Scanners
 pub mod Targets
+pub mod Cards
 pub mod Names

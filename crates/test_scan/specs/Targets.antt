@@ -1,4 +1,4 @@
--- The number that a place of a target list answers.
+-- What a place of a target list answers, and the names of one.
 use Prim.Native.Nat.{ℕ, _+_}
 use mathlib.Core.List.{List, [], _∷_}
 use lib.ListN.{length}
@@ -10,3 +10,9 @@ unfoldable pub targetNumber : List Target → ℕ
 unfolding badLength
 targetNumber [] = 0
 targetNumber (t ∷ ts) = ifB (badLength (t .name)) (λ _. 1) (λ _. t .start + length (t .name) + 1)
+
+-- the names up to the first of a bad length
+unfoldable pub goodNames : List Target → List (List ℕ)
+unfolding badLength
+goodNames [] = []
+goodNames (t ∷ ts) = ifB (badLength (t .name)) (λ _. []) (λ _. t .name ∷ goodNames ts)

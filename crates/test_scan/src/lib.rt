@@ -1,5 +1,5 @@
 // Scanners, card, target list and table of names for Rust: what tests and benchmarks outside call, on numbers and slices alone. Each is total and answers a number that specs/ defines for every
-// input, but for the few that say in a `requires` what a benchmark's caller has tested before.
+// input, and requires nothing.
 pub mod cards;
 pub mod name_tables;
 pub mod scanners;

@@ -120,25 +120,16 @@ pub extern "C" fn kestrenyo_paths(s: &[u8], from: usize) -> usize
     paths_from(&t, s, i)
 }
 
-// The first bad `$` of a raw value, by a lent table of classes: for benchmarks, which make it once.
-#[no_mangle]
-pub extern "C" fn kestrenyo_bad_dollar_in(t: &[u8; 256], raw: &[u8]) -> usize
-    requires { ⌜ now t ≡ classes ⌝ }
-    ensures { λ r. ⌜ r ≡ orNone (badDollar (now (raw .entry))) ⌝ }
-{
-    match scan_raw::texts::bad_dollar(t, raw) {
-        FirstBad::Nowhere => 0,
-        FirstBad::At(p) => p + 1,
-    }
-}
-
 // The first bad `$` of a raw value.
 #[no_mangle]
 pub extern "C" fn kestrenyo_bad_dollar(raw: &[u8]) -> usize
     ensures { λ r. ⌜ r ≡ orNone (badDollar (now (raw .entry))) ⌝ }
 {
     let t = scan_classes::table();
-    kestrenyo_bad_dollar_in(&t, raw)
+    match scan_raw::texts::bad_dollar(&t, raw) {
+        FirstBad::Nowhere => 0,
+        FirstBad::At(p) => p + 1,
+    }
 }
 
 // A word where a rule is named.
