@@ -6,8 +6,8 @@ ghost use Rattle.text_memo.specs.Draft.{nothing, spanFor, Remembered, Be
 use hold_keys::RULE_KEYS;
 use hold_keys::key_number;
 use spec::limits::TEXT;
-use text_buffer::put_bytes;
 use text_buffer::put_byte;
+use text_buffer::put_bytes;
 
 // A part of the text from place to place. One that ends before it starts is none.
 pub struct Span {
