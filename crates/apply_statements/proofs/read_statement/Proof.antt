@@ -71,7 +71,7 @@ same-length-2 : tie.Need-same-length-2
 same-length-2 c = search needs
 
 returns : tie.Need-returns
-returns c = rule-read (lineOf _ _ _) (rule-told (lineOf _ _ _) (c .before .before .before .before .before .before .before .before .before .before .before .cut-file-line .ensures) (c .before .before .before .before .before .before .before .before .before .from .given .1)) (c .before .before .before .before .start-rule .ensures)
+returns c = record { space = search needs; promise = rule-read (lineOf _ _ _) (rule-told (lineOf _ _ _) (c .before .before .before .before .before .before .before .before .before .before .before .cut-file-line .ensures) (c .before .before .before .before .before .before .before .before .before .from .given .1)) (c .before .before .before .before .start-rule .ensures) }
 
 same-length-3 : tie.Need-same-length-3
 same-length-3 c = search needs
@@ -92,7 +92,7 @@ same-length-8 : tie.Need-same-length-8
 same-length-8 c = search needs
 
 returns-2 : tie.Need-returns-2
-returns-2 c = build-read (lineOf _ _ _) (build-told (lineOf _ _ _) (c .before .before .before .before .before .before .before .before .before .before .before .before .before .before .before .before .before .before .cut-file-line .ensures) (c .before .before .before .before .before .before .before .before .before .before .before .before .before .before .before .before .p .given .1)) (c .before .before .before .before .before .before .before .before .add-step .ensures)
+returns-2 c = record { space = search needs; promise = build-read (lineOf _ _ _) (build-told (lineOf _ _ _) (c .before .before .before .before .before .before .before .before .before .before .before .before .before .before .before .before .before .before .cut-file-line .ensures) (c .before .before .before .before .before .before .before .before .before .before .before .before .before .before .before .before .p .given .1)) (c .before .before .before .before .before .before .before .before .add-step .ensures .promise) }
 
 same-length-9 : tie.Need-same-length-9
 same-length-9 c = search needs
@@ -113,7 +113,7 @@ same-length-14 : tie.Need-same-length-14
 same-length-14 c = search needs
 
 returns-3 : tie.Need-returns-3
-returns-3 c = default-read (lineOf _ _ _) (default-told (lineOf _ _ _) (c .before .before .before .before .before .before .before .before .before .before .before .before .before .before .cut-file-line .ensures) (c .before .before .before .before .before .before .before .before .before .before .before .before .at .given .1)) (c .before .before .before .before .add-defaults .ensures)
+returns-3 c = record { space = search needs; promise = default-read (lineOf _ _ _) (default-told (lineOf _ _ _) (c .before .before .before .before .before .before .before .before .before .before .before .before .before .before .cut-file-line .ensures) (c .before .before .before .before .before .before .before .before .before .before .before .before .at .given .1)) (c .before .before .before .before .add-defaults .ensures .promise) }
 
 same-length-15 : tie.Need-same-length-15
 same-length-15 c = search needs
@@ -125,10 +125,10 @@ same-length-17 : tie.Need-same-length-17
 same-length-17 c = search needs
 
 returns-4 : tie.Need-returns-4
-returns-4 c = var-read (lineOf _ _ _) (binding-told (lineOf _ _ _) (c .before .before .before .before .before .before .before .before .before .before .before .before .before .before .before .cut-file-line .ensures) (c .before .before .before .before .before .before .before .before .before .before .before .before .before .from2 .given .1)) (c .before .before .before .before .before .before .add-var .ensures)
+returns-4 c = record { space = search needs; promise = var-read (lineOf _ _ _) (binding-told (lineOf _ _ _) (c .before .before .before .before .before .before .before .before .before .before .before .before .before .before .before .cut-file-line .ensures) (c .before .before .before .before .before .before .before .before .before .before .before .before .before .from2 .given .1)) (c .before .before .before .before .before .before .add-var .ensures) }
 
 returns-5 : tie.Need-returns-5
-returns-5 c = wrong-read (lineOf _ _ _) (refused-told (lineOf _ _ _) (c .before .before .before .cut-file-line .ensures) (c .before .r .given .1))
+returns-5 c = record { space = search needs; promise = wrong-read (lineOf _ _ _) (refused-told (lineOf _ _ _) (c .before .before .before .cut-file-line .ensures) (c .before .r .given .1)) }
 
 pub read-statement-spec : {M : Type 1} → statement M
 read-statement-spec =
