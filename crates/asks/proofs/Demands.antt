@@ -1,171 +1,254 @@
--- The three demands of document 01 as theorems about the asks themselves, from the lent bytes to the filled buffer. What `plan` and `text` ensure at
--- every call, with nothing required, is `PlanPromise` and `TextPromise` (src/lib.rt); that a call always ends, with an answer, is part of what the checker
--- proves of a function.
-use Prim.Native.Nat.{ℕ, _≤_}
-use mathlib.Core.Logic.{_↔_}
-use mathlib.Core.Bool.{true, false}
+-- The demands follow from the promise: whatever meets `PlanMeets` of the plan ask meets `PlanDemands`, and likewise for
+-- a text.
+use Prim.Native.Nat.{ℕ, _≤_, _<_}
+use native.Mathlib.Omega.{arith}
+use mathlib.Core.Logic.{_⊎_, inl, inr}
+use mathlib.Core.Bool.{Bool, true, false, not}
 use mathlib.Core.List.{List, []}
 use mathlib.Core.Option.{Option, none, some}
-use mathlib.Core.Path.{_≡_, sym, _∙_, ap, subst}
-use native.Mathlib.Omega.{arith}
-use borrow.Author.Tests.{eqb-true, eqb-false}
-use lib.Dec.{eqb}
+use mathlib.Core.Path.{_≡_, refl, sym, _∙_, ap, subst}
+use borrow.Author.Tests.{eqb-true, eqb-false, ltb-false, not-false}
+use lib.Dec.{eqb, ltb}
 use lib.ListN.{length}
 use Rattle.lists.specs.Tests.{split}
+use Rattle.lists.specs.Members.{once-below}
+use Rattle.orders.specs.Order.{first-difference, least-order}
 use Rattle.spec.specs.declared.Refusal.{Refusal}
-use Rattle.spec.specs.declared.Refusal.the-variants.{MissingSource}
-use Rattle.spec.specs.declared.PlanAnswer.{PlanAnswer}
-use Rattle.spec.specs.declared.TextAnswer.{TextAnswer}
+use Rattle.spec.specs.declared.Refusal.the-variants.{ShortBuffer, BadCard, BadTarget, NoRoot, MissingSource}
 use Rattle.spec.specs.declared.Wanted.{Wanted}
+use Rattle.spec.specs.Limits.{leastList}
 use Rattle.spec.specs.Reading.{Step, Reading}
-use Rattle.spec.specs.Answers.{Said, numberOfRefusal, refusalSays, planSays, textSays}
-use Rattle.spec.specs.Words.{NeededOrder, NeededCircle}
-use Rattle.spec.specs.Graph.{hasOrder}
-use Rattle.spec.specs.PlanAsk.{Inputs, PlanOutcome, listed, circular, noPlan, rootsOf, missingSource, refusedAt, onRefusal, planListed, planSources, planOrdered, planAsk}
+use Rattle.spec.specs.Manifest.{Read, accepted, refusedWith, readManifest}
+use Rattle.spec.specs.Card.{soundCard}
+use Rattle.spec.specs.Targets.{badTarget}
+use Rattle.spec.specs.Answers.{Said, numberOfRefusal, refusalSays}
+use Rattle.spec.specs.Graph.{hasOrder, noRoot}
+use Rattle.spec.specs.Stale.{told, listOf}
+use Rattle.spec.specs.Words.{NeededCircle}
+use Rattle.spec.specs.PlanAsk.{Inputs, PlanOutcome, listed, circular, noPlan, targetFiles, rootsOf, cardTime, missingSource, refusedIf, refusedAt, onRefusal, planListed, planSources, planOrdered, planRooted, planTargets, planRead, planManifest, planAsk}
 use Rattle.spec.specs.TextAsk.{TextOutcome, text, noText, textAsk}
-use Rattle.spec.specs.Promises.{filled, leftBy, counts, refused14, Is, Shows, PlanMeets, PlanPromise, TextMeets, TextPromise}
-use Rattle.spec.proofs.Checks.{PastChecks, past-checks}
-use Rattle.spec.proofs.Outcomes.{Not14, CircleRead, PlanWithin, plan-within, TextWithin, text-within}
-use Rattle.spec.proofs.Demand3.{Unrefused, Listing, demand3}
+use Rattle.spec.specs.Promises.{filled, leftBy, counts, refused14, Is, Shows, PlanMeets, TextMeets}
+use Rattle.spec.proofs.Manifests.{of-reading, accepted-few}
+use Rattle.spec.proofs.Graph.{needed-low}
+use Rattle.spec.proofs.Sources.{missing-lowest, none-missing}
+use Rattle.spec.proofs.Checks as checks
+use Rattle.spec.proofs.Outcomes.{Not14, TextWithin, text-within}
+use Rattle.spec.proofs.Demand3.{order-right, no-order, told-along, told-once, list-right}
+use Rattle.asks.specs.Demands.{PastChecks, Checked, refused-ahead, passed, Demand1, answers, shows, short, refuses, CircleRead, NoCircle, Listing, ListShown, Ordered, MissingIn, LowestMissing, Planned, Demand3, PlanDemands, TextDemands}
+
+-- the number that is said
+number : {said right : Said} {exit left : List ℕ} → Is said exit right left → said .number ≡ right .number
+number p = ap (λ (s : Said). s .number) (p .says)
+
+-- ------------------------------------------------------------------ the checks ahead of circles
+
+refused-with : (r : Refusal) {i : Inputs} {room : ℕ} {said : Said} {exit left : List ℕ} → 0 < numberOfRefusal r → numberOfRefusal r < 14
+    → Is said exit (refusalSays r) left → Checked i room said
+unfolding refusalSays
+refused-with r l h p = refused-ahead (rw (number p) l) (rw (number p) h)
+
+module _ (i : Inputs) (lent : List ℕ) (said : Said) (exit : List ℕ) where
+  abbrev Meets : PlanOutcome → Type 0
+  Meets o = PlanMeets o lent said exit
+
+  abbrev Ahead : Type 0
+  Ahead = Checked i (length lent) said
+
+  -- a check that refuses with a number below 14 is one of those ahead of circles; else what comes after it is looked at
+  after-test : (b : Bool) (r : Refusal) (f : Unit {0} → PlanOutcome) → 0 < numberOfRefusal r → numberOfRefusal r < 14
+      → Meets (onRefusal (refusedIf b r) f) → (b ≡ false → Meets (f tt) → Ahead) → Ahead
+  unfolding PlanMeets
+  after-test true r f l h m go = refused-with r l h m
+  after-test false r f l h m go = go refl m
+
+  after-place : (o : Option ℕ) (r : ℕ → Refusal) (f : Unit {0} → PlanOutcome) → ((p : ℕ) → 0 < numberOfRefusal (r p))
+      → ((p : ℕ) → numberOfRefusal (r p) < 14) → Meets (onRefusal (refusedAt o r) f) → (o ≡ none → Meets (f tt) → Ahead) → Ahead
+  unfolding PlanMeets
+  after-place none r f l h m go = go refl m
+  after-place (some p) r f l h m go = refused-with (r p) (l p) (h p) m
+
+  module _ (long : leastList ≤ length lent) (rd : Reading) (e : readManifest (i .manifest) ≡ accepted rd) where
+    from-11 : Meets (planRead i rd) → Ahead
+    unfolding planRead planTargets planRooted numberOfRefusal
+    from-11 m =
+        after-test (not (soundCard (i .card))) BadCard (λ _. planTargets i rd) (omega arith) (omega arith) m
+        λ a m₁. after-place (badTarget (rd .files) (i .targets)) BadTarget (λ _. planRooted i rd) (λ p. omega arith) (λ p. omega arith) m₁
+        λ b m₂. after-test (noRoot rd (targetFiles (i .targets) rd)) NoRoot (λ _. planOrdered i rd) (omega arith) (omega arith) m₂
+        λ c _. passed rd (record { buffer = long; read = e; sound = not-false (soundCard (i .card)) a; named = b; rooted = c })
+
+  from-2 : leastList ≤ length lent → (x : Read) → readManifest (i .manifest) ≡ x → Meets (planManifest i x) → Ahead
+  unfolding planManifest PlanMeets
+  from-2 long (refusedWith r) e m =
+      let o = of-reading (i .manifest) e in
+      refused-with r (omega (arith, o .least)) (omega (arith, o .most)) m
+  from-2 long (accepted rd) e m = from-11 long rd e m
+
+  checked : Meets (planAsk i (length lent)) → Ahead
+  unfolding planAsk PlanMeets numberOfRefusal
+  checked m =
+      split (ltb (length lent) leastList)
+      (λ (e : ltb (length lent) leastList ≡ true). refused-with ShortBuffer (omega arith) (omega arith) (rw e at m))
+      (λ (e : ltb (length lent) leastList ≡ false). from-2 (ltb-false (length lent) leastList e) (readManifest (i .manifest)) refl (rw e at m))
+
+  past-checks : (rd : Reading) → PastChecks i (length lent) rd → planAsk i (length lent) ≡ planOrdered i rd
+  past-checks rd p =
+      checks.past-checks i (length lent) rd (record { buffer = p .buffer; read = p .read; sound = p .sound; named = p .named; rooted = p .rooted })
 
 -- ------------------------------------------------------------------ demand 1
-
--- "Any manifest, card of file times and target list gets an answer, always. A refusal gives its number and place and leaves the buffers zero (a short
--- buffer: untouched; a circle: written out)."
--- `Circle` says what circle there is to write out: for a plan one of the needed steps, for a text none.
-pub data Demand1 (Circle : List ℕ → Type 0) (lent : List ℕ) (said : Said) (exit : List ℕ) : Type 0 where
-  -- the count, the list or the text, which has room there, and zeros beyond
-  answers : (l : List ℕ) → length l ≤ length lent → said ≡ counts (length l) → exit ≡ filled l lent → Demand1 Circle lent said exit
-  -- 14, the length of a circle that there is, the circle, which has room there, and zeros beyond
-  shows : (c : List ℕ) → Circle c → length c ≤ length lent → said ≡ refused14 (length c) → exit ≡ filled c lent → Demand1 Circle lent said exit
-  -- 1, and the buffer untouched
-  short : (r : Refusal) → numberOfRefusal r ≡ 1 → said ≡ refusalSays r → exit ≡ lent → Demand1 Circle lent said exit
-  -- any number but 1 and 14, its place, and zeros
-  refuses : (r : Refusal) → (numberOfRefusal r ≡ 1 → ⊥) → (numberOfRefusal r ≡ 14 → ⊥) → said ≡ refusalSays r → exit ≡ filled [] lent → Demand1 Circle lent said exit
-
--- a text has no circle
-abbrev pub NoCircle : List ℕ → Type 0
-NoCircle c = ⊥
 
 refusal-left : (r : Refusal) {Circle : List ℕ → Type 0} {lent exit : List ℕ} {said : Said} → Not14 r → Is said exit (refusalSays r) (leftBy r lent)
     → Demand1 Circle lent said exit
 unfolding leftBy
-refusal-left r n i =
+refusal-left r n p =
     split (eqb (numberOfRefusal r) 1)
-    (λ (e : eqb (numberOfRefusal r) 1 ≡ true). short r (eqb-true (numberOfRefusal r) 1 e) (i .says) (i .leaves ∙ rw e))
-    (λ (e : eqb (numberOfRefusal r) 1 ≡ false). refuses r (eqb-false (numberOfRefusal r) 1 e) n (i .says) (i .leaves ∙ rw e))
-
-plan-left : (i : Inputs) (o : PlanOutcome) {lent exit : List ℕ} {said : Said} → PlanWithin i (length lent) o → PlanMeets o lent said exit
-    → Demand1 (CircleRead i) lent said exit
-unfolding PlanMeets
-plan-left i (listed l) w p = answers l w (p .says) (p .leaves)
-plan-left i (circular steps targets) w p = let (c, b) = w (p .circle) (p .real) in shows (p .circle) c b (p .shown .says) (p .shown .leaves)
-plan-left i (noPlan r) w p = refusal-left r w p
-
-text-left : (o : TextOutcome) {lent exit : List ℕ} {said : Said} → TextWithin (length lent) o → TextMeets o lent said exit → Demand1 NoCircle lent said exit
-unfolding TextMeets
-text-left (text t) w p = answers t w (p .says) (p .leaves)
-text-left (noText r) w p = refusal-left r w p
-
-pub plan-answers : (i : Inputs) (lent : List ℕ) (answer : PlanAnswer) (exit : List ℕ) → PlanPromise i lent answer exit
-    → Demand1 (CircleRead i) lent (planSays answer) exit
-plan-answers i lent answer exit p = plan-left i (planAsk i (length lent)) (plan-within i (length lent)) p
-
-pub text-answers : (manifest : List ℕ) (step : ℕ) (wanted : Wanted) (lent : List ℕ) (answer : TextAnswer) (exit : List ℕ)
-    → TextPromise manifest step wanted lent answer exit → Demand1 NoCircle lent (textSays answer) exit
-text-answers manifest step wanted lent answer exit p =
-    text-left (textAsk manifest step wanted (length lent)) (text-within (length lent) manifest step wanted) p
-
--- ------------------------------------------------------------------ demand 2
-
--- "Steps, files, texts, stale or fresh, and each refusal are exactly what document 01 says": the outcome that the definitions compute, whatever it is, is
--- what the answer says and the buffer holds. A circle is the one outcome of which the definitions leave a choice.
-module _ (i : Inputs) (lent : List ℕ) (answer : PlanAnswer) (exit : List ℕ) (p : PlanPromise i lent answer exit) where
-  pub plan-listed : {l : List ℕ} → planAsk i (length lent) ≡ listed l → Is (planSays answer) exit (counts (length l)) (filled l lent)
-  unfolding PlanMeets
-  plan-listed e = subst (λ (o : PlanOutcome). PlanMeets o lent (planSays answer) exit) e p
-
-  pub plan-refused : {r : Refusal} → planAsk i (length lent) ≡ noPlan r → Is (planSays answer) exit (refusalSays r) (leftBy r lent)
-  unfolding PlanMeets
-  plan-refused e = subst (λ (o : PlanOutcome). PlanMeets o lent (planSays answer) exit) e p
-
-  pub plan-circled : {steps : List Step} {targets : List ℕ} → planAsk i (length lent) ≡ circular steps targets → Shows steps targets lent (planSays answer) exit
-  unfolding PlanMeets
-  plan-circled e = subst (λ (o : PlanOutcome). PlanMeets o lent (planSays answer) exit) e p
-
-module _ (manifest : List ℕ) (step : ℕ) (wanted : Wanted) (lent : List ℕ) (answer : TextAnswer) (exit : List ℕ) (p : TextPromise manifest step wanted lent answer exit) where
-  pub text-written : {t : List ℕ} → textAsk manifest step wanted (length lent) ≡ text t → Is (textSays answer) exit (counts (length t)) (filled t lent)
-  unfolding TextMeets
-  text-written e = subst (λ (o : TextOutcome). TextMeets o lent (textSays answer) exit) e p
-
-  pub text-refused : {r : Refusal} → textAsk manifest step wanted (length lent) ≡ noText r → Is (textSays answer) exit (refusalSays r) (leftBy r lent)
-  unfolding TextMeets
-  text-refused e = subst (λ (o : TextOutcome). TextMeets o lent (textSays answer) exit) e p
+    (λ (e : eqb (numberOfRefusal r) 1 ≡ true). short r (eqb-true (numberOfRefusal r) 1 e) (rw e at p))
+    (λ (e : eqb (numberOfRefusal r) 1 ≡ false). refuses r (eqb-false (numberOfRefusal r) 1 e) n (rw e at p))
 
 -- ------------------------------------------------------------------ demand 3
 
--- a real circle of needed steps stands in the buffer, zeros beyond, and the answer is 14 with its length
-pub record CircleShown (i : Inputs) (rd : Reading) (lent : List ℕ) (said : Said) (exit : List ℕ) : Type 0 where
-  pub circle : List ℕ
-  pub real : NeededCircle (rd .steps) (rootsOf i rd) circle
-  pub shown : Is said exit (refused14 (length circle)) (filled circle lent)
+module _ (i : Inputs) (rd : Reading) where
+  abbrev has : Bool
+  has = hasOrder (rd .steps) (rootsOf i rd)
 
--- the list stands in the buffer, zeros beyond, and the answer is its length: every stale needed command step once, each after all stale ones upstream, and the
--- least such list by step number (`Listing`)
-pub record ListShown (i : Inputs) (rd : Reading) (lent : List ℕ) (said : Said) (exit : List ℕ) : Type 0 where
-  pub listing : Listing i rd
-  pub shown : Is said exit (counts (length (listing .list))) (filled (listing .list) lent)
+  abbrev lost : Option ℕ
+  lost = missingSource (i .card) rd (rootsOf i rd)
 
--- "Past the checks ahead of circles: a circle is refused exactly when no order of the needed steps exists, and a real one is shown; otherwise the list holds every
--- stale needed command step once, each after all stale ones upstream, and it is the least such list by step number." No check after 14 refuses exactly when no
--- needed source is missing (`unrefused` of `demand3`).
-pub record Demand3 (i : Inputs) (rd : Reading) (lent : List ℕ) (said : Said) (exit : List ℕ) : Type 0 where
-  pub exactly : (said .number ≡ 14) ↔ (¬ ((l : List ℕ) × NeededOrder (rd .steps) (rootsOf i rd) l))
-  pub circle : (¬ ((l : List ℕ) × NeededOrder (rd .steps) (rootsOf i rd) l)) → CircleShown i rd lent said exit
-  pub list : (l : List ℕ) → NeededOrder (rd .steps) (rootsOf i rd) l → Unrefused i rd → ListShown i rd lent said exit
+  -- the list that is computed
+  abbrev steps : List ℕ
+  steps = listOf (rd .steps) (cardTime (i .card) rd) (rootsOf i rd)
 
-module _ (i : Inputs) (rd : Reading) (lent : List ℕ) (said : Said) (exit : List ℕ) where
-  -- the outcome past 14 has another number
-  other : (o : Option ℕ) → PlanMeets (onRefusal (refusedAt o MissingSource) (λ _. planListed i rd)) lent said exit → said .number ≡ 14 → ⊥
-  unfolding PlanMeets planListed refusalSays numberOfRefusal
-  other none p e = omega (arith, sym e ∙ ap (λ (s : Said). s .number) (p .says))
-  other (some f) p e = omega (arith, sym e ∙ ap (λ (s : Said). s .number) (p .says))
+  is-ordered : has ≡ true → Ordered i rd
+  is-ordered h = (_, order-right (rd .steps) (rootsOf i rd) h)
 
-  past-14 : PlanMeets (planSources i rd) lent said exit → said .number ≡ 14 → ⊥
-  unfolding planSources
-  past-14 p e = other (missingSource (i .card) rd (rootsOf i rd)) p e
-
-module _ (i : Inputs) (rd : Reading) (lent : List ℕ) (said : Said) (exit : List ℕ) (m : PlanMeets (planOrdered i rd) lent said exit) where
-  shown : planOrdered i rd ≡ circular (rd .steps) (rootsOf i rd) → CircleShown i rd lent said exit
-  unfolding PlanMeets
-  shown e =
-      let s : Shows (rd .steps) (rootsOf i rd) lent said exit = subst (λ (o : PlanOutcome). PlanMeets o lent said exit) e m in
-      record { circle = s .circle; real = s .real; shown = s .shown }
-
-  numbered : said .number ≡ 14 → planOrdered i rd ≡ circular (rd .steps) (rootsOf i rd)
-  unfolding planOrdered
-  numbered e =
-      split (hasOrder (rd .steps) (rootsOf i rd))
-      (λ (h : hasOrder (rd .steps) (rootsOf i rd) ≡ true). absurd (past-14 i rd lent said exit (rw h at m) e))
-      (λ (h : hasOrder (rd .steps) (rootsOf i rd) ≡ false). rw h)
-
-  on-list : {l : List ℕ} → planOrdered i rd ≡ listed l → Is said exit (counts (length l)) (filled l lent)
-  unfolding PlanMeets
-  on-list e = subst (λ (o : PlanOutcome). PlanMeets o lent said exit) e m
-
-  met : Demand3 i rd lent said exit
-  met =
-      let d = demand3 i rd in
+  listing : has ≡ true → Listing i rd steps
+  listing h =
+      let rs = rootsOf i rd in
+      let card = cardTime (i .card) rd in
+      let o = order-right (rd .steps) rs h in
+      let least = list-right (rd .steps) rs card o in
       record {
-        exactly = (λ e. d .circle .0 (numbered e), λ n. let c = shown (d .circle .1 n) in ap (λ (s : Said). s .number) (c .shown .says));
-        circle = λ n. shown (d .circle .1 n);
-        list = λ l o u.
-            let g = d .listing l o u in
-            record { listing = g; shown = on-list (g .outcome) };
+        verdicts = told (rd .steps) card rs;
+        sentences = told-along (rd .steps) rs card o;
+        fixed = λ v p s n. told-once (rd .steps) rs card o v (told (rd .steps) card rs) p (told-along (rd .steps) rs card o) s n;
+        both-rules = least-order least;
+        least = least;
+        lowest = λ r k. elim (first-difference least k) [
+          | inl e ↦ inl e
+          | inr d ↦ inr (record { place = d .0; within = d .1; alike = d .2; lower = d .3 })
+        ];
       }
 
--- The theorem: the plan ask keeps demand 3, from the lent bytes to the filled buffer.
-pub plan-demand3 : (i : Inputs) (lent : List ℕ) (answer : PlanAnswer) (exit : List ℕ) → PlanPromise i lent answer exit
-    → (rd : Reading) → PastChecks i (length lent) rd → Demand3 i rd lent (planSays answer) exit
-plan-demand3 i lent answer exit p rd c =
-    met i rd lent (planSays answer) exit (subst (λ (o : PlanOutcome). PlanMeets o lent (planSays answer) exit) (past-checks i (length lent) rd c) p)
+  module _ (lent : List ℕ) (said : Said) (exit : List ℕ) where
+    from-circle : has ≡ false → Shows (rd .steps) (rootsOf i rd) lent said exit → Planned i rd lent said exit
+    from-circle h s =
+        let n : said .number ≡ 14 = number (s .shown) in
+        let no = no-order (rd .steps) (rootsOf i rd) .1 h in
+        record {
+          circle = (λ e. no, λ f. n);
+          real = λ e. s;
+          missing = (λ e. absurd (omega (arith, n, e)), λ p. absurd (no (p .0)));
+          lowest = λ e. absurd (omega (arith, n, e));
+          list = (λ e. absurd (omega (arith, n, e)), λ p. absurd (no (p .0)));
+          listed = λ e. absurd (omega (arith, n, e));
+        }
+
+    from-missing : has ≡ true → (f : ℕ) → lost ≡ some f → Is said exit (refusalSays (MissingSource f)) (leftBy (MissingSource f) lent) → Planned i rd lent said exit
+    unfolding refusalSays
+    from-missing h f e p =
+        let n : said .number ≡ 15 = number p in
+        let v : said .value ≡ f = ap (λ (s : Said). s .value) (p .says) in
+        let (m, l) = missing-lowest (i .card) rd (rootsOf i rd) e in
+        record {
+          circle = (λ d. absurd (omega (arith, n, d)), λ no. absurd (no (is-ordered h)));
+          real = λ d. absurd (omega (arith, n, d));
+          missing = (λ d. (is-ordered h, (f, m)), λ q. n);
+          lowest = λ d. rw v (record { missing = m; lowest = l });
+          list = (λ d. absurd (omega (arith, n, d)), λ q. absurd (q .1 f m));
+          listed = λ d. absurd (omega (arith, n, d));
+        }
+
+    from-list : has ≡ true → lost ≡ none → Is said exit (counts (length steps)) (filled steps lent) → Planned i rd lent said exit
+    from-list h e p =
+        let n : said .number ≡ 0 = number p in
+        let none-is = none-missing (i .card) rd (rootsOf i rd) e in
+        record {
+          circle = (λ d. absurd (omega (arith, n, d)), λ no. absurd (no (is-ordered h)));
+          real = λ d. absurd (omega (arith, n, d));
+          missing = (λ d. absurd (omega (arith, n, d)), λ q. absurd (none-is (q .1 .0) (q .1 .1)));
+          lowest = λ d. absurd (omega (arith, n, d));
+          list = (λ d. (is-ordered h, none-is), λ q. n);
+          listed = λ d. record { list = steps; listing = listing h; shown = p };
+        }
+
+    from-15 : has ≡ true → (o : Option ℕ) → lost ≡ o → PlanMeets (onRefusal (refusedAt o MissingSource) (λ _. planListed i rd)) lent said exit
+        → Planned i rd lent said exit
+    unfolding PlanMeets planListed
+    from-15 h none e m = from-list h e m
+    from-15 h (some f) e m = from-missing h f e m
+
+    from-14 : PlanMeets (planOrdered i rd) lent said exit → Planned i rd lent said exit
+    unfolding PlanMeets planOrdered planSources
+    from-14 m =
+        split has (λ (h : has ≡ true). from-15 h lost refl (rw h at m))
+        (λ (h : has ≡ false). from-circle h (rw h at m))
+
+-- ------------------------------------------------------------------ the asks
+
+module _ (i : Inputs) (lent : List ℕ) (said : Said) (exit : List ℕ) where
+  demand-3 : PlanMeets (planAsk i (length lent)) lent said exit → Demand3 i lent said exit
+  demand-3 m = record {
+    ahead = checked i lent said exit m;
+    past = λ rd p. from-14 i rd lent said exit (subst (λ (o : PlanOutcome). PlanMeets o lent said exit) (past-checks i lent said exit rd p) m);
+  }
+
+  -- what was read has no more steps than there is room for
+  few : {rd : Reading} → PastChecks i (length lent) rd → length (rd .steps) ≤ length lent
+  few {rd} p = omega (arith, accepted-few (i .manifest) rd (p .read), p .buffer)
+
+  list-room : {rd : Reading} {l : List ℕ} → PastChecks i (length lent) rd → Listing i rd l → length l ≤ length lent
+  list-room {rd} {l} p g =
+      omega (arith, few p, once-below l (length (rd .steps)) (g .both-rules .lists .once) (λ s h. needed-low (g .both-rules .lists .no-others s h .needed)))
+
+  circle-room : {rd : Reading} {c : List ℕ} → PastChecks i (length lent) rd → NeededCircle (rd .steps) (rootsOf i rd) c → length c ≤ length lent
+  circle-room {rd} {c} p k = omega (arith, few p, once-below c (length (rd .steps)) (k .once) (λ s h. needed-low (k .wanted s h)))
+
+  -- a 14 is a circle of what was read, and an answer is a list
+  on-circle : said .number ≡ 14 → Demand3 i lent said exit → Demand1 (CircleRead i (length lent)) lent said exit
+  on-circle n d = elim (d .ahead) [
+    | refused-ahead l h ↦ absurd (omega (arith, n, h))
+    | passed rd p ↦ (let s = d .past rd p .real n in shows (s .circle) (record { reading = rd; past = p; real = s .real }) (circle-room p (s .real)) (s .shown))
+  ]
+
+  on-list : said .number ≡ 0 → Demand3 i lent said exit → Demand1 (CircleRead i (length lent)) lent said exit
+  on-list n d = elim (d .ahead) [
+    | refused-ahead l h ↦ absurd (omega (arith, n, l))
+    | passed rd p ↦ (let s = d .past rd p .listed n in answers (s .list) (list-room p (s .listing)) (s .shown))
+  ]
+
+  demand-1 : (o : PlanOutcome) → PlanMeets o lent said exit → Demand3 i lent said exit → Demand1 (CircleRead i (length lent)) lent said exit
+  unfolding PlanMeets refusalSays
+  demand-1 (listed l) m d = on-list (number m) d
+  demand-1 (circular steps roots) m d = on-circle (number (m .shown)) d
+  demand-1 (noPlan r) m d =
+      split (eqb (numberOfRefusal r) 14)
+      (λ (e : eqb (numberOfRefusal r) 14 ≡ true). on-circle (number m ∙ eqb-true (numberOfRefusal r) 14 e) d)
+      (λ (e : eqb (numberOfRefusal r) 14 ≡ false). refusal-left r (eqb-false (numberOfRefusal r) 14 e) m)
+
+  pub plan-demands : PlanMeets (planAsk i (length lent)) lent said exit → PlanDemands i lent said exit
+  plan-demands m = record {
+    demand1 = demand-1 (planAsk i (length lent)) m (demand-3 m);
+    promise = m;
+    demand3 = demand-3 m;
+  }
+
+module _ (manifest : List ℕ) (step : ℕ) (wanted : Wanted) (lent : List ℕ) (said : Said) (exit : List ℕ) where
+  text-left : (o : TextOutcome) → TextWithin (length lent) o → TextMeets o lent said exit → Demand1 NoCircle lent said exit
+  unfolding TextMeets
+  text-left (text t) w m = answers t w m
+  text-left (noText r) w m = refusal-left r w m
+
+  pub text-demands : TextMeets (textAsk manifest step wanted (length lent)) lent said exit → TextDemands manifest step wanted lent said exit
+  text-demands m = record {
+    demand1 = text-left (textAsk manifest step wanted (length lent)) (text-within (length lent) manifest step wanted) m;
+    promise = m;
+  }

@@ -1,6 +1,7 @@
 // The two asks on lent bytes. Neither asks anything of what it is given: it refuses.
+ghost use Rattle.spec.specs.Answers.{planSays, textSays};
 ghost use Rattle.spec.specs.PlanAsk.{inputsOf};
-ghost use Rattle.spec.specs.Promises.{PlanPromise, TextPromise};
+ghost use Rattle.asks.specs.Demands.{PlanDemands, TextDemands};
 use ask_plan::plan_buffered;
 use ask_text::text_buffered;
 use spec::PlanAnswer;
@@ -12,7 +13,7 @@ use spec::limits::TEXT;
 
 // The list of the stale needed command steps for a manifest, a card of file times and a list of targets.
 pub fn plan(manifest: &[u8], card: &[u8], targets: &[u8], list: &mut [u32]) -> PlanAnswer
-    ensures { λ r. ⌜ PlanPromise (inputsOf (now (manifest .entry)) (now (card .entry)) (now (targets .entry))) (now (list .entry)) r (now (list .exit)) ⌝ }
+    ensures { λ r. ⌜ PlanDemands (inputsOf (now (manifest .entry)) (now (card .entry)) (now (targets .entry))) (now (list .entry)) (planSays r) (now (list .exit)) ⌝ }
 {
     if list.len() < LIST {
         return PlanAnswer::Refused(Refusal::ShortBuffer);
@@ -22,7 +23,7 @@ pub fn plan(manifest: &[u8], card: &[u8], targets: &[u8], list: &mut [u32]) -> P
 
 // The text of a step's command or description.
 pub fn text(manifest: &[u8], step: usize, wanted: Wanted, buffer: &mut [u8]) -> TextAnswer
-    ensures { λ r. ⌜ TextPromise (now (manifest .entry)) step wanted (now (buffer .entry)) r (now (buffer .exit)) ⌝ }
+    ensures { λ r. ⌜ TextDemands (now (manifest .entry)) step wanted (now (buffer .entry)) (textSays r) (now (buffer .exit)) ⌝ }
 {
     if buffer.len() < TEXT {
         return TextAnswer::Refused(Refusal::ShortBuffer);

@@ -1,9 +1,7 @@
 // The two asks for C and Rust: numbers and slices alone. Neither asks anything of its caller, and each says what document 01 says in two numbers.
 ghost use mathlib.Core.Path.{_≡_};
-ghost use lib.ListN.{length};
-ghost use Rattle.spec.specs.PlanAsk.{inputsOf, planAsk};
-ghost use Rattle.spec.specs.TextAsk.{textAsk};
-ghost use Rattle.spec.specs.Promises.{PlanMeets, TextMeets};
+ghost use Rattle.spec.specs.PlanAsk.{inputsOf};
+ghost use Rattle.asks.specs.Demands.{PlanDemands, TextDemands};
 ghost use Rattle.kestrenyo.specs.Tells.{Tells, TellsNumbers};
 ghost use Rattle.kestrenyo.specs.Wants.{wantedOf};
 use answers::Numbers;
@@ -37,7 +35,7 @@ pub extern "C" fn kestrenyo_plan(
     targets: &[u8],
     list: &mut [u32],
 ) -> Said
-    ensures { λ r. ⌜ Tells (λ said. PlanMeets (planAsk (inputsOf (now (manifest .entry)) (now (card .entry)) (now (targets .entry))) (length (now (list .entry)))) (now (list .entry)) said (now (list .exit))) r ⌝ }
+    ensures { λ r. ⌜ Tells (λ said. PlanDemands (inputsOf (now (manifest .entry)) (now (card .entry)) (now (targets .entry))) (now (list .entry)) said (now (list .exit))) r ⌝ }
 {
     in_two(of_plan(plan(manifest, card, targets, list)))
 }
@@ -60,7 +58,7 @@ pub extern "C" fn kestrenyo_text(
     wanted: usize,
     buffer: &mut [u8],
 ) -> Said
-    ensures { λ r. ⌜ Tells (λ said. TextMeets (textAsk (now (manifest .entry)) step (wantedOf wanted) (length (now (buffer .entry)))) (now (buffer .entry)) said (now (buffer .exit))) r ⌝ }
+    ensures { λ r. ⌜ Tells (λ said. TextDemands (now (manifest .entry)) step (wantedOf wanted) (now (buffer .entry)) said (now (buffer .exit))) r ⌝ }
 {
     in_two(of_text(text(manifest, step, wanted_of(wanted), buffer)))
 }

@@ -1,4 +1,4 @@
--- `kestrenyo_plan` meets its contract: the planner's promise, with the two numbers for the answer.
+-- `kestrenyo_plan` meets its contract: what the ask ensures, with two numbers for the answer.
 use borrow.Author.Needs.{needs}
 use Rattle.kestrenyo.specs.Tells.{tells}
 use Rattle.kestrenyo.proofs.kestrenyo_plan.Statement.{statement}

@@ -1,4 +1,4 @@
--- `kestrenyo_text` meets its contract: the planner's promise, with two numbers for the answer and one for what is wanted.
+-- `kestrenyo_text` meets its contract: what the ask ensures, with two numbers for the answer and one for what is wanted.
 use borrow.Author.Needs.{needs}
 use Rattle.kestrenyo.specs.Tells.{tells}
 use Rattle.kestrenyo.proofs.kestrenyo_text.Statement.{statement}

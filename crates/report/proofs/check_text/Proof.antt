@@ -25,7 +25,7 @@ same-length : tie.Need-same-length
 same-length c = search needs
 
 returns : tie.Need-returns
-returns c = c .of-text .ensures ∙ says-command (now (c .before .before .before .before .before .before .before .args .manifest)) (c .before .before .before .before .before .before .before .args .step) (take 8192 (now (c .before .before .before .before .before .before .before .args .line))) (c .before .before .before .text .last .1 .1 .1 .0) _ (length-take-le 8192 (now (c .before .before .before .before .before .before .before .args .line)) (omega (arith, c .before .before .before .before .before .before .before .pre))) (c .before .before .before .text .ensures)
+returns c = c .of-text .ensures ∙ says-command (now (c .before .before .before .before .before .before .before .args .manifest)) (c .before .before .before .before .before .before .before .args .step) (take 8192 (now (c .before .before .before .before .before .before .before .args .line))) (c .before .before .before .text .last .1 .1 .1 .0) _ (length-take-le 8192 (now (c .before .before .before .before .before .before .before .args .line)) (omega (arith, c .before .before .before .before .before .before .before .pre))) (c .before .before .before .text .ensures .promise)
 
 pub check-text-spec : {M : Type 1} → statement M
 check-text-spec =
