@@ -15,6 +15,7 @@ use hold_reading::Line;
 use hold_reading::LineAnswer;
 use hold_reading::Open;
 use hold_reading::State;
+use scan_raw::texts::raw_value;
 
 // A line where no block is open.
 pub fn read_statement(
@@ -49,16 +50,10 @@ pub fn read_statement(
             word,
             c,
         ),
-        FileLine::Binding(from, to, at) => add_var(
-            t,
-            start,
-            &l[from..to],
-            &l[at..],
-            texts,
-            bind,
-            word,
-            c,
-        ),
+        FileLine::Binding(from, to, at) => {
+            let raw = raw_value(l, at);
+            add_var(t, start, &l[from..to], raw, texts, bind, word, c)
+        }
         FileLine::Refused(r) => LineAnswer::Refused(r),
     }
 }
