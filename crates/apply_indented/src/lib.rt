@@ -10,6 +10,7 @@ use cut_refusals::cut_block_line;
 use hold_reading::Counts;
 use hold_reading::LineAnswer;
 use hold_reading::Open;
+use scan_raw::texts::raw_value;
 use spec::Refusal;
 
 // In the block of the rule whose line starts at `head`, and which is declared at an entry of the table of bindings.
@@ -28,16 +29,10 @@ fn read_key(
     ensures { λ r. ⌜ Meets (now (texts .entry)) (now (bind .entry)) c (Open.Rule head entry) (readIndented (lineOf start (now (l .entry)) ended)) (now (texts .exit)) (now (bind .exit)) r ⌝ }
 {
     match cut_block_line(t, start, l, ended) {
-        BlockLine::Binding(from, to, at) => add_key(
-            start,
-            head,
-            entry,
-            &l[from..to],
-            &l[at..],
-            texts,
-            bind,
-            c,
-        ),
+        BlockLine::Binding(from, to, at) => {
+            let raw = raw_value(l, at);
+            add_key(start, head, entry, &l[from..to], raw, texts, bind, c)
+        }
         BlockLine::Refused(r) => LineAnswer::Refused(r),
     }
 }
@@ -57,16 +52,10 @@ fn read_setting(
     ensures { λ r. ⌜ Meets (now (texts .entry)) (now (bind .entry)) c Open.Step (readIndented (lineOf start (now (l .entry)) ended)) (now (texts .exit)) (now (bind .exit)) r ⌝ }
 {
     match cut_block_line(t, start, l, ended) {
-        BlockLine::Binding(from, to, at) => add_to_block(
-            t,
-            start,
-            &l[from..to],
-            &l[at..],
-            texts,
-            bind,
-            word,
-            c,
-        ),
+        BlockLine::Binding(from, to, at) => {
+            let raw = raw_value(l, at);
+            add_to_block(t, start, &l[from..to], raw, texts, bind, word, c)
+        }
         BlockLine::Refused(r) => LineAnswer::Refused(r),
     }
 }

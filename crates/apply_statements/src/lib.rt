@@ -18,6 +18,7 @@ use hold_reading::Line;
 use hold_reading::LineAnswer;
 use hold_reading::Open;
 use hold_reading::State;
+use scan_raw::texts::raw_value;
 
 // A line where no block is open. The word buffer is working space, and after a refusal all are.
 pub fn read_statement(
@@ -46,16 +47,10 @@ pub fn read_statement(
             let s = DefaultStatement { start, paths: at };
             add_defaults(t, l, s, names, index, texts, bind, graph, word, c)
         }
-        FileLine::Binding(from, to, at) => add_var(
-            t,
-            start,
-            &l[from..to],
-            &l[at..],
-            texts,
-            bind,
-            word,
-            c,
-        ),
+        FileLine::Binding(from, to, at) => {
+            let raw = raw_value(l, at);
+            add_var(t, start, &l[from..to], raw, texts, bind, word, c)
+        }
         FileLine::Refused(r) => LineAnswer::Refused(r),
     }
 }

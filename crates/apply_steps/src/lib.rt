@@ -36,10 +36,10 @@ pub fn write_step(
     requires { ⌜ StepAsks (now t) (now l) (buffers (now names) (now index) (now texts) (now bind) (now graph)) (now word) c (s .places) ⌝ }
     ensures { λ r. ⌜ Leaves (SameRoom (buffers (now (names .entry)) (now (index .entry)) (now (texts .entry)) (now (bind .entry)) (now (graph .entry))) (buffers (now (names .exit)) (now (index .exit)) (now (texts .entry)) (now (bind .entry)) (now (graph .exit))) × (Spare (now (word .entry)) (now (word .exit)))) (Writes (now (l .entry)) (buffers (now (names .entry)) (now (index .entry)) (now (texts .entry)) (now (bind .entry)) (now (graph .entry))) c (s .start) (s .places) (now (names .exit)) (now (index .exit)) (now (graph .exit)) r) ⌝ }
 {
+    let p = s.places;
     if STEPS <= c.steps {
         return LineAnswer::Refused(Refusal::OverLimit(s.start));
     }
-    let p = s.places;
     match four(t, l, p, names, index, texts, bind, graph, word, c) {
         Mentioned::On(d) => {
             let from = p.rule;
