@@ -11,8 +11,9 @@ use Rattle.lists.specs.Members.{_∈_}
 use Rattle.spec.specs.Reading.{Reading}
 use Rattle.spec.specs.Words.{Makes}
 use Rattle.spec.specs.PlanAsk.{Inputs, rootsOf, missingSource}
+use Rattle.spec.specs.Demands.{MissingIn}
 use Rattle.spec.proofs.Graph.{in-makers, in-needed}
-use Rattle.spec.proofs.Sources.{MissingIn, missing-lowest, none-missing, missing-none}
+use Rattle.spec.proofs.Sources.{missing-lowest, none-missing, missing-none}
 use Rattle.hold_columns.specs.Columns.{makerIn}
 use Rattle.hold_columns.proofs.Makers.{in-makerIn, makerIn-in}
 use Rattle.hold_columns.proofs.Held.{held-makers, held-inputs}
@@ -32,7 +33,7 @@ module _ {i : Inputs} {rd : Reading} {mentions ends phony made times order : Lis
       go (suc m) e = absurd (n m (in-makers (rd .steps) f .0 (rw (held-makers (s .held)) at (makerIn-in made f e))))
 
   -- what is wanted and absent by the columns is a missing needed source
-  is-missing : (f : ℕ) → f < length made → Wanted mentions ends (rootsOf i rd) order f → Absent times made f → MissingIn (i .card) rd (rootsOf i rd) f
+  is-missing : (f : ℕ) → f < length made → Wanted mentions ends (rootsOf i rd) order f → Absent times made f → MissingIn i rd f
   is-missing f b w a = record {
     file = rw (s .held .counted) at b;
     absent = sym (s .timed f) ∙ a .0;
@@ -45,7 +46,7 @@ module _ {i : Inputs} {rd : Reading} {mentions ends phony made times order : Lis
     };
   }
 
-  missing-is : (f : ℕ) → MissingIn (i .card) rd (rootsOf i rd) f → Wanted mentions ends (rootsOf i rd) order f × Absent times made f
+  missing-is : (f : ℕ) → MissingIn i rd f → Wanted mentions ends (rootsOf i rd) order f × Absent times made f
   missing-is f w = (
     elim (w .source .needed) [
       | inl k ↦ inl k
@@ -55,20 +56,20 @@ module _ {i : Inputs} {rd : Reading} {mentions ends phony made times order : Lis
   )
 
   module _ {r : ℕ} (l : LowestMissing mentions ends made times (rootsOf i rd) order (length made) r) where
-    least : (f : ℕ) → MissingIn (i .card) rd (rootsOf i rd) f → r ≤ f
+    least : (f : ℕ) → MissingIn i rd f → r ≤ f
     least f w = let (k, a) = missing-is f w in l .least f k a
 
     pub missing-found : r < length made → missingSource (i .card) rd (rootsOf i rd) ≡ some r
     missing-found b = go (missingSource (i .card) rd (rootsOf i rd)) refl
       where
-        found : MissingIn (i .card) rd (rootsOf i rd) r
+        found : MissingIn i rd r
         found = let (w, a) = l .found b in is-missing r b w a
 
         go : (x : Option ℕ) → missingSource (i .card) rd (rootsOf i rd) ≡ x → x ≡ some r
-        go none e = absurd (none-missing (i .card) rd (rootsOf i rd) e r found)
+        go none e = absurd (none-missing i rd e r found)
         go (some f) e =
-            let (w, low) = missing-lowest (i .card) rd (rootsOf i rd) e in
+            let (w, low) = missing-lowest i rd e in
             ap {B = Option ℕ} some (le-antisymm (low r found) (least f w))
 
     pub missing-not : length made ≤ r → missingSource (i .card) rd (rootsOf i rd) ≡ none
-    missing-not b = missing-none (i .card) rd (rootsOf i rd) (λ f w. absurd (omega (arith, least f w, w .file, s .held .counted)))
+    missing-not b = missing-none i rd (λ f w. absurd (omega (arith, least f w, w .file, s .held .counted)))

@@ -1,7 +1,7 @@
 // The two asks on lent bytes. Neither asks anything of what it is given: it refuses.
 ghost use Rattle.spec.specs.Answers.{planSays, textSays};
 ghost use Rattle.spec.specs.PlanAsk.{inputsOf};
-ghost use Rattle.asks.specs.Demands.{PlanDemands, TextDemands};
+ghost use Rattle.spec.specs.Demands.{PlanDemands, TextDemands};
 use ask_plan::plan_buffered;
 use ask_text::text_buffered;
 use spec::PlanAnswer;

@@ -10,7 +10,7 @@ use Rattle.lists.specs.Fill.{zeros}
 use Rattle.lists.specs.Members.{_∈_, all, keep, upTo}
 use Rattle.orders.specs.Order.{IsOrder}
 use Rattle.orders.specs.Greedy.{In, By, greedy}
-use Rattle.orders.specs.Reach.{Upstream, upstream}
+use Rattle.orders.specs.Reach.{ComesBefore, upstream}
 use Rattle.spec.specs.Reading.{Step}
 use Rattle.spec.specs.Graph.{before, needed}
 use Rattle.spec.specs.Stale.{listOf}
@@ -29,7 +29,7 @@ allClear made clear fs = all (λ m. eqb (getD clear m 0) 1) (makersIn made fs)
 
 -- no pending step is upstream of s
 abbrev pub Unblocked : (ℕ → List ℕ) → List ℕ → ℕ → Type 0
-Unblocked before pending s = (m : ℕ) → Upstream before m s → getD pending m 0 ≡ 1 → ⊥
+Unblocked before pending s = (m : ℕ) → ComesBefore before m s → getD pending m 0 ≡ 1 → ⊥
 
 -- a clear step is not pending, and no pending step is upstream of it
 abbrev pub Clear : (ℕ → List ℕ) → List ℕ → List ℕ → Type 0

@@ -10,7 +10,7 @@ use lib.ListN.{length, getD, take}
 use Rattle.lists.specs.Tests.{split}
 use Rattle.lists.specs.Members.{_∈_, has, has-true, has-false, in-cons, in-take, place, not-in-nil}
 use Rattle.orders.specs.Greedy.{In}
-use Rattle.orders.specs.Reach.{Upstream, direct, further, Reached, upstream-more, reach-least, reach-complete}
+use Rattle.orders.specs.Reach.{ComesBefore, direct, further, Reached, upstream-more, reach-least, reach-complete}
 use Rattle.lists.specs.Fill.{length-zeros, getD-zeros}
 use Rattle.hold_columns.specs.Columns.{makerAt, makersIn, beforeIn, neededIn, SoundColumns, Files}
 use Rattle.hold_columns.proofs.Makers.{in-makersIn, makersIn-in, maker-low, makers-small}
@@ -20,7 +20,7 @@ use Rattle.graph_order.specs.declared.Visit.the-variants.{Done, Circle}
 use Rattle.graph_order.specs.Walk.{mark, Walk, Visited, Circled, Explored, Starts, Rooted, RootSeen, RootAsked, SortAsked, Ordered}
 use Rattle.graph_order.proofs.Walk.{mark-zero, walk-none}
 
-upstream-trans : {before : ℕ → List ℕ} {m k s : ℕ} → Upstream before m k → Upstream before k s → Upstream before m s
+upstream-trans : {before : ℕ → List ℕ} {m k s : ℕ} → ComesBefore before m k → ComesBefore before k s → ComesBefore before m s
 upstream-trans (direct h) w = upstream-more h w
 upstream-trans (further u h) w = upstream-trans u (upstream-more h w)
 

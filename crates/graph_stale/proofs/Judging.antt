@@ -11,10 +11,10 @@ use Rattle.lists.specs.Tests.{ifB, split}
 use Rattle.lists.specs.Members.{any}
 use Rattle.spec.specs.Basics.{isEmpty}
 use Rattle.spec.specs.Reading.{Step}
-use Rattle.spec.specs.Graph.{counted, stepAt}
+use Rattle.spec.specs.Graph.{nonOrderOnly, stepAt}
 use Rattle.spec.specs.Stale.{phonyStep, madeTime, timeOf, greatest, newestInput, makerStale, outputMissing, staleCommand, stalePhony, verdict}
-use Rattle.hold_columns.specs.Columns.{bit, makerIn, countedIn, inputsIn, outsIn, HoldsColumns}
-use Rattle.hold_columns.proofs.Held.{held-phony, held-makers, held-makersOf, held-counted, held-inputs, held-outs}
+use Rattle.hold_columns.specs.Columns.{bit, makerIn, nonOrderOnlyIn, inputsIn, outsIn, HoldsColumns}
+use Rattle.hold_columns.proofs.Held.{held-phony, held-makers, held-makersOf, held-non-order-only, held-inputs, held-outs}
 use Rattle.graph_stale.specs.Judge.{known, timeAt, lateTime, fileTime, newestOf, staleMaker, outdated, bareMissing, Told}
 
 pub bit-test : (b : Bool) → eqb (bit b) 1 ≡ b
@@ -55,13 +55,13 @@ module _ {steps : List Step} {files : ℕ} {mentions ends phony made : List ℕ}
   file-time f = ap (λ (t : ℕ). ifB (eqb (timeAt times f) 0) (λ _. t) (λ _. timeAt times f))
       (late-made (makerIn made f) ∙ ap (λ (g : ℕ → List ℕ). madeTime steps (known stale late) (g f)) (held-makers h))
 
-  pub newest-told : (s : ℕ) → newestOf made phony times late (countedIn mentions ends s) ≡ newestInput steps (timeAt times) (known stale late) s
+  pub newest-told : (s : ℕ) → newestOf made phony times late (nonOrderOnlyIn mentions ends s) ≡ newestInput steps (timeAt times) (known stale late) s
   unfolding newestOf newestInput
-  newest-told s = rw (held-counted h s) (ap (λ (g : ℕ → ℕ). greatest (map g (counted (stepAt steps s)))) (fun-ext file-time))
+  newest-told s = rw (held-non-order-only h s) (ap (λ (g : ℕ → ℕ). greatest (map g (nonOrderOnly (stepAt steps s)))) (fun-ext file-time))
 
-  maker-told : (s : ℕ) → staleMaker made stale (countedIn mentions ends s) ≡ makerStale steps (known stale late) s
+  maker-told : (s : ℕ) → staleMaker made stale (nonOrderOnlyIn mentions ends s) ≡ makerStale steps (known stale late) s
   unfolding staleMaker makerStale
-  maker-told s = rw (held-counted h s, held-makersOf h (counted (stepAt steps s)))
+  maker-told s = rw (held-non-order-only h s, held-makersOf h (nonOrderOnly (stepAt steps s)))
 
   older-told : (s t : ℕ) → outdated times t (outsIn mentions ends s) ≡ (outputMissing steps (timeAt times) s || any (λ f. ltb (timeAt times f) t) (stepAt steps s .outs))
   unfolding outdated outputMissing
@@ -71,7 +71,7 @@ module _ {steps : List Step} {files : ℕ} {mentions ends phony made : List ℕ}
   missing-told s = older-told s 0 ∙ rw (any-never (λ f. ltb (timeAt times f) 0) (stepAt steps s .outs) (λ f. le-ltb (timeAt times f) 0 (omega arith))) (or-none (outputMissing steps (timeAt times) s))
 
   -- the verdict, case by case, from what is read of the step's inputs that count
-  module _ (s : ℕ) {fs : List ℕ} (q : fs ≡ countedIn mentions ends s) {t : ℕ} (p : t ≡ newestOf made phony times late fs) {m : Bool} (e : m ≡ staleMaker made stale fs) where
+  module _ (s : ℕ) {fs : List ℕ} (q : fs ≡ nonOrderOnlyIn mentions ends s) {t : ℕ} (p : t ≡ newestOf made phony times late fs) {m : Bool} (e : m ≡ staleMaker made stale fs) where
     newest : t ≡ newestInput steps (timeAt times) (known stale late) s
     newest = p ∙ ap (newestOf made phony times late) q ∙ newest-told s
 

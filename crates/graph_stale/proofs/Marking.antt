@@ -18,7 +18,7 @@ use Rattle.orders.specs.Reach.{Closed, direct-earlier}
 use Rattle.orders.specs.Along.{Solves, along-solves, solution-unique}
 use Rattle.spec.specs.Reading.{Step}
 use Rattle.spec.specs.Graph.{before, needed, neededOrder}
-use Rattle.spec.specs.Stale.{Verdict, unknown, phonyStep, verdict, verdicts, told, isStale, staleNeeded}
+use Rattle.spec.specs.Stale.{Verdict, unknown, phonyStep, verdict, verdictsAlong, verdictsOf, isStale, staleNeeded}
 use Rattle.spec.specs.Words.{input}
 use Rattle.spec.proofs.Graph.{in-before, in-needed}
 use Rattle.spec.proofs.Stale.{verdict-local}
@@ -110,13 +110,13 @@ module _ {mentions ends phony made times order blank stale late exit : List ℕ}
   unfolding told-of
   solves s w = ap₂ told-of (ap (λ (n : ℕ). eqb n 1) (of s w .told-stale) ∙ bit-test (verdict steps (timeAt times) (known stale late) s .stale)) (of s w .told-time)
 
-  same : (s : ℕ) → s ∈ needed steps roots → known stale late s ≡ told steps (timeAt times) roots s
-  unfolding verdicts neededOrder
-  same = solution-unique (verdict-local steps (timeAt times)) (needed-closed steps roots) o (known stale late) (told steps (timeAt times) roots) solves
+  same : (s : ℕ) → s ∈ needed steps roots → known stale late s ≡ verdictsOf steps (timeAt times) roots s
+  unfolding verdictsAlong neededOrder
+  same = solution-unique (verdict-local steps (timeAt times)) (needed-closed steps roots) o (known stale late) (verdictsOf steps (timeAt times) roots) solves
       (along-solves (verdict-local steps (timeAt times)) (needed-closed steps roots) (whole-order (needed steps roots) (before steps) (order-whole (needed steps roots) (before steps) o)) unknown)
 
   -- the mark before the phony steps' are taken off
-  needed-mark : (s : ℕ) → getD stale s 0 ≡ bit (has s (needed steps roots) && told steps (timeAt times) roots s .stale)
+  needed-mark : (s : ℕ) → getD stale s 0 ≡ bit (has s (needed steps roots) && verdictsOf steps (timeAt times) roots s .stale)
   needed-mark s = split (has s (needed steps roots))
       (λ (e : has s (needed steps roots) ≡ true).
       let w : s ∈ needed steps roots = has-true s (needed steps roots) e in

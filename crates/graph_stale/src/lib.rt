@@ -5,9 +5,9 @@ ghost use lib.ListN.{length, getD};
 ghost use Rattle.lists.specs.Members.{_∈_};
 ghost use Rattle.hold_columns.specs.Columns.{bit, Files, Placed};
 ghost use Rattle.graph_stale.specs.Judge.{fileTime, newestOf, staleMaker, outdated, bareMissing, FileAsked, FilesAsked, JudgeAsked, Judges, AllAsked, AllTold, CommandsKept, StaleAsked, StaleMarked};
-use hold_columns::counted;
 use hold_columns::inputs;
 use hold_columns::maker;
+use hold_columns::non_order_only;
 use hold_columns::outs;
 use hold_columns::time;
 use slices::words::at;
@@ -129,7 +129,7 @@ fn judge(
     requires { ⌜ JudgeAsked (now mentions) (now ends) (now phony) (now made) (now times) (now stale) (now late) × (s < length (now phony)) ⌝ }
     ensures { λ r. ⌜ Judges (now (mentions .entry)) (now (ends .entry)) (now (phony .entry)) (now (made .entry)) (now (times .entry)) (now (stale .entry)) (now (late .entry)) s r ⌝ }
 {
-    let fs = counted(mentions, ends, s);
+    let fs = non_order_only(mentions, ends, s);
     let t = newest(fs, made, phony, times, late);
     if stale_maker(fs, made, stale) {
         return Judged { stale: 1, time: t };

@@ -11,12 +11,12 @@ use Rattle.orders.specs.Reach.{Closed}
 use Rattle.spec.specs.Basics.{concat}
 use Rattle.spec.specs.Limits.{maxMentions}
 use Rattle.spec.specs.Reading.{Step, isPhony}
-use Rattle.spec.specs.Graph.{inputs, counted, noStep, stepAt, makers, makersOf, before, needed}
+use Rattle.spec.specs.Graph.{inputs, nonOrderOnly, noStep, stepAt, makers, makersOf, before, needed}
 use Rattle.spec.specs.Stale.{phonyStep}
 use Rattle.spec.proofs.Graph.{in-makers}
-use Rattle.hold_columns.specs.Columns.{bit, mentionsOf, outsEnd, implicitEnd, orderOnlyEnd, endAt, madeBy, HoldsColumns, startIn, outsIn, countedIn, inputsIn, makerIn, makersIn, beforeIn, neededIn, SoundColumns, Files}
+use Rattle.hold_columns.specs.Columns.{bit, mentionsOf, outsEnd, implicitEnd, orderOnlyEnd, endAt, madeBy, HoldsColumns, startIn, outsIn, nonOrderOnlyIn, inputsIn, makerIn, makersIn, beforeIn, neededIn, SoundColumns, Files}
 use Rattle.hold_columns.proofs.Makers.{makers-small}
-use Rattle.hold_columns.proofs.Places.{read-inputs, read-counted, read-outs, read-placed}
+use Rattle.hold_columns.proofs.Places.{read-inputs, read-non-order-only, read-outs, read-placed}
 
 pub in-part : (l : List ℕ) (f e : ℕ) {x : ℕ} → x ∈ part l f e → x ∈ l
 in-part l f e h = in-drop f l (in-take (e - f) (drop f l) h)
@@ -30,10 +30,10 @@ pub inputs-low : {mentions : List ℕ} {n : ℕ} → ((f : ℕ) → f ∈ mentio
 unfolding inputsIn
 inputs-low low ends s q i b = rw q (part-low low (endAt ends s outsEnd) (endAt ends s orderOnlyEnd) i (rw q at b))
 
-pub counted-low : {mentions : List ℕ} {n : ℕ} → ((f : ℕ) → f ∈ mentions → f < n) → (ends : List ℕ) (s : ℕ) {fs : List ℕ} → fs ≡ countedIn mentions ends s
+pub non-order-only-low : {mentions : List ℕ} {n : ℕ} → ((f : ℕ) → f ∈ mentions → f < n) → (ends : List ℕ) (s : ℕ) {fs : List ℕ} → fs ≡ nonOrderOnlyIn mentions ends s
     → (i : ℕ) → i < length fs → getD fs i 0 < n
-unfolding countedIn
-counted-low low ends s q i b = rw q (part-low low (endAt ends s outsEnd) (endAt ends s implicitEnd) i (rw q at b))
+unfolding nonOrderOnlyIn
+non-order-only-low low ends s q i b = rw q (part-low low (endAt ends s outsEnd) (endAt ends s implicitEnd) i (rw q at b))
 
 pub outs-low : {mentions : List ℕ} {n : ℕ} → ((f : ℕ) → f ∈ mentions → f < n) → (ends : List ℕ) (s : ℕ) {fs : List ℕ} → fs ≡ outsIn mentions ends s
     → (i : ℕ) → i < length fs → getD fs i 0 < n
@@ -73,8 +73,8 @@ module _ {steps : List Step} {files : ℕ} {mentions ends phony made : List ℕ}
   pub held-inputs : (s : ℕ) → inputsIn mentions ends s ≡ inputs (stepAt steps s)
   held-inputs s = rw (h .mentioned, h .ended) (read-inputs steps s)
 
-  pub held-counted : (s : ℕ) → countedIn mentions ends s ≡ counted (stepAt steps s)
-  held-counted s = rw (h .mentioned, h .ended) (read-counted steps s)
+  pub held-non-order-only : (s : ℕ) → nonOrderOnlyIn mentions ends s ≡ nonOrderOnly (stepAt steps s)
+  held-non-order-only s = rw (h .mentioned, h .ended) (read-non-order-only steps s)
 
   pub held-outs : (s : ℕ) → outsIn mentions ends s ≡ stepAt steps s .outs
   held-outs s = rw (h .mentioned, h .ended) (read-outs steps s)

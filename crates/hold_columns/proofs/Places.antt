@@ -9,8 +9,8 @@ use lib.Seq.{take-append-seam, drop-append-seam}
 use Rattle.lists.specs.Parts.{part}
 use Rattle.spec.specs.Basics.{concat}
 use Rattle.spec.specs.Reading.{Step}
-use Rattle.spec.specs.Graph.{inputs, counted, stepAt}
-use Rattle.hold_columns.specs.Columns.{mentionsOf, perStep, outsEnd, insEnd, implicitEnd, orderOnlyEnd, lastEnd, endPlace, endAt, endsFrom, startIn, outsIn, insIn, countedIn, inputsIn, Placed}
+use Rattle.spec.specs.Graph.{inputs, nonOrderOnly, stepAt}
+use Rattle.hold_columns.specs.Columns.{mentionsOf, perStep, outsEnd, insEnd, implicitEnd, orderOnlyEnd, lastEnd, endPlace, endAt, endsFrom, startIn, outsIn, insIn, nonOrderOnlyIn, inputsIn, Placed}
 
 pub start-zero : (ends : List ℕ) (s : ℕ) → s ≡ 0 → 0 ≡ startIn ends s
 unfolding startIn
@@ -67,9 +67,9 @@ module _ (pre : List ℕ) (x : Step) (rest : List ℕ) where
       (part-mid (pre ++ x .outs) (inputs x) rest (length pre + length (x .outs)) (after (length pre) x)
       (sym (length-append pre (x .outs))) (simp length-append (omega arith)))
 
-  first-counted : part (pre ++ (mentionsOf x ++ rest)) (length pre + length (x .outs)) (length pre + length (x .outs) + length (x .ins) + length (x .implicit)) ≡ counted x
-  unfolding mentionsOf inputs counted
-  first-counted =
+  first-non-order-only : part (pre ++ (mentionsOf x ++ rest)) (length pre + length (x .outs)) (length pre + length (x .outs) + length (x .ins) + length (x .implicit)) ≡ nonOrderOnly x
+  unfolding mentionsOf inputs nonOrderOnly
+  first-non-order-only =
       rw (append-assoc (x .outs) (inputs x) rest, ← append-assoc pre (x .outs) (inputs x ++ rest), ← append-assoc (x .ins) (x .implicit) (x .orderOnly), append-assoc (x .ins ++ x .implicit) (x .orderOnly) rest)
       (part-mid (pre ++ x .outs) (x .ins ++ x .implicit) (x .orderOnly ++ rest) (length pre + length (x .outs)) (length pre + length (x .outs) + length (x .ins) + length (x .implicit))
       (sym (length-append pre (x .outs))) (simp length-append (omega arith)))
@@ -89,13 +89,13 @@ inputs-at pre (x ∷ l) zero = first-inputs pre x (concat (map mentionsOf l))
 inputs-at pre (x ∷ l) (suc s) =
     rw (end-next (length pre) x l s outsEnd, end-next (length pre) x l s orderOnlyEnd, ← moved pre x l, ← length-after pre x) (inputs-at (pre ++ mentionsOf x) l s)
 
-counted-at : (pre : List ℕ) (steps : List Step) (s : ℕ)
-    → part (pre ++ concat (map mentionsOf steps)) (endOf (length pre) steps s outsEnd) (endOf (length pre) steps s implicitEnd) ≡ counted (stepAt steps s)
-unfolding endsFrom concat counted
-counted-at pre [] s = refl
-counted-at pre (x ∷ l) zero = first-counted pre x (concat (map mentionsOf l))
-counted-at pre (x ∷ l) (suc s) =
-    rw (end-next (length pre) x l s outsEnd, end-next (length pre) x l s implicitEnd, ← moved pre x l, ← length-after pre x) (counted-at (pre ++ mentionsOf x) l s)
+non-order-only-at : (pre : List ℕ) (steps : List Step) (s : ℕ)
+    → part (pre ++ concat (map mentionsOf steps)) (endOf (length pre) steps s outsEnd) (endOf (length pre) steps s implicitEnd) ≡ nonOrderOnly (stepAt steps s)
+unfolding endsFrom concat nonOrderOnly
+non-order-only-at pre [] s = refl
+non-order-only-at pre (x ∷ l) zero = first-non-order-only pre x (concat (map mentionsOf l))
+non-order-only-at pre (x ∷ l) (suc s) =
+    rw (end-next (length pre) x l s outsEnd, end-next (length pre) x l s implicitEnd, ← moved pre x l, ← length-after pre x) (non-order-only-at (pre ++ mentionsOf x) l s)
 
 -- where step s starts, the first at k
 startFrom : ℕ → List Step → ℕ → ℕ
@@ -150,9 +150,9 @@ module _ (steps : List Step) where
   unfolding inputsIn
   read-inputs s = inputs-at [] steps s
 
-  pub read-counted : (s : ℕ) → countedIn (concat (map mentionsOf steps)) (endsFrom 0 steps) s ≡ counted (stepAt steps s)
-  unfolding countedIn
-  read-counted s = counted-at [] steps s
+  pub read-non-order-only : (s : ℕ) → nonOrderOnlyIn (concat (map mentionsOf steps)) (endsFrom 0 steps) s ≡ nonOrderOnly (stepAt steps s)
+  unfolding nonOrderOnlyIn
+  read-non-order-only s = non-order-only-at [] steps s
 
   start-same : (s : ℕ) → startFrom 0 steps s ≡ startIn (endsFrom 0 steps) s
   unfolding startFrom startIn

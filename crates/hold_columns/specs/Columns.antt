@@ -95,8 +95,8 @@ unfoldable pub insIn : List ℕ → List ℕ → ℕ → List ℕ
 insIn mentions ends s = part mentions (endAt ends s outsEnd) (endAt ends s insEnd)
 
 -- the inputs that are not order-only
-unfoldable pub countedIn : List ℕ → List ℕ → ℕ → List ℕ
-countedIn mentions ends s = part mentions (endAt ends s outsEnd) (endAt ends s implicitEnd)
+unfoldable pub nonOrderOnlyIn : List ℕ → List ℕ → ℕ → List ℕ
+nonOrderOnlyIn mentions ends s = part mentions (endAt ends s outsEnd) (endAt ends s implicitEnd)
 
 -- the inputs of any kind
 unfoldable pub inputsIn : List ℕ → List ℕ → ℕ → List ℕ

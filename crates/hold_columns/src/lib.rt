@@ -2,7 +2,7 @@
 ghost use mathlib.Core.Path.{_≡_};
 ghost use Prim.Native.Nat.{_^_, _<_};
 ghost use lib.ListN.{length, getD};
-ghost use Rattle.hold_columns.specs.Columns.{Placed, lastEnd, endPlace, endAt, startIn, outsIn, countedIn, inputsIn, makerAt};
+ghost use Rattle.hold_columns.specs.Columns.{Placed, lastEnd, endPlace, endAt, startIn, outsIn, nonOrderOnlyIn, inputsIn, makerAt};
 use slices::words::at;
 
 // How many ends a step has, and which is which: those of its outputs, its inputs, its implicit and its order-only inputs.
@@ -45,9 +45,9 @@ pub fn inputs<'a, 'b>(mentions: &'a [u32], ends: &'b [u32], s: usize) -> &'a [u3
 }
 
 // The step's inputs that are not order-only.
-pub fn counted<'a, 'b>(mentions: &'a [u32], ends: &'b [u32], s: usize) -> &'a [u32]
+pub fn non_order_only<'a, 'b>(mentions: &'a [u32], ends: &'b [u32], s: usize) -> &'a [u32]
     requires { ⌜ Placed (now mentions) (now ends) s ⌝ }
-    ensures { λ r. ⌜ now r ≡ countedIn (now (mentions .entry)) (now (ends .entry)) s ⌝ }
+    ensures { λ r. ⌜ now r ≡ nonOrderOnlyIn (now (mentions .entry)) (now (ends .entry)) s ⌝ }
 {
     let from = end_at(ends, s, OUTS_END);
     let to = end_at(ends, s, IMPLICIT_END);

@@ -1,7 +1,7 @@
 // The two asks for C and Rust: numbers and slices alone. Neither asks anything of its caller, and each says what document 01 says in two numbers.
 ghost use mathlib.Core.Path.{_≡_};
 ghost use Rattle.spec.specs.PlanAsk.{inputsOf};
-ghost use Rattle.asks.specs.Demands.{PlanDemands, TextDemands};
+ghost use Rattle.spec.specs.Demands.{PlanDemands, TextDemands};
 ghost use Rattle.kestrenyo.specs.Tells.{Tells, TellsNumbers};
 ghost use Rattle.kestrenyo.specs.Wants.{wantedOf};
 use answers::Numbers;

@@ -13,10 +13,10 @@ use Rattle.orders.specs.Order.{IsOrder, no-descent}
 use Rattle.orders.specs.Greedy.{In, By, greedy, whole, blocker}
 use Rattle.orders.specs.GreedyLaws.{Lacking, blocked, whole-false}
 
--- "Upstream of a step are the makers of its inputs, of any kind, and whatever is upstream of those"
-pub data Upstream (before : ℕ → List ℕ) (m : ℕ) : ℕ → Type 0 where
-  direct : {s : ℕ} → m ∈ before s → Upstream before m s
-  further : {k s : ℕ} → Upstream before m k → k ∈ before s → Upstream before m s
+-- m is before s, or before what comes before s: in document 01's graph that is "upstream" (`Words.Upstream` of spec)
+pub data ComesBefore (before : ℕ → List ℕ) (m : ℕ) : ℕ → Type 0 where
+  direct : {s : ℕ} → m ∈ before s → ComesBefore before m s
+  further : {k s : ℕ} → ComesBefore before m k → k ∈ before s → ComesBefore before m s
 
 -- what is before a step of the set is in the set
 abbrev pub Closed : (ℕ → List ℕ) → (ℕ → Type 0) → Type 0
@@ -202,18 +202,18 @@ module _ (before : ℕ → List ℕ) (n : ℕ) (start : List ℕ) (small : Close
       let i : s ∈ r = in-sorted n r h in
       elim (spread-done .closed s i m k) [ inl a ↦ sorted-in n r a (spread-done .low m a) | inr b ↦ absurd (not-in-nil b) ]
 
-pub upstream-more : {before : ℕ → List ℕ} {m k s : ℕ} → m ∈ before k → Upstream before k s → Upstream before m s
+pub upstream-more : {before : ℕ → List ℕ} {m k s : ℕ} → m ∈ before k → ComesBefore before k s → ComesBefore before m s
 upstream-more h (direct i) = further (direct h) i
 upstream-more h (further u i) = further (upstream-more h u) i
 
 -- what is upstream of a step of a closed set is in the set
-pub upstream-closed : {before : ℕ → List ℕ} {P : ℕ → Type 0} → Closed before P → {m s : ℕ} → Upstream before m s → P s → P m
+pub upstream-closed : {before : ℕ → List ℕ} {P : ℕ → Type 0} → Closed before P → {m s : ℕ} → ComesBefore before m s → P s → P m
 upstream-closed c {m} {s} (direct h) p = c s p m h
 upstream-closed c {m} {s} (further {k = k} u h) p = upstream-closed c u (c s p k h)
 
 -- in start, or upstream of a step of start
 abbrev pub Reached : (ℕ → List ℕ) → List ℕ → ℕ → Type 0
-Reached before start x = (x ∈ start) ⊎ ((s : ℕ) × (s ∈ start) × Upstream before x s)
+Reached before start x = (x ∈ start) ⊎ ((s : ℕ) × (s ∈ start) × ComesBefore before x s)
 
 reached-closed : (before : ℕ → List ℕ) (start : List ℕ) → Closed before (Reached before start)
 reached-closed before start k (inl h) m i = inr (k, h, direct i)
@@ -227,15 +227,15 @@ module _ (before : ℕ → List ℕ) (n : ℕ) (start : List ℕ) (small : Close
   reach-complete {x} (inl h) = reach-start before n start small low x h
   reach-complete (inr (s, h, u)) = upstream-closed (reach-closed before n start small low) u (reach-start before n start small low s h)
 
-pub upstream-sound : (before : ℕ → List ℕ) (n s : ℕ) {m : ℕ} → m ∈ upstream before n s → Upstream before m s
+pub upstream-sound : (before : ℕ → List ℕ) (n s : ℕ) {m : ℕ} → m ∈ upstream before n s → ComesBefore before m s
 unfolding upstream
 upstream-sound before n s h = elim (reach-sound before n (before s) h) [ inl i ↦ direct i | inr r ↦ further (r .2) (r .1) ]
 
-pub in-upstream : (before : ℕ → List ℕ) (n : ℕ) → Closed before (λ s. s < n) → (s : ℕ) → s < n → {m : ℕ} → (m ∈ upstream before n s) ↔ Upstream before m s
+pub in-upstream : (before : ℕ → List ℕ) (n : ℕ) → Closed before (λ s. s < n) → (s : ℕ) → s < n → {m : ℕ} → (m ∈ upstream before n s) ↔ ComesBefore before m s
 unfolding upstream
 in-upstream before n small s b {m} = (upstream-sound before n s, λ u. reach-complete before n (before s) small (small s b) (apart u))
   where
-    apart : Upstream before m s → Reached before (before s) m
+    apart : ComesBefore before m s → Reached before (before s) m
     apart (direct h) = inl h
     apart (further {k = k} u h) = inr (k, h, u)
 
@@ -246,7 +246,7 @@ module _ {Want : ℕ → Type 0} {before : ℕ → List ℕ} (closed : Closed be
   direct-earlier i b m h = o .after i b m h (closed (getD l i 0) (o .lists .no-others (getD l i 0) (in-at l i b)) m h)
 
   -- in an order of a closed set, all that is upstream of a step comes earlier
-  pub upstream-earlier : {m s : ℕ} → Upstream before m s → (i : ℕ) → i < length l → getD l i 0 ≡ s → m ∈ take i l
+  pub upstream-earlier : {m s : ℕ} → ComesBefore before m s → (i : ℕ) → i < length l → getD l i 0 ≡ s → m ∈ take i l
   upstream-earlier {m} (direct h) i b e = direct-earlier i b m (rw e h)
   upstream-earlier (further {k = k} u h) i b e =
       let (j, p, q, d) = place-before i l (direct-earlier i b k (rw e h)) in
@@ -254,7 +254,7 @@ module _ {Want : ℕ → Type 0} {before : ℕ → List ℕ} (closed : Closed be
 
   -- so steps of the set have an order in which each comes after any of them upstream of it
   pub upstream-whole : (want : List ℕ) (up : ℕ → List ℕ) → ((s : ℕ) → s ∈ want → Want s)
-      → ((s : ℕ) → s ∈ want → (m : ℕ) → m ∈ up s → Upstream before m s) → whole want up ≡ true
+      → ((s : ℕ) → s ∈ want → (m : ℕ) → m ∈ up s → ComesBefore before m s) → whole want up ≡ true
   upstream-whole want up f g =
       split (whole want up)
       (λ (e : whole want up ≡ true). e)

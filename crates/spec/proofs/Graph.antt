@@ -13,7 +13,7 @@ use Rattle.orders.specs.Reach.{Closed, reach-least, reach-start, reach-closed}
 use Rattle.spec.specs.Basics.{concat}
 use Rattle.spec.specs.Reading.{Step}
 use Rattle.spec.specs.Graph.{inputs, noStep, stepAt, makersFrom, makers, makersOf, before, needed}
-use Rattle.spec.specs.Words.{Makes, MakerOf, Feeds, Needed, target, input, Upstream, maker, further}
+use Rattle.spec.specs.Words.{Makes, MakerOf, Feeds, Needed, root, input, Upstream, maker, further}
 
 in-makersFrom : (k : ℕ) (l : List Step) (f : ℕ) {m : ℕ} → m ∈ makersFrom k l f → (i : ℕ) × (i < length l) × (m ≡ k + i) × (f ∈ getD l i noStep .outs)
 unfolding makersFrom
@@ -123,24 +123,24 @@ pub in-needed : (steps : List Step) (rs : List ℕ) {s : ℕ} → (s ∈ needed 
 unfolding needed
 in-needed steps rs {s} = (
   λ h. reach-least (before steps) (length steps) (makersOf steps rs) (Needed steps rs)
-      (λ m i. let (f, j, w) = in-makersOf steps rs i in target j w)
+      (λ m i. let (f, j, w) = in-makersOf steps rs i in root j w)
       (λ k n m i. input n (in-before steps k .0 i))
       s h,
   complete,
 )
   where
     complete : {m : ℕ} → Needed steps rs m → m ∈ reaching.reach (before steps) (length steps) (makersOf steps rs)
-    complete {m} (target i w) = reach-start (before steps) (length steps) (makersOf steps rs) (before-low steps) (makers-low steps rs) m (makersOf-in steps i w)
+    complete {m} (root i w) = reach-start (before steps) (length steps) (makersOf steps rs) (before-low steps) (makers-low steps rs) m (makersOf-in steps i w)
     complete {m} (input {s = k} n w) =
         reach-closed (before steps) (length steps) (makersOf steps rs) (before-low steps) (makers-low steps rs) k (complete n) m (in-before steps k .1 w)
 
 -- "Upstream"
 
-pub upstream-words : {steps : List Step} {m s : ℕ} → reaching.Upstream (before steps) m s → Upstream steps m s
+pub upstream-words : {steps : List Step} {m s : ℕ} → reaching.ComesBefore (before steps) m s → Upstream steps m s
 upstream-words {steps} {s} (reaching.direct h) = maker (in-before steps s .0 h)
 upstream-words {steps} {s} (reaching.further u h) = further (upstream-words u) (in-before steps s .0 h)
 
-pub words-upstream : {steps : List Step} {m s : ℕ} → Upstream steps m s → reaching.Upstream (before steps) m s
+pub words-upstream : {steps : List Step} {m s : ℕ} → Upstream steps m s → reaching.ComesBefore (before steps) m s
 words-upstream {steps} {s} (maker w) = reaching.direct (in-before steps s .1 w)
 words-upstream {steps} {s} (further u w) = reaching.further (words-upstream u) (in-before steps s .1 w)
 
@@ -150,5 +150,5 @@ in-upstream steps s b {m} =
     (λ h. upstream-words (both .0 h), λ u. both .1 (words-upstream u))
 
 pub needed-low : {steps : List Step} {rs : List ℕ} {s : ℕ} → Needed steps rs s → s < length steps
-needed-low (target i w) = w .step
+needed-low (root i w) = w .step
 needed-low (input n w) = w .made .step

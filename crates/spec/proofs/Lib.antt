@@ -3,11 +3,12 @@ pub mod Graph
 pub mod Stale
 pub mod Sources
 pub mod StaleWords
-pub mod Demand3
-pub mod Checks
+pub mod GraphWords
 pub mod Promises
 pub mod Marked
 pub mod WrongPlanners
 pub mod Answers
 pub mod Manifests
 pub mod Outcomes
+pub mod Demands
+pub mod Demand3

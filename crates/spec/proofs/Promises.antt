@@ -26,8 +26,8 @@ use Rattle.spec.specs.Graph.{before, needed, hasOrder, noRoot}
 use Rattle.spec.specs.PlanAsk.{Inputs, PlanOutcome, listed, circular, noPlan, rootsOf, targetFiles, missingSource, onRefusal, refusedIf, refusedAt, planListed, planSources, planOrdered, planRooted, planTargets, planRead, planManifest, planAsk}
 use Rattle.spec.specs.TextAsk.{TextOutcome, text, noText, textAsk}
 use Rattle.spec.specs.Answers.{Said, planSays, textSays}
-use Rattle.spec.specs.Promises.{filled, leftBy, Is, PlanMeets, PlanPromise, TextMeets, TextPromise}
-use Rattle.spec.proofs.Demand3.{some-circle}
+use Rattle.spec.specs.Promises.{filled, leftBy, AnswerIs, PlanMeets, PlanPromise, TextMeets, TextPromise}
+use Rattle.spec.proofs.GraphWords.{some-circle}
 
 -- a buffer that is cleared
 pub cleared : (lent : List ℕ) → zeroed lent 0 (length lent) ≡ filled [] lent
@@ -37,7 +37,7 @@ cleared lent = let z : length lent - 0 ≡ length lent = omega arith in zeroed-a
 -- an outcome that is a circle has no order
 abbrev Sound : PlanOutcome → Type 0
 Sound (listed l) = Unit {0}
-Sound (circular steps targets) = hasOrder steps targets ≡ false
+Sound (circular steps roots) = hasOrder steps roots ≡ false
 Sound (noPlan r) = Unit {0}
 
 -- a check before it does not matter
@@ -77,9 +77,9 @@ ask-sound i room =
 plan-kept : (o : PlanOutcome) (lent : List ℕ) → Sound o → (answer : PlanAnswer) × (exit : List ℕ) × PlanMeets o lent (planSays answer) exit
 unfolding PlanMeets planSays
 plan-kept (listed l) lent s = (Listed (length l), filled l lent, record { says = refl; leaves = refl })
-plan-kept (circular steps targets) lent s =
-    let c = circleOf (needed steps targets) (before steps) in
-    (PlanRefused (Circle (length c)), filled c lent, record { circle = c; real = some-circle steps targets s; shown = record { says = refl; leaves = refl } })
+plan-kept (circular steps roots) lent s =
+    let c = circleOf (needed steps roots) (before steps) in
+    (PlanRefused (Circle (length c)), filled c lent, record { circle = c; real = some-circle steps roots s; shown = record { says = refl; leaves = refl } })
 plan-kept (noPlan r) lent s = (PlanRefused r, leftBy r lent, record { says = refl; leaves = refl })
 
 text-kept : (o : TextOutcome) (lent : List ℕ) → (answer : TextAnswer) × (exit : List ℕ) × TextMeets o lent (textSays answer) exit
@@ -99,19 +99,19 @@ pub record Same (a b : Said) (x y : List ℕ) : Type 0 where
   pub said : a ≡ b
   pub buffer : x ≡ y
 
-is-same : {a b r : Said} {x y l : List ℕ} → Is a x r l → Is b y r l → Same a b x y
+is-same : {a b r : Said} {x y l : List ℕ} → AnswerIs a x r l → AnswerIs b y r l → Same a b x y
 is-same p q = record { said = p .says ∙ sym (q .says); buffer = p .leaves ∙ sym (q .leaves) }
 
 -- a plan that is no circle is fixed, and so is its buffer
-plan-fixed : (o : PlanOutcome) (lent : List ℕ) (a b : Said) (x y : List ℕ) → ((steps : List Step) (targets : List ℕ) → ¬ (o ≡ circular steps targets))
+plan-fixed : (o : PlanOutcome) (lent : List ℕ) (a b : Said) (x y : List ℕ) → ((steps : List Step) (roots : List ℕ) → ¬ (o ≡ circular steps roots))
     → PlanMeets o lent a x → PlanMeets o lent b y → Same a b x y
 unfolding PlanMeets
 plan-fixed (listed l) lent a b x y n p q = is-same p q
-plan-fixed (circular steps targets) lent a b x y n p q = absurd (n steps targets refl)
+plan-fixed (circular steps roots) lent a b x y n p q = absurd (n steps roots refl)
 plan-fixed (noPlan r) lent a b x y n p q = is-same p q
 
 pub plan-unique : (i : Inputs) (lent : List ℕ) (a b : PlanAnswer) (x y : List ℕ)
-    → ((steps : List Step) (rs : List ℕ) → ¬ (planAsk i (length lent) ≡ circular steps rs))
+    → ((steps : List Step) (roots : List ℕ) → ¬ (planAsk i (length lent) ≡ circular steps roots))
     → PlanPromise i lent a x → PlanPromise i lent b y → Same (planSays a) (planSays b) x y
 plan-unique i lent a b x y n p q = plan-fixed (planAsk i (length lent)) lent (planSays a) (planSays b) x y n p q
 

@@ -13,8 +13,9 @@ use Rattle.lists.specs.Members.{_∈_, not-in-nil, has, has-true, in-has, any, 
 use Rattle.spec.specs.Basics.{isEmpty}
 use Rattle.spec.specs.Reading.{Step, Reading}
 use Rattle.spec.specs.Graph.{inputs, stepAt, makers, needed, isNeededSource}
-use Rattle.spec.specs.PlanAsk.{cardTime, missingSource}
-use Rattle.spec.specs.Words.{NeededSource, Missing}
+use Rattle.spec.specs.PlanAsk.{Inputs, rootsOf, cardTime, missingSource}
+use Rattle.spec.specs.Words.{NeededSource}
+use Rattle.spec.specs.Demands.{MissingIn}
 use Rattle.spec.proofs.Graph.{in-makers, in-needed}
 
 pub empty-none : (l : List ℕ) → isEmpty l ≡ true → (x : ℕ) → ¬ (x ∈ l)
@@ -32,61 +33,58 @@ pub or-right : (a b : Bool) → b ≡ true → (a || b) ≡ true
 or-right true b e = refl
 or-right false b e = e
 
-module _ (steps : List Step) (targets : List ℕ) (f : ℕ) where
+module _ (steps : List Step) (roots : List ℕ) (f : ℕ) where
   takes : ℕ → Bool
   takes s = has f (inputs (stepAt steps s))
 
-  pub in-source : (isNeededSource steps targets f ≡ true) ↔ NeededSource steps targets f
+  pub in-source : (isNeededSource steps roots f ≡ true) ↔ NeededSource steps roots f
   unfolding isNeededSource takes
   in-source = (
-    λ e. let a = and-left (isEmpty (makers steps f)) (has f targets || any takes (needed steps targets)) e in
-        let b = and-right (isEmpty (makers steps f)) (has f targets || any takes (needed steps targets)) e in
+    λ e. let a = and-left (isEmpty (makers steps f)) (has f roots || any takes (needed steps roots)) e in
+        let b = and-right (isEmpty (makers steps f)) (has f roots || any takes (needed steps roots)) e in
         record {
           no-maker = λ m w. empty-none (makers steps f) a m (in-makers steps f .1 w);
-          needed = elim (or-true (has f targets) (any takes (needed steps targets)) b) [
-            | inl p ↦ inl (has-true f targets p)
-            | inr q ↦ (let (s, h, i) = any-true takes (needed steps targets) q in inr (s, in-needed steps targets .0 h, has-true f (inputs (stepAt steps s)) i))
+          needed = elim (or-true (has f roots) (any takes (needed steps roots)) b) [
+            | inl p ↦ inl (has-true f roots p)
+            | inr q ↦ (let (s, h, i) = any-true takes (needed steps roots) q in inr (s, in-needed steps roots .0 h, has-true f (inputs (stepAt steps s)) i))
           ];
         },
-    λ w. and-true (isEmpty (makers steps f)) (has f targets || any takes (needed steps targets))
+    λ w. and-true (isEmpty (makers steps f)) (has f roots || any takes (needed steps roots))
         (none-empty (makers steps f) (λ m h. w .no-maker m (in-makers steps f .0 h)))
         (elim (w .needed) [
-          | inl p ↦ or-left (has f targets) (any takes (needed steps targets)) (in-has p)
-          | inr q ↦ or-right (has f targets) (any takes (needed steps targets)) (true-any takes (needed steps targets) (in-needed steps targets .1 (q .1)) (in-has (q .2)))
+          | inl p ↦ or-left (has f roots) (any takes (needed steps roots)) (in-has p)
+          | inr q ↦ or-right (has f roots) (any takes (needed steps roots)) (true-any takes (needed steps roots) (in-needed steps roots .1 (q .1)) (in-has (q .2)))
         ]),
   )
 
-abbrev pub MissingIn : List ℕ → Reading → List ℕ → ℕ → Type 0
-MissingIn card rd targets f = Missing (rd .steps) (cardTime card rd) (length (rd .files)) targets f
-
-module _ (card : List ℕ) (rd : Reading) (targets : List ℕ) where
+module _ (i : Inputs) (rd : Reading) where
   test : ℕ → Bool
-  test f = eqb (cardTime card rd f) 0 && isNeededSource (rd .steps) targets f
+  test f = eqb (cardTime (i .card) rd f) 0 && isNeededSource (rd .steps) (rootsOf i rd) f
 
-  missing-test : {f : ℕ} → MissingIn card rd targets f → test f ≡ true
+  missing-test : {f : ℕ} → MissingIn i rd f → test f ≡ true
   unfolding test
   missing-test {f} w =
-      and-true (eqb (cardTime card rd f) 0) (isNeededSource (rd .steps) targets f) (eq-eqb (cardTime card rd f) 0 (w .absent)) (in-source (rd .steps) targets f .1 (w .source))
+      and-true (eqb (cardTime (i .card) rd f) 0) (isNeededSource (rd .steps) (rootsOf i rd) f) (eq-eqb (cardTime (i .card) rd f) 0 (w .absent)) (in-source (rd .steps) (rootsOf i rd) f .1 (w .source))
 
   -- "a needed source is missing": "lowest file number"
-  pub missing-lowest : {f : ℕ} → missingSource card rd targets ≡ some f → MissingIn card rd targets f × ((g : ℕ) → MissingIn card rd targets g → f ≤ g)
+  pub missing-lowest : {f : ℕ} → missingSource (i .card) rd (rootsOf i rd) ≡ some f → MissingIn i rd f × ((g : ℕ) → MissingIn i rd g → f ≤ g)
   unfolding missingSource test
   missing-lowest {f} e =
       let (h, t) = find-some test (upTo (length (rd .files))) e in
-      let a = and-left (eqb (cardTime card rd f) 0) (isNeededSource (rd .steps) targets f) t in
-      let b = and-right (eqb (cardTime card rd f) 0) (isNeededSource (rd .steps) targets f) t in (
-        record { file = in-upTo (length (rd .files)) h; absent = eqb-true (cardTime card rd f) 0 a; source = in-source (rd .steps) targets f .0 b },
+      let a = and-left (eqb (cardTime (i .card) rd f) 0) (isNeededSource (rd .steps) (rootsOf i rd) f) t in
+      let b = and-right (eqb (cardTime (i .card) rd f) 0) (isNeededSource (rd .steps) (rootsOf i rd) f) t in (
+        record { file = in-upTo (length (rd .files)) h; absent = eqb-true (cardTime (i .card) rd f) 0 a; source = in-source (rd .steps) (rootsOf i rd) f .0 b },
         λ g w. find-least test (upTo (length (rd .files))) (rising-upTo (length (rd .files))) e (upTo-in (length (rd .files)) (w .file)) (missing-test w),
       )
 
-  pub none-missing : missingSource card rd targets ≡ none → (f : ℕ) → ¬ MissingIn card rd targets f
+  pub none-missing : missingSource (i .card) rd (rootsOf i rd) ≡ none → (f : ℕ) → ¬ MissingIn i rd f
   unfolding missingSource test
   none-missing e f w =
       true≢false (sym (missing-test w) ∙ find-none test (upTo (length (rd .files))) e (upTo-in (length (rd .files)) (w .file)))
 
-  pub missing-none : ((f : ℕ) → ¬ MissingIn card rd targets f) → missingSource card rd targets ≡ none
-  missing-none n = go (missingSource card rd targets) refl
+  pub missing-none : ((f : ℕ) → ¬ MissingIn i rd f) → missingSource (i .card) rd (rootsOf i rd) ≡ none
+  missing-none n = go (missingSource (i .card) rd (rootsOf i rd)) refl
     where
-      go : (o : Option ℕ) → missingSource card rd targets ≡ o → o ≡ none
+      go : (o : Option ℕ) → missingSource (i .card) rd (rootsOf i rd) ≡ o → o ≡ none
       go none e = refl
       go (some f) e = absurd (n f (missing-lowest e .0))

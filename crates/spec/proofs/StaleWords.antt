@@ -11,7 +11,7 @@ use Rattle.lists.specs.Tests.{split, differ, or-true, and-true, and-left, and-r
 use Rattle.lists.specs.Members.{_∈_, here, there, not-in-nil, any, any-true, true-any}
 use Rattle.spec.specs.Basics.{isEmpty}
 use Rattle.spec.specs.Reading.{Step}
-use Rattle.spec.specs.Graph.{inputs, counted, stepAt, makers, makersOf}
+use Rattle.spec.specs.Graph.{inputs, nonOrderOnly, stepAt, makers, makersOf}
 use Rattle.spec.specs.Stale.{Verdict, phonyStep, madeTime, timeOf, greatest, newestInput, makerStale, outputMissing, staleCommand, stalePhony, verdict}
 use Rattle.spec.specs.Words.{TimeIs, by-maker, by-card, InputTime, Greatest, MakerStale, OutputMissing, CommandStale, maker-stale, missing, below, PhonyStale, such-maker, no-inputs, Sentences}
 use Rattle.spec.proofs.Graph.{in-makersOf, makersOf-in, maker-first, no-maker, maker-once}
@@ -112,9 +112,9 @@ module _ (steps : List Step) (card : ℕ → ℕ) (v : ℕ → Verdict) where
     unfolding newestInput
     newest-words = record {
       none-above = λ u w.
-          let b = greatest-above (map (timeOf steps card v) (counted (stepAt steps s))) (map-in (timeOf steps card v) (w .input)) in
+          let b = greatest-above (map (timeOf steps card v) (nonOrderOnly (stepAt steps s))) (map-in (timeOf steps card v) (w .input)) in
           omega (arith, b, time-words (w .file) u .1 (w .time));
-      attained = elim (newest-in (counted (stepAt steps s))) [
+      attained = elim (newest-in (nonOrderOnly (stepAt steps s))) [
         | inl a ↦ inl (record { file = a .0; input = a .1; time = a .2 })
         | inr z ↦ inr (z .0, λ u w. z .1 (w .file) (w .input))
       ];
@@ -125,10 +125,10 @@ module _ (steps : List Step) (card : ℕ → ℕ) (v : ℕ → Verdict) where
     maker-words : (makerStale steps v s ≡ true) ↔ MakerStale steps v s
     unfolding makerStale
     maker-words = (
-      λ e. let (m, h, q) = any-true (λ m. v m .stale) (makersOf steps (counted (stepAt steps s))) e in
-          let (f, i, w) = in-makersOf steps (counted (stepAt steps s)) h in
+      λ e. let (m, h, q) = any-true (λ m. v m .stale) (makersOf steps (nonOrderOnly (stepAt steps s))) e in
+          let (f, i, w) = in-makersOf steps (nonOrderOnly (stepAt steps s)) h in
           record { file = f; input = i; step = m; made = w; stale = q },
-      λ w. true-any (λ m. v m .stale) (makersOf steps (counted (stepAt steps s))) (makersOf-in steps (w .input) (w .made)) (w .stale),
+      λ w. true-any (λ m. v m .stale) (makersOf steps (nonOrderOnly (stepAt steps s))) (makersOf-in steps (w .input) (w .made)) (w .stale),
     )
 
     missing-words : (outputMissing steps card s ≡ true) ↔ OutputMissing steps card s

@@ -15,7 +15,7 @@ use Rattle.spec.specs.declared.Wanted.the-variants.{Command}
 use Rattle.spec.specs.Answers.{numberOfRefusal, Said, refusalSays, planSays, textSays}
 use Rattle.spec.specs.PlanAsk.{PlanOutcome, inputsOf, planAsk, listed}
 use Rattle.spec.specs.TextAsk.{TextOutcome, textAsk, text}
-use Rattle.spec.specs.Promises.{filled, counts, Is, PlanMeets, PlanPromise, TextMeets, TextPromise}
+use Rattle.spec.specs.Promises.{filled, counts, AnswerIs, PlanMeets, PlanPromise, TextMeets, TextPromise}
 use Rattle.spec.specs.Marked.{on, cardOf, bench}
 use Rattle.spec.proofs.Marked.{marked}
 
@@ -27,7 +27,7 @@ abbrev oneStale : List ℕ
 oneStale = cardOf (on "a.c" 5 ∷ on "a.o" 7 ∷ on "b.c" 5 ∷ on "b.o" 7 ∷ on "t.h" 9 ∷ [])
 
 -- what the promise says of an ask whose outcome is a list
-says-list : (o : PlanOutcome) (lent exit l : List ℕ) (said : Said) → o ≡ listed l → PlanMeets o lent said exit → Is said exit (counts (length l)) (filled l lent)
+says-list : (o : PlanOutcome) (lent exit l : List ℕ) (said : Said) → o ≡ listed l → PlanMeets o lent said exit → AnswerIs said exit (counts (length l)) (filled l lent)
 unfolding PlanMeets
 says-list o lent exit l said e p = rw e at p
 
@@ -95,7 +95,7 @@ module _ (lent : List ℕ) (room : length lent ≡ 512) where
       let e : n ≡ 1 = ap (λ (s : Said). s .value) (says-list (planAsk (inputsOf bench oneStale []) (length lent)) lent exit (1 ∷ []) (planSays (Listed n)) bench-one p .says) in
       omega arith
 
-says-text : (o : TextOutcome) (lent exit t : List ℕ) (said : Said) → o ≡ text t → TextMeets o lent said exit → Is said exit (counts (length t)) (filled t lent)
+says-text : (o : TextOutcome) (lent exit t : List ℕ) (said : Said) → o ≡ text t → TextMeets o lent said exit → AnswerIs said exit (counts (length t)) (filled t lent)
 unfolding TextMeets
 says-text o lent exit t said e p = rw e at p
 
@@ -103,7 +103,7 @@ module _ (lent : List ℕ) (room : length lent ≡ 8192) where
   bench-text : textAsk bench 0 Command (length lent) ≡ text (bytes "cc -O1 -c b.c -o b.o")
   bench-text = rw room (marked .m0-first)
 
-  bench-says : (answer : TextAnswer) (exit : List ℕ) → TextPromise bench 0 Command lent answer exit → Is (textSays answer) exit (counts 20) (filled (bytes "cc -O1 -c b.c -o b.o") lent)
+  bench-says : (answer : TextAnswer) (exit : List ℕ) → TextPromise bench 0 Command lent answer exit → AnswerIs (textSays answer) exit (counts 20) (filled (bytes "cc -O1 -c b.c -o b.o") lent)
   bench-says answer exit p = says-text (textAsk bench 0 Command (length lent)) lent exit (bytes "cc -O1 -c b.c -o b.o") (textSays answer) bench-text p
 
   -- a text ask that refuses everything

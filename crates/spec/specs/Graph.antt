@@ -14,9 +14,9 @@ use Rattle.spec.specs.Reading.{Step, Reading}
 unfoldable pub inputs : Step → List ℕ
 inputs s = s .ins ++ (s .implicit ++ s .orderOnly)
 
--- the inputs that are not order-only
-unfoldable pub counted : Step → List ℕ
-counted s = s .ins ++ s .implicit
+-- the "non-order-only" inputs
+unfoldable pub nonOrderOnly : Step → List ℕ
+nonOrderOnly s = s .ins ++ s .implicit
 
 abbrev pub noStep : Step
 noStep = record { outs = []; ins = []; implicit = []; orderOnly = []; rule = []; block = [] }

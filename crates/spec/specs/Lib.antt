@@ -18,4 +18,5 @@ pub mod Answers
 pub mod PlanAsk
 pub mod TextAsk
 pub mod Promises
+pub mod Demands
 pub mod Marked

@@ -29,7 +29,7 @@ inputsOf manifest card targets = record { manifest = manifest; card = card; targ
 pub data PlanOutcome : Type 0 where
   -- the listed steps
   listed : List ℕ → PlanOutcome
-  -- 14, for these steps and these targets or what stands for them: which circle is shown is left open
+  -- 14, for these steps and these roots: which circle is shown is left open
   circular : List Step → List ℕ → PlanOutcome
   noPlan : Refusal → PlanOutcome
 

@@ -26,7 +26,7 @@ unfolding numberOfRefusal filled
 leftBy r lent = ifB (eqb (numberOfRefusal r) 1) (λ _. lent) (λ _. filled [] lent)
 
 -- the answer says this, and the lent buffer holds that at exit
-pub record Is (said : Said) (exit : List ℕ) (right : Said) (left : List ℕ) : Type 0 where
+pub record AnswerIs (said : Said) (exit : List ℕ) (right : Said) (left : List ℕ) : Type 0 where
   pub says : said ≡ right
   pub leaves : exit ≡ left
 
@@ -39,24 +39,24 @@ abbrev pub refused14 : ℕ → Said
 refused14 n = record { number = 14; text = false; value = n }
 
 -- "14 writes the circle's steps": the one outcome that is left open, "any circle as described above will do, and the place is the length of the one written"
-pub record Shows (steps : List Step) (targets lent : List ℕ) (said : Said) (exit : List ℕ) : Type 0 where
+pub record Shows (steps : List Step) (roots lent : List ℕ) (said : Said) (exit : List ℕ) : Type 0 where
   pub circle : List ℕ
-  pub real : NeededCircle steps targets circle
-  pub shown : Is said exit (refused14 (length circle)) (filled circle lent)
+  pub real : NeededCircle steps roots circle
+  pub shown : AnswerIs said exit (refused14 (length circle)) (filled circle lent)
 
 -- what an answer must say and the buffer at exit must hold, by the outcome and the buffer at entry
 unfoldable pub PlanMeets : PlanOutcome → List ℕ → Said → List ℕ → Type 0
-PlanMeets (listed l) lent said exit = Is said exit (counts (length l)) (filled l lent)
-PlanMeets (circular steps targets) lent said exit = Shows steps targets lent said exit
-PlanMeets (noPlan r) lent said exit = Is said exit (refusalSays r) (leftBy r lent)
+PlanMeets (listed l) lent said exit = AnswerIs said exit (counts (length l)) (filled l lent)
+PlanMeets (circular steps roots) lent said exit = Shows steps roots lent said exit
+PlanMeets (noPlan r) lent said exit = AnswerIs said exit (refusalSays r) (leftBy r lent)
 
 -- the plan ask: its inputs, list buffer at entry, answer, list buffer at exit
 abbrev pub PlanPromise : Inputs → List ℕ → PlanAnswer → List ℕ → Type 0
 PlanPromise i lent answer exit = PlanMeets (planAsk i (length lent)) lent (planSays answer) exit
 
 unfoldable pub TextMeets : TextOutcome → List ℕ → Said → List ℕ → Type 0
-TextMeets (text t) lent said exit = Is said exit (counts (length t)) (filled t lent)
-TextMeets (noText r) lent said exit = Is said exit (refusalSays r) (leftBy r lent)
+TextMeets (text t) lent said exit = AnswerIs said exit (counts (length t)) (filled t lent)
+TextMeets (noText r) lent said exit = AnswerIs said exit (refusalSays r) (leftBy r lent)
 
 -- the text ask: manifest, step, what is wanted, text buffer at entry, answer, text buffer at exit
 abbrev pub TextPromise : List ℕ → ℕ → Wanted → List ℕ → TextAnswer → List ℕ → Type 0

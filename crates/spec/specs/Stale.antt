@@ -11,7 +11,7 @@ use Rattle.orders.specs.Reach.{upstream}
 use Rattle.orders.specs.Along.{values}
 use Rattle.spec.specs.Basics.{isEmpty}
 use Rattle.spec.specs.Reading.{Step, isPhony}
-use Rattle.spec.specs.Graph.{stepAt, inputs, counted, makers, makersOf, before, needed, neededOrder}
+use Rattle.spec.specs.Graph.{stepAt, inputs, nonOrderOnly, makers, makersOf, before, needed, neededOrder}
 
 -- what is told of a needed step: whether it is stale, and the time that its missing outputs have if it is phony
 pub record Verdict : Type 0 where
@@ -42,13 +42,13 @@ greatest (t ∷ ts) = max t (greatest ts)
 
 -- "the greatest time of the step's non-order-only inputs, 0 if none"
 unfoldable pub newestInput : List Step → (ℕ → ℕ) → (ℕ → Verdict) → ℕ → ℕ
-unfolding greatest timeOf counted
-newestInput steps card known s = greatest (map (timeOf steps card known) (counted (stepAt steps s)))
+unfolding greatest timeOf nonOrderOnly
+newestInput steps card known s = greatest (map (timeOf steps card known) (nonOrderOnly (stepAt steps s)))
 
 -- "a non-order-only input's maker is stale"
 unfoldable pub makerStale : List Step → (ℕ → Verdict) → ℕ → Bool
-unfolding any makersOf counted
-makerStale steps known s = any (λ m. known m .stale) (makersOf steps (counted (stepAt steps s)))
+unfolding any makersOf nonOrderOnly
+makerStale steps known s = any (λ m. known m .stale) (makersOf steps (nonOrderOnly (stepAt steps s)))
 
 -- "an output is missing"
 unfoldable pub outputMissing : List Step → (ℕ → ℕ) → ℕ → Bool
@@ -76,19 +76,19 @@ verdict steps card known s = record {
   time = newestInput steps card known s;
 }
 
--- the verdicts on the needed steps, told along their order
-unfoldable pub verdicts : List Step → (ℕ → ℕ) → List ℕ → ℕ → Verdict
+-- the verdicts along an order of the needed steps, each from those before it
+unfoldable pub verdictsAlong : List Step → (ℕ → ℕ) → List ℕ → ℕ → Verdict
 unfolding values verdict
-verdicts steps card order s = values unknown (verdict steps card) order s
+verdictsAlong steps card order s = values unknown (verdict steps card) order s
 
 -- the verdict on each needed step, where these have an order
-abbrev pub told : List Step → (ℕ → ℕ) → List ℕ → ℕ → Verdict
-told steps card rs = verdicts steps card (neededOrder steps rs)
+abbrev pub verdictsOf : List Step → (ℕ → ℕ) → List ℕ → ℕ → Verdict
+verdictsOf steps card rs = verdictsAlong steps card (neededOrder steps rs)
 
 -- "A command step is one whose rule isn't `phony`."
 unfoldable pub isStale : List Step → (ℕ → ℕ) → List ℕ → ℕ → Bool
-unfolding verdicts neededOrder phonyStep
-isStale steps card rs s = not (phonyStep steps s) && told steps card rs s .stale
+unfolding verdictsAlong neededOrder phonyStep
+isStale steps card rs s = not (phonyStep steps s) && verdictsOf steps card rs s .stale
 
 -- "the stale, needed command steps"
 unfoldable pub staleNeeded : List Step → (ℕ → ℕ) → List ℕ → List ℕ

@@ -1,5 +1,6 @@
 -- Document 01's words about the graph of steps as statements that need not be computed: maker, needed, upstream, order,
--- circle, stale, time, list. The laws show that the computed definitions meet them.
+-- circle, stale, time, list. The laws show that the computed definitions meet them. `roots` are the targets by file
+-- number, or what stands for them where there is none.
 use Prim.Native.Nat.{ℕ, _≤_, _<_}
 use mathlib.Core.List.{List}
 use mathlib.Core.Bool.{true, false}
@@ -9,7 +10,7 @@ use lib.ListN.{length}
 use Rattle.lists.specs.Members.{_∈_}
 use Rattle.orders.specs.Order.{IsOrder, IsCircle, IsLeast}
 use Rattle.spec.specs.Reading.{Step}
-use Rattle.spec.specs.Graph.{stepAt, inputs, counted}
+use Rattle.spec.specs.Graph.{stepAt, inputs, nonOrderOnly}
 use Rattle.spec.specs.Stale.{Verdict, phonyStep}
 
 -- step m makes file f
@@ -24,20 +25,20 @@ pub record Feeds (steps : List Step) (m s : ℕ) : Type 0 where
   pub made : Makes steps m file
 
 -- "Needed is the maker of each target and of every input, of any kind, of a needed step."
-pub data Needed (steps : List Step) (targets : List ℕ) : ℕ → Type 0 where
-  target : {m f : ℕ} → f ∈ targets → Makes steps m f → Needed steps targets m
-  input : {m s : ℕ} → Needed steps targets s → Feeds steps m s → Needed steps targets m
+pub data Needed (steps : List Step) (roots : List ℕ) : ℕ → Type 0 where
+  root : {m f : ℕ} → f ∈ roots → Makes steps m f → Needed steps roots m
+  input : {m s : ℕ} → Needed steps roots s → Feeds steps m s → Needed steps roots m
 
 -- "A needed source is a file without a maker that is a target or an input of a needed step."
-pub record NeededSource (steps : List Step) (targets : List ℕ) (f : ℕ) : Type 0 where
+pub record NeededSource (steps : List Step) (roots : List ℕ) (f : ℕ) : Type 0 where
   pub no-maker : (m : ℕ) → ¬ Makes steps m f
-  pub needed : (f ∈ targets) ⊎ ((s : ℕ) × Needed steps targets s × (f ∈ inputs (stepAt steps s)))
+  pub needed : (f ∈ roots) ⊎ ((s : ℕ) × Needed steps roots s × (f ∈ inputs (stepAt steps s)))
 
 -- "a needed source is missing", where `card` gives the times of the files
-pub record Missing (steps : List Step) (card : ℕ → ℕ) (files : ℕ) (targets : List ℕ) (f : ℕ) : Type 0 where
+pub record Missing (steps : List Step) (card : ℕ → ℕ) (files : ℕ) (roots : List ℕ) (f : ℕ) : Type 0 where
   pub file : f < files
   pub absent : card f ≡ 0
-  pub source : NeededSource steps targets f
+  pub source : NeededSource steps roots f
 
 -- "Upstream of a step are the makers of its inputs, of any kind, and whatever is upstream of those, through fresh and phony steps too."
 pub data Upstream (steps : List Step) (m : ℕ) : ℕ → Type 0 where
@@ -46,11 +47,11 @@ pub data Upstream (steps : List Step) (m : ℕ) : ℕ → Type 0 where
 
 -- an order of the needed steps that "has each one after the makers of all its inputs"
 abbrev pub NeededOrder : List Step → List ℕ → List ℕ → Type 0
-NeededOrder steps targets l = IsOrder (Needed steps targets) (Feeds steps) l
+NeededOrder steps roots l = IsOrder (Needed steps roots) (Feeds steps) l
 
 -- "the circle's steps, one or more needed ones, each having an input, of any kind, made by the next, the last by the first, none twice"
 abbrev pub NeededCircle : List Step → List ℕ → List ℕ → Type 0
-NeededCircle steps targets c = IsCircle (Needed steps targets) (Feeds steps) c
+NeededCircle steps roots c = IsCircle (Needed steps roots) (Feeds steps) c
 
 -- ------------------------------------------------------------------ stale and fresh, and the times of files
 
@@ -76,18 +77,18 @@ pub data TimeIs (steps : List Step) (card : ℕ → ℕ) (v : ℕ → Verdict) (
 -- t is the time of a non-order-only input of step s
 pub record InputTime (steps : List Step) (card : ℕ → ℕ) (v : ℕ → Verdict) (s t : ℕ) : Type 0 where
   pub file : ℕ
-  pub input : file ∈ counted (stepAt steps s)
+  pub input : file ∈ nonOrderOnly (stepAt steps s)
   pub time : TimeIs steps card v file t
 
 -- t is the greatest number with this property, "0 if none"
-pub record Greatest (Is : ℕ → Type 0) (t : ℕ) : Type 0 where
-  pub none-above : (u : ℕ) → Is u → u ≤ t
-  pub attained : Is t ⊎ ((t ≡ 0) × ((u : ℕ) → ¬ Is u))
+pub record Greatest (Has : ℕ → Type 0) (t : ℕ) : Type 0 where
+  pub none-above : (u : ℕ) → Has u → u ≤ t
+  pub attained : Has t ⊎ ((t ≡ 0) × ((u : ℕ) → ¬ Has u))
 
 -- "a non-order-only input's maker is stale"
 pub record MakerStale (steps : List Step) (v : ℕ → Verdict) (s : ℕ) : Type 0 where
   pub file : ℕ
-  pub input : file ∈ counted (stepAt steps s)
+  pub input : file ∈ nonOrderOnly (stepAt steps s)
   pub step : ℕ
   pub made : Makes steps step file
   pub stale : v step .stale ≡ true
@@ -132,16 +133,16 @@ pub record Sentences (steps : List Step) (card : ℕ → ℕ) (v : ℕ → Verdi
   pub time : Greatest (InputTime steps card v s) (v s .time)
 
 -- "Stale and fresh are told of needed steps": v tells of each needed one what document 01 says
-abbrev pub Told : List Step → (ℕ → ℕ) → List ℕ → (ℕ → Verdict) → Type 0
-Told steps card targets v = (s : ℕ) → Needed steps targets s → Sentences steps card v s
+abbrev pub RightVerdicts : List Step → (ℕ → ℕ) → List ℕ → (ℕ → Verdict) → Type 0
+RightVerdicts steps card roots v = (s : ℕ) → Needed steps roots s → Sentences steps card v s
 
 -- "the stale, needed command steps"
-pub record Stale (steps : List Step) (targets : List ℕ) (v : ℕ → Verdict) (s : ℕ) : Type 0 where
-  pub needed : Needed steps targets s
+pub record Stale (steps : List Step) (roots : List ℕ) (v : ℕ → Verdict) (s : ℕ) : Type 0 where
+  pub needed : Needed steps roots s
   pub command : phonyStep steps s ≡ false
   pub stale : v s .stale ≡ true
 
 -- "The list holds the stale, needed command steps, each once .. At each place stands the lowest-numbered of them not yet listed whose stale
 -- command steps upstream are all listed."
 abbrev pub StaleList : List Step → List ℕ → (ℕ → Verdict) → List ℕ → Type 0
-StaleList steps targets v l = IsLeast (Stale steps targets v) (Upstream steps) l
+StaleList steps roots v l = IsLeast (Stale steps roots v) (Upstream steps) l

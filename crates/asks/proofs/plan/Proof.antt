@@ -1,6 +1,6 @@
 -- `asks::plan` meets its contract.
 use Rattle.spec.specs.PlanAsk.{inputsOf}
-use Rattle.asks.proofs.Demands.{plan-demands}
+use Rattle.spec.proofs.Demands.{plan-demands}
 use Rattle.asks.proofs.Short.{short-list}
 use borrow.Author.Needs.{needs}
 use Rattle.asks.proofs.plan.Statement.{statement}

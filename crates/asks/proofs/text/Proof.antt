@@ -1,5 +1,5 @@
 -- `asks::text` meets its contract.
-use Rattle.asks.proofs.Demands.{text-demands}
+use Rattle.spec.proofs.Demands.{text-demands}
 use Rattle.asks.proofs.Short.{short-text}
 use borrow.Author.Needs.{needs}
 use Rattle.asks.proofs.text.Statement.{statement}

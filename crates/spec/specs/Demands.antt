@@ -1,6 +1,7 @@
--- The demands on the planner as one statement about each ask, from the lent bytes to the filled buffer. `plan` ensures
--- `PlanDemands` and `text` ensures `TextDemands` (crates/asks/src/lib.rt) for every input, with nothing required.
--- That a call always ends, with an answer, is part of what the checker proves of a function.
+-- The three demands on the planner as one statement about each ask, from the lent bytes to the filled buffer. `plan`
+-- ensures `PlanDemands` and `text` ensures `TextDemands` (crates/asks/src/lib.rt) for every input, with nothing
+-- required. Both stand at the end of this file, and what they are made of above them. That a call always ends, with an
+-- answer, is part of what the checker proves of a function. What stands in quotes is document 01's.
 use Prim.Native.Nat.{ℕ, _≤_, _<_}
 use mathlib.Core.Bool.{true, false}
 use mathlib.Core.List.{List, []}
@@ -9,20 +10,20 @@ use mathlib.Core.Option.{none}
 use mathlib.Core.Path.{_≡_}
 use lib.ListN.{length, getD, take}
 use Rattle.orders.specs.Order.{IsOrder}
 use Rattle.spec.specs.declared.Refusal.{Refusal}
 use Rattle.spec.specs.declared.Wanted.{Wanted}
 use Rattle.spec.specs.Limits.{leastList}
 use Rattle.spec.specs.Answers.{Said, numberOfRefusal, refusalSays}
 use Rattle.spec.specs.Reading.{Step, Reading}
 use Rattle.spec.specs.Manifest.{accepted, readManifest}
 use Rattle.spec.specs.Card.{soundCard}
 use Rattle.spec.specs.Targets.{badTarget}
 use Rattle.spec.specs.Graph.{noRoot}
 use Rattle.spec.specs.Stale.{Verdict}
-use Rattle.spec.specs.Words.{Needed, Missing, Upstream, NeededOrder, NeededCircle, Told, Stale, StaleList}
+use Rattle.spec.specs.Words.{Needed, Missing, Upstream, NeededOrder, NeededCircle, RightVerdicts, Stale, StaleList}
 use Rattle.spec.specs.PlanAsk.{Inputs, targetFiles, rootsOf, cardTime, planAsk}
 use Rattle.spec.specs.TextAsk.{textAsk}
-use Rattle.spec.specs.Promises.{filled, counts, refused14, Is, Shows, PlanMeets, TextMeets}
+use Rattle.spec.specs.Promises.{filled, counts, refused14, AnswerIs, Shows, PlanMeets, TextMeets}
 
 -- ------------------------------------------------------------------ the checks ahead of circles
 
@@ -42,27 +43,27 @@ pub record PastChecks (i : Inputs) (room : ℕ) (rd : Reading) : Type 0 where
 
 -- One of these checks refuses, with its number; or they are all passed. So there is no list, no 14 and no 15 before
 -- they are passed.
-pub data Checked (i : Inputs) (room : ℕ) (said : Said) : Type 0 where
-  refused-ahead : 0 < said .number → said .number < 14 → Checked i room said
-  passed : (rd : Reading) → PastChecks i room rd → Checked i room said
+pub data ChecksAhead (i : Inputs) (room : ℕ) (said : Said) : Type 0 where
+  refused-ahead : 0 < said .number → said .number < 14 → ChecksAhead i room said
+  passed : (rd : Reading) → PastChecks i room rd → ChecksAhead i room said
 
 -- ------------------------------------------------------------------ demand 1
 
--- Any manifest, card of file times and target list gets an answer, always. A refusal gives its number and place and
--- leaves the buffers zero (a short buffer: untouched; a circle: written out).
+-- Demand 1: any manifest, card of file times and target list gets an answer, always. A refusal gives its number and
+-- place and leaves the buffers zero (a short buffer: untouched; a circle: written out).
 -- `Circle` says which circles may be written out: for a plan those of `CircleRead`, for a text none.
 pub data Demand1 (Circle : List ℕ → Type 0) (lent : List ℕ) (said : Said) (exit : List ℕ) : Type 0 where
   -- the count of a list or a text, which has room in the buffer and stands there; "what lies beyond it is zero"
-  answers : (l : List ℕ) → length l ≤ length lent → Is said exit (counts (length l)) (filled l lent)
+  answers : (l : List ℕ) → length l ≤ length lent → AnswerIs said exit (counts (length l)) (filled l lent)
       → Demand1 Circle lent said exit
   -- "14 writes the circle's steps": 14 with the length of a circle, which has room in the buffer and stands there
-  shows : (c : List ℕ) → Circle c → length c ≤ length lent → Is said exit (refused14 (length c)) (filled c lent)
+  shows : (c : List ℕ) → Circle c → length c ≤ length lent → AnswerIs said exit (refused14 (length c)) (filled c lent)
       → Demand1 Circle lent said exit
   -- "1 touches nothing"
-  short : (r : Refusal) → numberOfRefusal r ≡ 1 → Is said exit (refusalSays r) lent → Demand1 Circle lent said exit
+  short : (r : Refusal) → numberOfRefusal r ≡ 1 → AnswerIs said exit (refusalSays r) lent → Demand1 Circle lent said exit
   -- "A refusal leaves output buffers all zero": any number but 1 and 14, with its place
   refuses : (r : Refusal) → ¬ (numberOfRefusal r ≡ 1) → ¬ (numberOfRefusal r ≡ 14)
-      → Is said exit (refusalSays r) (filled [] lent) → Demand1 Circle lent said exit
+      → AnswerIs said exit (refusalSays r) (filled [] lent) → Demand1 Circle lent said exit
 
 -- a circle of needed steps of what the manifest was read into, past the checks ahead of circles
 pub record CircleRead (i : Inputs) (room : ℕ) (c : List ℕ) : Type 0 where
@@ -90,21 +91,22 @@ pub record LowerThan (l r : List ℕ) : Type 0 where
 pub record Listing (i : Inputs) (rd : Reading) (list : List ℕ) : Type 0 where
   -- stale and fresh are what document 01's sentences say, and these fix them
   pub verdicts : ℕ → Verdict
-  pub sentences : Told (rd .steps) (cardTime (i .card) rd) (rootsOf i rd) verdicts
-  pub fixed : (v : ℕ → Verdict) → Told (rd .steps) (cardTime (i .card) rd) (rootsOf i rd) v
+  pub sentences : RightVerdicts (rd .steps) (cardTime (i .card) rd) (rootsOf i rd) verdicts
+  pub fixed : (v : ℕ → Verdict) → RightVerdicts (rd .steps) (cardTime (i .card) rd) (rootsOf i rd) v
       → (s : ℕ) → Needed (rd .steps) (rootsOf i rd) s → v s ≡ verdicts s
   -- every stale needed command step once, each after all stale ones upstream
   pub both-rules : KeepsBothRules (rd .steps) (rootsOf i rd) verdicts list
   -- and the least such list by step number: any other has the higher one where the two first differ
   pub lowest : (r : List ℕ) → KeepsBothRules (rd .steps) (rootsOf i rd) verdicts r → (list ≡ r) ⊎ LowerThan list r
-  -- "At each place stands the lowest-numbered of them not yet listed whose stale command steps upstream are all listed."
+  -- "At each place stands the lowest-numbered of them not yet listed whose stale command steps upstream are all
+  -- listed."
   pub least : StaleList (rd .steps) (rootsOf i rd) verdicts list
 
 -- such a list stands in the buffer, zeros beyond, and the answer is its length
 pub record ListShown (i : Inputs) (rd : Reading) (lent : List ℕ) (said : Said) (exit : List ℕ) : Type 0 where
   pub list : List ℕ
   pub listing : Listing i rd list
-  pub shown : Is said exit (counts (length list)) (filled list lent)
+  pub shown : AnswerIs said exit (counts (length list)) (filled list lent)
 
 -- ------------------------------------------------------------------ demand 3
 
@@ -116,30 +118,26 @@ Ordered i rd = (l : List ℕ) × NeededOrder (rd .steps) (rootsOf i rd) l
 abbrev pub MissingIn : Inputs → Reading → ℕ → Type 0
 MissingIn i rd f = Missing (rd .steps) (cardTime (i .card) rd) (length (rd .files)) (rootsOf i rd) f
 
--- "lowest file number"
-pub record LowestMissing (i : Inputs) (rd : Reading) (f : ℕ) : Type 0 where
-  pub missing : MissingIn i rd f
-  pub lowest : (g : ℕ) → MissingIn i rd g → f ≤ g
-
 -- past the checks ahead of circles, where `rd` is what the manifest was read into
-pub record Planned (i : Inputs) (rd : Reading) (lent : List ℕ) (said : Said) (exit : List ℕ) : Type 0 where
+pub record PlansPast (i : Inputs) (rd : Reading) (lent : List ℕ) (said : Said) (exit : List ℕ) : Type 0 where
   -- a circle is refused exactly when no order of the needed steps exists
   pub circle : (said .number ≡ 14) ↔ (¬ Ordered i rd)
   -- and a real one is shown
   pub real : said .number ≡ 14 → Shows (rd .steps) (rootsOf i rd) lent said exit
-  -- otherwise, a needed source is refused exactly when one is missing, at the lowest
+  -- otherwise 15 is answered exactly when "a needed source is missing", at the "lowest file number"
   pub missing : (said .number ≡ 15) ↔ (Ordered i rd × ((f : ℕ) × MissingIn i rd f))
-  pub lowest : said .number ≡ 15 → LowestMissing i rd (said .value)
+  pub lowest : said .number ≡ 15 → MissingIn i rd (said .value) × ((f : ℕ) → MissingIn i rd f → said .value ≤ f)
   -- otherwise, and if no needed source is missing, the answer is a list
   pub list : (said .number ≡ 0) ↔ (Ordered i rd × ((f : ℕ) → ¬ MissingIn i rd f))
   pub listed : said .number ≡ 0 → ListShown i rd lent said exit
 
--- Past the checks ahead of circles: a circle is refused exactly when no order of the needed steps exists, and a real
--- one is shown; otherwise, and if no needed source is missing, the list holds every stale needed command step once,
--- each after all stale ones upstream, and it is the least such list by step number.
+-- Demand 3: past the checks ahead of circles, a circle is refused exactly when no order of the needed steps exists, and
+-- a real one is shown; otherwise, and if no needed source is missing, the list holds every stale needed command step
+-- once, each after all stale ones upstream, and it is the least such list by step number. "Demand 3 speaks of the plan
+-- ask itself, from the lent bytes to the filled buffer".
 pub record Demand3 (i : Inputs) (lent : List ℕ) (said : Said) (exit : List ℕ) : Type 0 where
-  pub ahead : Checked i (length lent) said
-  pub past : (rd : Reading) → PastChecks i (length lent) rd → Planned i rd lent said exit
+  pub ahead : ChecksAhead i (length lent) said
+  pub past : (rd : Reading) → PastChecks i (length lent) rd → PlansPast i rd lent said exit
 
 -- ------------------------------------------------------------------ the asks
 

@@ -2,49 +2,48 @@
 -- a text.
 use Prim.Native.Nat.{ℕ, _≤_, _<_}
 use native.Mathlib.Omega.{arith}
-use mathlib.Core.Logic.{_⊎_, inl, inr}
+use mathlib.Core.Logic.{inl, inr}
 use mathlib.Core.Bool.{Bool, true, false, not}
-use mathlib.Core.List.{List, []}
+use mathlib.Core.List.{List}
 use mathlib.Core.Option.{Option, none, some}
-use mathlib.Core.Path.{_≡_, refl, sym, _∙_, ap, subst}
-use borrow.Author.Tests.{eqb-true, eqb-false, ltb-false, not-false}
+use mathlib.Core.Path.{_≡_, refl, _∙_, ap, subst}
+use borrow.Author.Tests.{eqb-true, eqb-false, ltb-false, le-ltb, not-false}
 use lib.Dec.{eqb, ltb}
 use lib.ListN.{length}
 use Rattle.lists.specs.Tests.{split}
 use Rattle.lists.specs.Members.{once-below}
 use Rattle.orders.specs.Order.{first-difference, least-order}
 use Rattle.spec.specs.declared.Refusal.{Refusal}
 use Rattle.spec.specs.declared.Refusal.the-variants.{ShortBuffer, BadCard, BadTarget, NoRoot, MissingSource}
 use Rattle.spec.specs.declared.Wanted.{Wanted}
 use Rattle.spec.specs.Limits.{leastList}
-use Rattle.spec.specs.Reading.{Step, Reading}
+use Rattle.spec.specs.Reading.{Reading}
 use Rattle.spec.specs.Manifest.{Read, accepted, refusedWith, readManifest}
 use Rattle.spec.specs.Card.{soundCard}
 use Rattle.spec.specs.Targets.{badTarget}
 use Rattle.spec.specs.Answers.{Said, numberOfRefusal, refusalSays}
 use Rattle.spec.specs.Graph.{hasOrder, noRoot}
-use Rattle.spec.specs.Stale.{told, listOf}
+use Rattle.spec.specs.Stale.{verdictsOf, listOf}
 use Rattle.spec.specs.Words.{NeededCircle}
 use Rattle.spec.specs.PlanAsk.{Inputs, PlanOutcome, listed, circular, noPlan, targetFiles, rootsOf, cardTime, missingSource, refusedIf, refusedAt, onRefusal, planListed, planSources, planOrdered, planRooted, planTargets, planRead, planManifest, planAsk}
 use Rattle.spec.specs.TextAsk.{TextOutcome, text, noText, textAsk}
-use Rattle.spec.specs.Promises.{filled, leftBy, counts, refused14, Is, Shows, PlanMeets, TextMeets}
+use Rattle.spec.specs.Promises.{filled, leftBy, counts, AnswerIs, Shows, PlanMeets, TextMeets}
 use Rattle.spec.proofs.Manifests.{of-reading, accepted-few}
 use Rattle.spec.proofs.Graph.{needed-low}
 use Rattle.spec.proofs.Sources.{missing-lowest, none-missing}
-use Rattle.spec.proofs.Checks as checks
 use Rattle.spec.proofs.Outcomes.{Not14, TextWithin, text-within}
-use Rattle.spec.proofs.Demand3.{order-right, no-order, told-along, told-once, list-right}
-use Rattle.asks.specs.Demands.{PastChecks, Checked, refused-ahead, passed, Demand1, answers, shows, short, refuses, CircleRead, NoCircle, Listing, ListShown, Ordered, MissingIn, LowestMissing, Planned, Demand3, PlanDemands, TextDemands}
+use Rattle.spec.proofs.GraphWords.{order-right, no-order, verdicts-right, verdicts-unique, list-right}
+use Rattle.spec.specs.Demands.{PastChecks, ChecksAhead, refused-ahead, passed, Demand1, answers, shows, short, refuses, CircleRead, NoCircle, Listing, Ordered, PlansPast, Demand3, PlanDemands, TextDemands}
 
 -- the number that is said
-number : {said right : Said} {exit left : List ℕ} → Is said exit right left → said .number ≡ right .number
+number : {said right : Said} {exit left : List ℕ} → AnswerIs said exit right left → said .number ≡ right .number
 number p = ap (λ (s : Said). s .number) (p .says)
 
 -- ------------------------------------------------------------------ the checks ahead of circles
 
 refused-with : (r : Refusal) {i : Inputs} {room : ℕ} {said : Said} {exit left : List ℕ} → 0 < numberOfRefusal r → numberOfRefusal r < 14
-    → Is said exit (refusalSays r) left → Checked i room said
-unfolding refusalSays
+    → AnswerIs said exit (refusalSays r) left → ChecksAhead i room said
+unfolding refusalSays numberOfRefusal
 refused-with r l h p = refused-ahead (rw (number p) l) (rw (number p) h)
 
 module _ (i : Inputs) (lent : List ℕ) (said : Said) (exit : List ℕ) where
@@ -52,7 +51,7 @@ module _ (i : Inputs) (lent : List ℕ) (said : Said) (exit : List ℕ) where
   Meets o = PlanMeets o lent said exit
 
   abbrev Ahead : Type 0
-  Ahead = Checked i (length lent) said
+  Ahead = ChecksAhead i (length lent) said
 
   -- a check that refuses with a number below 14 is one of those ahead of circles; else what comes after it is looked at
   after-test : (b : Bool) (r : Refusal) (f : Unit {0} → PlanOutcome) → 0 < numberOfRefusal r → numberOfRefusal r < 14
@@ -90,13 +89,13 @@ module _ (i : Inputs) (lent : List ℕ) (said : Said) (exit : List ℕ) where
       (λ (e : ltb (length lent) leastList ≡ true). refused-with ShortBuffer (omega arith) (omega arith) (rw e at m))
       (λ (e : ltb (length lent) leastList ≡ false). from-2 (ltb-false (length lent) leastList e) (readManifest (i .manifest)) refl (rw e at m))
 
-  past-checks : (rd : Reading) → PastChecks i (length lent) rd → planAsk i (length lent) ≡ planOrdered i rd
-  past-checks rd p =
-      checks.past-checks i (length lent) rd (record { buffer = p .buffer; read = p .read; sound = p .sound; named = p .named; rooted = p .rooted })
+past-checks : (i : Inputs) (room : ℕ) (rd : Reading) → PastChecks i room rd → planAsk i room ≡ planOrdered i rd
+unfolding planAsk planManifest planRead planTargets planRooted
+past-checks i room rd p = rw (le-ltb room leastList (p .buffer), p .read, p .sound, p .named, p .rooted)
 
 -- ------------------------------------------------------------------ demand 1
 
-refusal-left : (r : Refusal) {Circle : List ℕ → Type 0} {lent exit : List ℕ} {said : Said} → Not14 r → Is said exit (refusalSays r) (leftBy r lent)
+refusal-left : (r : Refusal) {Circle : List ℕ → Type 0} {lent exit : List ℕ} {said : Said} → Not14 r → AnswerIs said exit (refusalSays r) (leftBy r lent)
     → Demand1 Circle lent said exit
 unfolding leftBy
 refusal-left r n p =
@@ -127,9 +126,9 @@ module _ (i : Inputs) (rd : Reading) where
       let o = order-right (rd .steps) rs h in
       let least = list-right (rd .steps) rs card o in
       record {
-        verdicts = told (rd .steps) card rs;
-        sentences = told-along (rd .steps) rs card o;
-        fixed = λ v p s n. told-once (rd .steps) rs card o v (told (rd .steps) card rs) p (told-along (rd .steps) rs card o) s n;
+        verdicts = verdictsOf (rd .steps) card rs;
+        sentences = verdicts-right (rd .steps) rs card o;
+        fixed = λ v p s n. verdicts-unique (rd .steps) rs card o v (verdictsOf (rd .steps) card rs) p (verdicts-right (rd .steps) rs card o) s n;
         both-rules = least-order least;
         least = least;
         lowest = λ r k. elim (first-difference least k) [
@@ -139,7 +138,7 @@ module _ (i : Inputs) (rd : Reading) where
       }
 
   module _ (lent : List ℕ) (said : Said) (exit : List ℕ) where
-    from-circle : has ≡ false → Shows (rd .steps) (rootsOf i rd) lent said exit → Planned i rd lent said exit
+    from-circle : has ≡ false → Shows (rd .steps) (rootsOf i rd) lent said exit → PlansPast i rd lent said exit
     from-circle h s =
         let n : said .number ≡ 14 = number (s .shown) in
         let no = no-order (rd .steps) (rootsOf i rd) .1 h in
@@ -152,25 +151,25 @@ module _ (i : Inputs) (rd : Reading) where
           listed = λ e. absurd (omega (arith, n, e));
         }
 
-    from-missing : has ≡ true → (f : ℕ) → lost ≡ some f → Is said exit (refusalSays (MissingSource f)) (leftBy (MissingSource f) lent) → Planned i rd lent said exit
+    from-missing : has ≡ true → (f : ℕ) → lost ≡ some f → AnswerIs said exit (refusalSays (MissingSource f)) (leftBy (MissingSource f) lent) → PlansPast i rd lent said exit
     unfolding refusalSays
     from-missing h f e p =
         let n : said .number ≡ 15 = number p in
         let v : said .value ≡ f = ap (λ (s : Said). s .value) (p .says) in
-        let (m, l) = missing-lowest (i .card) rd (rootsOf i rd) e in
+        let (m, l) = missing-lowest i rd e in
         record {
           circle = (λ d. absurd (omega (arith, n, d)), λ no. absurd (no (is-ordered h)));
           real = λ d. absurd (omega (arith, n, d));
           missing = (λ d. (is-ordered h, (f, m)), λ q. n);
-          lowest = λ d. rw v (record { missing = m; lowest = l });
+          lowest = λ d. rw v (m, l);
           list = (λ d. absurd (omega (arith, n, d)), λ q. absurd (q .1 f m));
           listed = λ d. absurd (omega (arith, n, d));
         }
 
-    from-list : has ≡ true → lost ≡ none → Is said exit (counts (length steps)) (filled steps lent) → Planned i rd lent said exit
+    from-list : has ≡ true → lost ≡ none → AnswerIs said exit (counts (length steps)) (filled steps lent) → PlansPast i rd lent said exit
     from-list h e p =
         let n : said .number ≡ 0 = number p in
-        let none-is = none-missing (i .card) rd (rootsOf i rd) e in
+        let none-is = none-missing i rd e in
         record {
           circle = (λ d. absurd (omega (arith, n, d)), λ no. absurd (no (is-ordered h)));
           real = λ d. absurd (omega (arith, n, d));
@@ -181,12 +180,12 @@ module _ (i : Inputs) (rd : Reading) where
         }
 
     from-15 : has ≡ true → (o : Option ℕ) → lost ≡ o → PlanMeets (onRefusal (refusedAt o MissingSource) (λ _. planListed i rd)) lent said exit
-        → Planned i rd lent said exit
+        → PlansPast i rd lent said exit
     unfolding PlanMeets planListed
     from-15 h none e m = from-list h e m
     from-15 h (some f) e m = from-missing h f e m
 
-    from-14 : PlanMeets (planOrdered i rd) lent said exit → Planned i rd lent said exit
+    from-14 : PlanMeets (planOrdered i rd) lent said exit → PlansPast i rd lent said exit
     unfolding PlanMeets planOrdered planSources
     from-14 m =
         split has (λ (h : has ≡ true). from-15 h lost refl (rw h at m))
@@ -198,7 +197,7 @@ module _ (i : Inputs) (lent : List ℕ) (said : Said) (exit : List ℕ) where
   demand-3 : PlanMeets (planAsk i (length lent)) lent said exit → Demand3 i lent said exit
   demand-3 m = record {
     ahead = checked i lent said exit m;
-    past = λ rd p. from-14 i rd lent said exit (subst (λ (o : PlanOutcome). PlanMeets o lent said exit) (past-checks i lent said exit rd p) m);
+    past = λ rd p. from-14 i rd lent said exit (subst (λ (o : PlanOutcome). PlanMeets o lent said exit) (past-checks i (length lent) rd p) m);
   }
 
   -- what was read has no more steps than there is room for
@@ -226,7 +225,7 @@ module _ (i : Inputs) (lent : List ℕ) (said : Said) (exit : List ℕ) where
   ]
 
   demand-1 : (o : PlanOutcome) → PlanMeets o lent said exit → Demand3 i lent said exit → Demand1 (CircleRead i (length lent)) lent said exit
-  unfolding PlanMeets refusalSays
+  unfolding PlanMeets refusalSays numberOfRefusal
   demand-1 (listed l) m d = on-list (number m) d
   demand-1 (circular steps roots) m d = on-circle (number (m .shown)) d
   demand-1 (noPlan r) m d =

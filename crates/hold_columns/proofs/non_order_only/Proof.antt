@@ -1,8 +1,8 @@
--- `hold_columns::counted` meets its contract.
-use Rattle.hold_columns.specs.Columns.{countedIn}
+-- `hold_columns::non_order_only` meets its contract.
+use Rattle.hold_columns.specs.Columns.{nonOrderOnlyIn}
 use borrow.Author.Needs.{needs}
-use Rattle.hold_columns.proofs.counted.Statement.{statement}
-use Rattle.hold_columns.proofs.counted.Tie as tie
+use Rattle.hold_columns.proofs.non_order_only.Statement.{statement}
+use Rattle.hold_columns.proofs.non_order_only.Tie as tie
 
 end-at-requires : tie.Need-end-at-requires
 end-at-requires c κs = search needs
@@ -23,11 +23,11 @@ part-result-end : tie.Need-part-result-end
 part-result-end c = search needs
 
 returns : tie.Need-returns
-unfolding countedIn
+unfolding nonOrderOnlyIn
 returns c = rw (c .before .end-at2 .ensures, c .before .before .end-at .ensures)
 
-pub counted-spec : {M : Type 1} → statement M
-counted-spec =
+pub non-order-only-spec : {M : Type 1} → statement M
+non-order-only-spec =
     tie.close
     (tie.spec
     end-at-requires

@@ -1,0 +1,98 @@
+-- The order, the circle, the verdicts and the list that are computed are those of the words: what demand 3 rests on.
+use Prim.Native.Nat.{ℕ}
+use mathlib.Core.Path.{_≡_, sym, _∙_}
+use mathlib.Core.Logic.{_↔_}
+use mathlib.Core.Bool.{true, false, not, true≢false}
+use mathlib.Core.List.{List}
+use lib.ListN.{length}
+use borrow.Author.Tests.{not-true}
+use Rattle.lists.specs.Tests.{split, and-left, and-right}
+use Rattle.lists.specs.Members.{_∈_, Rising, in-keep, keep-in, rising-keep}
+use Rattle.orders.specs.Order.{IsOrder}
+use Rattle.orders.specs.Greedy.{In, By}
+use Rattle.orders.specs.GreedyLaws.{whole-order, whole-least, order-whole}
+use Rattle.orders.specs.Circle.{circleOf, not-whole-circle}
+use Rattle.orders.specs.Reach.{Closed, upstream, upstream-whole, rising-reach, upstream-sound}
+use Rattle.orders.specs.Along.{along-solves, solution-unique}
+use Rattle.orders.specs.Same.{order-as, circle-as, least-as}
+use Rattle.spec.specs.Reading.{Step}
+use Rattle.spec.specs.Graph.{makersOf, before, needed, neededOrder, hasOrder}
+use Rattle.spec.specs.Stale.{Verdict, unknown, verdictsAlong, verdictsOf, phonyStep, isStale, staleNeeded, listOf}
+use Rattle.spec.specs.Words.{Needed, input, NeededOrder, NeededCircle, RightVerdicts, Stale, StaleList}
+use Rattle.spec.proofs.Graph.{in-before, in-needed, in-upstream, needed-low}
+use Rattle.spec.proofs.Stale.{verdict-local}
+use Rattle.spec.proofs.StaleWords.{verdict-words}
+
+module _ (steps : List Step) (roots : List ℕ) where
+  wanted : (s : ℕ) → In (needed steps roots) s ↔ Needed steps roots s
+  wanted s = in-needed steps roots
+
+  flipped : (s : ℕ) → Needed steps roots s ↔ In (needed steps roots) s
+  flipped s = (in-needed steps roots .1, in-needed steps roots .0)
+
+  -- what is computed as an order is one
+  pub order-right : hasOrder steps roots ≡ true → NeededOrder steps roots (neededOrder steps roots)
+  unfolding hasOrder neededOrder
+  order-right e = order-as wanted (λ s w m. in-before steps s) (whole-order (needed steps roots) (before steps) e)
+
+  computed-order : {l : List ℕ} → NeededOrder steps roots l → IsOrder (In (needed steps roots)) (By (before steps)) l
+  computed-order o = order-as flipped (λ s w m. (in-before steps s .1, in-before steps s .0)) o
+
+  pub has-order : {l : List ℕ} → NeededOrder steps roots l → hasOrder steps roots ≡ true
+  unfolding hasOrder
+  has-order o = order-whole (needed steps roots) (before steps) (computed-order o)
+
+  -- where there is no order there is a circle
+  pub some-circle : hasOrder steps roots ≡ false → NeededCircle steps roots (circleOf (needed steps roots) (before steps))
+  unfolding hasOrder
+  some-circle e = circle-as wanted (λ s w m. in-before steps s) (not-whole-circle (needed steps roots) (before steps) e)
+
+  pub no-order : (¬ ((l : List ℕ) × NeededOrder steps roots l)) ↔ (hasOrder steps roots ≡ false)
+  no-order = (
+    λ f. split (hasOrder steps roots) (λ (e : hasOrder steps roots ≡ true). absurd (f (neededOrder steps roots, order-right e))) (λ (e : hasOrder steps roots ≡ false). e),
+    λ e o. true≢false (sym (has-order (o .1)) ∙ e),
+  )
+
+  needed-closed : Closed (before steps) (In (needed steps roots))
+  needed-closed s h m k = in-needed steps roots .1 (input (in-needed steps roots .0 h) (in-before steps s .0 k))
+
+  module _ (card : ℕ → ℕ) where
+    -- the verdicts along any order of the needed steps
+    pub verdicts-right : {l : List ℕ} → NeededOrder steps roots l → RightVerdicts steps card roots (verdictsAlong steps card l)
+    unfolding verdictsAlong
+    verdicts-right {l} o s w =
+        verdict-words steps card (verdictsAlong steps card l) s .0
+        (along-solves (verdict-local steps card) needed-closed (computed-order o) unknown s (in-needed steps roots .1 w))
+
+    -- document 01's sentences fix the verdicts
+    pub verdicts-unique : {l : List ℕ} → NeededOrder steps roots l → (v w : ℕ → Verdict) → RightVerdicts steps card roots v → RightVerdicts steps card roots w
+        → (s : ℕ) → Needed steps roots s → v s ≡ w s
+    verdicts-unique o v w p q s n =
+        solution-unique (verdict-local steps card) needed-closed (computed-order o) v w
+        (λ t h. verdict-words steps card v t .1 (p t (in-needed steps roots .0 h)))
+        (λ t h. verdict-words steps card w t .1 (q t (in-needed steps roots .0 h))) s (in-needed steps roots .1 n)
+
+    in-stale : {s : ℕ} → (s ∈ staleNeeded steps card roots) ↔ Stale steps roots (verdictsOf steps card roots) s
+    unfolding staleNeeded isStale
+    in-stale {s} = (
+      λ h. let (n, e) = in-keep (isStale steps card roots) (needed steps roots) h in
+          let c = and-left (not (phonyStep steps s)) (verdictsOf steps card roots s .stale) e in
+          let d = and-right (not (phonyStep steps s)) (verdictsOf steps card roots s .stale) e in
+          record { needed = in-needed steps roots .0 n; command = not-true (phonyStep steps s) c; stale = d },
+      λ w. keep-in (isStale steps card roots) (needed steps roots) (in-needed steps roots .1 (w .needed)) (rw (w .command, w .stale)),
+    )
+
+    rising-stale : Rising (staleNeeded steps card roots)
+    unfolding staleNeeded needed
+    rising-stale = rising-keep (isStale steps card roots) (needed steps roots) (rising-reach (before steps) (length steps) (makersOf steps roots))
+
+    -- the computed list is the least one
+    pub list-right : {l : List ℕ} → NeededOrder steps roots l → StaleList steps roots (verdictsOf steps card roots) (listOf steps card roots)
+    unfolding listOf
+    list-right o =
+        let up = upstream (before steps) (length steps) in
+        least-as (λ s. in-stale) (λ s w m. in-upstream steps s (needed-low (in-stale .0 w .needed)))
+        (whole-least (staleNeeded steps card roots) up rising-stale
+        (upstream-whole needed-closed (computed-order o) (staleNeeded steps card roots) up
+        (λ s h. in-needed steps roots .1 (in-stale .0 h .needed))
+        (λ s h m k. upstream-sound (before steps) (length steps) s k)))
