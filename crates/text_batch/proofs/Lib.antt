@@ -1,0 +1,4 @@
+pub mod Known
+pub mod Putting
+pub mod Walking
+pub mod Answering
