@@ -2,3 +2,4 @@ pub mod Known
 pub mod Putting
 pub mod Walking
 pub mod Answering
+pub mod Asked
