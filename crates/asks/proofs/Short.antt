@@ -12,6 +12,9 @@ use Rattle.spec.specs.Limits.{leastList, maxText}
 use Rattle.spec.specs.Answers.{numberOfRefusal, planSays, textSays}
 use Rattle.spec.specs.PlanAsk.{Inputs, planAsk}
 use Rattle.spec.specs.TextAsk.{textAsk}
+use Rattle.text_batch.specs.declared.TextsAnswer.the-variants as many
+use Rattle.text_batch.specs.TextsAsk.{textsAsk}
+use Rattle.text_batch.specs.TextsPromise.{textsSays, TextsMeets, TextsPromise}
 use Rattle.spec.specs.Promises.{leftBy, PlanMeets, PlanPromise, TextMeets, TextPromise}
 
 pub short-list : (i : Inputs) (list : List ℕ) → length list < leastList → PlanPromise i list (plans.Refused ShortBuffer) list
@@ -21,3 +24,8 @@ short-list i list h = rw (lt-ltb (length list) leastList h) (record { says = ref
 pub short-text : (manifest : List ℕ) (step : ℕ) (wanted : Wanted) (buffer : List ℕ) → length buffer < maxText → TextPromise manifest step wanted buffer (texts.Refused ShortBuffer) buffer
 unfolding textAsk TextMeets textSays leftBy numberOfRefusal
 short-text manifest step wanted buffer h = rw (lt-ltb (length buffer) maxText h) (record { says = refl; leaves = refl })
+
+pub short-texts : (manifest steps : List ℕ) (wanted : Wanted) (bytes ends : List ℕ) → length bytes < maxText
+    → TextsPromise manifest steps wanted bytes ends (many.Refused ShortBuffer) bytes ends
+unfolding textsAsk TextsMeets textsSays leftBy numberOfRefusal
+short-texts manifest steps wanted bytes ends h = rw (lt-ltb (length bytes) maxText h) (record { says = refl; leaves-bytes = refl; leaves-ends = refl })

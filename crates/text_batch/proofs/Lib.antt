@@ -1,0 +1,5 @@
+pub mod Known
+pub mod Putting
+pub mod Walking
+pub mod Answering
+pub mod Asked

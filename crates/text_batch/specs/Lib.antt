@@ -1,0 +1,3 @@
+pub mod TextsAsk
+pub mod TextsPromise
+pub mod Batch
