@@ -1,5 +1,7 @@
 //! Links the static libraries that `rt staticlib` writes of the crates that only tests link.
 
+use std::path::Path;
+
 const LIBRARIES: [&str; 2] = ["test_scan", "test_manifest"];
 
 fn main() {
@@ -8,5 +10,9 @@ fn main() {
     for library in LIBRARIES {
         println!("cargo:rustc-link-lib=static={library}");
         println!("cargo:rerun-if-changed={folder}/lib{library}.a");
+        // a warning and no error, since clippy and rustdoc link nothing
+        if !Path::new(&format!("{folder}/lib{library}.a")).exists() {
+            println!("cargo:warning=no target/staticlib/lib{library}.a: `rt staticlib {library}` in the folder above writes it");
+        }
     }
 }

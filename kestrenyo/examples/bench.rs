@@ -1,7 +1,8 @@
 //! Plans the bench example of document 01 and prints what the program prints:
 //! `cargo run --example bench`.
 
-use kestrenyo::{card, plan, text, Refusal, Wanted};
+use kestrenyo::{card, plan, text, Wanted};
+use std::error::Error;
 
 const MANIFEST: &[u8] = b"cflags = -O1
 rule cc
@@ -13,8 +14,8 @@ build axis: phony a.o b.o
 default axis
 ";
 
-fn main() -> Result<(), Refusal> {
-    let card = card(&[("a.c", 5), ("b.c", 5), ("t.h", 9), ("a.o", 7)]);
+fn main() -> Result<(), Box<dyn Error>> {
+    let card = card(&[("a.c", 5), ("b.c", 5), ("t.h", 9), ("a.o", 7)])?;
     let steps = plan(MANIFEST, &card, b"")?;
     for (place, &step) in steps.iter().enumerate() {
         let command = text(MANIFEST, step as usize, Wanted::Command)?;

@@ -6,14 +6,18 @@
 #[repr(C)]
 #[derive(Debug, Clone, Copy, PartialEq, Eq)]
 pub struct Said {
+    /// 0 for an answer, else document 01's number of the refusal.
     pub number: usize,
+    /// The count of steps or bytes written, or the refusal's place.
     pub value: usize,
 }
 
 /// Which of a step's texts is asked for.
 #[derive(Debug, Clone, Copy, PartialEq, Eq)]
 pub enum Wanted {
+    /// What is run: its `command`.
     Command,
+    /// What is said of it: its `description`.
     Description,
 }
 

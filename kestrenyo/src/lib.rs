@@ -6,11 +6,11 @@
 //! use kestrenyo::{card, plan, text, Wanted};
 //!
 //! let manifest = b"rule cc\n  command = cc -c $in -o $out\nbuild a.o: cc a.c\n";
-//! let times = card(&[("a.c", 9), ("a.o", 7)]);
+//! let times = card(&[("a.c", 9), ("a.o", 7)])?;
 //! let steps = plan(manifest, &times, b"")?;
 //! assert_eq!(steps, [0]);
 //! assert_eq!(text(manifest, 0, Wanted::Command)?, b"cc -c a.c -o a.o");
-//! # Ok::<(), kestrenyo::Refusal>(())
+//! # Ok::<(), Box<dyn std::error::Error>>(())
 //! ```
 //!
 //! Any input gets an answer: a list, a text, or a [`Refusal`] with its number and place. Nothing
@@ -23,9 +23,13 @@
 //! What is proved is the static library behind this crate. The declarations in [`lent`] and the
 //! conversions here are plain Rust, tested and not proved.
 
+#![deny(missing_docs)]
+
+mod card;
 pub mod lent;
 mod refusal;
 
+pub use card::{card, CardError};
 pub use lent::Wanted;
 pub use refusal::Refusal;
 
@@ -51,7 +55,7 @@ pub fn plan(manifest: &[u8], card: &[u8], targets: &[u8]) -> Result<Vec<u32>, Re
     let mut list = [0; LIST];
     let said = lent::plan(manifest, card, targets, &mut list);
     match said.number {
-        0 => Ok(list[..said.value].to_vec()),
+        0 => Ok(list.into_iter().take(said.value).collect()),
         _ => Err(Refusal::of(said, &list)),
     }
 }
@@ -65,33 +69,7 @@ pub fn text(manifest: &[u8], step: usize, wanted: Wanted) -> Result<Vec<u8>, Ref
     let mut buffer = [0; TEXT];
     let said = lent::text(manifest, step, wanted, &mut buffer);
     match said.number {
-        0 => Ok(buffer[..said.value].to_vec()),
+        0 => Ok(buffer.into_iter().take(said.value).collect()),
         _ => Err(Refusal::of(said, &[])),
     }
-}
-
-/// A time card of these files, in any order, each with its time.
-///
-/// A file's time is any number from 1 to 2^63 - 1 that rises with it; a file that is missing is
-/// left out. What makes no sound card (a name twice, a time of 0, more than 1,024 files) makes a
-/// card that [`plan`] refuses with 11.
-pub fn card<N: AsRef<[u8]>>(files: &[(N, u64)]) -> Vec<u8> {
-    let mut records: Vec<(&[u8], u64)> =
-        files.iter().map(|(n, time)| (n.as_ref(), *time)).collect();
-    records.sort_unstable();
-    let names = 16 + 16 * records.len();
-    let total = names + records.iter().map(|(name, _)| name.len()).sum::<usize>();
-    let mut card = Vec::with_capacity(total);
-    for number in [records.len(), 16, names, total] {
-        card.extend((number as u32).to_le_bytes());
-    }
-    let mut offset = 0;
-    for (name, time) in &records {
-        card.extend((offset as u32).to_le_bytes());
-        card.extend((name.len() as u32).to_le_bytes());
-        card.extend(time.to_le_bytes());
-        offset += name.len();
-    }
-    records.iter().for_each(|(name, _)| card.extend_from_slice(name));
-    card
 }

@@ -5,8 +5,10 @@ use std::error::Error;
 use std::fmt::{self, Display, Formatter};
 
 /// What the planner says no with: document 01's table, row by row. A place in the manifest or in
-/// the target list is an offset in bytes; 4 and 6 to 10 tell where the line starts.
+/// the target list is an offset in bytes; 4 and 6 to 10 tell where the line starts. Later editions
+/// refuse with further numbers.
 #[derive(Debug, Clone, PartialEq, Eq)]
+#[non_exhaustive]
 pub enum Refusal {
     /// 1: a lent buffer is too short.
     ShortBuffer,
@@ -45,6 +47,14 @@ pub enum Refusal {
     LongText(usize),
     /// 18: there is no step of this number, or it is a phony one.
     NoCommand(usize),
+    /// A number that this crate does not know, with its place. The library of this crate's edition
+    /// never says one (that is proved); one of a later edition may.
+    Unknown {
+        /// The number told.
+        number: usize,
+        /// The place told.
+        place: usize,
+    },
 }
 
 impl Refusal {
@@ -65,16 +75,16 @@ impl Refusal {
             11 => Refusal::BadCard,
             12 => Refusal::BadTarget(place),
             13 => Refusal::NoRoot,
-            14 => Refusal::Circle(list[..place].to_vec()),
+            14 => Refusal::Circle(list.iter().copied().take(place).collect()),
             15 => Refusal::MissingSource(place),
             16 => Refusal::EndlessText(place),
             17 => Refusal::LongText(place),
             18 => Refusal::NoCommand(place),
-            number => unreachable!("refusals have the numbers 1 to 18, not {number}"),
+            number => Refusal::Unknown { number, place },
         }
     }
 
-    /// Document 01's number, 1 to 18.
+    /// Document 01's number, 1 to 18 but for [`Unknown`](Refusal::Unknown).
     pub fn number(&self) -> usize {
         match self {
             Refusal::ShortBuffer => 1,
@@ -95,6 +105,7 @@ impl Refusal {
             Refusal::EndlessText(_) => 16,
             Refusal::LongText(_) => 17,
             Refusal::NoCommand(_) => 18,
+            Refusal::Unknown { number, .. } => *number,
         }
     }
 
@@ -115,16 +126,109 @@ impl Refusal {
             | Refusal::MissingSource(place)
             | Refusal::EndlessText(place)
             | Refusal::LongText(place)
-            | Refusal::NoCommand(place) => *place,
+            | Refusal::NoCommand(place)
+            | Refusal::Unknown { place, .. } => *place,
         }
     }
 }
 
-/// `refused 4 at 17`, as the program writes it.
+/// `refused 4 at 17`, as the program writes it, and a sentence behind a colon.
 impl Display for Refusal {
     fn fmt(&self, f: &mut Formatter) -> fmt::Result {
-        write!(f, "refused {} at {}", self.number(), self.place())
+        write!(f, "refused {} at {}: ", self.number(), self.place())?;
+        match self {
+            Refusal::ShortBuffer => write!(f, "a lent buffer is too short"),
+            Refusal::LongManifest => write!(f, "the manifest has over 49,152 bytes"),
+            Refusal::BadByte(place) => write!(
+                f,
+                "byte {place} of the manifest is a 0, a tab or a carriage return, or the manifest \
+                 ends there without a newline"
+            ),
+            Refusal::BadLine(place) => write!(f, "{} fits no form", Line(*place)),
+            Refusal::BadDollar(place) => {
+                write!(f, "the `$` at byte {place} of the manifest begins nothing that is known")
+            }
+            Refusal::NotYet(place) => {
+                write!(f, "{} has a keyword or key that is not in this edition", Line(*place))
+            }
+            Refusal::BadRule(place) => write!(
+                f,
+                "{} names an unknown rule, declares a rule again, has a key twice or an unknown \
+                 one, or begins a rule without a command",
+                Line(*place)
+            ),
+            Refusal::BadPath(place) => write!(
+                f,
+                "{} has an empty path, an output that is made already, or a default that is no \
+                 earlier output",
+                Line(*place)
+            ),
+            Refusal::OverLimit(place) => write!(f, "{} goes over a limit", Line(*place)),
+            Refusal::BadVersion(place) => {
+                write!(f, "{} requires a version that is malformed or above 1.5.0", Line(*place))
+            }
+            Refusal::BadCard => write!(f, "the time card is not sound"),
+            Refusal::BadTarget(place) => write!(
+                f,
+                "the target list is malformed, or the manifest never mentions the name at its \
+                 byte {place}"
+            ),
+            Refusal::NoRoot => {
+                write!(f, "there is no target and no default, and every output is some input")
+            }
+            Refusal::Circle(steps) => write!(f, "the needed steps {steps:?} go round in a circle"),
+            Refusal::MissingSource(file) => write!(
+                f,
+                "file {file}, counted from 0 by first mention, is needed and missing, and no step \
+                 makes it"
+            ),
+            Refusal::EndlessText(step) => {
+                write!(f, "the text of step {step} leads back to itself")
+            }
+            Refusal::LongText(step) => write!(f, "the text of step {step} has over 8,192 bytes"),
+            Refusal::NoCommand(step) => write!(f, "there is no step {step}, or it is phony"),
+            Refusal::Unknown { .. } => {
+                write!(f, "this crate does not know the refusal; the library is another edition's")
+            }
+        }
+    }
+}
+
+/// A line of the manifest in words, by the place where it starts.
+struct Line(usize);
+
+impl Display for Line {
+    fn fmt(&self, f: &mut Formatter) -> fmt::Result {
+        write!(f, "the line at byte {} of the manifest", self.0)
     }
 }
 
 impl Error for Refusal {}
+
+#[cfg(test)]
+mod tests {
+    use super::*;
+
+    /// Whatever is told, also what the proved library never tells, is a refusal with its number.
+    #[test]
+    fn any_number() {
+        for number in (1..=18).chain([0, 19, usize::MAX]) {
+            for value in [0, 1, 512, 513, usize::MAX] {
+                let refusal = Refusal::of(Said { number, value }, &[7; 512]);
+                assert_eq!(refusal.number(), number);
+                let place = match number {
+                    1 | 2 | 11 | 13 => 0,
+                    14 => value.min(512),
+                    _ => value,
+                };
+                assert_eq!(refusal.place(), place);
+                let sentence = refusal.to_string();
+                let front = format!("refused {number} at {place}: ");
+                assert!(sentence.starts_with(&front) && sentence.len() > front.len() + 20);
+                assert!(
+                    sentence.is_ascii() && !sentence.contains('\n') && !sentence.contains("  ")
+                );
+            }
+        }
+    }
+}

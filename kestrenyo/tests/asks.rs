@@ -1,7 +1,8 @@
 //! What a Rust caller gets: answers, each refusal, lent buffers, and the stack that an ask takes.
 
 use kestrenyo::lent::{self, Said};
-use kestrenyo::{card, plan, text, Refusal, Wanted, LIST, STACK, TEXT};
+use kestrenyo::{card, plan, text, CardError, Refusal, Wanted, LIST, STACK, TEXT};
+use std::error::Error;
 
 const MANIFEST: &[u8] = b"cflags = -O1
 rule cc
@@ -15,14 +16,19 @@ default axis
 ";
 
 fn bench_card() -> Vec<u8> {
-    card(&[("t.h", 9), ("a.c", 5), ("b.c", 5), ("a.o", 7)])
+    card(&[("t.h", 9), ("a.c", 5), ("b.c", 5), ("a.o", 7)]).unwrap()
+}
+
+/// A card without files.
+fn empty_card() -> Vec<u8> {
+    card::<&str>(&[]).unwrap()
 }
 
 #[test]
 fn answers() {
     assert_eq!(plan(MANIFEST, &bench_card(), b""), Ok(vec![0, 1]));
     assert_eq!(plan(MANIFEST, &bench_card(), b"a.o\n"), Ok(vec![1]));
-    assert_eq!(plan(b"", &card::<&str>(&[]), b""), Ok(vec![]));
+    assert_eq!(plan(b"", &empty_card(), b""), Ok(vec![]));
     assert_eq!(text(MANIFEST, 1, Wanted::Command), Ok(b"cc -O2 -c a.c -o a.o".to_vec()));
     assert_eq!(text(MANIFEST, 0, Wanted::Description), Ok(b"CC b.o".to_vec()));
 }
@@ -31,12 +37,67 @@ fn answers() {
 fn a_card_of_one_file() {
     let mut bytes = vec![1, 0, 0, 0, 16, 0, 0, 0, 32, 0, 0, 0, 33, 0, 0, 0, 0, 0, 0, 0, 1, 0, 0, 0];
     bytes.extend([5, 0, 0, 0, 0, 0, 0, 0, b'a']);
-    assert_eq!(card(&[("a", 5)]), bytes);
+    assert_eq!(card(&[("a", 5)]), Ok(bytes));
+}
+
+/// What is at each limit of a card is written, and the planner takes it; what is beyond is refused,
+/// with a sentence.
+#[test]
+fn cards_at_their_limits() {
+    let latest = i64::MAX as u64;
+    let numbered = |count: usize| (0..count).map(|k| (format!("{k:04}"), 1)).collect::<Vec<_>>();
+    let written = [
+        card(&[("a", 1)]),
+        card(&[("a", latest)]),
+        card(&[("n".repeat(255), 1)]),
+        card(&[("b", 1), ("a", 1), ("ab", 2)]),
+        card(&numbered(1_024)),
+        card(&longest(49_152)),
+        card(&[([0u8, 255, b'\n'], 1)]),
+    ];
+    for card in written {
+        assert_eq!(plan(b"", &card.unwrap(), b""), Ok(vec![]));
+    }
+    assert_eq!(card(&longest(49_152)).map(|card| card.len()), Ok(49_152));
+    let bad_time = |time| CardError::BadTime { name: b"a".to_vec(), time };
+    let refused = [
+        (card(&[("", 1)]), CardError::EmptyName, "no byte"),
+        (
+            card(&[("n".repeat(256), 1)]),
+            CardError::LongName(vec![b'n'; 256]),
+            "256 bytes, and 255 at most fit: nnn",
+        ),
+        (
+            card(&[("a", 1), ("b", 1), ("a", 2)]),
+            CardError::SameName(b"a".to_vec()),
+            "a name is there twice: a",
+        ),
+        (card(&[("a", 0)]), bad_time(0), "1 to 2^63 - 1, and not 0: a"),
+        (card(&[("a", latest + 1)]), bad_time(latest + 1), "and not 9223372036854775808: a"),
+        (card(&[("a", u64::MAX)]), bad_time(u64::MAX), "and not 18446744073709551615: a"),
+        (card(&numbered(1_025)), CardError::ManyFiles(1_025), "at most 1,024 files, and not 1025"),
+        (card(&longest(49_153)), CardError::LongCard(49_153), "at most 49,152 bytes"),
+    ];
+    for (card, right, sentence) in refused {
+        let error = card.unwrap_err();
+        assert_eq!(error, right);
+        let error: &dyn Error = &error;
+        assert!(error.to_string().contains(sentence), "{error}");
+    }
+}
+
+/// Files whose card has so many bytes: names of 255 bytes and a shorter one.
+fn longest(bytes: usize) -> Vec<(String, u64)> {
+    let count = (bytes - 16) / (16 + 255);
+    let rest = bytes - 16 - count * (16 + 255);
+    let mut files: Vec<_> = (0..count).map(|k| (format!("{k:0255}"), 1)).collect();
+    files.push(("n".repeat(rest - 16), 1));
+    files
 }
 
 #[test]
 fn refusals() {
-    let empty = card::<&str>(&[]);
+    let empty = empty_card();
     let refused = |manifest: &[u8], targets: &[u8]| plan(manifest, &empty, targets).unwrap_err();
     let unread =
         |step, manifest: &str| text(manifest.as_bytes(), step, Wanted::Command).unwrap_err();
@@ -69,7 +130,8 @@ fn refusals() {
     for (refusal, right, number, place) in told {
         assert_eq!(refusal, right);
         assert_eq!((refusal.number(), refusal.place()), (number, place));
-        assert_eq!(refusal.to_string(), format!("refused {number} at {place}"));
+        let (front, sentence) = (format!("refused {number} at {place}: "), refusal.to_string());
+        assert!(sentence.starts_with(&front) && sentence.len() > front.len(), "{sentence}");
     }
 }
 
@@ -81,7 +143,7 @@ fn long_text() -> String {
 #[test]
 fn a_circle_of_two() {
     let manifest = b"build a: phony b\nbuild b: phony || a\nbuild c: phony a\n";
-    let Err(Refusal::Circle(mut steps)) = plan(manifest, &card::<&str>(&[]), b"") else {
+    let Err(Refusal::Circle(mut steps)) = plan(manifest, &empty_card(), b"") else {
         panic!("no circle")
     };
     steps.sort();
