@@ -15,15 +15,19 @@ use Rattle.answers.specs.Numbers.{said}
 use Rattle.printing.specs.Lines.{noWork, refusedLine, circleOutput}
 use Rattle.printing.specs.Writes.{Leaves}
 use Rattle.report.specs.declared.Begun.{Begun}
-use Rattle.report.specs.declared.Begun.the-variants.{Whole, Steps}
+use Rattle.report.specs.declared.Begun.the-variants.{Whole, Refusal, Steps}
 use Rattle.report.specs.Output.{Checks, fine, stopped, checkTexts, checkedOutput, listOutput, stepLines, Outputs}
-use Rattle.report.specs.Begins.{whole, checkedOpening, listOpening, planOpening, Opens, writtenBy, Within, Rooms, Planned, Begins}
+use Rattle.report.specs.Begins.{whole, refusing, checkedOpening, listOpening, planOpening, Opens, writtenBy, Within, Rooms, Planned, Begins}
 use Rattle.report.proofs.Early.{not-0, not-14}
 use Rattle.report.proofs.Texts.{front-filled, fits-filled}
 
 pub opens-whole : {out d f : List ℕ} {n : ℕ} → Leaves out d n f → Opens (whole out) d (Whole n) f
 unfolding whole
 opens-whole l = record { begun = ap Whole (l .count); left = l .left }
+
+pub opens-refusal : {out d f : List ℕ} {n : ℕ} → Leaves out d n f → Opens (refusing out) d (Refusal n) f
+unfolding refusing
+opens-refusal l = record { begun = ap Refusal (l .count); left = l .left }
 
 -- ---- a list
 
@@ -46,11 +50,11 @@ list-fine manifest steps d e f h c k w =
     (record { begun = refl; left = w ∙ rw (drop-length e, k) (append-nil (replicate (length d - 0) 0)) })
 
 pub list-stopped : (manifest steps d e f : List ℕ) (s : Said) {n : ℕ} → (length steps ≡ 0 → ⊥) → stopped s ≡ checkTexts manifest steps → length e ≡ length d
-    → Leaves (refusedLine s) e n f → Opens (listOpening manifest steps) d (Whole n) f
+    → Leaves (refusedLine s) e n f → Opens (listOpening manifest steps) d (Refusal n) f
 unfolding checkedOpening filled
 list-stopped manifest steps d e f s {n} h c k l =
-    let o : listOpening manifest steps ≡ whole (refusedLine s) = list-some manifest steps h ∙ ap (checkedOpening (length steps)) (sym c) in
-    rw o (opens-whole {d = d} (record { count = l .count; left = rw k at (l .left) }))
+    let o : listOpening manifest steps ≡ refusing (refusedLine s) = list-some manifest steps h ∙ ap (checkedOpening (length steps)) (sym c) in
+    rw o (opens-refusal {d = d} (record { count = l .count; left = rw k at (l .left) }))
 
 -- ---- by the plan's numbers
 
@@ -59,22 +63,22 @@ module _ (manifest : List ℕ) (s : Said) (list : List ℕ) where
   unfolding planOpening
   planned-list e = rw (eq-eqb (s .number) 0 e)
 
-  planned-circle : s .number ≡ 14 → planOpening manifest s list ≡ whole (circleOutput (take (s .value) list))
+  planned-circle : s .number ≡ 14 → planOpening manifest s list ≡ refusing (circleOutput (take (s .value) list))
   unfolding planOpening
   planned-circle e = rw (ne-eqb (s .number) 0 (λ (z : s .number ≡ 0). omega arith), eq-eqb (s .number) 14 e)
 
-  planned-refused : (s .number ≡ 0 → ⊥) → (s .number ≡ 14 → ⊥) → planOpening manifest s list ≡ whole (refusedLine s)
+  planned-refused : (s .number ≡ 0 → ⊥) → (s .number ≡ 14 → ⊥) → planOpening manifest s list ≡ refusing (refusedLine s)
   unfolding planOpening
   planned-refused a b = rw (ne-eqb (s .number) 0 a, ne-eqb (s .number) 14 b)
 
   pub opens-list : {d f : List ℕ} {r : Begun} → s .number ≡ 0 → Opens (listOpening manifest (take (s .value) list)) d r f → Opens (planOpening manifest s list) d r f
   opens-list e p = rw (planned-list e) p
 
-  pub opens-circle : {d f : List ℕ} {n : ℕ} → s .number ≡ 14 → Leaves (circleOutput (take (s .value) list)) d n f → Opens (planOpening manifest s list) d (Whole n) f
-  opens-circle e p = rw (planned-circle e) (opens-whole p)
+  pub opens-circle : {d f : List ℕ} {n : ℕ} → s .number ≡ 14 → Leaves (circleOutput (take (s .value) list)) d n f → Opens (planOpening manifest s list) d (Refusal n) f
+  opens-circle e p = rw (planned-circle e) (opens-refusal p)
 
-  pub opens-refused : {d f : List ℕ} {n : ℕ} → (s .number ≡ 0 → ⊥) → (s .number ≡ 14 → ⊥) → Leaves (refusedLine s) d n f → Opens (planOpening manifest s list) d (Whole n) f
-  opens-refused a b p = rw (planned-refused a b) (opens-whole p)
+  pub opens-refused : {d f : List ℕ} {n : ℕ} → (s .number ≡ 0 → ⊥) → (s .number ≡ 14 → ⊥) → Leaves (refusedLine s) d n f → Opens (planOpening manifest s list) d (Refusal n) f
+  opens-refused a b p = rw (planned-refused a b) (opens-refusal p)
 
 -- ---- a list and a circle fit
 
@@ -123,6 +127,12 @@ unfolding whole writtenBy
 whole-written manifest list out line {r} {exit} k p =
     (rw (p .begun) (omega (arith, fits-filled out line exit (p .left) k)), rw (p .begun, p .left) (front-filled out line))
 
+refusal-written : (manifest list out line : List ℕ) {r : Begun} {exit : List ℕ} → length exit ≡ length line → Opens (refusing out) line r exit
+    → (Within r list exit) × (writtenBy r manifest list exit ≡ out)
+unfolding refusing writtenBy
+refusal-written manifest list out line {r} {exit} k p =
+    (rw (p .begun) (omega (arith, fits-filled out line exit (p .left) k)), rw (p .begun, p .left) (front-filled out line))
+
 -- where the steps' lines are to come
 steps-written : (manifest l list line listExit : List ℕ) {r : Begun} {exit : List ℕ} → length listExit ≡ length list → listExit ≡ filled l list
     → Opens (checkedOpening (length l) fine) line r exit → (Within r listExit exit) × (writtenBy r manifest listExit exit ≡ stepLines manifest (length l) 0 l)
@@ -136,7 +146,7 @@ checked-written : (manifest l list line listExit : List ℕ) {r : Begun} {exit :
     → length exit ≡ length line → Opens (checkedOpening (length l) c) line r exit → (Within r listExit exit) × (writtenBy r manifest listExit exit ≡ checkedOutput manifest l c)
 unfolding checkedOutput checkedOpening
 checked-written manifest l list line listExit fine k w j p = steps-written manifest l list line listExit k w p
-checked-written manifest l list line listExit (stopped s) k w j p = whole-written manifest listExit (refusedLine s) line j p
+checked-written manifest l list line listExit (stopped s) k w j p = refusal-written manifest listExit (refusedLine s) line j p
 
 list-written : (manifest l list line listExit : List ℕ) {r : Begun} {exit : List ℕ} → length listExit ≡ length list → listExit ≡ filled l list
     → length exit ≡ length line → Opens (listOpening manifest l) line r exit → (Within r listExit exit) × (writtenBy r manifest listExit exit ≡ listOutput manifest l)
@@ -159,15 +169,15 @@ module _ (i : Inputs) (room : ℕ) (list line listExit : List ℕ) {r : Begun} {
       let n : s .number ≡ 14 = ap (λ (x : Said). x .number) (m .shown .says) in
       let v : s .value ≡ length (m .circle) = ap (λ (x : Said). x .value) (m .shown .says) in
       let t : take (s .value) listExit ≡ m .circle = rw (v, m .shown .leaves) (front-filled (m .circle) list) in
-      let q : Opens (whole (circleOutput (m .circle))) line r exit = rw (planned-circle (i .manifest) s listExit n, t) at p in
-      let b = whole-written (i .manifest) listExit (circleOutput (m .circle)) line j q in
+      let q : Opens (refusing (circleOutput (m .circle))) line r exit = rw (planned-circle (i .manifest) s listExit n, t) at p in
+      let b = refusal-written (i .manifest) listExit (circleOutput (m .circle)) line j q in
       record { within = b .0; right = record { circle = m .circle; real = m .real; shown = b .1 } }
   plan-right (noPlan x) e m =
       let n : s .number ≡ numberOfRefusal x = ap (λ (y : Said). y .number) (m .says) in
       let a : s .number ≡ 0 → ⊥ = λ (z : s .number ≡ 0). not-0 x (sym n ∙ z) in
       let c : s .number ≡ 14 → ⊥ = λ (z : s .number ≡ 14). eqb-false (numberOfRefusal x) 14 (not-14 i room e) (sym n ∙ z) in
-      let q : Opens (whole (refusedLine s)) line r exit = rw (planned-refused (i .manifest) s listExit a c) at p in
-      let b = whole-written (i .manifest) listExit (refusedLine s) line j q in
+      let q : Opens (refusing (refusedLine s)) line r exit = rw (planned-refused (i .manifest) s listExit a c) at p in
+      let b = refusal-written (i .manifest) listExit (refusedLine s) line j q in
       record { within = b .0; right = b .1 ∙ ap refusedLine (m .says) }
 
 pub begins : (i : Inputs) (list line listExit : List ℕ) {r : Begun} {exit : List ℕ} (n : Two) (s : Said) → said n ≡ s → length listExit ≡ length list
@@ -181,6 +191,9 @@ begins i list line listExit {r} {exit} n s e k j m p =
 -- What is to be read of the line and of the list lies within them.
 pub whole-within : {r : Begun} {n : ℕ} (list line : List ℕ) → r ≡ Whole n → Within r list line → n ≤ length line
 whole-within {r} {n} list line e w = rw e at w
+
+pub refusal-within : {r : Begun} {n : ℕ} (list line : List ℕ) → r ≡ Refusal n → Within r list line → n ≤ length line
+refusal-within {r} {n} list line e w = rw e at w
 
 pub steps-within : {r : Begun} {n : ℕ} (list line : List ℕ) → r ≡ Steps n → Within r list line → n ≤ length list
 steps-within {r} {n} list line e w = rw e at w

@@ -16,7 +16,7 @@ use Rattle.printing.specs.Writes.{lineRoom}
 use Rattle.report.specs.declared.Checked.{Checked}
 use Rattle.report.specs.declared.Checked.the-variants.{All, Refused}
 use Rattle.report.specs.declared.Begun.{Begun}
-use Rattle.report.specs.declared.Begun.the-variants.{Whole, Steps}
+use Rattle.report.specs.declared.Begun.the-variants.{Whole, Refusal, Steps}
 use Rattle.report.specs.Output.{Checks, fine, stopped, checkTexts, stepLines, Outputs}
 
 abbrev pub checkedSays : Checked → Checks
@@ -31,10 +31,14 @@ pub record Opening : Type 0 where
 unfoldable pub whole : List ℕ → Opening
 whole out = record { begun = Whole (length out); bytes = out }
 
+-- the same, of a refusal
+unfoldable pub refusing : List ℕ → Opening
+refusing out = record { begun = Refusal (length out); bytes = out }
+
 unfoldable pub checkedOpening : ℕ → Checks → Opening
-unfolding whole refusedLine
+unfolding refusing refusedLine
 checkedOpening n fine = record { begun = Steps n; bytes = [] }
-checkedOpening n (stopped s) = whole (refusedLine s)
+checkedOpening n (stopped s) = refusing (refusedLine s)
 
 unfoldable pub listOpening : List ℕ → List ℕ → Opening
 unfolding whole checkedOpening checkTexts
@@ -43,11 +47,11 @@ listOpening manifest (s ∷ l) = checkedOpening (length (s ∷ l)) (checkTexts m
 
 -- by what the plan's answer says and its list
 unfoldable pub planOpening : List ℕ → Said → List ℕ → Opening
-unfolding whole listOpening circleOutput refusedLine
+unfolding refusing listOpening circleOutput refusedLine
 planOpening manifest s list =
     ifB (eqb (s .number) 0) (λ _. listOpening manifest (take (s .value) list)) λ _.
-    ifB (eqb (s .number) 14) (λ _. whole (circleOutput (take (s .value) list))) λ _.
-    whole (refusedLine s)
+    ifB (eqb (s .number) 14) (λ _. refusing (circleOutput (take (s .value) list))) λ _.
+    refusing (refusedLine s)
 
 pub record Opens (o : Opening) (lent : List ℕ) (r : Begun) (exit : List ℕ) : Type 0 where
   pub begun : r ≡ o .begun
@@ -57,11 +61,13 @@ pub record Opens (o : Opening) (lent : List ℕ) (r : Begun) (exit : List ℕ) :
 unfoldable pub writtenBy : Begun → List ℕ → List ℕ → List ℕ → List ℕ
 unfolding stepLines
 writtenBy (Whole n) manifest list line = take n line
+writtenBy (Refusal n) manifest list line = take n line
 writtenBy (Steps n) manifest list line = stepLines manifest n 0 (take n list)
 
 -- how many of the line's bytes or of the list's numbers are to be read
 abbrev pub Within : Begun → List ℕ → List ℕ → Type 0
 Within (Whole n) list line = n ≤ length line
+Within (Refusal n) list line = n ≤ length line
 Within (Steps n) list line = n ≤ length list
 
 pub record Rooms (list line : List ℕ) : Type 0 where

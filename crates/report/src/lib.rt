@@ -28,9 +28,11 @@ pub enum Checked {
     Refused(Numbers),
 }
 
-// How the output begins: the line holds all of it, this many bytes; or the lines of this many steps are to come.
+// How the output begins: the line holds all of it, this many bytes, which say that there is no work or that the planner refuses; or the
+// lines of this many steps are to come.
 pub enum Begun {
     Whole(usize),
+    Refusal(usize),
     Steps(usize),
 }
 
@@ -71,7 +73,7 @@ fn begin_list(manifest: &[u8], steps: &[u32], line: &mut [u8]) -> Begun
             zero_from(line, 0);
             Begun::Steps(steps.len())
         }
-        Checked::Refused(n) => Begun::Whole(say_refused(line, n)),
+        Checked::Refused(n) => Begun::Refusal(say_refused(line, n)),
     }
 }
 
@@ -85,9 +87,9 @@ fn begin_planned(manifest: &[u8], n: Numbers, list: &[u32], line: &mut [u8]) -> 
         return begin_list(manifest, &list[..count], line);
     }
     if n.number == 14 {
-        return Begun::Whole(say_circle(line, &list[..count]));
+        return Begun::Refusal(say_circle(line, &list[..count]));
     }
-    Begun::Whole(say_refused(line, n))
+    Begun::Refusal(say_refused(line, n))
 }
 
 // Asks for the plan and checks all texts. The output is whole in the line, or the line of each listed step is to be written.

@@ -1,7 +1,7 @@
 -- `plan::answer` meets its contract.
 use mathlib.Core.Path.{sym}
 use lib.Seq.{length-take-le}
-use Rattle.report.proofs.Beginning.{whole-within, steps-within}
+use Rattle.report.proofs.Beginning.{whole-within, refusal-within, steps-within}
 use borrow.Author.Needs.{needs}
 use Rattle.plan.proofs.answer.Statement.{statement}
 use Rattle.plan.proofs.answer.Tie as tie
@@ -21,17 +21,38 @@ slice-aggregate-write c = sym (length-take-le _ (c .before .before .before .befo
 write-requires : tie.Need-write-requires
 write-requires c κs = search needs
 
+written-requires : tie.Need-written-requires
+written-requires c κs = search needs
+
 enum-known-n-2 : tie.Need-enum-known-n-2
 enum-known-n-2 c = search needs
 
+slice-reshare-prefix-write-2 : tie.Need-slice-reshare-prefix-write-2
+slice-reshare-prefix-write-2 c = refusal-within (c .before .before .before .before .before .before .before .begin .last .1 .1 .1 .0) (c .before .before .before .before .before .before .before .begin .last .1 .1 .1 .1 .0) (c .before .n2 .given .1) (c .before .before .before .before .before .before .before .begin .ensures .within)
+
+slice-aggregate-write-2 : tie.Need-slice-aggregate-write-2
+slice-aggregate-write-2 c = sym (length-take-le _ (c .before .before .before .before .before .before .before .before .begin .last .1 .1 .1 .1 .0) (refusal-within (c .before .before .before .before .before .before .before .before .begin .last .1 .1 .1 .0) (c .before .before .before .before .before .before .before .before .begin .last .1 .1 .1 .1 .0) (c .before .before .n2 .given .1) (c .before .before .before .before .before .before .before .before .begin .ensures .within)))
+
+write-requires-2 : tie.Need-write-requires-2
+write-requires-2 c κs = search needs
+
+written-requires-2 : tie.Need-written-requires-2
+written-requires-2 c κs = search needs
+
+enum-known-n-3 : tie.Need-enum-known-n-3
+enum-known-n-3 c = search needs
+
 slice-reshare-prefix-write-steps : tie.Need-slice-reshare-prefix-write-steps
-slice-reshare-prefix-write-steps c = steps-within (c .before .before .before .before .before .before .before .begin .last .1 .1 .1 .0) (c .before .before .before .before .before .before .before .begin .last .1 .1 .1 .1 .0) (c .before .n2 .given .1) (c .before .before .before .before .before .before .before .begin .ensures .within)
+slice-reshare-prefix-write-steps c = steps-within (c .before .before .before .before .before .before .before .begin .last .1 .1 .1 .0) (c .before .before .before .before .before .before .before .begin .last .1 .1 .1 .1 .0) (c .before .n3 .given .1) (c .before .before .before .before .before .before .before .begin .ensures .within)
 
 slice-aggregate-write-steps : tie.Need-slice-aggregate-write-steps
-slice-aggregate-write-steps c = sym (length-take-le _ (c .before .before .before .before .before .before .before .before .begin .last .1 .1 .1 .0) (steps-within (c .before .before .before .before .before .before .before .before .begin .last .1 .1 .1 .0) (c .before .before .before .before .before .before .before .before .begin .last .1 .1 .1 .1 .0) (c .before .before .n2 .given .1) (c .before .before .before .before .before .before .before .before .begin .ensures .within)))
+slice-aggregate-write-steps c = sym (length-take-le _ (c .before .before .before .before .before .before .before .before .begin .last .1 .1 .1 .0) (steps-within (c .before .before .before .before .before .before .before .before .begin .last .1 .1 .1 .0) (c .before .before .before .before .before .before .before .before .begin .last .1 .1 .1 .1 .0) (c .before .before .n3 .given .1) (c .before .before .before .before .before .before .before .before .begin .ensures .within)))
 
 write-steps-requires : tie.Need-write-steps-requires
 write-steps-requires c κs = search needs
+
+written-requires-3 : tie.Need-written-requires-3
+written-requires-3 c κs = search needs
 
 same-length : tie.Need-same-length
 same-length c = search needs
@@ -51,6 +72,15 @@ same-length-4 c = search needs
 returns-2 : tie.Need-returns-2
 returns-2 c = search needs
 
+same-length-5 : tie.Need-same-length-5
+same-length-5 c = search needs
+
+same-length-6 : tie.Need-same-length-6
+same-length-6 c = search needs
+
+returns-3 : tie.Need-returns-3
+returns-3 c = search needs
+
 pub answer-spec : {M : Type 1} → statement M
 answer-spec =
     tie.close
@@ -60,13 +90,23 @@ answer-spec =
     slice-reshare-prefix-write
     slice-aggregate-write
     write-requires
+    written-requires
     enum-known-n-2
+    slice-reshare-prefix-write-2
+    slice-aggregate-write-2
+    write-requires-2
+    written-requires-2
+    enum-known-n-3
     slice-reshare-prefix-write-steps
     slice-aggregate-write-steps
     write-steps-requires
+    written-requires-3
     same-length
     same-length-2
     returns
     same-length-3
     same-length-4
-    returns-2)
+    returns-2
+    same-length-5
+    same-length-6
+    returns-3)
