@@ -1,4 +1,5 @@
-//! What the planner answers: listed steps, a text, or a refusal with its number and place.
+//! What the planner answers: listed steps, a text or several, or a refusal with its number and
+//! place.
 
 /// The answer to an ask.
 #[derive(Debug, Clone, PartialEq, Eq)]
@@ -7,6 +8,8 @@ pub enum Answer {
     List(Vec<u32>),
     /// The text of a step.
     Text(Vec<u8>),
+    /// The texts of as many leading steps as there is room for.
+    Texts(Vec<Vec<u8>>),
     /// Refusal 14: the steps of one circle; its place is their number.
     Circle(Vec<u32>),
     /// Any other refusal.
@@ -17,7 +20,7 @@ impl Answer {
     /// The refusal that the answer is, if it is one.
     pub fn refusal(&self) -> Option<Refusal> {
         match self {
-            Answer::List(_) | Answer::Text(_) => None,
+            Answer::List(_) | Answer::Text(_) | Answer::Texts(_) => None,
             Answer::Circle(steps) => Some(Refusal::new(14, steps.len())),
             Answer::Refused(refusal) => Some(*refusal),
         }
@@ -28,6 +31,7 @@ impl Answer {
         match self {
             Answer::List(steps) => (0, steps.len()),
             Answer::Text(bytes) => (0, bytes.len()),
+            Answer::Texts(texts) => (0, texts.len()),
             Answer::Circle(steps) => (14, steps.len()),
             Answer::Refused(refusal) => (refusal.number, refusal.place.value()),
         }

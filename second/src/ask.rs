@@ -1,6 +1,6 @@
 //! An ask as one value: what is lent to the planner, and what it is asked.
 
-use crate::{card, limits, manifest, plan, text, Answer, Refusal};
+use crate::{card, limits, manifest, plan, text, texts, Answer, Refusal};
 
 /// An ask with all that it lends.
 #[derive(Debug, Clone, PartialEq, Eq)]
@@ -9,7 +9,7 @@ pub struct Ask {
     pub question: Question,
 }
 
-/// The bytes that are lent to be read. A text is answered from the manifest alone.
+/// The bytes that are lent to be read. Texts are answered from the manifest alone.
 #[derive(Debug, Clone, PartialEq, Eq)]
 pub struct Lent {
     pub manifest: Vec<u8>,
@@ -18,12 +18,15 @@ pub struct Lent {
 }
 
 /// What is asked, and how much room is lent for the answer.
-#[derive(Debug, Clone, Copy, PartialEq, Eq)]
+#[derive(Debug, Clone, PartialEq, Eq)]
 pub enum Question {
     /// The steps to run; `list_len` is the length of the lent list buffer, in numbers.
     Plan { list_len: usize },
     /// A text of a step; `buf_len` is the length of the lent text buffer, in bytes.
     Text { step: usize, wanted: Wanted, buf_len: usize },
+    /// The texts of these steps; `buf_len` is the length of the lent byte buffer, `ends_len` that
+    /// of the lent buffer for where each text ends, in numbers.
+    Texts { steps: Vec<u32>, wanted: Wanted, buf_len: usize, ends_len: usize },
 }
 
 /// Which of a step's texts is wanted.
@@ -49,10 +52,19 @@ impl Question {
         Question::Text { step, wanted, buf_len: limits::TEXT }
     }
 
-    fn lends_too_little(self) -> bool {
-        match self {
+    /// Texts of steps, with the least byte buffer that will do and room for each end.
+    pub fn texts(steps: &[u32], wanted: Wanted) -> Self {
+        let (steps, ends_len) = (steps.to_vec(), steps.len());
+        Question::Texts { steps, wanted, buf_len: limits::TEXT, ends_len }
+    }
+
+    /// No buffer for ends is too short: without room for an end no text is written.
+    fn lends_too_little(&self) -> bool {
+        match *self {
             Question::Plan { list_len } => list_len < limits::LIST,
-            Question::Text { buf_len, .. } => buf_len < limits::TEXT,
+            Question::Text { buf_len, .. } | Question::Texts { buf_len, .. } => {
+                buf_len < limits::TEXT
+            }
         }
     }
 }
@@ -83,6 +95,12 @@ impl Ask {
         Ask { lent: Lent::manifest(manifest), question: Question::text(step, wanted) }
     }
 
+    /// Texts of steps of this manifest, with the least byte buffer that will do and room for each
+    /// end.
+    pub fn texts(manifest: impl Into<Vec<u8>>, steps: &[u32], wanted: Wanted) -> Self {
+        Ask { lent: Lent::manifest(manifest), question: Question::texts(steps, wanted) }
+    }
+
     /// The second planner's answer.
     pub fn answer(&self) -> Answer {
         self.answer_or_refusal().unwrap_or_else(Answer::Refused)
@@ -95,6 +113,10 @@ impl Ask {
             Question::Plan { .. } => plan::plan(&manifest, &self.lent),
             Question::Text { step, wanted, .. } => {
                 text::text(&manifest, step, wanted).map(Answer::Text)
+            }
+            Question::Texts { ref steps, wanted, buf_len, ends_len } => {
+                let room = texts::Room { bytes: buf_len, ends: ends_len };
+                texts::texts(&manifest, steps, wanted, room).map(Answer::Texts)
             }
         }
     }

@@ -15,7 +15,7 @@ pub use check::{check, outputs, Difference};
 pub use error::{Error, Fault, Origin};
 pub use expected::Expected;
 pub use files::{files, folder, read};
-pub use lines::{ask_lines, program_line};
+pub use lines::{ask_lines, program_line, texts_lines};
 pub use pack::{pack, TooGreat};
 pub use parse::parse;
 
@@ -38,8 +38,8 @@ pub struct Case {
 
 impl Case {
     /// One of the case's questions with all that it lends.
-    pub fn ask(&self, question: Question) -> Ask {
-        Ask { lent: self.lent.clone(), question }
+    pub fn ask(&self, question: &Question) -> Ask {
+        Ask { lent: self.lent.clone(), question: question.clone() }
     }
 }
 

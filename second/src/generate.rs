@@ -5,6 +5,7 @@ pub mod damage;
 pub mod draft;
 pub mod edges;
 pub mod graphs;
+pub mod many;
 
 use crate::limits;
 use crate::rng::Rng;
@@ -21,6 +22,7 @@ pub fn ask(seed: u64) -> Ask {
     let mut manifest = match kind {
         Kind::Mixed => Draft::new(rng).mixed(600),
         Kind::Texts => Draft::new(rng).texts(),
+        Kind::LongTexts => edges::long_texts(rng),
         Kind::Graph => of_graph(rng, 20),
         Kind::Edge => edges::full(rng),
     };
@@ -37,6 +39,7 @@ pub fn small_ask(seed: u64) -> Ask {
     let mut manifest = match kind {
         Kind::Mixed => Draft::new(rng).mixed(200),
         Kind::Texts => Draft::new(rng).texts(),
+        Kind::LongTexts => edges::long_texts(rng),
         Kind::Graph => of_graph(rng, 5),
         Kind::Edge => edges::small(rng),
     };
@@ -53,6 +56,7 @@ pub fn small_ask(seed: u64) -> Ask {
 enum Kind {
     Mixed,
     Texts,
+    LongTexts,
     Graph,
     Edge,
 }
@@ -60,7 +64,8 @@ enum Kind {
 impl Kind {
     fn draw(rng: &mut Rng) -> Kind {
         match rng.below(100) {
-            0..=39 => Kind::Mixed,
+            0..=37 => Kind::Mixed,
+            38..=39 => Kind::LongTexts,
             40..=59 => Kind::Texts,
             60..=91 => Kind::Graph,
             _ => Kind::Edge,
@@ -79,19 +84,25 @@ fn drop_last_line(manifest: &mut Vec<u8>) {
     manifest.truncate(end);
 }
 
-/// The ask of a manifest: more often a text where there are texts to see.
+/// The ask of a manifest: more often a text, or many in one ask, where there are some to see.
 fn around(rng: &mut Rng, kind: Kind, manifest: Vec<u8>) -> Ask {
-    let texts = match kind {
-        Kind::Mixed => 30,
-        Kind::Texts => 90,
-        Kind::Graph => 5,
-        Kind::Edge => 60,
+    let (texts, many) = match kind {
+        Kind::Mixed => (30, 30),
+        Kind::Texts => (90, 30),
+        Kind::LongTexts => (90, 80),
+        Kind::Graph => (5, 30),
+        Kind::Edge => (60, 30),
     };
     if rng.chance(texts) {
         let step = damage::step(rng, &manifest);
         let wanted = if rng.chance(60) { Wanted::Command } else { Wanted::Description };
         let buf_len = buffer(rng, limits::TEXT);
-        Ask { lent: Lent::manifest(manifest), question: Question::Text { step, wanted, buf_len } }
+        let question = if rng.chance(many) {
+            many::texts(rng, &manifest, wanted)
+        } else {
+            Question::Text { step, wanted, buf_len }
+        };
+        Ask { lent: Lent::manifest(manifest), question }
     } else {
         let lent = plan_lent(rng, manifest);
         Ask { lent, question: Question::Plan { list_len: buffer(rng, limits::LIST) } }

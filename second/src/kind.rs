@@ -9,6 +9,8 @@ pub enum Kind {
     EmptyList,
     Text,
     EmptyText,
+    Texts,
+    NoTexts,
     Refused(u8),
 }
 
@@ -19,6 +21,8 @@ impl Kind {
             Answer::List(_) => Kind::List,
             Answer::Text(text) if text.is_empty() => Kind::EmptyText,
             Answer::Text(_) => Kind::Text,
+            Answer::Texts(texts) if texts.is_empty() => Kind::NoTexts,
+            Answer::Texts(_) => Kind::Texts,
             Answer::Circle(_) => Kind::Refused(14),
             Answer::Refused(refusal) => Kind::Refused(refusal.number),
         }
@@ -26,8 +30,9 @@ impl Kind {
 
     /// All kinds, in order.
     pub fn all() -> impl Iterator<Item = Kind> {
-        let answers = [Kind::List, Kind::EmptyList, Kind::Text, Kind::EmptyText];
-        answers.into_iter().chain((1..=18).map(Kind::Refused))
+        let lists = [Kind::List, Kind::EmptyList];
+        let texts = [Kind::Text, Kind::EmptyText, Kind::Texts, Kind::NoTexts];
+        lists.into_iter().chain(texts).chain((1..=18).map(Kind::Refused))
     }
 }
 
@@ -38,6 +43,8 @@ impl Display for Kind {
             Kind::EmptyList => f.pad("empty list"),
             Kind::Text => f.pad("text"),
             Kind::EmptyText => f.pad("empty text"),
+            Kind::Texts => f.pad("texts"),
+            Kind::NoTexts => f.pad("no texts"),
             Kind::Refused(number) => f.pad(&format!("refused {number}")),
         }
     }

@@ -21,6 +21,7 @@ pub mod scan;
 pub mod shapes;
 pub mod targets;
 pub mod text;
+pub mod texts;
 pub mod tool;
 pub mod version;
 pub mod wire;

@@ -1,7 +1,8 @@
 //! The plain lines in which tools hand asks and answers on, bytes in hex and `-` for none:
 //!
-//! - `plan MANIFEST CARD TARGETS LISTLEN`, `text MANIFEST STEP command|description BUFLEN`
-//! - `list 0 3 1`, `text 6363`, `circle 0 1`, `refused 4 at 17`
+//! - `plan MANIFEST CARD TARGETS LISTLEN`, `text MANIFEST STEP command|description BUFLEN`,
+//!   `texts MANIFEST command|description BUFLEN ENDSLEN STEP STEP ..`
+//! - `list 0 3 1`, `text 6363`, `texts 6363 - 61`, `circle 0 1`, `refused 4 at 17`
 
 use crate::{Answer, Ask, Lent, Place, Question, Refusal, Wanted};
 use std::error;
@@ -40,6 +41,10 @@ impl Display for Ask {
                 let manifest = Hex(&lent.manifest);
                 write!(f, "text {manifest} {step} {} {buf_len}", wanted.name())
             }
+            Question::Texts { steps, wanted, buf_len, ends_len } => {
+                let (manifest, wanted, steps) = (Hex(&lent.manifest), wanted.name(), Steps(steps));
+                write!(f, "texts {manifest} {wanted} {buf_len} {ends_len}{steps}")
+            }
         }
     }
 }
@@ -55,14 +60,24 @@ impl FromStr for Ask {
                 question: Question::Plan { list_len: number(list_len)? },
             }),
             ["text", manifest, step, wanted, buf_len] => {
-                let wanted = Wanted::of(wanted).ok_or_else(|| Error::Form(line.to_string()))?;
+                let wanted = wanted_by(wanted, line)?;
                 let (step, buf_len) = (number(step)?, number(buf_len)?);
                 let question = Question::Text { step, wanted, buf_len };
+                Ok(Ask { lent: Lent::manifest(unhex(manifest)?), question })
+            }
+            ["texts", manifest, wanted, buf_len, ends_len, ref steps @ ..] => {
+                let (wanted, steps) = (wanted_by(wanted, line)?, numbers(steps)?);
+                let (buf_len, ends_len) = (number(buf_len)?, number(ends_len)?);
+                let question = Question::Texts { steps, wanted, buf_len, ends_len };
                 Ok(Ask { lent: Lent::manifest(unhex(manifest)?), question })
             }
             _ => Err(Error::Form(line.to_string())),
         }
     }
+}
+
+fn wanted_by(name: &str, line: &str) -> Result<Wanted, Error> {
+    Wanted::of(name).ok_or_else(|| Error::Form(line.to_string()))
 }
 
 /// Manifest, card and targets, as a plan's line has them.
@@ -93,6 +108,10 @@ impl Display for Answer {
         match self {
             Answer::List(steps) => write!(f, "list{}", Steps(steps)),
             Answer::Text(bytes) => write!(f, "text {}", Hex(bytes)),
+            Answer::Texts(texts) => {
+                f.write_str("texts")?;
+                texts.iter().try_for_each(|text| write!(f, " {}", Hex(text)))
+            }
             Answer::Circle(steps) => write!(f, "circle{}", Steps(steps)),
             Answer::Refused(refusal) => refusal.fmt(f),
         }
@@ -108,6 +127,10 @@ impl FromStr for Answer {
             ["list", steps @ ..] => Ok(Answer::List(numbers(steps)?)),
             ["circle", steps @ ..] => Ok(Answer::Circle(numbers(steps)?)),
             ["text", bytes] => Ok(Answer::Text(unhex(bytes)?)),
+            ["texts", texts @ ..] => {
+                let texts: Result<_, _> = texts.iter().map(|text| unhex(text)).collect();
+                Ok(Answer::Texts(texts?))
+            }
             ["refused", refused, "at", place] => {
                 Ok(Answer::Refused(Refusal { number: number(refused)?, place: place.parse()? }))
             }

@@ -1,6 +1,8 @@
 //! All cases of `/cases`, put to the second planner.
 
-use second::cases::{ask_lines, check, files, folder, pack, parse, program_line, read};
+use second::cases::{
+    ask_lines, check, files, folder, pack, parse, program_line, read, texts_lines,
+};
 use second::cases::{Error, Expected, Fault, TooGreat};
 use second::{Answer, Refusal};
 use std::fs;
@@ -34,6 +36,11 @@ case two
   targets raw a\n
   plan circle 1 2 or 3
   text 7 description = \{2 x}
+  text-buffer 9000
+  ends-buffer 4
+  texts \{2 \i }7 command = a\, = refused ,,
+  texts description =
+  texts 4294967295 command refused 18 at 4294967295
   prints
     | no work
 ";
@@ -55,7 +62,17 @@ case two
         ask_lines(&cases[1]),
         [
             format!("two plan {manifest} {lent} 512 -> circle 1 2 or 3"),
-            format!("two text {manifest} 7 description 8192 -> text 7878"),
+            format!("two text {manifest} 7 description 9000 -> text 7878"),
+        ]
+    );
+    assert_eq!(
+        texts_lines(&cases[1]),
+        [
+            format!(
+                "two texts {manifest} command 9000 4 0 1 7 -> texts 612c203d207265667573656420 -"
+            ),
+            format!("two texts {manifest} description 9000 4 -> texts"),
+            format!("two texts {manifest} command 9000 4 4294967295 -> refused 18 at 4294967295"),
         ]
     );
     let program = format!("two program {manifest} {lent} -> text 6e6f20776f726b0a");
@@ -114,6 +131,15 @@ fn faults_of_lines() {
         ("text 0 generator = x", expected("`command` or `description`")),
         ("text 0 command x", expected("`=` or `refused`")),
         ("text x command = x", number("x")),
+        ("texts 0 generator = x,", expected("`command` or `description`")),
+        ("texts = x,", expected("`=` or `refused`")),
+        ("texts 0 command x", expected("`=` or `refused`")),
+        ("texts 0 command = x", expected("a comma behind each text")),
+        ("texts 0 command = x\\,", expected("a comma behind each text")),
+        ("texts 4294967296 command = x,", number("4294967296")),
+        ("texts x command refused 18 at 0", number("x")),
+        ("texts 0 command refused 18", expected("`refused NUMBER at PLACE`")),
+        ("ends-buffer x", number("x")),
         ("list-buffer x", number("x")),
         ("card a", expected("`NAME TIME` between commas")),
         ("card a x", number("x")),
@@ -172,4 +198,14 @@ fn packed_numbers_have_four_bytes() {
     };
     assert!(pack(&case(0xffff_ffff)).is_ok());
     assert_eq!(pack(&case(0x1_0000_0000)), Err(TooGreat(0x1_0000_0000)));
+}
+
+/// A texts ask changes nothing of what is packed, and a case with no other is left out.
+#[test]
+fn texts_asks_are_not_packed() {
+    let case = |asks: &str| {
+        pack(&parse("f", &format!("case a\nsays x\nmanifest\n{asks}\n")).unwrap()).unwrap()
+    };
+    assert_eq!(case("texts command ="), [0; 20]);
+    assert_eq!(case("plan list\ntexts command ="), case("plan list"));
 }

@@ -217,7 +217,7 @@ struct Asked {
 fn asked(case: &Case) -> Vec<Asked> {
     let asked = |line, expected| Asked { line, expected, case: case.name.clone() };
     let asks = case.asks.iter();
-    let asks = asks.map(|(question, expected)| (case.ask(*question).to_string(), expected.clone()));
+    let asks = asks.map(|(question, expected)| (case.ask(question).to_string(), expected.clone()));
     let program = case
         .prints
         .clone()

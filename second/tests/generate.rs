@@ -42,7 +42,11 @@ fn asks_and_answers_as_lines() {
     assert_eq!(plan.answer().to_string(), "refused 11 at 0");
     let text = Ask::text(*b"\n", 7, Wanted::Description);
     assert_eq!(text.to_string(), "text 0a 7 description 8192");
-    for ask in [plan, text].into_iter().chain((0..200).map(ask)) {
+    let texts = Ask::texts(*b"\n", &[7, 0, u32::MAX], Wanted::Command);
+    assert_eq!(texts.to_string(), "texts 0a command 8192 3 7 0 4294967295");
+    let none = Ask::texts(*b"", &[], Wanted::Description);
+    assert_eq!(none.to_string(), "texts - description 8192 0");
+    for ask in [plan, text, texts, none].into_iter().chain((0..200).map(ask)) {
         assert_eq!(ask.to_string().parse(), Ok(ask));
     }
     for (answer, line) in [
@@ -51,6 +55,8 @@ fn asks_and_answers_as_lines() {
         (Answer::Circle(vec![2]), "circle 2"),
         (Answer::Text(vec![]), "text -"),
         (Answer::Text(b"cc".to_vec()), "text 6363"),
+        (Answer::Texts(vec![]), "texts"),
+        (Answer::Texts(vec![vec![], b"cc".to_vec()]), "texts - 6363"),
         (Answer::Refused(Refusal::new(4, 17)), "refused 4 at 17"),
     ] {
         assert_eq!(answer.to_string(), line);
@@ -61,10 +67,14 @@ fn asks_and_answers_as_lines() {
 #[test]
 fn lines_that_are_none() {
     let form = |line: &str| wire::Error::Form(line.to_string());
-    for line in ["", "plan 0a - 61", "text 0a 7 generator 8192", "program - - -"] {
+    for line in
+        ["", "plan 0a - 61", "text 0a 7 generator 8192", "program - - -", "texts 0a command 8192"]
+    {
         assert_eq!(line.parse::<Ask>(), Err(form(line)));
     }
     assert_eq!("plan 0a - 61 x".parse::<Ask>(), Err(wire::Error::Number("x".to_string())));
+    let great = "texts 0a command 8192 1 4294967296".parse::<Ask>();
+    assert_eq!(great, Err(wire::Error::Number("4294967296".to_string())));
     for hex in ["6", "6g", "+6", ""] {
         let line = format!("plan {hex} - - 512");
         assert_eq!(line.parse::<Ask>(), Err(wire::Error::Hex(hex.to_string())));

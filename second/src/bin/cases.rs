@@ -1,8 +1,9 @@
 //! Compares the second planner with the case files: those named, or else all of `/cases`. For other
-//! tools it prints instead, with `--packed`, every plan and text ask and its expected answer, or,
-//! with `--programs`, what the program has to write.
+//! tools it prints instead, with `--packed`, every plan and text ask and its expected answer, with
+//! `--texts` every texts ask and its expected answer, or, with `--programs`, what the program has to
+//! write.
 
-use second::cases::{ask_lines, check, files, folder, program_line, read, Case};
+use second::cases::{ask_lines, check, files, folder, program_line, read, texts_lines, Case};
 use second::tool::{status, Error};
 use std::path::PathBuf;
 use std::process::ExitCode;
@@ -18,11 +19,15 @@ fn run() -> Result<bool, Error> {
             cases.iter().flat_map(ask_lines).for_each(|line| println!("{line}"));
             Ok(true)
         }
+        ["--texts"] => {
+            cases.iter().flat_map(texts_lines).for_each(|line| println!("{line}"));
+            Ok(true)
+        }
         ["--programs"] => {
             cases.iter().filter_map(program_line).for_each(|line| println!("{line}"));
             Ok(true)
         }
-        _ => Err(Error::Usage("cases [--packed | --programs] [FILE ..]")),
+        _ => Err(Error::Usage("cases [--packed | --texts | --programs] [FILE ..]")),
     }
 }
 

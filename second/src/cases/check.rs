@@ -38,11 +38,11 @@ impl Display for Difference {
 /// What the second planner answers otherwise than expected; one that panics answers nothing.
 pub fn check(case: &Case) -> Vec<Difference> {
     let asks = case.asks.iter();
-    let asks = asks.filter_map(|(question, expected)| check_ask(case, *question, expected));
+    let asks = asks.filter_map(|(question, expected)| check_ask(case, question, expected));
     asks.chain(check_program(case)).collect()
 }
 
-fn check_ask(case: &Case, question: Question, expected: &Expected) -> Option<Difference> {
+fn check_ask(case: &Case, question: &Question, expected: &Expected) -> Option<Difference> {
     let ask = case.ask(question);
     let answer = catch_unwind(AssertUnwindSafe(|| ask.answer())).ok();
     if answer.as_ref().is_some_and(|answer| expected.allows(answer)) {
@@ -75,6 +75,10 @@ fn difference(case: &Case, asked: String, expected: String, answer: Option<Answe
 fn readable(answer: &Answer) -> String {
     match answer {
         Answer::Text(bytes) => format!("text {}", bytes.escape_ascii()),
+        Answer::Texts(texts) => {
+            let texts = texts.iter().map(|text| format!(" {},", text.escape_ascii()));
+            format!("texts{}", texts.collect::<String>())
+        }
         _ => answer.to_string(),
     }
 }

@@ -36,6 +36,18 @@ impl Expanded {
         words
     }
 
+    /// The texts that a plain separator ends, as they are; none if something has no end.
+    pub fn ended(&self, separator: u8) -> Option<Vec<&[u8]>> {
+        let ends = (0..self.bytes.len()).filter(|&at| self.is_plain(at, separator));
+        let mut from = 0;
+        let mut texts = Vec::new();
+        for end in ends {
+            texts.push(&self.bytes[from..end]);
+            from = end + 1;
+        }
+        (from == self.bytes.len()).then_some(texts)
+    }
+
     /// The bytes of a range without plain spaces around them, if any are left.
     fn trimmed(&self, mut range: Range<usize>) -> Option<&[u8]> {
         let no_space = |at: &usize| !self.is_plain(*at, b' ');

@@ -1,4 +1,5 @@
-//! The packed form of the cases, which the proved program `cases` reads: every plan and text ask.
+//! The packed form of the cases, which the proved program `cases` reads: every plan and text ask. A
+//! texts ask has two lent buffers and is not packed: `compare/` puts it to the library.
 //! Every number has four bytes, the lowest first:
 //!
 //! - a case: where its name, manifest, card and target list end that follow one behind another, how
@@ -51,30 +52,58 @@ fn high(value: usize) -> usize {
 /// What the lent buffers hold before an ask.
 const BEFORE: u8 = 7;
 
-/// What the lent buffer begins with after an answer.
-fn left(question: Question, answer: &Answer) -> Vec<u8> {
-    let words = |numbers: &[u32]| numbers.iter().flat_map(|number| number.to_le_bytes()).collect();
-    match (answer, question) {
-        (Answer::List(steps) | Answer::Circle(steps), _) => words(steps),
-        (Answer::Text(bytes), _) => bytes.clone(),
-        (Answer::Refused(refusal), _) if refusal.number != 1 => Vec::new(),
-        // 1 touches nothing.
-        (_, Question::Plan { list_len }) => words(&vec![u32::from(BEFORE); list_len]),
-        (_, Question::Text { buf_len, .. }) => vec![BEFORE; buf_len],
+/// What is packed of a question.
+struct Asked {
+    /// 0 for a plan, 1 for a command, 2 for a description.
+    kind: usize,
+    step: usize,
+    /// The length of the lent buffer.
+    room: usize,
+}
+
+impl Asked {
+    /// A texts ask is not packed.
+    fn of(question: &Question) -> Option<Self> {
+        match *question {
+            Question::Plan { list_len } => Some(Asked { kind: 0, step: 0, room: list_len }),
+            Question::Text { step, wanted, buf_len } => {
+                let kind = match wanted {
+                    Wanted::Command => 1,
+                    Wanted::Description => 2,
+                };
+                Some(Asked { kind, step, room: buf_len })
+            }
+            Question::Texts { .. } => None,
+        }
+    }
+
+    /// What the lent buffer begins with after an answer.
+    fn left(&self, answer: &Answer) -> Vec<u8> {
+        match answer {
+            Answer::List(steps) | Answer::Circle(steps) => words(steps),
+            Answer::Text(bytes) => bytes.clone(),
+            Answer::Texts(texts) => texts.concat(),
+            // 1 touches nothing.
+            Answer::Refused(refusal) if refusal.number == 1 => match self.kind {
+                0 => words(&vec![u32::from(BEFORE); self.room]),
+                _ => vec![BEFORE; self.room],
+            },
+            Answer::Refused(_) => Vec::new(),
+        }
     }
 }
 
-fn packed_ask(question: Question, expected: &Expected) -> Result<Vec<u8>, TooGreat> {
-    let (kind, step, room) = match question {
-        Question::Plan { list_len } => (0, 0, list_len),
-        Question::Text { step, wanted: Wanted::Command, buf_len } => (1, step, buf_len),
-        Question::Text { step, wanted: Wanted::Description, buf_len } => (2, step, buf_len),
-    };
+fn words(numbers: &[u32]) -> Vec<u8> {
+    numbers.iter().flat_map(|number| number.to_le_bytes()).collect()
+}
+
+fn packed_ask(asked: &Asked, expected: &Expected) -> Result<Vec<u8>, TooGreat> {
+    let Asked { kind, step, room } = *asked;
     let answers = expected.answers();
     let mut packed = numbers(&[kind, low(step), high(step), room, answers.len()])?;
     for answer in answers {
         let (refused, value) = answer.numbers();
-        let left = left(question, &answer);
+        let left = asked.left(&answer);
         packed.extend(numbers(&[refused.into(), low(value), high(value), left.len()])?);
         packed.extend(left);
     }
@@ -82,7 +111,10 @@ fn packed_ask(question: Question, expected: &Expected) -> Result<Vec<u8>, TooGre
 }
 
 fn packed_case(case: &Case) -> Result<Vec<u8>, TooGreat> {
-    if case.asks.is_empty() {
+    let asks = case.asks.iter();
+    let asks = asks.filter_map(|(question, expected)| Some((Asked::of(question)?, expected)));
+    let asks: Vec<_> = asks.collect();
+    if asks.is_empty() {
         return Ok(Vec::new());
     }
     let Lent { manifest, card, targets } = &case.lent;
@@ -91,11 +123,11 @@ fn packed_case(case: &Case) -> Result<Vec<u8>, TooGreat> {
         *end += part.len();
         Some(*end)
     });
-    let head: Vec<_> = ends.chain([case.asks.len()]).collect();
+    let head: Vec<_> = ends.chain([asks.len()]).collect();
     let mut packed = numbers(&head)?;
     packed.extend(parts.concat());
-    for (question, expected) in &case.asks {
-        packed.extend(packed_ask(*question, expected)?);
+    for (asked, expected) in &asks {
+        packed.extend(packed_ask(asked, expected)?);
     }
     Ok(packed)
 }

@@ -73,6 +73,7 @@ struct Draft {
     /// The lengths of the lent buffers, which may be given after the asks.
     list_len: usize,
     buf_len: usize,
+    ends_len: usize,
     /// What the pieces that may follow belong to.
     open: Option<Block>,
     mark: Option<usize>,
@@ -88,8 +89,15 @@ impl Draft {
             asks: Vec::new(),
             prints: None,
         };
-        let (list_len, buf_len) = (limits::LIST, limits::TEXT);
-        Draft { case, has_manifest: false, list_len, buf_len, open: None, mark: None }
+        Draft {
+            case,
+            has_manifest: false,
+            list_len: limits::LIST,
+            buf_len: limits::TEXT,
+            ends_len: limits::STEPS,
+            open: None,
+            mark: None,
+        }
     }
 
     fn take(&mut self, word: &str, rest: &str, earlier: &[Case]) -> Result<(), Fault> {
@@ -108,6 +116,7 @@ impl Draft {
             "targets" => self.case.lent.targets = self.targets(rest)?,
             "list-buffer" => self.list_len = number(rest)?,
             "text-buffer" => self.buf_len = number(rest)?,
+            "ends-buffer" => self.ends_len = number(rest)?,
             "plan" if self.has_plan() => return Err(Fault::Second("plan")),
             "plan" => {
                 let expected = self.plan(rest)?;
@@ -115,6 +124,10 @@ impl Draft {
             }
             "text" => {
                 let ask = self.text(rest)?;
+                self.case.asks.push(ask);
+            }
+            "texts" => {
+                let ask = self.texts(rest)?;
                 self.case.asks.push(ask);
             }
             "prints" => {
@@ -136,6 +149,9 @@ impl Draft {
             match question {
                 Question::Plan { list_len } => *list_len = self.list_len,
                 Question::Text { buf_len, .. } => *buf_len = self.buf_len,
+                Question::Texts { buf_len, ends_len, .. } => {
+                    (*buf_len, *ends_len) = (self.buf_len, self.ends_len);
+                }
             }
         }
         let case = self.case;
@@ -238,6 +254,27 @@ impl Draft {
             _ => return Err(Fault::Expected("`=` or `refused`")),
         };
         Ok((Question::text(step, wanted), Expected::One(answer)))
+    }
+
+    /// `STEPS command =TEXTS`, each text ended by a comma, or `STEPS command refused ..`.
+    fn texts(&mut self, rest: &str) -> Result<(Question, Expected), Fault> {
+        let (asked, answer) = match (rest.split_once(" ="), rest.split_once(" refused ")) {
+            // what stands behind a `=` is text
+            (_, Some((asked, refusal))) if !asked.contains('=') => {
+                (asked, Answer::Refused(self.refusal(refusal)?))
+            }
+            (Some((asked, texts)), _) => {
+                let texts = self.expanded(texts.strip_prefix(' ').unwrap_or(texts), 0)?;
+                let texts = texts.ended(b',').ok_or(Fault::Expected("a comma behind each text"))?;
+                (asked, Answer::Texts(texts.into_iter().map(<[u8]>::to_vec).collect()))
+            }
+            _ => return Err(Fault::Expected("`=` or `refused`")),
+        };
+        let asked = String::from_utf8_lossy(&self.expanded(asked, 0)?.bytes).into_owned();
+        let (listed, wanted) = asked.rsplit_once(' ').unwrap_or(("", &asked));
+        let wanted = Wanted::of(wanted);
+        let wanted = wanted.ok_or(Fault::Expected("`command` or `description`"))?;
+        Ok((Question::texts(&steps(listed)?, wanted), Expected::One(answer)))
     }
 
     fn refusal(&self, rest: &str) -> Result<Refusal, Fault> {

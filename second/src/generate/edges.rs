@@ -95,6 +95,26 @@ fn long_text(rng: &mut Rng, length: usize) -> String {
     format!("{UNITS}c={}\n{rule}build o:r\n", long(2_000))
 }
 
+/// Steps with texts about as long as a text may be, half as long, of a few bytes, and now and then
+/// one that leads back to itself.
+pub fn long_texts(rng: &mut Rng) -> Vec<u8> {
+    let back = rng.pick(&["", "", "$command"]);
+    let mut rules = String::new();
+    for (rule, command) in [("r", "$c$c$c$c$d"), ("s", "$c$c$d"), ("t", &format!("$d{back}"))] {
+        rules += &format!("rule {rule}\n command={command}\n");
+    }
+    let mut steps = String::new();
+    for step in 0..rng.between(2, 6) {
+        let (rule, length) = match rng.below(5) {
+            0 => ("r", limits::TEXT - 8_000 + rng.below(3) - 1),
+            1 | 2 => ("s", limits::TEXT / 2 - 4_000 + rng.below(3) - 1),
+            _ => ("t", rng.below(20)),
+        };
+        steps += &format!("build {step}:{rule}\n d={}\n", long(length));
+    }
+    format!("{UNITS}c={}\n{rules}{steps}", long(2_000)).into_bytes()
+}
+
 /// A rule's value of so many bytes as written, of which a join drops all but two.
 fn raw_value(length: usize) -> String {
     format!("rule r\n command=x$\n{}y\nbuild o:r\n", " ".repeat(length - 4))
