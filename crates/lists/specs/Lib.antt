@@ -6,3 +6,4 @@ pub mod Order
 pub mod Parts
 pub mod Fill
 pub mod Runs
+pub mod Lent
