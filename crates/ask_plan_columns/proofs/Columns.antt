@@ -6,6 +6,7 @@ use native.Mathlib.Omega.{arith}
 use lib.ListN.{length, take, getD}
 use Rattle.lists.specs.Parts.{part, part-from-start}
 use Rattle.spec.specs.declared.PlanAnswer.{PlanAnswer}
+use Rattle.spec.specs.Limits.{maxSteps, maxFiles, maxMentions}
 use Rattle.spec.specs.Reading.{Reading}
 use Rattle.arena.specs.Columns.{Lies, startOf, column}
 use Rattle.arena.proofs.Laws.{Column, lies-column, lies-part}
@@ -13,7 +14,7 @@ use Rattle.hold_columns.specs.Columns.{perStep, HoldsColumns}
 use Rattle.hold_columns.proofs.Places.{length-ends}
 use Rattle.hold_columns.proofs.Held.{held-steps, held-sound}
 use Rattle.hold_reading.specs.declared.Counts.{Counts}
-use Rattle.hold_reading.specs.Held.{capacities}
+use Rattle.hold_reading.specs.Held.{capacities, endsStart, phonyStart, madeStart, defaultsStart, columnsEnd}
 use Rattle.ask_plan_roots.specs.Roots.{RootedAsked, PlansRooted}
 use Rattle.ask_plan_columns.specs.Columns.{Tabled, ColumnsAsked, PlansColumns}
 
@@ -22,24 +23,24 @@ module _ (graph : List ℕ) (c : Counts) where
   mentionsIn = take (c .paths) graph
 
   abbrev pub endsIn : List ℕ
-  endsIn = part graph 4096 (4096 + perStep * c .steps)
+  endsIn = part graph endsStart (endsStart + perStep * c .steps)
 
   abbrev pub phonyIn : List ℕ
-  phonyIn = part graph 6144 (6144 + c .steps)
+  phonyIn = part graph phonyStart (phonyStart + c .steps)
 
   abbrev pub madeIn : List ℕ
-  madeIn = part graph 6656 (6656 + c .files)
+  madeIn = part graph madeStart (madeStart + c .files)
 
   abbrev pub defaultsIn : List ℕ
-  defaultsIn = part graph 8192 (8192 + c .defaults)
+  defaultsIn = part graph defaultsStart (defaultsStart + c .defaults)
 
   -- the columns are these parts
   pub record Spread (rd : Reading) : Type 0 where
-    pub long : 12288 ≤ length graph
-    pub few-paths : c .paths ≤ 4096
-    pub few-steps : c .steps ≤ 512
-    pub few-files : c .files ≤ 1024
-    pub few-defaults : c .defaults ≤ 4096
+    pub long : columnsEnd ≤ length graph
+    pub few-paths : c .paths ≤ maxMentions
+    pub few-steps : c .steps ≤ maxSteps
+    pub few-files : c .files ≤ maxFiles
+    pub few-defaults : c .defaults ≤ maxMentions
     pub counted : length madeIn ≡ c .files
     pub tables : HoldsColumns (rd .steps) (length (rd .files)) mentionsIn endsIn phonyIn madeIn
     pub defaults : defaultsIn ≡ rd .defaults
@@ -68,10 +69,10 @@ module _ {graph : List ℕ} {c : Counts} {rd : Reading} (h : Tabled graph c rd) 
       let t = g .tables in
       let e : length (g .ends) ≡ perStep * c .steps = ap length (t .ended) ∙ length-ends 0 (rd .steps) ∙ ap (λ (n : ℕ). perStep * n) (sym (h .steps-counted)) in
       let m : mentionsIn graph c ≡ g .mentions = let z : 0 + c .paths ≡ c .paths = omega arith in sym (part-from-start graph (c .paths)) ∙ (rw z at (is 0 (c .paths) 0 (omega arith) refl (sym (g .paths-counted)))) in
-      let d : endsIn graph c ≡ g .ends = is 1 (perStep * c .steps) 4096 (omega arith) refl e in
-      let p : phonyIn graph c ≡ g .phony = is 2 (c .steps) 6144 (omega arith) refl (held-steps t ∙ sym (h .steps-counted)) in
-      let w : madeIn graph c ≡ g .made = is 3 (c .files) 6656 (omega arith) refl (t .counted ∙ sym (h .files-counted)) in
-      let v : defaultsIn graph c ≡ rd .defaults = is 5 (c .defaults) 8192 (omega arith) refl (sym (g .defaults-counted)) in
+      let d : endsIn graph c ≡ g .ends = is 1 (perStep * c .steps) endsStart (omega arith) refl e in
+      let p : phonyIn graph c ≡ g .phony = is 2 (c .steps) phonyStart (omega arith) refl (held-steps t ∙ sym (h .steps-counted)) in
+      let w : madeIn graph c ≡ g .made = is 3 (c .files) madeStart (omega arith) refl (t .counted ∙ sym (h .files-counted)) in
+      let v : defaultsIn graph c ≡ rd .defaults = is 5 (c .defaults) defaultsStart (omega arith) refl (sym (g .defaults-counted)) in
       record {
         long = at 5 (omega arith) .within;
         few-paths = omega (arith, g .few-mentions, g .mentions-low);

@@ -1,4 +1,5 @@
 // A stage of the plan ask: 14, then 15.
+ghost use Rattle.lists.specs.Lent.{Spare, Leaves};
 ghost use Rattle.ask_plan_order.specs.Order.{RootsAsked, SpaceAsked, PlansOrdered};
 use ask_plan_sources::plan_sources;
 use graph_order::Sorting;
@@ -19,7 +20,7 @@ fn sort_then_plan(
     list: &mut [u32],
 ) -> PlanAnswer
     requires { ⌜ SpaceAsked (now mentions) (now ends) (now phony) (now made) (now times) (now roots) (now order) (now list) ⌝ }
-    ensures { λ r. ⌜ PlansOrdered (now (mentions .entry)) (now (ends .entry)) (now (phony .entry)) (now (made .entry)) (now (times .entry)) (now (roots .entry)) (now (list .entry)) r (now (list .exit)) ⌝ }
+    ensures { λ r. ⌜ Leaves (Spare (now (order .entry)) (now (order .exit))) (PlansOrdered (now (mentions .entry)) (now (ends .entry)) (now (phony .entry)) (now (made .entry)) (now (times .entry)) (now (roots .entry)) (now (list .entry)) r (now (list .exit))) ⌝ }
 {
     match order_needed(mentions, ends, made, roots, order, list) {
         Sorting::Ordered(k) => plan_sources(

@@ -1,4 +1,5 @@
 // Two stages of the plan ask, from what has been read of the manifest on: 11, then 12, then what the graph's columns give.
+ghost use Rattle.lists.specs.Lent.{Spare, Leaves};
 ghost use Rattle.ask_plan_reading.specs.Asked.{ReadAsked, TargetsAsked, SpaceAsked, PlansTargets, PlansRead};
 use ask_file_times::fill_times;
 use ask_plan_columns::plan_columns;
@@ -25,7 +26,7 @@ fn number_then_plan(
     list: &mut [u32],
 ) -> PlanAnswer
     requires { ⌜ SpaceAsked (now card) (now names) (now index) (now graph) c (now times) (now numbers) (now list) ⌝ }
-    ensures { λ r. ⌜ PlansTargets (now (card .entry)) (now (targets .entry)) (now (names .entry)) (now (index .entry)) (now (graph .entry)) c (now (list .entry)) r (now (list .exit)) ⌝ }
+    ensures { λ r. ⌜ Leaves (Spare (now (times .entry)) (now (times .exit)) × Spare (now (numbers .entry)) (now (numbers .exit))) (PlansTargets (now (card .entry)) (now (targets .entry)) (now (names .entry)) (now (index .entry)) (now (graph .entry)) c (now (list .entry)) r (now (list .exit))) ⌝ }
 {
     let files = c.files;
     match number_targets(targets, names, index, files, numbers) {

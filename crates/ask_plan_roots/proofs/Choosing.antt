@@ -11,6 +11,7 @@ use Rattle.lists.specs.Members.{in-at}
 use Rattle.spec.specs.declared.Refusal.the-variants.{NoRoot}
 use Rattle.spec.specs.declared.PlanAnswer.{PlanAnswer}
 use Rattle.spec.specs.declared.PlanAnswer.the-variants.{Refused}
+use Rattle.spec.specs.Limits.{maxFiles, maxMentions}
 use Rattle.spec.specs.Basics.{isEmpty}
 use Rattle.spec.specs.Reading.{Reading}
 use Rattle.spec.specs.Graph.{tops, roots, noRoot}
@@ -102,11 +103,11 @@ tops-found t p = record { plans = λ i rd s e. p .plans i rd s (t .found (rd .st
 
 -- working space that is all zero
 pub ask-tops : {mentions ends phony made times list : List ℕ} → StageAsked mentions ends phony made times list
-    → TopsAsked mentions ends phony made times (take (length made) (zeros 1024)) (take (length mentions) (zeros 4096)) list
+    → TopsAsked mentions ends phony made times (take (length made) (zeros maxFiles)) (take (length mentions) (zeros maxMentions)) list
 ask-tops {mentions} {made} q = record {
   asked = q;
-  blank = take-blank (length made) 1024 (q .sound .few-files);
-  out-room = le-of-eq (length-blank (length mentions) 4096 (q .sound .few-mentions));
+  blank = take-blank (length made) maxFiles (q .sound .few-files);
+  out-room = le-of-eq (length-blank (length mentions) maxMentions (q .sound .few-mentions));
 }
 
 pub ask-roots : {mentions ends phony made times marks out list after : List ℕ} {k : ℕ} → TopsAsked mentions ends phony made times marks out list → TopsFound mentions ends phony made after k

@@ -1,4 +1,5 @@
 // A stage of the plan ask: the choice of the roots and 13, then 14.
+ghost use Rattle.lists.specs.Lent.{Spare, Leaves};
 ghost use Rattle.ask_plan_order.specs.Order.{RootsAsked};
 ghost use Rattle.ask_plan_list.specs.Stages.{StageAsked};
 ghost use Rattle.ask_plan_roots.specs.Roots.{PlansFrom, PlansTops, PlansRooted, TopsAsked, RootedAsked};
@@ -45,7 +46,7 @@ fn plan_tops(
     list: &mut [u32],
 ) -> PlanAnswer
     requires { ⌜ TopsAsked (now mentions) (now ends) (now phony) (now made) (now times) (now marks) (now out) (now list) ⌝ }
-    ensures { λ r. ⌜ PlansTops (now (mentions .entry)) (now (ends .entry)) (now (phony .entry)) (now (made .entry)) (now (times .entry)) (now (list .entry)) r (now (list .exit)) ⌝ }
+    ensures { λ r. ⌜ Leaves (Spare (now (marks .entry)) (now (marks .exit)) × Spare (now (out .entry)) (now (out .exit))) (PlansTops (now (mentions .entry)) (now (ends .entry)) (now (phony .entry)) (now (made .entry)) (now (times .entry)) (now (list .entry)) r (now (list .exit))) ⌝ }
 {
     let k = tops(mentions, ends, phony, made, marks, out);
     plan_from(mentions, ends, phony, made, times, &out[..k], list)

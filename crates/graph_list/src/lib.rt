@@ -2,6 +2,7 @@
 ghost use mathlib.Core.Path.{_≡_};
 ghost use Prim.Native.Nat.{_<_};
 ghost use lib.ListN.{length};
+ghost use Rattle.lists.specs.Lent.{Spare, Leaves};
 ghost use Rattle.hold_columns.specs.Columns.{Files, inputsIn, Shown};
 ghost use Rattle.graph_list.specs.Listing.{allClear, Looks, LookAsked, PassAsked, Passed, ListAsked, leastIn, StaleListAsked, SpaceAsked, StaleListed};
 use graph_stale::stale_commands;
@@ -92,7 +93,7 @@ fn list_pending(
     list: &mut [u32],
 ) -> usize
     requires { ⌜ ListAsked (now mentions) (now ends) (now made) (now order) (now pending) (now clear) (now list) ⌝ }
-    ensures { λ r. ⌜ Shown (leastIn (now (mentions .entry)) (now (ends .entry)) (now (made .entry)) (now (pending .entry))) (now (list .entry)) r (now (list .exit)) ⌝ }
+    ensures { λ r. ⌜ Leaves (Spare (now (pending .entry)) (now (pending .exit)) × Spare (now (clear .entry)) (now (clear .exit))) (Shown (leastIn (now (mentions .entry)) (now (ends .entry)) (now (made .entry)) (now (pending .entry))) (now (list .entry)) r (now (list .exit))) ⌝ }
 {
     let mut count: usize = 0;
     let mut s = next_ready(mentions, ends, made, order, pending, clear);
@@ -119,7 +120,7 @@ fn list_marked(
     list: &mut [u32],
 ) -> usize
     requires { ⌜ SpaceAsked (now mentions) (now ends) (now phony) (now made) (now times) (now order) (now marks) (now clear) (now list) ⌝ }
-    ensures { λ r. ⌜ StaleListed (now (mentions .entry)) (now (ends .entry)) (now (phony .entry)) (now (made .entry)) (now (times .entry)) (now (order .entry)) (now (list .entry)) r (now (list .exit)) ⌝ }
+    ensures { λ r. ⌜ Leaves (Spare (now (marks .entry)) (now (marks .exit)) × Spare (now (clear .entry)) (now (clear .exit))) (StaleListed (now (mentions .entry)) (now (ends .entry)) (now (phony .entry)) (now (made .entry)) (now (times .entry)) (now (order .entry)) (now (list .entry)) r (now (list .exit))) ⌝ }
 {
     stale_commands(mentions, ends, phony, made, times, order, marks);
     list_pending(mentions, ends, made, order, marks, clear, list)

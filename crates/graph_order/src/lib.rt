@@ -3,6 +3,7 @@ ghost use mathlib.Core.Path.{_≡_};
 ghost use Prim.Native.Nat.{_+_, _≤_};
 ghost use lib.ListN.{length, take};
 ghost use Rattle.hold_columns.specs.Columns.{Files, Shown};
+ghost use Rattle.lists.specs.Lent.{Spare, Leaves};
 ghost use Rattle.lists.specs.Parts.{part};
 ghost use Rattle.spec.specs.Promises.{filled};
 ghost use Rattle.graph_order.specs.Sort.{NeededAsked, Showable, SortShows, NeededSorted};
@@ -23,6 +24,12 @@ pub enum Visit {
 pub enum Sorting {
     Ordered(usize),
     Circular(usize),
+}
+
+// How far the sorting is: from so many roots it has walked, and so many steps are in order.
+struct Reached {
+    roots: usize,
+    steps: usize,
 }
 
 // The place, from `from` on, of the first file whose maker is not done, or the number of files.
@@ -102,23 +109,23 @@ fn explore(
     Visit::Done(done)
 }
 
-// The walk from the maker of root i, if it has one that was not seen before.
+// The walk from the maker of the next root, if it has one that was not seen before.
 fn explore_root(
     mentions: &[u32],
     ends: &[u32],
     made: &[u32],
     roots: &[u32],
-    i: usize,
+    reached: Reached,
     seen: &mut [u32],
     next: &mut [u32],
     path: &mut [u32],
     order: &mut [u32],
-    done: usize,
 ) -> Visit
-    requires { ⌜ RootAsked (now mentions) (now ends) (now made) (now roots) i (now seen) (now next) (now path) (now order) done ⌝ }
-    ensures { λ r. ⌜ RootSeen (now (mentions .entry)) (now (ends .entry)) (now (made .entry)) (now (roots .entry)) (length (now (order .entry))) (i + 1) (now (seen .exit)) (now (next .exit)) (now (path .exit)) (now (order .exit)) r ⌝ }
+    requires { ⌜ RootAsked (now mentions) (now ends) (now made) (now roots) (reached .roots) (now seen) (now next) (now path) (now order) (reached .steps) ⌝ }
+    ensures { λ r. ⌜ RootSeen (now (mentions .entry)) (now (ends .entry)) (now (made .entry)) (now (roots .entry)) (length (now (order .entry))) (reached .roots + 1) (now (seen .exit)) (now (next .exit)) (now (path .exit)) (now (order .exit)) r ⌝ }
 {
-    let k = maker(roots, i, made);
+    let done = reached.steps;
+    let k = maker(roots, reached.roots, made);
     if k == 0 {
         return Visit::Done(done);
     }
@@ -140,22 +147,17 @@ fn sort(
     order: &mut [u32],
 ) -> Visit
     requires { ⌜ SortAsked (now mentions) (now ends) (now made) (now roots) (now seen) (now next) (now path) (now order) ⌝ }
-    ensures { λ r. ⌜ Sorted (now (mentions .entry)) (now (ends .entry)) (now (made .entry)) (now (roots .entry)) (length (now (order .entry))) (now (path .exit)) (now (order .exit)) r ⌝ }
+    ensures { λ r. ⌜ Leaves (Spare (now (seen .entry)) (now (seen .exit)) × Spare (now (next .entry)) (now (next .exit))) (Sorted (now (mentions .entry)) (now (ends .entry)) (now (made .entry)) (now (roots .entry)) (length (now (order .entry))) (now (path .exit)) (now (order .exit)) r) ⌝ }
 {
     let mut done: usize = 0;
     let mut i = 0;
     while i < roots.len() {
+        let reached = Reached {
+            roots: i,
+            steps: done,
+        };
         match explore_root(
-            mentions,
-            ends,
-            made,
-            roots,
-            i,
-            seen,
-            next,
-            path,
-            order,
-            done,
+            mentions, ends, made, roots, reached, seen, next, path, order,
         ) {
             Visit::Done(k) => {
                 done = k;
@@ -204,7 +206,7 @@ fn sort_or_show(
     list: &mut [u32],
 ) -> Sorting
     requires { ⌜ SortShows (now mentions) (now ends) (now made) (now roots) (now seen) (now next) (now path) (now order) (now list) ⌝ }
-    ensures { λ r. ⌜ NeededSorted (now (mentions .entry)) (now (ends .entry)) (now (made .entry)) (now (roots .entry)) (length (now (order .entry))) (now (order .exit)) (now (list .entry)) (now (list .exit)) r ⌝ }
+    ensures { λ r. ⌜ Leaves (Spare (now (seen .entry)) (now (seen .exit)) × Spare (now (next .entry)) (now (next .exit)) × Spare (now (path .entry)) (now (path .exit))) (NeededSorted (now (mentions .entry)) (now (ends .entry)) (now (made .entry)) (now (roots .entry)) (length (now (order .entry))) (now (order .exit)) (now (list .entry)) (now (list .exit)) r) ⌝ }
 {
     match sort(mentions, ends, made, roots, seen, next, path, order) {
         Visit::Done(k) => Sorting::Ordered(k),

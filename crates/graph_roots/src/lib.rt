@@ -1,6 +1,7 @@
 // Roots where neither targets nor defaults are named: the outputs that are no step's input.
 ghost use Prim.Native.Nat.{ℕ, _<_};
 ghost use lib.ListN.{length, getD};
+ghost use Rattle.lists.specs.Lent.{Spare, Leaves};
 ghost use Rattle.graph_roots.specs.Tops.{MarkedToo, MarkAsked, InputsMarked, AppendAsked, Appended, TopsAsked, TopsFound};
 use hold_columns::inputs;
 use hold_columns::outs;
@@ -60,7 +61,7 @@ pub fn tops(
     out: &mut [u32],
 ) -> usize
     requires { ⌜ TopsAsked (now mentions) (now ends) (now phony) (now made) (now marks) (now out) ⌝ }
-    ensures { λ r. ⌜ TopsFound (now (mentions .entry)) (now (ends .entry)) (now (phony .entry)) (now (made .entry)) (now (out .exit)) r ⌝ }
+    ensures { λ r. ⌜ Leaves (Spare (now (marks .entry)) (now (marks .exit))) (TopsFound (now (mentions .entry)) (now (ends .entry)) (now (phony .entry)) (now (made .entry)) (now (out .exit)) r) ⌝ }
 {
     mark_inputs(mentions, ends, phony, made, marks);
     let mut k: usize = 0;

@@ -39,7 +39,7 @@ same-length-2 : tie.Need-same-length-2
 same-length-2 c = search needs
 
 returns : tie.Need-returns
-returns c = goes-on (sorted (c .before .before .before .before .before)) (c .before .before .plan-sources .ensures)
+returns c = record { space = record { long = same-length c }; promise = goes-on (sorted (c .before .before .before .before .before)) (c .before .before .plan-sources .ensures) }
 
 same-length-3 : tie.Need-same-length-3
 same-length-3 c = search needs
@@ -48,7 +48,7 @@ same-length-4 : tie.Need-same-length-4
 same-length-4 c = search needs
 
 returns-2 : tie.Need-returns-2
-returns-2 c = circle (circle-told _ _ _ _ _ _ _ (c .before .before .before .before .before .before .before .order-needed .ensures) (c .before .before .before .before .before .before .before .before .before .before .before .before .before .before .before .before .before .before .pre .long) (c .before .k2 .given .1))
+returns-2 c = record { space = record { long = same-length-3 c }; promise = circle (circle-told _ _ _ _ _ _ _ (c .before .before .before .before .before .before .before .order-needed .ensures) (c .before .before .before .before .before .before .before .before .before .before .before .before .before .before .before .before .before .before .pre .long) (c .before .k2 .given .1)) }
 
 pub sort-then-plan-spec : {M : Type 1} → statement M
 sort-then-plan-spec =

@@ -1,5 +1,5 @@
 -- `ask_plan_reading::number_then_plan` meets its contract.
-use mathlib.Core.Path.{sym}
+use mathlib.Core.Path.{refl, sym}
 use native.Mathlib.Omega.{arith}
 use lib.Seq.{length-take-le}
 use Rattle.ask_plan_reading.proofs.Outcomes.{named, few-files, bad-target, good-targets, numbers-within, columns}
@@ -44,7 +44,7 @@ same-length-2 : tie.Need-same-length-2
 same-length-2 c = search needs
 
 returns : tie.Need-returns
-returns c = bad-target (c .before .before .zero-from .ensures) (c .before .before .before .before .before .before .before .before .before .number-targets .ensures) (c .before .before .before .before .before .place .given .1)
+returns c = record { space = (record { long = refl }, record { long = same-length c }); promise = bad-target (c .before .before .zero-from .ensures) (c .before .before .before .before .before .before .before .before .before .number-targets .ensures) (c .before .before .before .before .before .place .given .1) }
 
 same-length-3 : tie.Need-same-length-3
 same-length-3 c = search needs
@@ -56,7 +56,7 @@ same-length-5 : tie.Need-same-length-5
 same-length-5 c = search needs
 
 returns-2 : tie.Need-returns-2
-returns-2 c = good-targets (c .before .before .before .before .before .before .before .before .before .before .before .before .before .before .before .before .before .before .before .before .before .before .before .before .before .pre .asked .sound) (c .before .before .before .before .before .before .before .before .before .before .before .before .before .before .before .number-targets .ensures) (c .before .before .before .before .before .before .before .before .before .before .before .n .given .1) (c .before .before .before .before .before .before .before .before .fill-times .ensures) (c .before .before .plan-columns .ensures)
+returns-2 c = record { space = (record { long = same-length-3 c }, record { long = same-length-4 c }); promise = good-targets (c .before .before .before .before .before .before .before .before .before .before .before .before .before .before .before .before .before .before .before .before .before .before .before .before .before .pre .asked .sound) (c .before .before .before .before .before .before .before .before .before .before .before .before .before .before .before .number-targets .ensures) (c .before .before .before .before .before .before .before .before .before .before .before .n .given .1) (c .before .before .before .before .before .before .before .before .fill-times .ensures) (c .before .before .plan-columns .ensures) }
 
 pub number-then-plan-spec : {M : Type 1} → statement M
 number-then-plan-spec =

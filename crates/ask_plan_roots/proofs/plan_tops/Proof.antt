@@ -13,10 +13,10 @@ slice-reshare-prefix-plan-from : tie.Need-slice-reshare-prefix-plan-from
 slice-reshare-prefix-plan-from c = search needs
 
 slice-aggregate-plan-from : tie.Need-slice-aggregate-plan-from
-slice-aggregate-plan-from c = sym (length-take-le _ _ (c .before .before .before .before .before .tops .ensures .within))
+slice-aggregate-plan-from c = sym (length-take-le _ _ (c .before .before .before .before .before .tops .ensures .promise .within))
 
 plan-from-requires : tie.Need-plan-from-requires
-plan-from-requires c κs = ask-roots (c .before .before .before .before .before .before .before .before .before .before .before .before .before .before .before .before .before .pre) (c .before .before .before .before .before .before .tops .ensures)
+plan-from-requires c κs = ask-roots (c .before .before .before .before .before .before .before .before .before .before .before .before .before .before .before .before .before .pre) (c .before .before .before .before .before .before .tops .ensures .promise)
 
 same-length : tie.Need-same-length
 same-length c = search needs
@@ -28,7 +28,7 @@ same-length-3 : tie.Need-same-length-3
 same-length-3 c = search needs
 
 returns : tie.Need-returns
-returns c = tops-found (c .before .before .before .before .before .before .before .before .before .tops .ensures) (c .before .before .plan-from .ensures)
+returns c = record { space = (record { long = same-length c }, record { long = same-length-2 c }); promise = tops-found (c .before .before .before .before .before .before .before .before .before .tops .ensures .promise) (c .before .before .plan-from .ensures) }
 
 pub plan-tops-spec : {M : Type 1} → statement M
 plan-tops-spec =

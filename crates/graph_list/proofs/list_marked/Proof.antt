@@ -25,7 +25,7 @@ same-length-3 : tie.Need-same-length-3
 same-length-3 c = search needs
 
 returns : tie.Need-returns
-returns c = stale-listed (c .before .before .before .before .before .before .before .before .before .before .before .before .stale-commands .ensures) (c .before .before .before .before .before .before .list-pending .ensures)
+returns c = record { space = (record { long = same-length c }, record { long = same-length-2 c }); promise = stale-listed (c .before .before .before .before .before .before .before .before .before .before .before .before .stale-commands .ensures) (c .before .before .before .before .before .before .list-pending .ensures .promise) }
 
 pub list-marked-spec : {M : Type 1} → statement M
 list-marked-spec =

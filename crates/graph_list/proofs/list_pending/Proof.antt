@@ -70,7 +70,7 @@ same-length-3 : tie.Need-same-length-3 Inv-loop μ-loop
 same-length-3 c = c .before .before .zero-from .kept .0 ∙ c .before .before .before .before .before .loop .inv .list-long
 
 returns : tie.Need-returns Inv-loop μ-loop
-returns c = rw (c .before .before .zero-from .ensures) (list-end (c .before .before .before .before .before .before .before .before .before .before .before .before .before .before .before .before .before .before .pre) (c .before .before .before .before .before .loop .inv) (rw (c .before .before .before .before .before .loop .inv .pending-long) at (c .before .before .before .before .loop-test .left)))
+returns c = record { space = (record { long = same-length c }, record { long = same-length-2 c }); promise = rw (c .before .before .zero-from .ensures) (list-end (c .before .before .before .before .before .before .before .before .before .before .before .before .before .before .before .before .before .before .pre) (c .before .before .before .before .before .loop .inv) (rw (c .before .before .before .before .before .loop .inv .pending-long) at (c .before .before .before .before .loop-test .left))) }
 
 pub list-pending-spec : {M : Type 1} → statement M
 list-pending-spec =

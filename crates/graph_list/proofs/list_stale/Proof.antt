@@ -28,7 +28,7 @@ same-length : tie.Need-same-length
 same-length c = search needs
 
 returns : tie.Need-returns
-returns c = search needs
+returns c = c .before .before .before .before .list-marked .ensures .promise
 
 pub list-stale-spec : {M : Type 1} → statement M
 list-stale-spec =

@@ -7,7 +7,7 @@ use Rattle.graph_order.proofs.explore_root.Statement.{statement}
 use Rattle.graph_order.proofs.explore_root.Tie as tie
 
 maker-requires : tie.Need-maker-requires
-maker-requires c κs = (c .before .before .before .before .before .before .before .before .pre .one-more, c .before .before .before .before .before .before .before .before .pre .files .low (c .before .before .before .before .before .before .before .before .args .i) (c .before .before .before .before .before .before .before .before .pre .one-more))
+maker-requires c κs = (c .before .before .before .before .before .before .before .before .pre .one-more, c .before .before .before .before .before .before .before .before .pre .files .low (c .before .before .before .before .before .before .before .before .args .reached .roots) (c .before .before .before .before .before .before .before .before .pre .one-more))
 
 returns : tie.Need-returns
 unfolding RootSeen

@@ -43,7 +43,7 @@ same-length-2 : tie.Need-same-length-2
 same-length-2 c = search needs
 
 returns : tie.Need-returns
-returns c = search needs
+returns c = c .before .before .before .before .before .before .before .sort-or-show .ensures .promise
 
 pub order-needed-spec : {M : Type 1} → statement M
 order-needed-spec =

@@ -49,7 +49,7 @@ same-length-4 c = omega (arith, c .before .before .before .before .before .befor
 
 returns : tie.Need-returns Inv-loop μ-loop
 unfolding Sorted
-returns c = roots-circle (c .before .before .before .before .before .before .before .before .before .before .before .before .before .before .before .before .before .before .before .before .before .before .before .before .before .before .pre .sound) (c .before .before .before .before .before .before .before .before .before .before .before .before .before .before .before .before .before .before .before .before .before .before .before .before .before .before .pre .files) (c .before .before .before .before .before .before .before .before .before .before .before .before .before .before .before .before .before .loop .inv) _ _ _ _ (c .before .before .before .before .before .before .before .before .before .before .before .explore-root .ensures) (c .before .from .given .1)
+returns c = record { space = (record { long = same-length c }, record { long = same-length-2 c }); promise = roots-circle (c .before .before .before .before .before .before .before .before .before .before .before .before .before .before .before .before .before .before .before .before .before .before .before .before .before .before .pre .sound) (c .before .before .before .before .before .before .before .before .before .before .before .before .before .before .before .before .before .before .before .before .before .before .before .before .before .before .pre .files) (c .before .before .before .before .before .before .before .before .before .before .before .before .before .before .before .before .before .loop .inv) _ _ _ _ (c .before .before .before .before .before .before .before .before .before .before .before .explore-root .ensures) (c .before .from .given .1) }
 
 same-length-5 : tie.Need-same-length-5 Inv-loop μ-loop
 same-length-5 c = omega (arith, c .before .loop .inv .state .visited, asked-lengths (c .before .before .before .before .before .before .before .before .before .before .pre))
@@ -65,7 +65,7 @@ same-length-8 c = search needs
 
 returns-2 : tie.Need-returns-2 Inv-loop μ-loop
 unfolding Sorted
-returns-2 c = roots-end (c .before .before .before .before .before .before .before .before .before .before .pre .sound) (c .before .before .before .before .before .before .before .before .before .before .pre .files) (c .before .loop .inv) (c .loop-test .left)
+returns-2 c = record { space = (record { long = same-length-5 c }, record { long = same-length-6 c }); promise = roots-end (c .before .before .before .before .before .before .before .before .before .before .pre .sound) (c .before .before .before .before .before .before .before .before .before .before .pre .files) (c .before .loop .inv) (c .loop-test .left) }
 
 pub sort-spec : {M : Type 1} → statement M
 sort-spec =

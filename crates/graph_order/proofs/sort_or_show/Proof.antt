@@ -16,7 +16,7 @@ enum-known-from : tie.Need-enum-known-from
 enum-known-from c = search needs
 
 show-requires : tie.Need-show-requires
-show-requires c κs = showable _ _ _ _ _ _ _ (c .before .before .before .before .before .before .before .before .before .before .before .before .before .sort .ensures) (c .before .before .before .from .given .1) (omega (arith, c .before .before .before .before .before .before .before .before .before .before .before .before .before .sort .kept, c .before .before .before .before .before .before .before .before .before .before .before .before .before .before .before .before .before .before .before .before .before .before .before .before .before .before .before .pre .room, c .before .before .before .before .before .before .before .before .before .before .before .before .before .before .before .before .before .before .before .before .before .before .before .before .before .before .before .pre .asked .path-long))
+show-requires c κs = showable _ _ _ _ _ _ _ (c .before .before .before .before .before .before .before .before .before .before .before .before .before .sort .ensures .promise) (c .before .before .before .from .given .1) (omega (arith, c .before .before .before .before .before .before .before .before .before .before .before .before .before .sort .kept, c .before .before .before .before .before .before .before .before .before .before .before .before .before .before .before .before .before .before .before .before .before .before .before .before .before .before .before .pre .room, c .before .before .before .before .before .before .before .before .before .before .before .before .before .before .before .before .before .before .before .before .before .before .before .before .before .before .before .pre .asked .path-long))
 
 same-length : tie.Need-same-length
 same-length c = search needs
@@ -32,7 +32,7 @@ same-length-4 c = search needs
 
 returns : tie.Need-returns
 unfolding NeededSorted
-returns c = shows-order _ _ _ _ _ _ _ (c .before .before .before .before .before .before .before .before .before .before .before .sort .ensures) (c .before .k .given .1) _
+returns c = record { space = (record { long = same-length c }, record { long = same-length-2 c }, record { long = same-length-3 c }); promise = shows-order _ _ _ _ _ _ _ (c .before .before .before .before .before .before .before .before .before .before .before .sort .ensures .promise) (c .before .k .given .1) _ }
 
 same-length-5 : tie.Need-same-length-5
 same-length-5 c = search needs
@@ -51,7 +51,7 @@ same-length-9 c = search needs
 
 returns-2 : tie.Need-returns-2
 unfolding NeededSorted
-returns-2 c = shows-circle _ _ _ _ _ _ _ (c .before .before .before .before .before .before .before .before .before .before .before .before .before .before .before .before .sort .ensures) (c .before .before .before .before .before .before .from .given .1) (c .before .before .show .ensures)
+returns-2 c = record { space = (record { long = same-length-5 c }, record { long = same-length-6 c }, record { long = same-length-7 c }); promise = shows-circle _ _ _ _ _ _ _ (c .before .before .before .before .before .before .before .before .before .before .before .before .before .before .before .before .sort .ensures .promise) (c .before .before .before .before .before .before .from .given .1) (c .before .before .show .ensures) }
 
 pub sort-or-show-spec : {M : Type 1} → statement M
 sort-or-show-spec =

@@ -40,7 +40,7 @@ same-length-2 : tie.Need-same-length-2 Inv-loop μ-loop
 same-length-2 c = c .before .loop .inv .long
 
 returns : tie.Need-returns Inv-loop μ-loop
-returns c = gather-end (c .before .before .before .before .before .before .before .before .before .before .before .before .pre) (c .before .before .before .before .mark-inputs .ensures) (c .before .loop .inv) (c .loop-test .left)
+returns c = record { space = record { long = same-length c }; promise = gather-end (c .before .before .before .before .before .before .before .before .before .before .before .before .pre) (c .before .before .before .before .mark-inputs .ensures) (c .before .loop .inv) (c .loop-test .left) }
 
 pub tops-spec : {M : Type 1} → statement M
 tops-spec =
