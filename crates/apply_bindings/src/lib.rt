@@ -12,7 +12,7 @@ use spec::limits::VALUE;
 use spec::limits::WRITTEN;
 
 // Whether a line is over a limit, whose name and value have so many bytes.
-pub fn over(name: usize, value: usize, c: Counts) -> bool
+pub fn binding_over(name: usize, value: usize, c: Counts) -> bool
     requires { ⌜ (c .bindings ≤ maxBindings) × (c .written ≤ maxWritten) ⌝ }
     ensures { λ r. ⌜ r ≡ overCounted name value c ⌝ }
 {
@@ -29,7 +29,7 @@ pub fn over(name: usize, value: usize, c: Counts) -> bool
 }
 
 // The line's entry, and the counts with it.
-pub fn put(
+pub fn push_binding(
     texts: &mut [u8],
     bind: &mut [u32],
     c: Counts,

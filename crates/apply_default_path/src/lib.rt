@@ -2,11 +2,11 @@
 ghost use Rattle.apply_path_checks.specs.Checks.{RawAsks};
 ghost use Rattle.apply_default_path.specs.Defaults.{PutAsks, Puts, Names};
 ghost use Rattle.hold_reading.specs.Buffers.{buffers};
-use apply_files::over;
+use apply_files::path_over;
 use arena::put;
 use expand_dollars::expand;
 use hold_names::FoundName;
-use hold_names::find;
+use hold_names::find_name;
 use hold_reading::Counts;
 use hold_reading::columns::DEFAULTS_START;
 
@@ -21,7 +21,7 @@ fn put_default(names: &[u8], index: &[u32], graph: &mut [u32], c: Counts, path: 
     requires { ⌜ PutAsks (now names) (now index) (now graph) c (now path) ⌝ }
     ensures { λ r. ⌜ Puts (now (names .entry)) (now (index .entry)) (now (graph .entry)) c (now (path .entry)) (now (graph .exit)) r ⌝ }
 {
-    match find(names, index, c.files, path) {
+    match find_name(names, index, c.files, path) {
         FoundName::At(k) => {
             put(graph, DEFAULTS_START + c.defaults, k);
             Counts {
@@ -51,7 +51,7 @@ pub fn add_default(
     ensures { λ r. ⌜ Names (buffers (now (names .entry)) (now (index .entry)) (now (texts .entry)) (now (bind .entry)) (now (graph .entry))) c (now (raw .entry)) (now (graph .exit)) r ⌝ }
 {
     let n = expand(t, raw, texts, bind, c.entries, word);
-    if over(n, c) {
+    if path_over(n, c) {
         return AddedDefault::Over;
     }
     AddedDefault::Added(put_default(names, index, graph, c, &word[..n]))

@@ -12,7 +12,7 @@ use apply_default_path::add_default;
 use apply_path_checks::PathKind;
 use apply_path_checks::has_wrong;
 use cut_forms::ListPath;
-use cut_forms::paths::next_path;
+use cut_forms::paths::next_listed;
 use hold_reading::Counts;
 use hold_reading::LineAnswer;
 use hold_reading::Open;
@@ -38,7 +38,7 @@ fn add_sound(
     let mut d = c;
     let mut i = at;
     loop {
-        match next_path(t, l, i) {
+        match next_listed(t, l, i) {
             ListPath::Path(from, to) => {
                 match add_default(t, &l[from..to], names, index, texts, bind, graph, word, d) {
                     AddedDefault::Added(e) => {

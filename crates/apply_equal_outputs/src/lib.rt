@@ -2,7 +2,7 @@
 ghost use Rattle.apply_equal_outputs.specs.Sorted.{EntryAsks, Ordered, SortedAsks, PlaceIn, AddAsks, Added, TableAsks, Compared, RoomAsks, Twice};
 use arena::insert;
 use cut_forms::ListPath;
-use cut_forms::paths::next_path;
+use cut_forms::paths::next_listed;
 use expand_order::order;
 use hold_reading::Counts;
 use hold_reading::columns::COLUMNS_END;
@@ -109,7 +109,7 @@ fn has_equal(
     let mut n = 0;
     let mut i = start;
     loop {
-        match next_path(t, l, i) {
+        match next_listed(t, l, i) {
             ListPath::Path(from, to) => {
                 if is_taken(t, l, from, to, texts, bind, c, table, n) {
                     return true;

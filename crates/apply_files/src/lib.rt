@@ -22,7 +22,7 @@ pub enum Mentioned {
 }
 
 // Whether a path of n bytes is over a limit.
-pub fn over(n: usize, c: Counts) -> bool
+pub fn path_over(n: usize, c: Counts) -> bool
     requires { ⌜ (c .mentions ≤ maxMentions) × (c .written ≤ maxWritten) ⌝ }
     ensures { λ r. ⌜ r ≡ overCounted n c ⌝ }
 {

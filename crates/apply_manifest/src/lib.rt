@@ -105,7 +105,7 @@ fn read_lines(
 }
 
 // Reads a manifest into the buffers. "Order: 1, 2, 3; lines from the top."
-pub fn read(
+pub fn read_manifest(
     t: &[u8; 256],
     m: &[u8],
     names: &mut [u8],

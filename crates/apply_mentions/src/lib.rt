@@ -3,9 +3,9 @@ ghost use Rattle.apply_mentions.specs.Asks.{Asks, Mentions, ListAsks, Me
 ghost use Rattle.hold_reading.specs.Buffers.{buffers};
 use apply_files::Mentioned;
 use apply_files::add_path;
-use apply_files::over;
+use apply_files::path_over;
 use cut_forms::ListPath;
-use cut_forms::paths::next_path;
+use cut_forms::paths::next_listed;
 use expand_dollars::expand;
 use hold_reading::Counts;
 
@@ -25,7 +25,7 @@ pub fn mention(
     ensures { λ r. ⌜ Mentions (now (raw .entry)) (buffers (now (names .entry)) (now (index .entry)) (now (texts .entry)) (now (bind .entry)) (now (graph .entry))) c (now (names .exit)) (now (index .exit)) (now (graph .exit)) r ⌝ }
 {
     let n = expand(t, raw, texts, bind, c.entries, word);
-    if over(n, c) {
+    if path_over(n, c) {
         return Mentioned::Over;
     }
     add_path(&word[..n], names, index, graph, c)
@@ -50,7 +50,7 @@ pub fn mention_all(
     let mut i = at;
     let mut d = c;
     loop {
-        match next_path(t, l, i) {
+        match next_listed(t, l, i) {
             ListPath::Path(from, to) => match mention(
                 t,
                 &l[from..to],

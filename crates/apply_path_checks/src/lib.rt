@@ -7,10 +7,10 @@ ghost use Rattle.hold_reading.specs.Held.{HoldsReading};
 ghost use Rattle.apply_path_checks.specs.Checks.{pathOf, wrongPath, Filed, Files, MadeAsks, Makes, RawAsks, PathAsks, AnyWrong};
 ghost use Rattle.hold_reading.specs.Buffers.{buffers};
 use cut_forms::ListPath;
-use cut_forms::paths::next_path;
+use cut_forms::paths::next_listed;
 use expand_dollars::expand;
 use hold_names::FoundName;
-use hold_names::find;
+use hold_names::find_name;
 use hold_reading::Counts;
 use hold_reading::columns::MADE_START;
 use slices::words::at;
@@ -28,7 +28,7 @@ fn is_output(names: &[u8], index: &[u32], graph: &[u32], c: Counts, path: &[u8])
     requires { ⌜ Files (now names) (now index) (now graph) c ⌝ }
     ensures { λ r. ⌜ ((log : List Logged) (rd : Reading) → Filed log (now (names .entry)) (now (index .entry)) (now (graph .entry)) c rd → r ≡ isMade (now (path .entry)) rd) ⌝ }
 {
-    match find(names, index, c.files, path) {
+    match find_name(names, index, c.files, path) {
         FoundName::At(k) => at(graph, MADE_START + k) != 0,
         FoundName::Missing => false,
     }
@@ -91,7 +91,7 @@ pub fn has_wrong(
 {
     let mut i = start;
     loop {
-        match next_path(t, l, i) {
+        match next_listed(t, l, i) {
             ListPath::Path(from, to) => {
                 if is_wrong(
                     t,

@@ -2,8 +2,8 @@
 ghost use Rattle.spec.specs.Statements.{startRule, blockLine};
 ghost use Rattle.spec.specs.Manifest.{close};
 ghost use Rattle.hold_reading.specs.Binds.{SoundBlock, Meets};
-use apply_bindings::over;
-use apply_bindings::put;
+use apply_bindings::binding_over;
+use apply_bindings::push_binding;
 use hold_bindings::push;
 use hold_reading::Counts;
 use hold_reading::LineAnswer;
@@ -62,10 +62,10 @@ pub fn add_key(
     if is_bad_key(texts, bind, c.entries, entry, name) {
         return LineAnswer::Refused(Refusal::BadRule(start));
     }
-    if over(name.len(), raw.len(), c) {
+    if binding_over(name.len(), raw.len(), c) {
         return LineAnswer::Refused(Refusal::OverLimit(start));
     }
-    let d = put(texts, bind, c, 2 + 2 * entry, name, raw);
+    let d = push_binding(texts, bind, c, 2 + 2 * entry, name, raw);
     LineAnswer::Goes(d, Open::Rule(head, entry))
 }
 

@@ -5,8 +5,8 @@ ghost use Rattle.spec.specs.Reading.{fileVar};
 ghost use Rattle.spec.specs.Statements.{addVar, wrongVersion, blockLine};
 ghost use Rattle.hold_reading.specs.Binds.{Meets};
 ghost use Rattle.apply_variables.specs.Asks.{Asks, Roomy};
-use apply_bindings::over;
-use apply_bindings::put;
+use apply_bindings::binding_over;
+use apply_bindings::push_binding;
 use byteorder::equal;
 use expand_dollars::expand;
 use hold_reading::Counts;
@@ -40,7 +40,7 @@ fn set_var(
     if is_wrong_version(name, value) {
         return LineAnswer::Refused(Refusal::BadVersion(start));
     }
-    let d = put(texts, bind, c, 0, name, value);
+    let d = push_binding(texts, bind, c, 0, name, value);
     LineAnswer::Goes(d, Open::Nothing)
 }
 
@@ -59,7 +59,7 @@ pub fn add_var(
     ensures { λ r. ⌜ Meets (now (texts .entry)) (now (bind .entry)) c Open.Nothing (λ rd b. addVar start (now (name .entry)) (expand (fileVar (rd .vars)) (now (raw .entry))) rd) (now (texts .exit)) (now (bind .exit)) r ⌝ }
 {
     let n = expand(t, raw, texts, bind, c.entries, word);
-    if over(name.len(), n, c) {
+    if binding_over(name.len(), n, c) {
         return LineAnswer::Refused(Refusal::OverLimit(start));
     }
     set_var(start, name, &word[..n], texts, bind, c)
@@ -80,9 +80,9 @@ pub fn add_to_block(
     ensures { λ r. ⌜ Meets (now (texts .entry)) (now (bind .entry)) c Open.Step (λ rd b. blockLine start b (now (name .entry)) (now (raw .entry)) rd) (now (texts .exit)) (now (bind .exit)) r ⌝ }
 {
     let len = expand(t, raw, texts, bind, c.entries, word);
-    if over(name.len(), len, c) {
+    if binding_over(name.len(), len, c) {
         return LineAnswer::Refused(Refusal::OverLimit(start));
     }
-    let d = put(texts, bind, c, 3 + 2 * (c.steps - 1), name, &word[..len]);
+    let d = push_binding(texts, bind, c, 3 + 2 * (c.steps - 1), name, &word[..len]);
     LineAnswer::Goes(d, Open::Step)
 }

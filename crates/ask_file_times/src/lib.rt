@@ -1,6 +1,6 @@
 // The card's time of each file that a manifest mentions.
 ghost use Rattle.ask_file_times.specs.Times.{TimesAsked, Timed};
-use hold_names::name;
+use hold_names::file_name;
 use scan_card_lookup::time_of;
 
 // Puts the time of each file at its number; 0 where the card does not list it.
@@ -10,7 +10,7 @@ pub fn fill_times(card: &[u8], names: &[u8], index: &[u32], count: usize, times:
 {
     let mut f = 0;
     while f < count {
-        times[f] = time_of(card, name(names, index, count, f));
+        times[f] = time_of(card, file_name(names, index, count, f));
         f += 1;
     }
 }

@@ -7,7 +7,7 @@ ghost use Rattle.spec.specs.Promises.{PlanPromise};
 ghost use Rattle.ask_plan.specs.Asked.{PlanAsked};
 ghost use Rattle.hold_reading.specs.Buffers.{buffers};
 use apply_manifest::ReadAnswer;
-use apply_manifest::read;
+use apply_manifest::read_manifest;
 use ask_plan_reading::plan_read;
 use hold_bindings::ROWS;
 use hold_bindings::TEXTS;
@@ -36,7 +36,7 @@ fn plan_manifest(
     requires { ⌜ PlanAsked (now t) (buffers (now names) (now index) (now texts) (now bind) (now graph)) (now word) (now list) ⌝ }
     ensures { λ r. ⌜ PlanPromise (inputsOf (now (manifest .entry)) (now (card .entry)) (now (targets .entry))) (now (list .entry)) r (now (list .exit)) ⌝ }
 {
-    match read(t, manifest, names, index, texts, bind, graph, word) {
+    match read_manifest(t, manifest, names, index, texts, bind, graph, word) {
         ReadAnswer::Accepted(c) => plan_read(card, targets, names, index, graph, c, list),
         ReadAnswer::Refused(r) => {
             zero_from(list, 0);

@@ -1,7 +1,7 @@
 // The names of a target list as numbers of files, or 12.
 ghost use Rattle.ask_target_files.specs.Numbered.{Asked, NumbersTargets};
 use hold_names::FoundName;
-use hold_names::find;
+use hold_names::find_name;
 use scan_targets::NextTarget;
 use scan_targets::bad_form;
 use scan_targets::name_at;
@@ -38,7 +38,7 @@ pub fn number_targets(
                 return Numbered::Bad(from);
             }
             NextTarget::Name(end) => {
-                match find(names, index, count, &targets[from..end]) {
+                match find_name(names, index, count, &targets[from..end]) {
                     FoundName::Missing => {
                         return Numbered::Bad(from);
                     }

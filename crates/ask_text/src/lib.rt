@@ -6,7 +6,7 @@ ghost use Rattle.spec.specs.Promises.{TextPromise};
 ghost use Rattle.ask_text.specs.Asked.{TextAsked};
 ghost use Rattle.hold_reading.specs.Buffers.{buffers};
 use apply_manifest::ReadAnswer;
-use apply_manifest::read;
+use apply_manifest::read_manifest;
 use hold_bindings::ROWS;
 use hold_bindings::TEXTS;
 use hold_names::NUMBERS;
@@ -36,7 +36,7 @@ fn text_in(
     requires { ⌜ TextAsked (now t) (buffers (now names) (now index) (now texts) (now bind) (now graph)) (now word) (now buffer) ⌝ }
     ensures { λ r. ⌜ TextPromise (now (manifest .entry)) step wanted (now (buffer .entry)) r (now (buffer .exit)) ⌝ }
 {
-    match read(t, manifest, names, index, texts, bind, graph, word) {
+    match read_manifest(t, manifest, names, index, texts, bind, graph, word) {
         ReadAnswer::Accepted(c) => text_of(
             t,
             names,

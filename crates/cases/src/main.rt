@@ -9,7 +9,7 @@ use asks::text;
 use libc::STDOUT_FILENO;
 use spec::Wanted;
 use test_packed::Ask;
-use test_packed::Head;
+use test_packed::CaseHead;
 use test_packed::Met;
 use test_packed::check;
 use test_packed::is_sound;
@@ -200,7 +200,7 @@ fn ask_all(
 // Every ask of a case whose parts are read.
 fn ask_parts(
     fd: i32,
-    h: Head,
+    h: CaseHead,
     t: Tally,
     input: &[u8],
     list: &mut [u32],

@@ -18,14 +18,14 @@ use scan_raw::FirstBad;
 use scan_raw::texts::bad_dollar;
 use scan_raw::texts::raw_value;
 use scan_tokens::gap;
-use scan_tokens::name;
+use scan_tokens::name_end;
 
 // The name of a rule.
 pub fn rule_name(t: &[u8; 256], l: &[u8], from: usize) -> Named
     requires { ⌜ (now t ≡ classes) × (from ≤ length (now l)) ⌝ }
     ensures { λ r. ⌜ NamedAt (now (l .entry)) from (ruleWord (nameOf (drop from (now (l .entry))))) r ⌝ }
 {
-    let to = name(t, l, from);
+    let to = name_end(t, l, from);
     match rule_word(&l[from..to]) {
         Word::Name => Named::To(to),
         Word::NoForm => Named::Wrong(Fault::NoForm),

@@ -37,7 +37,7 @@ pub fn listed(t: &[u8; 256], l: &[u8], at: usize) -> Listed
 }
 
 // The next path of a list that was found sound: for a later pass over it.
-pub fn next_path(t: &[u8; 256], l: &[u8], at: usize) -> ListPath
+pub fn next_listed(t: &[u8; 256], l: &[u8], at: usize) -> ListPath
     requires { ⌜ (now t ≡ classes) × (at ≤ length (now l)) ⌝ }
     ensures { λ r. ⌜ NextAt (now (l .entry)) at r ⌝ }
 {

@@ -10,7 +10,7 @@ use cut_builds::cut_build;
 use cut_forms::Assignment;
 use cut_forms::Statement;
 use cut_forms::paths::cut_default;
-use scan_tokens::name;
+use scan_tokens::name_end;
 use scan_tokens::spaces;
 
 // A line without indent; a keyword at its start always begins its statement.
@@ -18,7 +18,7 @@ pub fn cut_statement(t: &[u8; 256], l: &[u8]) -> Statement
     requires { ⌜ now t ≡ classes ⌝ }
     ensures { λ r. ⌜ StatementAt (now (l .entry)) (cutStatement (now (l .entry))) r ⌝ }
 {
-    let end = name(t, l, 0);
+    let end = name_end(t, l, 0);
     let w = &l[..end];
     if equal(w, b"rule") {
         return cut_rule(t, l, end);
@@ -41,6 +41,6 @@ pub fn cut_indented(t: &[u8; 256], l: &[u8]) -> Assignment
     ensures { λ r. ⌜ AssignmentAt (now (l .entry)) (cutIndented (now (l .entry))) r ⌝ }
 {
     let from = spaces(l, 0);
-    let to = name(t, l, from);
+    let to = name_end(t, l, from);
     cut_binding(t, l, from, to)
 }

@@ -51,7 +51,7 @@ fn start(bind: &[u32], k: usize) -> usize
     at(bind, 3 * k - 2)
 }
 
-pub fn name<'a, 'b>(texts: &'a [u8], bind: &'b [u32], k: usize) -> &'a [u8]
+pub fn entry_name<'a, 'b>(texts: &'a [u8], bind: &'b [u32], k: usize) -> &'a [u8]
     requires { ⌜ HasEntry (now texts) (now bind) k ⌝ }
     ensures { λ r. ⌜ ((log : List Logged) (count : ℕ) → HoldsBindings log (now (texts .entry)) (now (bind .entry)) count → k < count → now r ≡ entryAt k log .name) ⌝ }
 {
@@ -88,7 +88,7 @@ fn is_named(texts: &[u8], bind: &[u32], k: usize, owner: usize, wanted: &[u8]) -
     if at(bind, 3 * k + 2) != owner {
         return false;
     }
-    equal(wanted, name(texts, bind, k))
+    equal(wanted, entry_name(texts, bind, k))
 }
 
 // Whether this owner and this name come before those of entry k.
@@ -103,7 +103,7 @@ fn is_before(texts: &[u8], bind: &[u32], k: usize, owner: usize, wanted: &[u8]) 
     if o < owner {
         return false;
     }
-    less(wanted, name(texts, bind, k))
+    less(wanted, entry_name(texts, bind, k))
 }
 
 // Where the index has the first entry that comes after this owner and this name, by halving.

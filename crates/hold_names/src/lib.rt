@@ -63,14 +63,14 @@ pub fn clear(index: &mut [u32])
 }
 
 // The number of a path, by the names of its bucket from the last to the first.
-pub fn find(names: &[u8], index: &[u32], count: usize, path: &[u8]) -> FoundName
+pub fn find_name(names: &[u8], index: &[u32], count: usize, path: &[u8]) -> FoundName
     requires { ⌜ SoundNames (now names) (now index) count ⌝ }
     ensures { λ r. ⌜ FindsName (now (names .entry)) (now (index .entry)) count (now (path .entry)) r ⌝ }
 {
     let mut j = at(index, HEADS + bucket(path));
     while 0 < j {
         let k = j - 1;
-        if equal(path, name(names, index, count, k)) {
+        if equal(path, file_name(names, index, count, k)) {
             return FoundName::At(k);
         }
         j = at(index, LINKS + k);
@@ -94,7 +94,7 @@ pub fn add(names: &mut [u8], index: &mut [u32], count: usize, path: &[u8]) -> Ad
     requires { ⌜ SoundNames (now names) (now index) count ⌝ }
     ensures { λ r. ⌜ AddsName (now (names .entry)) (now (index .entry)) count (now (path .entry)) (now (names .exit)) (now (index .exit)) r ⌝ }
 {
-    let found = find(names, index, count, path);
+    let found = find_name(names, index, count, path);
     if let FoundName::At(k) = found {
         return Added::Old(k);
     }
@@ -111,7 +111,7 @@ pub fn add(names: &mut [u8], index: &mut [u32], count: usize, path: &[u8]) -> Ad
 }
 
 // The path of a number, as a part of the names.
-pub fn name<'a>(names: &'a [u8], index: &[u32], count: usize, k: usize) -> &'a [u8]
+pub fn file_name<'a>(names: &'a [u8], index: &[u32], count: usize, k: usize) -> &'a [u8]
     requires { ⌜ SoundNames (now names) (now index) count ⌝ }
     requires { ⌜ k < count ⌝ }
     ensures { λ r. ⌜ Names (now (names .entry)) (now (index .entry)) count k (now r) ⌝ }

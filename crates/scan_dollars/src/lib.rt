@@ -29,7 +29,7 @@ fn braced(t: &[u8; 256], s: &[u8], from: usize) -> Escape
     requires { ⌜ (now t ≡ classes) × (from ≤ length (now s)) ⌝ }
     ensures { λ r. ⌜ Tells (now (s .entry)) from (braced (nameOf (drop from (now (s .entry)))) (afterName (drop from (now (s .entry))))) r ⌝ }
 {
-    let end = scan_tokens::name(t, s, from);
+    let end = scan_tokens::name_end(t, s, from);
     if s.len() <= end {
         return Escape::Bad;
     }

@@ -69,7 +69,7 @@ fn class_run(t: &[u8; 256], s: &[u8], from: usize, last: u8) -> usize
 }
 
 // A name, which may be empty.
-pub fn name(t: &[u8; 256], s: &[u8], from: usize) -> usize
+pub fn name_end(t: &[u8; 256], s: &[u8], from: usize) -> usize
     requires { ⌜ (now t ≡ classes) × (from ≤ length (now s)) ⌝ }
     ensures { λ r. ⌜ Reads afterName (now (s .entry)) from r ⌝ }
 {

@@ -4,7 +4,7 @@ ghost use Rattle.test_manifest.specs.Numbers.{bare, inNumbers, Judges, R
 ghost use Rattle.hold_reading.specs.Buffers.{buffers};
 use answers::of_refusal;
 use apply_manifest::ReadAnswer;
-use apply_manifest::read;
+use apply_manifest::read_manifest;
 use hold_bindings::ROWS;
 use hold_bindings::TEXTS;
 use hold_names::NUMBERS;
@@ -124,5 +124,5 @@ pub extern "C" fn kestrenyo_read(
         return uncounted(255, 0);
     }
     let t = table();
-    in_numbers(read(&t, manifest, names, index, texts, bind, graph, word))
+    in_numbers(read_manifest(&t, manifest, names, index, texts, bind, graph, word))
 }

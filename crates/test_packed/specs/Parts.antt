@@ -1,6 +1,6 @@
 -- The parts of a case in the packed file.
 use Prim.Native.Nat.{ℕ, _≤_}
-use Rattle.test_packed.specs.declared.Head.{Head as Ends}
+use Rattle.test_packed.specs.declared.CaseHead.{CaseHead as Ends}
 
 -- the parts lie one behind another, in the first n bytes
 pub record Behind (h : Ends) (n : ℕ) : Type 0 where

@@ -34,7 +34,7 @@ pub struct Ask {
 }
 
 // Where a case's name, manifest, card and target list end that lie one behind another, and how many asks follow them.
-pub struct Head {
+pub struct CaseHead {
     pub name: usize,
     pub manifest: usize,
     pub card: usize,
@@ -178,10 +178,10 @@ pub fn read_ask(fd: i32) -> Ask {
     }
 }
 
-pub fn read_head(fd: i32) -> Head {
+pub fn read_head(fd: i32) -> CaseHead {
     let mut head = [0u8; 20];
     let whole = read_part(fd, &mut head, 20);
-    Head {
+    CaseHead {
         name: word(&head, 0),
         manifest: word(&head, 4),
         card: word(&head, 8),
@@ -192,7 +192,7 @@ pub fn read_head(fd: i32) -> Head {
 }
 
 // Do the parts of a case lie one behind another.
-pub fn is_sound(h: Head) -> bool
+pub fn is_sound(h: CaseHead) -> bool
     ensures { λ r. ⌜ (r ≡ true → Behind h (h .targets)) ⌝ }
 {
     if h.manifest < h.name {

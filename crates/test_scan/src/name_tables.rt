@@ -16,7 +16,7 @@ pub extern "C" fn kestrenyo_names_find(
     requires { ⌜ SoundNames (now names) (now index) count ⌝ }
     ensures { λ r. ⌜ FindsNumber (now (names .entry)) (now (index .entry)) count (now (path .entry)) r ⌝ }
 {
-    match hold_names::find(names, index, count, path) {
+    match hold_names::find_name(names, index, count, path) {
         FoundName::At(k) => k + 1,
         FoundName::Missing => 0,
     }

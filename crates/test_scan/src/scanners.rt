@@ -61,7 +61,7 @@ pub extern "C" fn kestrenyo_name(s: &[u8], from: usize) -> usize
 {
     let t = scan_classes::table();
     let i = start_in(s, from);
-    scan_tokens::name(&t, s, i)
+    scan_tokens::name_end(&t, s, i)
 }
 
 // What the `$` in front of `from` begins, passed.

@@ -6,13 +6,13 @@ ghost use lib.ListN.{length, getD};
 ghost use Rattle.spec.specs.Text.{joinedBy};
 ghost use Rattle.hold_names.specs.Table.{HoldsNames};
 ghost use Rattle.text_buffer.specs.Puts.{Open, Puts, NameAsk, FilesAsk, headed, namesIn};
-use hold_names::name;
+use hold_names::file_name;
 use slices::bytes::copy_at;
 use slices::words::at;
 use spec::limits::TEXT;
 
 // Writes s from a place on.
-pub fn put(buffer: &mut [u8], place: usize, s: &[u8]) -> usize
+pub fn put_bytes(buffer: &mut [u8], place: usize, s: &[u8]) -> usize
     requires { ⌜ Open (now buffer) place ⌝ }
     ensures { λ r. ⌜ Puts (now (buffer .entry)) place (now (s .entry)) (now (buffer .exit)) r ⌝ }
 {
@@ -46,7 +46,7 @@ fn put_name(
     requires { ⌜ NameAsk (now names) (now index) count f (now buffer) place ⌝ }
     ensures { λ r. ⌜ ((files : List (List ℕ)) → HoldsNames (now (names .entry)) (now (index .entry)) count files → Puts (now (buffer .entry)) place (getD files f []) (now (buffer .exit)) r) ⌝ }
 {
-    put(buffer, place, name(names, index, count, f))
+    put_bytes(buffer, place, file_name(names, index, count, f))
 }
 
 // Writes the name of file i of a list, behind the separator unless it is the first.

@@ -13,7 +13,7 @@ use text_buffer::put_files;
 use text_lookup::Asked;
 use text_lookup::Source;
 use text_memo::Draft;
-use text_memo::moved;
+use text_memo::draft_at;
 use text_memo::write;
 
 // The names of the step's files from one place of the mentions to another.
@@ -40,7 +40,7 @@ fn write_files(
         buffer,
         d.at,
     );
-    moved(d, n)
+    draft_at(d, n)
 }
 
 // Whatever a name stands for, but for a rule's text: "`$in` is the explicit inputs", "`$out` the outputs".

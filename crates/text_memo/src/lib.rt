@@ -6,8 +6,8 @@ ghost use Rattle.text_memo.specs.Draft.{nothing, spanFor, Remembered, Be
 use hold_keys::RULE_KEYS;
 use hold_keys::key_number;
 use spec::limits::TEXT;
-use text_buffer::put;
 use text_buffer::put_byte;
+use text_buffer::put_bytes;
 
 // A part of the text from place to place. One that ends before it starts is none.
 pub struct Span {
@@ -76,7 +76,7 @@ fn put_again(buffer: &mut [u8], from: usize, to: usize, place: usize) -> usize
 }
 
 // The same draft at another place.
-pub fn moved(d: Draft, at: usize) -> Draft
+pub fn draft_at(d: Draft, at: usize) -> Draft
     ensures { λ r. ⌜ Moved d at r ⌝ }
 {
     let mut r = d;
@@ -89,7 +89,7 @@ pub fn write(buffer: &mut [u8], d: Draft, s: &[u8]) -> Draft
     requires { ⌜ Open (now buffer) (d .at) ⌝ }
     ensures { λ r. ⌜ Writes (now (buffer .entry)) d (now (s .entry)) (now (buffer .exit)) r ⌝ }
 {
-    moved(d, put(buffer, d.at, s))
+    draft_at(d, put_bytes(buffer, d.at, s))
 }
 
 // Writes a part of the text again.
@@ -97,5 +97,5 @@ pub fn write_again(buffer: &mut [u8], d: Draft, from: usize, to: usize) -> Draft
     requires { ⌜ Behind (now buffer) from to (d .at) ⌝ }
     ensures { λ r. ⌜ Writes (now (buffer .entry)) d (part (now (buffer .entry)) from to) (now (buffer .exit)) r ⌝ }
 {
-    moved(d, put_again(buffer, from, to, d.at))
+    draft_at(d, put_again(buffer, from, to, d.at))
 }

@@ -3,7 +3,7 @@ ghost use mathlib.Core.Path.{_≡_};
 ghost use Rattle.text_step.specs.Steps.{HasRule, Declares, outputsFrom, InGraph, PickAsk, Picks, Reads, Asks};
 use crate::StepAsked;
 use hold_bindings::FoundEntry;
-use hold_bindings::name;
+use hold_bindings::entry_name;
 use hold_bindings::newest;
 use hold_columns::INS_END;
 use hold_columns::LAST_END;
@@ -19,7 +19,7 @@ fn declaration(texts: &[u8], bind: &[u32], count: usize, k: usize) -> usize
     requires { ⌜ HasRule (now texts) (now bind) count k ⌝ }
     ensures { λ r. ⌜ Declares (now (texts .entry)) (now (bind .entry)) count k r ⌝ }
 {
-    match newest(texts, bind, count, 1, name(texts, bind, k)) {
+    match newest(texts, bind, count, 1, entry_name(texts, bind, k)) {
         FoundEntry::At(j) => j,
         FoundEntry::Missing => k,
     }

@@ -13,19 +13,19 @@ use Rattle.apply_default_path.proofs.add_default.Tie as tie
 
 -- past the limits
 inside : (s : tie.Else1) → overCounted (s .before .before .before .before .expand .result) (s .before .before .before .before .before .before .before .before .before .before .before .before .before .args .c) ≡ false
-inside s = sym (s .before .over .ensures) ∙ s .if1 .left
+inside s = sym (s .before .path-over .ensures) ∙ s .if1 .left
 
 expand-requires : tie.Need-expand-requires
 expand-requires c κs = search needs
 
-over-requires : tie.Need-over-requires
-over-requires c κs = let h = c .before .before .before .before .before .before .before .before .before .before .before .pre .whole .holds in (h .graphed .mentions-low, h .bound .few-written)
+path-over-requires : tie.Need-path-over-requires
+path-over-requires c κs = let h = c .before .before .before .before .before .before .before .before .before .before .before .pre .whole .holds in (h .graphed .mentions-low, h .bound .few-written)
 
 same-length : tie.Need-same-length
 same-length c = search needs
 
 returns : tie.Need-returns
-returns c = default-over (now (c .before .before .before .before .before .before .before .before .before .before .before .before .before .args .raw)) (c .before .before .before .before .expand .ensures) (sym (c .before .over .ensures) ∙ c .if1 .taken)
+returns c = default-over (now (c .before .before .before .before .before .before .before .before .before .before .before .before .before .args .raw)) (c .before .before .before .before .expand .ensures) (sym (c .before .path-over .ensures) ∙ c .if1 .taken)
 
 slice-reshare-prefix-put-default : tie.Need-slice-reshare-prefix-put-default
 slice-reshare-prefix-put-default c = let w = path-within _ _ (inside (c .before)) in omega (arith, w .short, c .before .before .before .before .before .before .before .before .before .before .before .before .before .before .pre .room)
@@ -59,7 +59,7 @@ add-default-spec =
     tie.close
     (tie.spec
     expand-requires
-    over-requires
+    path-over-requires
     same-length
     returns
     slice-reshare-prefix-put-default

@@ -14,8 +14,8 @@ use Rattle.apply_default_path.proofs.put_default.Tie as tie
 limits : (s : tie.Start) → Within (length (now (s .args .path))) (s .args .c)
 limits s = path-within (length (now (s .args .path))) (s .args .c) (s .pre .within)
 
-find-requires : tie.Need-find-requires
-find-requires c κs = search needs
+find-name-requires : tie.Need-find-name-requires
+find-name-requires c κs = search needs
 
 enum-known-k : tie.Need-enum-known-k
 enum-known-k c = search needs
@@ -26,7 +26,7 @@ add-put c = let s = c .before .before .before .before .before .before .before .b
 put-requires : tie.Need-put-requires
 put-requires c κs =
     let s = c .before .before .before .before .before .before .before .before .before .before in
-    (default-room (s .pre .files .filed .graphed) (limits s .few), omega (arith, entry-low (s .pre .files .filed) (c .before .before .before .before .before .find .ensures) (c .before .before .before .k .given .1)))
+    (default-room (s .pre .files .filed .graphed) (limits s .few), omega (arith, entry-low (s .pre .files .filed) (c .before .before .before .before .before .find-name .ensures) (c .before .before .before .k .given .1)))
 
 add-t12 : tie.Need-add-t12
 add-t12 c = let s = c .before .before .before .before .before .before .before .before .before .before .before .before .before .before in omega (arith, limits s .few, s .pre .files .filed .graphed .few-mentions)
@@ -44,16 +44,16 @@ same-length : tie.Need-same-length
 same-length c = search needs
 
 returns : tie.Need-returns
-returns c = rw (c .before .before .before .before .before .put .ensures) (put-found (c .before .before .before .before .before .before .before .before .before .before .before .find .ensures) (c .before .before .before .before .before .before .before .before .before .k .given .1) (c .before .before .before .before .before .before .before .before .before .before .before .before .before .before .before .before .pre .within))
+returns c = rw (c .before .before .before .before .before .put .ensures) (put-found (c .before .before .before .before .before .before .before .before .before .before .before .find-name .ensures) (c .before .before .before .before .before .before .before .before .before .k .given .1) (c .before .before .before .before .before .before .before .before .before .before .before .before .before .before .before .before .pre .within))
 
 returns-2 : tie.Need-returns-2
-returns-2 c = put-missing (c .before .before .find .ensures) (c .enum-told .given .1)
+returns-2 c = put-missing (c .before .before .find-name .ensures) (c .enum-told .given .1)
 
 pub put-default-spec : {M : Type 1} → statement M
 put-default-spec =
     tie.close
     (tie.spec
-    find-requires
+    find-name-requires
     enum-known-k
     add-put
     put-requires

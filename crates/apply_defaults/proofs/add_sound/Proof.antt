@@ -21,13 +21,13 @@ abbrev μ-loop : tie.MeasureT-loop
 
 -- the path of this turn
 next : (s : tie.After-known-told Inv-loop μ-loop) → PathNext (now (s .before .before .before .before .before .before .before .before .before .before .before .before .args .l)) (s .before .before .before .before .loop .i) (s .before .from .given .0 .0) (s .before .from .given .0 .1 .0)
-next s = goes-on _ _ _ (s .before .before .before .next-path .ensures) (s .before .from .given .1)
+next s = goes-on _ _ _ (s .before .before .before .next-listed .ensures) (s .before .from .given .1)
 
 loop-holds : tie.Need-loop-holds Inv-loop μ-loop
 loop-holds c = (refl, refl, add-begin (c .before .before .before .before .before .before .before .args .start) (c .before .before .before .before .before .before .before .pre .right) (c .before .before .before .before .before .before .before .pre .asks .stands .within))
 
-next-path-requires : tie.Need-next-path-requires Inv-loop μ-loop
-next-path-requires c κs = search needs
+next-listed-requires : tie.Need-next-listed-requires Inv-loop μ-loop
+next-listed-requires c κs = search needs
 
 enum-known-from : tie.Need-enum-known-from Inv-loop μ-loop
 enum-known-from c = search needs
@@ -78,7 +78,7 @@ same-length-4 : tie.Need-same-length-4 Inv-loop μ-loop
 same-length-4 c = search needs
 
 returns-2 : tie.Need-returns-2 Inv-loop μ-loop
-returns-2 c = λ ps w. add-end (c .before .before .before .loop .inv .2) (stops _ _ _ (c .before .before .next-path .ensures) (c .enum-told2 .given .1)) w
+returns-2 c = λ ps w. add-end (c .before .before .before .loop .inv .2) (stops _ _ _ (c .before .before .next-listed .ensures) (c .enum-told2 .given .1)) w
 
 pub add-sound-spec : {M : Type 1} → statement M
 add-sound-spec =
@@ -87,7 +87,7 @@ add-sound-spec =
     Inv-loop
     μ-loop
     loop-holds
-    next-path-requires
+    next-listed-requires
     enum-known-from
     sub-add-default
     part-add-default-start

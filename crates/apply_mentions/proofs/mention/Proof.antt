@@ -10,19 +10,19 @@ use Rattle.apply_mentions.proofs.mention.Tie as tie
 
 -- past the limits
 inside : (s : tie.Else1) → overCounted (s .before .before .before .before .expand .result) (s .before .before .before .before .before .before .before .before .before .before .before .before .before .args .c) ≡ false
-inside s = sym (s .before .over .ensures) ∙ s .if1 .left
+inside s = sym (s .before .path-over .ensures) ∙ s .if1 .left
 
 expand-requires : tie.Need-expand-requires
 expand-requires c κs = search needs
 
-over-requires : tie.Need-over-requires
-over-requires c κs = search needs
+path-over-requires : tie.Need-path-over-requires
+path-over-requires c κs = search needs
 
 same-length : tie.Need-same-length
 same-length c = search needs
 
 returns : tie.Need-returns
-returns c = mention-over (c .before .before .before .before .before .before .before .before .before .before .before .before .before .pre) (c .before .before .before .before .expand .ensures) (sym (c .before .over .ensures) ∙ c .if1 .taken)
+returns c = mention-over (c .before .before .before .before .before .before .before .before .before .before .before .before .before .pre) (c .before .before .before .before .expand .ensures) (sym (c .before .path-over .ensures) ∙ c .if1 .taken)
 
 slice-reshare-prefix-add-path : tie.Need-slice-reshare-prefix-add-path
 slice-reshare-prefix-add-path c = omega (arith, path-fits (c .before .before .before .before .before .before .before .before .before .before .before .before .before .pre) (c .before .before .before .before .expand .ensures) (inside c))
@@ -53,7 +53,7 @@ mention-spec =
     tie.close
     (tie.spec
     expand-requires
-    over-requires
+    path-over-requires
     same-length
     returns
     slice-reshare-prefix-add-path

@@ -19,32 +19,32 @@ abbrev μ-loop : tie.MeasureT-loop
 loop-holds : tie.Need-loop-holds Inv-loop μ-loop
 loop-holds c = pass-begin (c .before .before .before .before .before .before .before .pre)
 
-next-path-requires : tie.Need-next-path-requires Inv-loop μ-loop
-next-path-requires c κs = (c .before .before .before .before .before .before .before .before .pre .table, pass-within (c .loop .inv))
+next-listed-requires : tie.Need-next-listed-requires Inv-loop μ-loop
+next-listed-requires c κs = (c .before .before .before .before .before .before .before .before .pre .table, pass-within (c .loop .inv))
 
 enum-known-from : tie.Need-enum-known-from Inv-loop μ-loop
 enum-known-from c = search needs
 
 sub-mention : tie.Need-sub-mention Inv-loop μ-loop
-sub-mention c = let n : PathNext _ _ _ _ = goes-on _ _ _ (c .before .before .before .next-path .ensures) (c .before .from .given .1) in omega (arith, n .longer)
+sub-mention c = let n : PathNext _ _ _ _ = goes-on _ _ _ (c .before .before .before .next-listed .ensures) (c .before .from .given .1) in omega (arith, n .longer)
 
 part-mention-start : tie.Need-part-mention-start Inv-loop μ-loop
-part-mention-start c = let n : PathNext _ _ _ _ = goes-on _ _ _ (c .before .before .before .next-path .ensures) (c .before .from .given .1) in omega (arith, n .longer, n .within)
+part-mention-start c = let n : PathNext _ _ _ _ = goes-on _ _ _ (c .before .before .before .next-listed .ensures) (c .before .from .given .1) in omega (arith, n .longer, n .within)
 
 part-mention-end : tie.Need-part-mention-end Inv-loop μ-loop
-part-mention-end c = let n : PathNext _ _ _ _ = goes-on _ _ _ (c .before .before .before .next-path .ensures) (c .before .from .given .1) in omega (arith, n .longer, n .within)
+part-mention-end c = let n : PathNext _ _ _ _ = goes-on _ _ _ (c .before .before .before .next-listed .ensures) (c .before .from .given .1) in omega (arith, n .longer, n .within)
 
 mention-requires : tie.Need-mention-requires Inv-loop μ-loop
-mention-requires c κs = pass-asks (c .before .before .before .before .before .before .before .before .before .loop .inv) (goes-on _ _ _ (c .before .before .before .before .before .before .before .before .next-path .ensures) (c .before .before .before .before .before .before .from .given .1))
+mention-requires c κs = pass-asks (c .before .before .before .before .before .before .before .before .before .loop .inv) (goes-on _ _ _ (c .before .before .before .before .before .before .before .before .next-listed .ensures) (c .before .before .before .before .before .before .from .given .1))
 
 enum-known-e : tie.Need-enum-known-e Inv-loop μ-loop
 enum-known-e c = search needs
 
 loop-less : tie.Need-loop-less Inv-loop μ-loop
-loop-less c = let n : PathNext _ _ _ _ = goes-on _ _ _ (c .before .before .before .before .before .before .before .before .before .before .before .before .before .before .before .before .before .before .before .before .next-path .ensures) (c .before .before .before .before .before .before .before .before .before .before .before .before .before .before .before .before .before .before .from .given .1) in omega (arith, n .forward, n .longer, n .within)
+loop-less c = let n : PathNext _ _ _ _ = goes-on _ _ _ (c .before .before .before .before .before .before .before .before .before .before .before .before .before .before .before .before .before .before .before .before .next-listed .ensures) (c .before .before .before .before .before .before .before .before .before .before .before .before .before .before .before .before .before .before .from .given .1) in omega (arith, n .forward, n .longer, n .within)
 
 loop-again : tie.Need-loop-again Inv-loop μ-loop
-loop-again c = pass-on (c .before .before .before .before .before .before .before .before .before .before .before .before .before .before .before .before .before .before .before .before .before .loop .inv) (goes-on _ _ _ (c .before .before .before .before .before .before .before .before .before .before .before .before .before .before .before .before .before .before .before .before .next-path .ensures) (c .before .before .before .before .before .before .before .before .before .before .before .before .before .before .before .before .before .before .from .given .1)) (search needs) (search needs) (search needs) (search needs) (rw (c .before .e .given .1) at (c .before .before .before .before .before .before .before .before .before .before .before .mention .ensures))
+loop-again c = pass-on (c .before .before .before .before .before .before .before .before .before .before .before .before .before .before .before .before .before .before .before .before .before .loop .inv) (goes-on _ _ _ (c .before .before .before .before .before .before .before .before .before .before .before .before .before .before .before .before .before .before .before .before .next-listed .ensures) (c .before .before .before .before .before .before .before .before .before .before .before .before .before .before .before .before .before .before .from .given .1)) (search needs) (search needs) (search needs) (search needs) (rw (c .before .e .given .1) at (c .before .before .before .before .before .before .before .before .before .before .before .mention .ensures))
 
 enum-told : tie.Need-enum-told Inv-loop μ-loop
 enum-told c = search needs
@@ -62,7 +62,7 @@ same-length-4 : tie.Need-same-length-4 Inv-loop μ-loop
 same-length-4 c = search needs
 
 returns : tie.Need-returns Inv-loop μ-loop
-returns c = pass-over (c .before .before .before .before .before .before .before .before .before .before .before .before .before .before .before .before .before .before .before .before .loop .inv) (goes-on _ _ _ (c .before .before .before .before .before .before .before .before .before .before .before .before .before .before .before .before .before .before .before .next-path .ensures) (c .before .before .before .before .before .before .before .before .before .before .before .before .before .before .before .before .before .from .given .1)) (rw (c .enum-told .given .1) at (c .before .before .before .before .before .before .before .before .before .before .mention .ensures))
+returns c = pass-over (c .before .before .before .before .before .before .before .before .before .before .before .before .before .before .before .before .before .before .before .before .loop .inv) (goes-on _ _ _ (c .before .before .before .before .before .before .before .before .before .before .before .before .before .before .before .before .before .before .before .next-listed .ensures) (c .before .before .before .before .before .before .before .before .before .before .before .before .before .before .before .before .before .from .given .1)) (rw (c .enum-told .given .1) at (c .before .before .before .before .before .before .before .before .before .before .mention .ensures))
 
 enum-told-2 : tie.Need-enum-told-2 Inv-loop μ-loop
 enum-told-2 c = search needs
@@ -80,7 +80,7 @@ same-length-8 : tie.Need-same-length-8 Inv-loop μ-loop
 same-length-8 c = search needs
 
 returns-2 : tie.Need-returns-2 Inv-loop μ-loop
-returns-2 c = pass-end (c .before .before .before .loop .inv) (stops _ _ _ (c .before .before .next-path .ensures) (c .enum-told2 .given .1))
+returns-2 c = pass-end (c .before .before .before .loop .inv) (stops _ _ _ (c .before .before .next-listed .ensures) (c .enum-told2 .given .1))
 
 pub mention-all-spec : {M : Type 1} → statement M
 mention-all-spec =
@@ -89,7 +89,7 @@ mention-all-spec =
     Inv-loop
     μ-loop
     loop-holds
-    next-path-requires
+    next-listed-requires
     enum-known-from
     sub-mention
     part-mention-start

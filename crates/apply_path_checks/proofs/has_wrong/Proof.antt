@@ -20,13 +20,13 @@ abbrev μ-loop : tie.MeasureT-loop
 
 -- the path of this turn
 next : (s : tie.After-known-told Inv-loop μ-loop) → PathNext (now (s .before .before .before .before .before .before .before .before .before .before .before .before .args .l)) (s .before .before .before .before .loop .i) (s .before .from .given .0 .0) (s .before .from .given .0 .1 .0)
-next s = goes-on _ _ _ (s .before .before .before .next-path .ensures) (s .before .from .given .1)
+next s = goes-on _ _ _ (s .before .before .before .next-listed .ensures) (s .before .from .given .1)
 
 loop-holds : tie.Need-loop-holds Inv-loop μ-loop
 loop-holds c = (refl, look-begin (c .before .before .before .before .before .before .before .pre .within))
 
-next-path-requires : tie.Need-next-path-requires Inv-loop μ-loop
-next-path-requires c κs = search needs
+next-listed-requires : tie.Need-next-listed-requires Inv-loop μ-loop
+next-listed-requires c κs = search needs
 
 enum-known-from : tie.Need-enum-known-from Inv-loop μ-loop
 enum-known-from c = search needs
@@ -64,7 +64,7 @@ same-length-2 : tie.Need-same-length-2 Inv-loop μ-loop
 same-length-2 c = search needs
 
 returns-2 : tie.Need-returns-2 Inv-loop μ-loop
-returns-2 c = look-end (c .before .before .before .loop .inv .1) (stops _ _ _ (c .before .before .next-path .ensures) (c .enum-told .given .1))
+returns-2 c = look-end (c .before .before .before .loop .inv .1) (stops _ _ _ (c .before .before .next-listed .ensures) (c .enum-told .given .1))
 
 pub has-wrong-spec : {M : Type 1} → statement M
 has-wrong-spec =
@@ -73,7 +73,7 @@ has-wrong-spec =
     Inv-loop
     μ-loop
     loop-holds
-    next-path-requires
+    next-listed-requires
     enum-known-from
     sub-is-wrong
     part-is-wrong-start

@@ -19,8 +19,8 @@ same-length-2 c = search needs
 returns : tie.Need-returns
 returns c = let a = c .before .before .before .before .before .before .before .before .args in keys-bad (a .start) (a .head) (a .entry) (now (a .name)) (now (a .raw)) (c .before .is-bad-key .ensures) (c .if1 .taken)
 
-over-requires : tie.Need-over-requires
-over-requires c κs = search needs
+binding-over-requires : tie.Need-binding-over-requires
+binding-over-requires c κs = search needs
 
 same-length-3 : tie.Need-same-length-3
 same-length-3 c = search needs
@@ -31,18 +31,18 @@ same-length-4 c = search needs
 returns-2 : tie.Need-returns-2
 returns-2 c =
     let a = c .before .before .before .before .before .before .before .before .before .before .args in
-    keys-over (a .start) (a .head) (a .entry) (now (a .name)) (now (a .raw)) (c .before .before .before .is-bad-key .ensures) (c .before .before .if1 .left) (sym (c .before .over .ensures) ∙ c .if2 .taken)
+    keys-over (a .start) (a .head) (a .entry) (now (a .name)) (now (a .raw)) (c .before .before .before .is-bad-key .ensures) (c .before .before .if1 .left) (sym (c .before .binding-over .ensures) ∙ c .if2 .taken)
 
-mul-put : tie.Need-mul-put
-mul-put c = let p = of-rule (c .before .before .before .before .before .before .before .before .before .before .before .before .pre) in omega (arith, p .below, p .table .held .rows .few)
+mul-push-binding : tie.Need-mul-push-binding
+mul-push-binding c = let p = of-rule (c .before .before .before .before .before .before .before .before .before .before .before .before .pre) in omega (arith, p .below, p .table .held .rows .few)
 
-add-put : tie.Need-add-put
-add-put c = let p = of-rule (c .before .before .before .before .before .before .before .before .before .before .before .before .pre) in omega (arith, p .below, p .table .held .rows .few)
+add-push-binding : tie.Need-add-push-binding
+add-push-binding c = let p = of-rule (c .before .before .before .before .before .before .before .before .before .before .before .before .pre) in omega (arith, p .below, p .table .held .rows .few)
 
-put-requires : tie.Need-put-requires
-put-requires c κs =
+push-binding-requires : tie.Need-push-binding-requires
+push-binding-requires c κs =
     let a = c .before .before .before .before .before .before .before .before .before .before .before .before .args in
-    key-ready (c .before .before .before .before .before .before .before .before .before .before .before .before .pre) (now (a .name)) (now (a .raw)) (sym (c .before .before .before .over .ensures) ∙ c .before .before .if2 .left)
+    key-ready (c .before .before .before .before .before .before .before .before .before .before .before .before .pre) (now (a .name)) (now (a .raw)) (sym (c .before .before .before .binding-over .ensures) ∙ c .before .before .if2 .left)
 
 same-length-5 : tie.Need-same-length-5
 same-length-5 c = search needs
@@ -53,7 +53,7 @@ same-length-6 c = search needs
 returns-3 : tie.Need-returns-3
 returns-3 c =
     let a = c .before .before .before .before .before .before .before .before .before .before .before .before .before .before .before .before .before .args in
-    keys-go (a .start) (a .head) (a .entry) (now (a .name)) (now (a .raw)) (c .before .before .before .before .before .before .before .before .before .before .is-bad-key .ensures) (c .before .before .before .before .before .before .before .before .before .if1 .left) (sym (c .before .before .before .before .before .before .before .before .over .ensures) ∙ c .before .before .before .before .before .before .before .if2 .left) (c .before .before .before .before .put .ensures)
+    keys-go (a .start) (a .head) (a .entry) (now (a .name)) (now (a .raw)) (c .before .before .before .before .before .before .before .before .before .before .is-bad-key .ensures) (c .before .before .before .before .before .before .before .before .before .if1 .left) (sym (c .before .before .before .before .before .before .before .before .binding-over .ensures) ∙ c .before .before .before .before .before .before .before .if2 .left) (c .before .before .before .before .push-binding .ensures)
 
 pub add-key-spec : {M : Type 1} → statement M
 add-key-spec =
@@ -63,13 +63,13 @@ add-key-spec =
     same-length
     same-length-2
     returns
-    over-requires
+    binding-over-requires
     same-length-3
     same-length-4
     returns-2
-    mul-put
-    add-put
-    put-requires
+    mul-push-binding
+    add-push-binding
+    push-binding-requires
     same-length-5
     same-length-6
     returns-3)

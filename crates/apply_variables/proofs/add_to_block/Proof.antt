@@ -16,13 +16,13 @@ abbrev begin : tie.After-struct-known → tie.Start
 begin s = s .before .before .before .before .before .before .before .before .before .before .before .before .before .before .before .before
 
 inside : (s : tie.After-struct-known) → overCounted (length (now (begin s .args .name))) (s .before .before .before .before .before .before .before .expand .result) (begin s .args .c) ≡ false
-inside s = sym (s .before .before .before .before .over .ensures) ∙ s .before .before .before .if1 .left
+inside s = sym (s .before .before .before .before .binding-over .ensures) ∙ s .before .before .before .if1 .left
 
 expand-requires : tie.Need-expand-requires
 expand-requires c κs = search needs
 
-over-requires : tie.Need-over-requires
-over-requires c κs = search needs
+binding-over-requires : tie.Need-binding-over-requires
+binding-over-requires c κs = search needs
 
 same-length : tie.Need-same-length
 same-length c = search needs
@@ -36,25 +36,25 @@ same-length-3 c = search needs
 returns : tie.Need-returns
 returns c =
     let a = c .before .before .before .before .before .before .before .before .before .before .before .before .before .args in
-    line-over (a .start) (now (a .name)) (now (a .raw)) (c .before .before .before .before .expand .ensures) (sym (c .before .over .ensures) ∙ c .if1 .taken)
+    line-over (a .start) (now (a .name)) (now (a .raw)) (c .before .before .before .before .expand .ensures) (sym (c .before .binding-over .ensures) ∙ c .if1 .taken)
 
-sub-put : tie.Need-sub-put
-sub-put c = omega (arith, step-begun (begin c .pre .sound))
+sub-push-binding : tie.Need-sub-push-binding
+sub-push-binding c = omega (arith, step-begun (begin c .pre .sound))
 
-mul-put : tie.Need-mul-put
-mul-put c = search needs
+mul-push-binding : tie.Need-mul-push-binding
+mul-push-binding c = search needs
 
-add-put : tie.Need-add-put
-add-put c = search needs
+add-push-binding : tie.Need-add-push-binding
+add-push-binding c = search needs
 
-slice-reshare-prefix-put : tie.Need-slice-reshare-prefix-put
-slice-reshare-prefix-put c = omega (arith, value-fits (begin c .pre) _ _ (inside c))
+slice-reshare-prefix-push-binding : tie.Need-slice-reshare-prefix-push-binding
+slice-reshare-prefix-push-binding c = omega (arith, value-fits (begin c .pre) _ _ (inside c))
 
-slice-aggregate-put : tie.Need-slice-aggregate-put
-slice-aggregate-put c = let s = c .before in sym (value-counted (begin s .pre) _ _ (inside s) (s .before .before .before .before .before .before .before .expand .ensures))
+slice-aggregate-push-binding : tie.Need-slice-aggregate-push-binding
+slice-aggregate-push-binding c = let s = c .before in sym (value-counted (begin s .pre) _ _ (inside s) (s .before .before .before .before .before .before .before .expand .ensures))
 
-put-requires : tie.Need-put-requires
-put-requires c κs =
+push-binding-requires : tie.Need-push-binding-requires
+push-binding-requires c κs =
     let s = c .before in
     line-ready (begin s .pre .sound) (now (begin s .args .name)) _ (rw (value-counted (begin s .pre) _ _ (inside s) (s .before .before .before .before .before .before .before .expand .ensures)) (inside s))
 
@@ -71,24 +71,24 @@ returns-2 : tie.Need-returns-2
 returns-2 c =
     let s = c .before .before .before .before .before .before in
     let a = begin s .args in
-    line-goes (a .start) (now (a .name)) (now (a .raw)) (s .before .before .before .before .before .before .before .expand .ensures) (value-fits (begin s .pre) _ _ (inside s)) (rw (value-counted (begin s .pre) _ _ (inside s) (s .before .before .before .before .before .before .before .expand .ensures)) (inside s)) (c .before .before .before .before .put .ensures)
+    line-goes (a .start) (now (a .name)) (now (a .raw)) (s .before .before .before .before .before .before .before .expand .ensures) (value-fits (begin s .pre) _ _ (inside s)) (rw (value-counted (begin s .pre) _ _ (inside s) (s .before .before .before .before .before .before .before .expand .ensures)) (inside s)) (c .before .before .before .before .push-binding .ensures)
 
 pub add-to-block-spec : {M : Type 1} → statement M
 add-to-block-spec =
     tie.close
     (tie.spec
     expand-requires
-    over-requires
+    binding-over-requires
     same-length
     same-length-2
     same-length-3
     returns
-    sub-put
-    mul-put
-    add-put
-    slice-reshare-prefix-put
-    slice-aggregate-put
-    put-requires
+    sub-push-binding
+    mul-push-binding
+    add-push-binding
+    slice-reshare-prefix-push-binding
+    slice-aggregate-push-binding
+    push-binding-requires
     same-length-4
     same-length-5
     same-length-6

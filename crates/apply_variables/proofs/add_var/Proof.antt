@@ -16,13 +16,13 @@ abbrev begin : tie.Else1 → tie.Start
 begin s = s .before .before .before .before .before .before .before .before .before .before .before .before .before
 
 inside : (s : tie.Else1) → overCounted (length (now (begin s .args .name))) (s .before .before .before .before .expand .result) (begin s .args .c) ≡ false
-inside s = sym (s .before .over .ensures) ∙ s .if1 .left
+inside s = sym (s .before .binding-over .ensures) ∙ s .if1 .left
 
 expand-requires : tie.Need-expand-requires
 expand-requires c κs = search needs
 
-over-requires : tie.Need-over-requires
-over-requires c κs = search needs
+binding-over-requires : tie.Need-binding-over-requires
+binding-over-requires c κs = search needs
 
 same-length : tie.Need-same-length
 same-length c = search needs
@@ -36,7 +36,7 @@ same-length-3 c = search needs
 returns : tie.Need-returns
 returns c =
     let a = c .before .before .before .before .before .before .before .before .before .before .before .before .before .args in
-    var-over (a .start) (now (a .name)) (now (a .raw)) (c .before .before .before .before .expand .ensures) (sym (c .before .over .ensures) ∙ c .if1 .taken)
+    var-over (a .start) (now (a .name)) (now (a .raw)) (c .before .before .before .before .expand .ensures) (sym (c .before .binding-over .ensures) ∙ c .if1 .taken)
 
 slice-reshare-prefix-set-var : tie.Need-slice-reshare-prefix-set-var
 slice-reshare-prefix-set-var c = omega (arith, value-fits (begin c .pre) _ _ (inside c))
@@ -69,7 +69,7 @@ add-var-spec =
     tie.close
     (tie.spec
     expand-requires
-    over-requires
+    binding-over-requires
     same-length
     same-length-2
     same-length-3

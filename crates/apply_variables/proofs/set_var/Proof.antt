@@ -14,8 +14,8 @@ returns c =
     let a = c .before .before .before .before .before .before .args in
     var-wrong (a .start) (now (a .name)) (now (a .value)) (c .before .before .before .before .before .before .pre .within) (sym (c .before .is-wrong-version .ensures) ∙ c .if1 .taken)
 
-put-requires : tie.Need-put-requires
-put-requires c κs =
+push-binding-requires : tie.Need-push-binding-requires
+push-binding-requires c κs =
     let a = c .before .before .before .before .before .before .before .before .args in
     var-ready (a .start) (now (a .name)) (now (a .value)) (c .before .before .before .before .before .before .before .before .pre .within) (c .before .before .before .before .before .before .before .before .pre .sound)
 
@@ -28,9 +28,9 @@ same-length-2 c = search needs
 returns-2 : tie.Need-returns-2
 returns-2 c =
     let a = c .before .before .before .before .before .before .before .before .before .before .before .before .before .args in
-    var-goes (a .start) (now (a .name)) (now (a .value)) (c .before .before .before .before .before .before .before .before .before .before .before .before .before .pre .within) (sym (c .before .before .before .before .before .before .before .before .is-wrong-version .ensures) ∙ c .before .before .before .before .before .before .before .if1 .left) (c .before .before .before .before .put .ensures)
+    var-goes (a .start) (now (a .name)) (now (a .value)) (c .before .before .before .before .before .before .before .before .before .before .before .before .before .pre .within) (sym (c .before .before .before .before .before .before .before .before .is-wrong-version .ensures) ∙ c .before .before .before .before .before .before .before .if1 .left) (c .before .before .before .before .push-binding .ensures)
 
 pub set-var-spec : {M : Type 1} → statement M
 set-var-spec =
     tie.close
-    (tie.spec is-wrong-version-requires returns put-requires same-length same-length-2 returns-2)
+    (tie.spec is-wrong-version-requires returns push-binding-requires same-length same-length-2 returns-2)

@@ -14,8 +14,8 @@ abbrev μ-loop : tie.MeasureT-loop
 loop-holds : tie.Need-loop-holds Inv-loop μ-loop
 loop-holds c = fill-begin (c .before .before .before .before .pre)
 
-name-requires : tie.Need-name-requires Inv-loop μ-loop
-name-requires c κs = search needs
+file-name-requires : tie.Need-file-name-requires Inv-loop μ-loop
+file-name-requires c κs = search needs
 
 time-of-requires : tie.Need-time-of-requires Inv-loop μ-loop
 time-of-requires c κs = search needs
@@ -33,7 +33,7 @@ loop-less : tie.Need-loop-less Inv-loop μ-loop
 loop-less c = search needs
 
 loop-again : tie.Need-loop-again Inv-loop μ-loop
-loop-again c = fill-more (c .before .before .before .loop .inv) (c .before .before .loop-test .taken) (c .before .name .ensures) (c .time-of .ensures)
+loop-again c = fill-more (c .before .before .before .loop .inv) (c .before .before .loop-test .taken) (c .before .file-name .ensures) (c .time-of .ensures)
 
 same-length : tie.Need-same-length Inv-loop μ-loop
 same-length c = search needs
@@ -48,7 +48,7 @@ fill-times-spec =
     Inv-loop
     μ-loop
     loop-holds
-    name-requires
+    file-name-requires
     time-of-requires
     mul-times
     slice-write-times

@@ -47,17 +47,17 @@ returns-3 c = bad (c .before .before .before .loop .inv) (c .before .before .nam
 enum-known-end : tie.Need-enum-known-end Inv-loop μ-loop
 enum-known-end c = search needs
 
-sub-find : tie.Need-sub-find Inv-loop μ-loop
-sub-find c = let t = turn (c .before .before .before .before .loop .inv) (c .before .before .before .name-at .ensures) (c .before .end .given .1) in omega (arith, t .some, t .within)
+sub-find-name : tie.Need-sub-find-name Inv-loop μ-loop
+sub-find-name c = let t = turn (c .before .before .before .before .loop .inv) (c .before .before .before .name-at .ensures) (c .before .end .given .1) in omega (arith, t .some, t .within)
 
-part-find-start : tie.Need-part-find-start Inv-loop μ-loop
-part-find-start c = let t = turn (c .before .before .before .before .loop .inv) (c .before .before .before .name-at .ensures) (c .before .end .given .1) in omega (arith, t .some, t .within)
+part-find-name-start : tie.Need-part-find-name-start Inv-loop μ-loop
+part-find-name-start c = let t = turn (c .before .before .before .before .loop .inv) (c .before .before .before .name-at .ensures) (c .before .end .given .1) in omega (arith, t .some, t .within)
 
-part-find-end : tie.Need-part-find-end Inv-loop μ-loop
-part-find-end c = let t = turn (c .before .before .before .before .loop .inv) (c .before .before .before .name-at .ensures) (c .before .end .given .1) in omega (arith, t .some, t .within)
+part-find-name-end : tie.Need-part-find-name-end Inv-loop μ-loop
+part-find-name-end c = let t = turn (c .before .before .before .before .loop .inv) (c .before .before .before .name-at .ensures) (c .before .end .given .1) in omega (arith, t .some, t .within)
 
-find-requires : tie.Need-find-requires Inv-loop μ-loop
-find-requires c κs = search needs
+find-name-requires : tie.Need-find-name-requires Inv-loop μ-loop
+find-name-requires c κs = search needs
 
 enum-told-3 : tie.Need-enum-told-3 Inv-loop μ-loop
 enum-told-3 c = search needs
@@ -66,13 +66,13 @@ same-length-3 : tie.Need-same-length-3 Inv-loop μ-loop
 same-length-3 c = search needs
 
 returns-4 : tie.Need-returns-4 Inv-loop μ-loop
-returns-4 c = unknown (c .before .before .before .before .before .before .before .before .loop .inv) (c .before .before .before .before .before .before .before .name-at .ensures) (c .before .before .before .before .before .end .given .1) (c .before .before .find .ensures) (c .enum-told3 .given .1)
+returns-4 c = unknown (c .before .before .before .before .before .before .before .before .loop .inv) (c .before .before .before .before .before .before .before .name-at .ensures) (c .before .before .before .before .before .end .given .1) (c .before .before .find-name .ensures) (c .enum-told3 .given .1)
 
 enum-known-k : tie.Need-enum-known-k Inv-loop μ-loop
 enum-known-k c = search needs
 
 cast-out : tie.Need-cast-out Inv-loop μ-loop
-cast-out c = let h = known (c .before .before .before .before .before .before .before .before .before .loop .inv) (c .before .before .before .before .before .before .before .before .name-at .ensures) (c .before .before .before .before .before .before .end .given .1) (c .before .before .before .find .ensures) (c .before .k .given .1) in search needs
+cast-out c = let h = known (c .before .before .before .before .before .before .before .before .before .loop .inv) (c .before .before .before .before .before .before .before .before .name-at .ensures) (c .before .before .before .before .before .before .end .given .1) (c .before .before .before .find-name .ensures) (c .before .k .given .1) in search needs
 
 mul-out : tie.Need-mul-out Inv-loop μ-loop
 mul-out c = search needs
@@ -90,7 +90,7 @@ loop-less : tie.Need-loop-less Inv-loop μ-loop
 loop-less c = let t = turn (c .before .before .before .before .before .before .before .before .before .loop .inv) (c .before .before .before .before .before .before .before .before .name-at .ensures) (c .before .before .before .before .before .before .end .given .1) in omega (arith, t .some, t .within)
 
 loop-again : tie.Need-loop-again Inv-loop μ-loop
-loop-again c = more (c .before .before .before .before .before .before .before .before .before .loop .inv) (c .before .before .before .before .before .before .before .before .name-at .ensures) (c .before .before .before .before .before .before .end .given .1) (c .before .before .before .find .ensures) (c .before .k .given .1)
+loop-again c = more (c .before .before .before .before .before .before .before .before .before .loop .inv) (c .before .before .before .before .before .before .before .before .name-at .ensures) (c .before .before .before .before .before .before .end .given .1) (c .before .before .before .find-name .ensures) (c .before .k .given .1)
 
 pub number-targets-spec : {M : Type 1} → statement M
 number-targets-spec =
@@ -109,10 +109,10 @@ number-targets-spec =
     same-length-2
     returns-3
     enum-known-end
-    sub-find
-    part-find-start
-    part-find-end
-    find-requires
+    sub-find-name
+    part-find-name-start
+    part-find-name-end
+    find-name-requires
     enum-told-3
     same-length-3
     returns-4

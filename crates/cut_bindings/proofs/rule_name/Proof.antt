@@ -9,8 +9,8 @@ use Rattle.cut_forms.proofs.Faults.{no-form, not-yet}
 use Rattle.cut_bindings.proofs.rule_name.Statement.{statement}
 use Rattle.cut_bindings.proofs.rule_name.Tie as tie
 
-name-requires : tie.Need-name-requires
-name-requires c κs = search needs
+name-end-requires : tie.Need-name-end-requires
+name-end-requires c κs = search needs
 
 sub-rule-word : tie.Need-sub-rule-word
 sub-rule-word c = search needs
@@ -37,23 +37,23 @@ returns : tie.Need-returns
 unfolding NamedAt
 returns c =
     record {
-      reads = c .before .before .before .before .name .ensures;
-      cut = word-name _ _ (c .before .before .rule-word .ensures ∙ ap ruleWord (part-name (c .before .before .before .before .name .ensures))) (c .enum-told .given .1);
+      reads = c .before .before .before .before .name-end .ensures;
+      cut = word-name _ _ (c .before .before .rule-word .ensures ∙ ap ruleWord (part-name (c .before .before .before .before .name-end .ensures))) (c .enum-told .given .1);
     }
 
 returns-2 : tie.Need-returns-2
 unfolding NamedAt
-returns-2 c = no-form (word-no-form _ _ (c .before .before .rule-word .ensures ∙ ap ruleWord (part-name (c .before .before .before .before .name .ensures))) (c .enum-told2 .given .1))
+returns-2 c = no-form (word-no-form _ _ (c .before .before .rule-word .ensures ∙ ap ruleWord (part-name (c .before .before .before .before .name-end .ensures))) (c .enum-told2 .given .1))
 
 returns-3 : tie.Need-returns-3
 unfolding NamedAt
-returns-3 c = not-yet (word-not-yet _ _ (c .before .before .rule-word .ensures ∙ ap ruleWord (part-name (c .before .before .before .before .name .ensures))) (c .enum-told3 .given .1))
+returns-3 c = not-yet (word-not-yet _ _ (c .before .before .rule-word .ensures ∙ ap ruleWord (part-name (c .before .before .before .before .name-end .ensures))) (c .enum-told3 .given .1))
 
 pub rule-name-spec : {M : Type 1} → statement M
 rule-name-spec =
     tie.close
     (tie.spec
-    name-requires
+    name-end-requires
     sub-rule-word
     part-rule-word-start
     part-rule-word-end

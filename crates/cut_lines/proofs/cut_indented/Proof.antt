@@ -7,8 +7,8 @@ use Rattle.cut_lines.proofs.cut_indented.Tie as tie
 spaces-requires : tie.Need-spaces-requires
 spaces-requires c κs = search needs
 
-name-requires : tie.Need-name-requires
-name-requires c κs = search needs
+name-end-requires : tie.Need-name-end-requires
+name-end-requires c κs = search needs
 
 cut-binding-requires : tie.Need-cut-binding-requires
 cut-binding-requires c κs = search needs
@@ -17,4 +17,4 @@ returns : tie.Need-returns
 returns c = rw (indented-is (c .before .before .spaces .ensures)) (c .cut-binding .ensures)
 
 pub cut-indented-spec : {M : Type 1} → statement M
-cut-indented-spec = tie.close (tie.spec spaces-requires name-requires cut-binding-requires returns)
+cut-indented-spec = tie.close (tie.spec spaces-requires name-end-requires cut-binding-requires returns)

@@ -7,11 +7,11 @@ use Rattle.cut_lines.proofs.Begins.{statement-rule, statement-build, st
 use Rattle.cut_lines.proofs.cut_statement.Statement.{statement}
 use Rattle.cut_lines.proofs.cut_statement.Tie as tie
 
-name-requires : tie.Need-name-requires
-name-requires c κs = search needs
+name-end-requires : tie.Need-name-end-requires
+name-end-requires c κs = search needs
 
 slice-aggregate-w : tie.Need-slice-aggregate-w
-slice-aggregate-w c = sym (length-take-le _ _ (c .before .name .ensures .within))
+slice-aggregate-w c = sym (length-take-le _ _ (c .before .name-end .ensures .within))
 
 slice-aggregate-equal : tie.Need-slice-aggregate-equal
 slice-aggregate-equal c = search needs
@@ -23,7 +23,7 @@ cut-rule-requires : tie.Need-cut-rule-requires
 cut-rule-requires c κs = search needs
 
 returns : tie.Need-returns
-returns c = rw (statement-rule (c .before .before .before .before .before .name .ensures) (sym (c .before .before .equal .ensures) ∙ c .before .if1 .taken)) (c .cut-rule .ensures)
+returns c = rw (statement-rule (c .before .before .before .before .before .name-end .ensures) (sym (c .before .before .equal .ensures) ∙ c .before .if1 .taken)) (c .cut-rule .ensures)
 
 slice-aggregate-equal-2 : tie.Need-slice-aggregate-equal-2
 slice-aggregate-equal-2 c = search needs
@@ -36,7 +36,7 @@ cut-build-requires c κs = search needs
 
 returns-2 : tie.Need-returns-2
 returns-2 c =
-    rw (statement-build (c .before .before .before .before .before .before .before .before .name .ensures) (sym (c .before .before .before .before .before .equal .ensures) ∙ c .before .before .before .before .if1 .left) (sym (c .before .before .equal2 .ensures) ∙ c .before .if2 .taken))
+    rw (statement-build (c .before .before .before .before .before .before .before .before .name-end .ensures) (sym (c .before .before .before .before .before .equal .ensures) ∙ c .before .before .before .before .if1 .left) (sym (c .before .before .equal2 .ensures) ∙ c .before .if2 .taken))
     (c .cut-build .ensures)
 
 slice-aggregate-equal-3 : tie.Need-slice-aggregate-equal-3
@@ -50,7 +50,7 @@ cut-default-requires c κs = search needs
 
 returns-3 : tie.Need-returns-3
 returns-3 c =
-    rw (statement-default (c .before .before .before .before .before .before .before .before .before .before .before .name .ensures) (sym (c .before .before .before .before .before .before .before .before .equal .ensures) ∙ c .before .before .before .before .before .before .before .if1 .left) (sym (c .before .before .before .before .before .equal2 .ensures) ∙ c .before .before .before .before .if2 .left) (sym (c .before .before .equal3 .ensures) ∙ c .before .if3 .taken))
+    rw (statement-default (c .before .before .before .before .before .before .before .before .before .before .before .name-end .ensures) (sym (c .before .before .before .before .before .before .before .before .equal .ensures) ∙ c .before .before .before .before .before .before .before .if1 .left) (sym (c .before .before .before .before .before .equal2 .ensures) ∙ c .before .before .before .before .if2 .left) (sym (c .before .before .equal3 .ensures) ∙ c .before .if3 .taken))
     (c .cut-default .ensures)
 
 cut-binding-requires : tie.Need-cut-binding-requires
@@ -65,20 +65,20 @@ enum-known-f c = search needs
 returns-4 : tie.Need-returns-4
 unfolding StatementAt AssignmentAt
 returns-4 c =
-    rw (statement-binding (c .before .before .before .before .before .before .before .before .before .before .before .before .before .before .name .ensures) (sym (c .before .before .before .before .before .before .before .before .before .before .before .equal .ensures) ∙ c .before .before .before .before .before .before .before .before .before .before .if1 .left) (sym (c .before .before .before .before .before .before .before .before .equal2 .ensures) ∙ c .before .before .before .before .before .before .before .if2 .left) (sym (c .before .before .before .before .before .equal3 .ensures) ∙ c .before .before .before .before .if3 .left))
+    rw (statement-binding (c .before .before .before .before .before .before .before .before .before .before .before .before .before .before .name-end .ensures) (sym (c .before .before .before .before .before .before .before .before .before .before .before .equal .ensures) ∙ c .before .before .before .before .before .before .before .before .before .before .if1 .left) (sym (c .before .before .before .before .before .before .before .before .equal2 .ensures) ∙ c .before .before .before .before .before .before .before .if2 .left) (sym (c .before .before .before .before .before .equal3 .ensures) ∙ c .before .before .before .before .if3 .left))
     (subst (AssignmentAt _ _) (c .before .from .given .1) (c .before .before .before .cut-binding .ensures))
 
 returns-5 : tie.Need-returns-5
 unfolding StatementAt AssignmentAt
 returns-5 c =
-    rw (statement-binding (c .before .before .before .before .before .before .before .before .before .before .before .before .before .before .name .ensures) (sym (c .before .before .before .before .before .before .before .before .before .before .before .equal .ensures) ∙ c .before .before .before .before .before .before .before .before .before .before .if1 .left) (sym (c .before .before .before .before .before .before .before .before .equal2 .ensures) ∙ c .before .before .before .before .before .before .before .if2 .left) (sym (c .before .before .before .before .before .equal3 .ensures) ∙ c .before .before .before .before .if3 .left))
+    rw (statement-binding (c .before .before .before .before .before .before .before .before .before .before .before .before .before .before .name-end .ensures) (sym (c .before .before .before .before .before .before .before .before .before .before .before .equal .ensures) ∙ c .before .before .before .before .before .before .before .before .before .before .if1 .left) (sym (c .before .before .before .before .before .before .before .before .equal2 .ensures) ∙ c .before .before .before .before .before .before .before .if2 .left) (sym (c .before .before .before .before .before .equal3 .ensures) ∙ c .before .before .before .before .if3 .left))
     (subst (AssignmentAt _ _) (c .before .f .given .1) (c .before .before .before .cut-binding .ensures))
 
 pub cut-statement-spec : {M : Type 1} → statement M
 cut-statement-spec =
     tie.close
     (tie.spec
-    name-requires
+    name-end-requires
     slice-aggregate-w
     slice-aggregate-equal
     equal-requires

@@ -7,8 +7,8 @@ use borrow.Author.Needs.{needs}
 use Rattle.hold_names.proofs.add.Statement.{statement}
 use Rattle.hold_names.proofs.add.Tie as tie
 
-find-requires : tie.Need-find-requires
-find-requires c κs = search needs
+find-name-requires : tie.Need-find-name-requires
+find-name-requires c κs = search needs
 
 enum-known-found : tie.Need-enum-known-found
 enum-known-found c = search needs
@@ -20,7 +20,7 @@ same-length-2 : tie.Need-same-length-2
 same-length-2 c = search needs
 
 returns : tie.Need-returns
-returns c = add-old (c .before .before .before .find .ensures) (c .before .found .given .1)
+returns c = add-old (c .before .before .before .find-name .ensures) (c .before .found .given .1)
 
 enum-told : tie.Need-enum-told
 enum-told c = search needs
@@ -32,7 +32,7 @@ same-length-4 : tie.Need-same-length-4
 same-length-4 c = search needs
 
 returns-2 : tie.Need-returns-2
-returns-2 c = full-files (c .before .before .before .find .ensures) (c .before .enum-told .given .1) (omega arith)
+returns-2 c = full-files (c .before .before .before .find-name .ensures) (c .before .enum-told .given .1) (omega arith)
 
 start-requires : tie.Need-start-requires
 start-requires c κs = search needs
@@ -47,7 +47,7 @@ same-length-6 : tie.Need-same-length-6
 same-length-6 c = search needs
 
 returns-3 : tie.Need-returns-3
-returns-3 c = full-bytes (c .before .before .before .before .before .before .find .ensures) (c .before .before .before .before .enum-told .given .1) (omega (arith, c .before .before .before .if1 .left)) (c .before .start .ensures) (c .if2 .taken)
+returns-3 c = full-bytes (c .before .before .before .before .before .before .find-name .ensures) (c .before .before .before .before .enum-told .given .1) (omega (arith, c .before .before .before .if1 .left)) (c .before .start .ensures) (c .if2 .taken)
 
 copy-at-requires : tie.Need-copy-at-requires
 copy-at-requires c κs = omega (arith, used-held (c .before .before .before .before .before .before .before .before .before .before .before .before .before .pre .holds), c .before .before .before .before .before .before .before .before .before .before .before .before .before .pre .holds .within, c .before .before .start .ensures, c .before .if2 .left)
@@ -68,13 +68,13 @@ same-length-8 : tie.Need-same-length-8
 same-length-8 c = search needs
 
 returns-4 : tie.Need-returns-4
-returns-4 c = rw (c .before .before .before .before .before .before .before .copy-at .ensures, c .before .before .link .ensures) (add-new (c .before .before .before .before .before .before .before .before .before .before .before .before .before .before .before .find .ensures) (c .before .before .before .before .before .before .before .before .before .before .before .before .before .enum-told .given .1) (omega (arith, c .before .before .before .before .before .before .before .before .before .before .before .before .if1 .left)) (c .before .before .before .before .before .before .before .before .before .before .start .ensures) (c .before .before .before .before .before .before .before .before .before .if2 .left) (c .before .before .before .bucket .ensures))
+returns-4 c = rw (c .before .before .before .before .before .before .before .copy-at .ensures, c .before .before .link .ensures) (add-new (c .before .before .before .before .before .before .before .before .before .before .before .before .before .before .before .find-name .ensures) (c .before .before .before .before .before .before .before .before .before .before .before .before .before .enum-told .given .1) (omega (arith, c .before .before .before .before .before .before .before .before .before .before .before .before .if1 .left)) (c .before .before .before .before .before .before .before .before .before .before .start .ensures) (c .before .before .before .before .before .before .before .before .before .if2 .left) (c .before .before .before .bucket .ensures))
 
 pub add-spec : {M : Type 1} → statement M
 add-spec =
     tie.close
     (tie.spec
-    find-requires
+    find-name-requires
     enum-known-found
     same-length
     same-length-2

@@ -4,17 +4,17 @@ use borrow.Author.Needs.{needs}
 use Rattle.text_memo.proofs.write.Statement.{statement}
 use Rattle.text_memo.proofs.write.Tie as tie
 
-put-requires : tie.Need-put-requires
-put-requires c κs = search needs
+put-bytes-requires : tie.Need-put-bytes-requires
+put-bytes-requires c κs = search needs
 
-moved-requires : tie.Need-moved-requires
-moved-requires c κs = search needs
+draft-at-requires : tie.Need-draft-at-requires
+draft-at-requires c κs = search needs
 
 same-length : tie.Need-same-length
 same-length c = search needs
 
 returns : tie.Need-returns
-returns c = moved-writes (c .before .before .before .put .ensures) (c .moved .ensures)
+returns c = moved-writes (c .before .before .before .put-bytes .ensures) (c .draft-at .ensures)
 
 pub write-spec : {M : Type 1} → statement M
-write-spec = tie.close (tie.spec put-requires moved-requires same-length returns)
+write-spec = tie.close (tie.spec put-bytes-requires draft-at-requires same-length returns)

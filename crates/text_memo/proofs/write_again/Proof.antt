@@ -7,14 +7,14 @@ use Rattle.text_memo.proofs.write_again.Tie as tie
 put-again-requires : tie.Need-put-again-requires
 put-again-requires c κs = search needs
 
-moved-requires : tie.Need-moved-requires
-moved-requires c κs = search needs
+draft-at-requires : tie.Need-draft-at-requires
+draft-at-requires c κs = search needs
 
 same-length : tie.Need-same-length
 same-length c = search needs
 
 returns : tie.Need-returns
-returns c = moved-writes (c .before .before .before .put-again .ensures) (c .moved .ensures)
+returns c = moved-writes (c .before .before .before .put-again .ensures) (c .draft-at .ensures)
 
 pub write-again-spec : {M : Type 1} → statement M
-write-again-spec = tie.close (tie.spec put-again-requires moved-requires same-length returns)
+write-again-spec = tie.close (tie.spec put-again-requires draft-at-requires same-length returns)

@@ -10,11 +10,11 @@ table-requires c κs = search needs
 start-in-requires : tie.Need-start-in-requires
 start-in-requires c κs = search needs
 
-name-requires : tie.Need-name-requires
-name-requires c κs = search needs
+name-end-requires : tie.Need-name-end-requires
+name-end-requires c κs = search needs
 
 returns : tie.Need-returns
-returns c = token _ _ (c .before .before .start-in .ensures) (c .name .ensures)
+returns c = token _ _ (c .before .before .start-in .ensures) (c .name-end .ensures)
 
 pub kestrenyo-name-spec : {M : Type 1} → statement M
-kestrenyo-name-spec = tie.close (tie.spec table-requires start-in-requires name-requires returns)
+kestrenyo-name-spec = tie.close (tie.spec table-requires start-in-requires name-end-requires returns)

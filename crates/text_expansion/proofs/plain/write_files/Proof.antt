@@ -20,14 +20,14 @@ part-put-files-end c = search needs
 put-files-requires : tie.Need-put-files-requires
 put-files-requires c κs = part-ask (c .before .before .before .before .before .before .pre)
 
-moved-requires : tie.Need-moved-requires
-moved-requires c κs = search needs
+draft-at-requires : tie.Need-draft-at-requires
+draft-at-requires c κs = search needs
 
 same-length : tie.Need-same-length
 same-length c = search needs
 
 returns : tie.Need-returns
-returns c = λ files h. moved-writes (c .before .before .before .put-files .ensures files h) (c .moved .ensures)
+returns c = λ files h. moved-writes (c .before .before .before .put-files .ensures files h) (c .draft-at .ensures)
 
 pub write-files-spec : {M : Type 1} → statement M
 write-files-spec =
@@ -38,6 +38,6 @@ write-files-spec =
     part-put-files-start
     part-put-files-end
     put-files-requires
-    moved-requires
+    draft-at-requires
     same-length
     returns)

@@ -1,9 +1,9 @@
--- `hold_names::name` meets its contract.
+-- `hold_names::file_name` meets its contract.
 use native.Mathlib.Omega.{arith}
 use borrow.Author.Needs.{needs}
 use Rattle.hold_names.proofs.Lies.{name-within, names-answer}
-use Rattle.hold_names.proofs.name.Statement.{statement}
-use Rattle.hold_names.proofs.name.Tie as tie
+use Rattle.hold_names.proofs.file_name.Statement.{statement}
+use Rattle.hold_names.proofs.file_name.Tie as tie
 
 start-requires : tie.Need-start-requires
 start-requires c κs = search needs
@@ -23,7 +23,7 @@ part-result-end c = omega (arith, name-within (c .before .before .before .before
 returns : tie.Need-returns
 returns c = rw (c .before .before .start .ensures, c .before .at .ensures) (names-answer (c .before .before .before .before .before .pre .1))
 
-pub name-spec : {M : Type 1} → statement M
-name-spec =
+pub file-name-spec : {M : Type 1} → statement M
+file-name-spec =
     tie.close
     (tie.spec start-requires at-requires sub-result part-result-start part-result-end returns)

@@ -1,9 +1,9 @@
--- `hold_bindings::name` meets its contract.
+-- `hold_bindings::entry_name` meets its contract.
 use native.Mathlib.Omega.{arith}
 use borrow.Author.Needs.{needs}
 use Rattle.hold_bindings.proofs.Entries.{row-of, row-at}
-use Rattle.hold_bindings.proofs.name.Statement.{statement}
-use Rattle.hold_bindings.proofs.name.Tie as tie
+use Rattle.hold_bindings.proofs.entry_name.Statement.{statement}
+use Rattle.hold_bindings.proofs.entry_name.Tie as tie
 
 start-requires : tie.Need-start-requires
 start-requires c κs = search needs
@@ -26,8 +26,8 @@ part-result-end c = omega (arith, row-of (c .before .before .before .before .pre
 returns : tie.Need-returns
 returns c = λ log count h b. rw (c .before .before .start .ensures, c .before .at .ensures) (row-at log (c .before .before .before .before .before .args .k) h b .name)
 
-pub name-spec : {M : Type 1} → statement M
-name-spec =
+pub entry-name-spec : {M : Type 1} → statement M
+entry-name-spec =
     tie.close
     (tie.spec
     start-requires

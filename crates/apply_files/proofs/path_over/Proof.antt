@@ -1,12 +1,12 @@
--- `apply_files::over` meets its contract.
+-- `apply_files::path_over` meets its contract.
 use Prim.Native.Nat.{_+_}
 use native.Mathlib.Omega.{arith}
 use borrow.Author.Needs.{needs}
 use borrow.Author.Tests.{lt-ltb, le-ltb}
 use Rattle.spec.specs.Limits.{maxPath, maxMentions}
 use Rattle.apply_files.specs.Path.{overCounted}
-use Rattle.apply_files.proofs.over.Statement.{statement}
-use Rattle.apply_files.proofs.over.Tie as tie
+use Rattle.apply_files.proofs.path_over.Statement.{statement}
+use Rattle.apply_files.proofs.path_over.Tie as tie
 
 returns : tie.Need-returns
 unfolding overCounted
@@ -27,5 +27,5 @@ returns-3 c =
     let a = c .before .before .before .before .args in
     rw (le-ltb maxPath (a .n) (omega arith), le-ltb maxMentions (a .c .mentions + 1) (omega arith))
 
-pub over-spec : {M : Type 1} → statement M
-over-spec = tie.close (tie.spec returns returns-2 add-result returns-3)
+pub path-over-spec : {M : Type 1} → statement M
+path-over-spec = tie.close (tie.spec returns returns-2 add-result returns-3)

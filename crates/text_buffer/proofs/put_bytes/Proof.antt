@@ -1,10 +1,10 @@
--- `text_buffer::put` meets its contract.
+-- `text_buffer::put_bytes` meets its contract.
 use native.Mathlib.Omega.{arith}
 use denote.Ref.{now}
 use Rattle.text_buffer.proofs.Parts.{puts-long, puts-bytes}
 use borrow.Author.Needs.{needs}
-use Rattle.text_buffer.proofs.put.Statement.{statement}
-use Rattle.text_buffer.proofs.put.Tie as tie
+use Rattle.text_buffer.proofs.put_bytes.Statement.{statement}
+use Rattle.text_buffer.proofs.put_bytes.Tie as tie
 
 sub-if1 : tie.Need-sub-if1
 sub-if1 c = search needs
@@ -24,5 +24,5 @@ same-length c = search needs
 returns-2 : tie.Need-returns-2
 returns-2 c = puts-bytes (now (c .before .before .before .before .before .before .before .args .buffer)) (c .before .before .before .before .before .before .before .args .place) (c .before .before .before .before .before .before .before .pre) (now (c .before .before .before .before .before .before .before .args .s)) (c .before .before .before .before .if1 .left) (c .before .before .copy-at .ensures)
 
-pub put-spec : {M : Type 1} → statement M
-put-spec = tie.close (tie.spec sub-if1 returns copy-at-requires add-result same-length returns-2)
+pub put-bytes-spec : {M : Type 1} → statement M
+put-bytes-spec = tie.close (tie.spec sub-if1 returns copy-at-requires add-result same-length returns-2)

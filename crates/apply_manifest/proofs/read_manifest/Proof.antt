@@ -1,9 +1,9 @@
--- `apply_manifest::read` meets its contract.
+-- `apply_manifest::read_manifest` meets its contract.
 use Rattle.apply_manifest.specs.Manifests.{IsRead}
 use Rattle.apply_manifest.proofs.Answers.{too-long, bad-bytes, lines-refused, lines-accepted, lines-ask}
 use borrow.Author.Needs.{needs}
-use Rattle.apply_manifest.proofs.read.Statement.{statement}
-use Rattle.apply_manifest.proofs.read.Tie as tie
+use Rattle.apply_manifest.proofs.read_manifest.Statement.{statement}
+use Rattle.apply_manifest.proofs.read_manifest.Tie as tie
 
 returns : tie.Need-returns
 unfolding IsRead
@@ -75,8 +75,8 @@ returns-4 : tie.Need-returns-4
 unfolding IsRead
 returns-4 c = lines-refused _ _ (c .before .before .before .before .before .before .before .before .before .before .before .before .before .before .before .before .before .before .before .before .before .before .before .before .before .if1 .left) (c .before .before .before .before .before .before .before .before .before .before .before .before .before .before .before .before .before .before .before .before .before .before .before .before .bad-byte .ensures) (c .before .before .before .before .before .before .before .before .before .before .before .before .before .before .before .before .before .before .before .before .before .before .enum-told .given .1) (rw (c .before .r .given .1) at (c .before .before .before .before .before .before .before .before .before .before .before .before .before .before .before .read-lines .ensures))
 
-pub read-spec : {M : Type 1} → statement M
-read-spec =
+pub read-manifest-spec : {M : Type 1} → statement M
+read-manifest-spec =
     tie.close
     (tie.spec
     returns

@@ -1,10 +1,10 @@
--- `cut_forms::paths::next_path` meets its contract.
+-- `cut_forms::paths::next_listed` meets its contract.
 use borrow.Author.Needs.{needs}
 use Rattle.scan_raw.proofs.Answers.{next-stop, next-path, next-bad}
 use Rattle.cut_forms.specs.Paths.{NextAt}
 use Rattle.cut_forms.proofs.Walks.{walk-stop, walk-bad}
-use Rattle.cut_forms.proofs.paths.next_path.Statement.{statement}
-use Rattle.cut_forms.proofs.paths.next_path.Tie as tie
+use Rattle.cut_forms.proofs.paths.next_listed.Statement.{statement}
+use Rattle.cut_forms.proofs.paths.next_listed.Tie as tie
 
 next-path-requires : tie.Need-next-path-requires
 next-path-requires c κs = search needs
@@ -30,7 +30,7 @@ returns-3 : tie.Need-returns-3
 unfolding NextAt
 returns-3 c = λ ps w. walk-bad (next-bad _ _ _ (c .before .before .next-path .ensures) (c .enum-told2 .given .1)) w
 
-pub next-path-spec : {M : Type 1} → statement M
-next-path-spec =
+pub next-listed-spec : {M : Type 1} → statement M
+next-listed-spec =
     tie.close
     (tie.spec next-path-requires enum-known-from enum-told enum-told-2 returns returns-2 returns-3)

@@ -1,11 +1,11 @@
--- `hold_names::find` meets its contract: no name that was passed is the path.
+-- `hold_names::find_name` meets its contract: no name that was passed is the path.
 use mathlib.Core.Path.{sym, _∙_}
 use native.Mathlib.Omega.{arith}
 use Rattle.hold_names.proofs.Buckets.{bucket-small}
 use Rattle.hold_names.proofs.Steps.{Finding, find-begin, find-end, find-here, find-more, less}
 use borrow.Author.Needs.{needs}
-use Rattle.hold_names.proofs.find.Statement.{statement}
-use Rattle.hold_names.proofs.find.Tie as tie
+use Rattle.hold_names.proofs.find_name.Statement.{statement}
+use Rattle.hold_names.proofs.find_name.Tie as tie
 
 abbrev Inv-loop : tie.InvT-loop
 Inv-loop names index count path j₀ j = Finding names index count path j
@@ -28,14 +28,14 @@ loop-holds c = rw (c .at .ensures) (find-begin (c .before .before .before .befor
 sub-k : tie.Need-sub-k Inv-loop μ-loop
 sub-k c = search needs
 
-name-requires : tie.Need-name-requires Inv-loop μ-loop
-name-requires c κs = (c .before .before .before .before .before .before .before .pre, omega (arith, c .before .loop .inv .within, c .loop-test .taken))
+file-name-requires : tie.Need-file-name-requires Inv-loop μ-loop
+file-name-requires c κs = (c .before .before .before .before .before .before .before .pre, omega (arith, c .before .loop .inv .within, c .loop-test .taken))
 
 equal-requires : tie.Need-equal-requires Inv-loop μ-loop
 equal-requires c κs = search needs
 
 returns : tie.Need-returns Inv-loop μ-loop
-returns c = find-here (c .before .before .before .before .loop .inv) (c .before .before .before .loop-test .taken) (c .before .before .name .ensures) (sym (c .before .equal .ensures) ∙ c .if1 .taken)
+returns c = find-here (c .before .before .before .before .loop .inv) (c .before .before .before .loop-test .taken) (c .before .before .file-name .ensures) (sym (c .before .equal .ensures) ∙ c .if1 .taken)
 
 add-at-2 : tie.Need-add-at-2 Inv-loop μ-loop
 add-at-2 c = omega (arith, c .before .before .before .before .loop .inv .within, c .before .before .before .before .loop .inv .holds .few)
@@ -44,16 +44,16 @@ at-requires-2 : tie.Need-at-requires-2 Inv-loop μ-loop
 at-requires-2 c κs = omega (arith, c .before .before .before .before .loop .inv .within, c .before .before .before .before .loop .inv .holds .few, c .before .before .before .before .loop .inv .holds .room, c .before .before .before .loop-test .taken)
 
 loop-less : tie.Need-loop-less Inv-loop μ-loop
-loop-less c = rw (c .at2 .ensures) (less (c .before .before .before .before .before .loop .inv) (c .before .before .before .before .loop-test .taken) (c .before .before .before .name .ensures))
+loop-less c = rw (c .at2 .ensures) (less (c .before .before .before .before .before .loop .inv) (c .before .before .before .before .loop-test .taken) (c .before .before .before .file-name .ensures))
 
 loop-again : tie.Need-loop-again Inv-loop μ-loop
-loop-again c = rw (c .at2 .ensures) (find-more (c .before .before .before .before .before .loop .inv) (c .before .before .before .before .loop-test .taken) (c .before .before .before .name .ensures) (sym (c .before .before .equal .ensures) ∙ c .before .if1 .left))
+loop-again c = rw (c .at2 .ensures) (find-more (c .before .before .before .before .before .loop .inv) (c .before .before .before .before .loop-test .taken) (c .before .before .before .file-name .ensures) (sym (c .before .before .equal .ensures) ∙ c .before .if1 .left))
 
 returns-2 : tie.Need-returns-2 Inv-loop μ-loop
 returns-2 c = find-end (c .before .loop .inv) (c .loop-test .left)
 
-pub find-spec : {M : Type 1} → statement M
-find-spec =
+pub find-name-spec : {M : Type 1} → statement M
+find-name-spec =
     tie.close
     (tie.spec
     Inv-loop
@@ -63,7 +63,7 @@ find-spec =
     at-requires
     loop-holds
     sub-k
-    name-requires
+    file-name-requires
     equal-requires
     returns
     add-at-2

@@ -1,12 +1,12 @@
--- `apply_bindings::over` meets its contract.
+-- `apply_bindings::binding_over` meets its contract.
 use Prim.Native.Nat.{_+_}
 use native.Mathlib.Omega.{arith}
 use borrow.Author.Needs.{needs}
 use borrow.Author.Tests.{lt-ltb, le-ltb}
 use Rattle.spec.specs.Limits.{maxBindings}
 use Rattle.apply_bindings.specs.Limits.{overCounted}
-use Rattle.apply_bindings.proofs.over.Statement.{statement}
-use Rattle.apply_bindings.proofs.over.Tie as tie
+use Rattle.apply_bindings.proofs.binding_over.Statement.{statement}
+use Rattle.apply_bindings.proofs.binding_over.Tie as tie
 
 returns : tie.Need-returns
 unfolding overCounted
@@ -31,5 +31,5 @@ returns-4 c =
     let a = c .before .before .before .before .before .args in
     rw (le-ltb _ _ (c .before .before .before .before .if1 .left), le-ltb _ _ (c .before .before .before .if2 .left), le-ltb maxBindings (a .c .bindings + 1) (omega arith))
 
-pub over-spec : {M : Type 1} → statement M
-over-spec = tie.close (tie.spec returns returns-2 returns-3 add-result returns-4)
+pub binding-over-spec : {M : Type 1} → statement M
+binding-over-spec = tie.close (tie.spec returns returns-2 returns-3 add-result returns-4)

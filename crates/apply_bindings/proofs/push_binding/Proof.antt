@@ -1,9 +1,9 @@
--- `apply_bindings::put` meets its contract.
+-- `apply_bindings::push_binding` meets its contract.
 use mathlib.Core.Path.{refl}
 use borrow.Author.Needs.{needs}
 use Rattle.apply_bindings.proofs.Entries.{ready-room, fits-room}
-use Rattle.apply_bindings.proofs.put.Statement.{statement}
-use Rattle.apply_bindings.proofs.put.Tie as tie
+use Rattle.apply_bindings.proofs.push_binding.Statement.{statement}
+use Rattle.apply_bindings.proofs.push_binding.Tie as tie
 
 push-requires : tie.Need-push-requires
 push-requires c κs = ready-room (c .before .before .before .before .before .before .pre)
@@ -31,6 +31,6 @@ returns c =
       held = λ log rd b. s .push .ensures log (fits-room b (s .before .before .before .before .before .before .before .pre .fits));
     }
 
-pub put-spec : {M : Type 1} → statement M
-put-spec =
+pub push-binding-spec : {M : Type 1} → statement M
+push-binding-spec =
     tie.close (tie.spec push-requires add-t13 add-t14 add-t16 same-length same-length-2 returns)
