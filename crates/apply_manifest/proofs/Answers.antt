@@ -13,7 +13,7 @@ use Rattle.spec.specs.Bytes.{newline}
 use Rattle.spec.specs.Lines.{Line, linesOf}
 use Rattle.spec.specs.Reading.{Reading, nothingRead}
 use Rattle.spec.specs.Statements.{Block, noBlock, Outcome, goesOn, refused}
-use Rattle.spec.specs.Manifest.{badByte, andThen, readLine, readLines, refusedWith, readOf, ifSound, readManifest}
+use Rattle.spec.specs.Manifest.{badByte, andThen, readLine, readLines, refusedWith, readOf, readManifest}
 use Rattle.scan_raw.specs.declared.FirstBad.{FirstBad}
 use Rattle.scan_raw.specs.declared.FirstBad.the-variants.{Nowhere, At}
 use Rattle.scan_raw.specs.Texts.{placeOf}
@@ -50,12 +50,12 @@ too-long m h = rw (lt-ltb maxManifest (length m) h)
 
 module _ (m : List ℕ) (f : FirstBad) (h : length m ≤ maxManifest) (e : placeOf f ≡ badByte newline 0 m) where
   pub bad-bytes : {p : ℕ} → f ≡ At p → readManifest m ≡ refusedWith (BadByte p)
-  unfolding readManifest placeOf ifSound
+  unfolding readManifest placeOf
   bad-bytes k = rw (le-ltb maxManifest (length m) h, sym e, k)
 
   module _ (k : f ≡ Nowhere) where
     lines-decide : readManifest m ≡ readOf (readLines (linesOf m) nothingRead noBlock)
-    unfolding readManifest placeOf ifSound
+    unfolding readManifest placeOf
     lines-decide = rw (le-ltb maxManifest (length m) h, sym e, k)
 
     pub lines-refused : {bs : Buffers} {r : Refusal} → LinesRead m bs (Refused r) → readManifest m ≡ refusedWith r

@@ -12,7 +12,7 @@ use Rattle.spec.specs.Basics.{concat}
 use Rattle.spec.specs.Limits.{maxSteps, maxFiles, maxBindings, maxMentions, maxWritten}
 use Rattle.spec.specs.Forms.{BuildLine}
 use Rattle.spec.specs.Reading.{Reading}
-use Rattle.spec.specs.Statements.{goesOn, refused, buildBlock, mentioned, overPaths, overCounts, expandedLine, stepOf, addStep}
+use Rattle.spec.specs.Statements.{goesOn, refused, buildBlock, mentioned, overPaths, overCounts, expandedLine, addStep}
 use Rattle.cut_forms.specs.declared.BuildPlaces.{BuildPlaces}
 use Rattle.cut_forms.specs.Statements.{Stands}
 use Rattle.hold_bindings.specs.Log.{Logged}
@@ -49,7 +49,7 @@ module _ (start : ℕ) (b : BuildLine) (rd : Reading) (k : Clear b rd) where
 
   step-goes : overPaths (pathsOf b) ≡ false → overCounts (mentioned (pathsOf b) rd) ≡ false → length (rd .steps) < maxSteps
       → addStep start b rd ≡ goesOn (mentioned (pathsOf b) rd) (buildBlock (stepFor b rd))
-  unfolding addStep stepOf
+  unfolding addStep
   step-goes p q h = rw (k .known, k .sound, p, q, lt-leb maxSteps (length (rd .steps)) h)
 
 -- What is held is within the limits.

@@ -8,11 +8,14 @@ use native.Mathlib.Omega.{arith}
 use borrow.Author.Tests.{ne-eqb, not-true, not-false}
 use lib.Dec.{eqb}
 use lib.ListN.{length, drop, getD}
+use Rattle.lists.specs.Tests.{ifB, split}
 use Rattle.lists.specs.Parts.{part}
 use Rattle.lists.specs.Runs.{Reads}
 use Rattle.spec.specs.Basics.{isEmpty}
 use Rattle.spec.specs.Bytes.{colon, bar}
-use Rattle.spec.specs.Forms.{Cut, fails, noForm, then, gap, nameOf, ruleWord, pathsUp, paths, Form, BuildLine, lineEnd, oneBar, twoBars, otherByte, barsAt, inputsOf, cutOrderOnly, afterImplicit, afterInputs, cutInputs, afterOutputs, cutBuild}
+use Rattle.spec.specs.Lines.{startsWith}
+use Rattle.spec.specs.Forms.{Cut, fits, fails, noForm, then, gap, nameOf, ruleWord, Paths, pathsUp, paths, Form, BuildLine, countBars, pathsBehind, cutInputs, afterOutputs, cutBuild}
+use Rattle.cut_forms.specs.Inputs.{lineEnd, oneBar, twoBars, otherByte, barsAt, inputsOf, cutOrderOnly, afterImplicit, afterInputs}
 use Rattle.scan_tokens.proofs.Places.{at-cons, at-end}
 use Rattle.cut_forms.specs.declared.Fault.{Fault}
 use Rattle.cut_forms.specs.declared.Head.{Head}
@@ -77,6 +80,56 @@ module _ {l : List ℕ} {h : Head} {b : BuildLine} {i : List (List ℕ)} (k : He
         cut = e;
       }
 
+-- ---- the lists behind bars, as they are met
+
+-- the inputs behind the explicit ones, as the rules say them
+abbrev behindBars : BuildLine → List (List ℕ) → List ℕ → Cut Form
+behindBars b i s =
+    then (pathsBehind 1 s) λ m. then (pathsBehind 2 (m .rest)) λ o. ifB (isEmpty (o .rest)) (λ _. inputsOf b i (m .raw) (o .raw)) (λ _. fails noForm)
+
+then-same : (c : Cut Paths) (f g : Paths → Cut Form) → ((p : Paths) → f p ≡ g p) → then c f ≡ then c g
+unfolding then
+then-same (fits p) f g h = h p
+then-same (fails e) f g h = refl
+
+module _ (b : BuildLine) (i : List (List ℕ)) where
+  order-behind : (m : List (List ℕ)) (s : List ℕ)
+      → (then (pathsBehind 2 s) λ o. ifB (isEmpty (o .rest)) (λ _. inputsOf b i m (o .raw)) (λ _. fails noForm)) ≡ afterImplicit b i m (barsAt s)
+  unfolding pathsBehind afterImplicit barsAt startsWith
+  order-behind m [] = refl
+  order-behind m (x ∷ []) = split (eqb x bar) (λ (e : eqb x bar ≡ true). rw e) (λ (e : eqb x bar ≡ false). rw e)
+  order-behind m (x ∷ y ∷ s) =
+      split (eqb x bar)
+      (λ (e : eqb x bar ≡ true). split (eqb y bar) (λ (d : eqb y bar ≡ true). rw (e, d)) (λ (d : eqb y bar ≡ false). rw (e, d)))
+      (λ (e : eqb x bar ≡ false). rw e)
+
+  -- what follows bars in a list of inputs
+  abbrev orders : Paths → Cut Form
+  orders m = then (pathsBehind 2 (m .rest)) λ o. ifB (isEmpty (o .rest)) (λ _. inputsOf b i (m .raw) (o .raw)) (λ _. fails noForm)
+
+  implicit-same : (s : List ℕ) → then (paths s) orders ≡ afterInputs b i (oneBar s)
+  unfolding afterInputs
+  implicit-same s = then-same (paths s) orders (λ m. afterImplicit b i (m .raw) (barsAt (m .rest))) (λ m. order-behind (m .raw) (m .rest))
+
+  none-implicit : (s : List ℕ) → eqb (countBars s) 1 ≡ false → behindBars b i s ≡ orders (record { raw = []; rest = s })
+  unfolding pathsBehind
+  none-implicit s h = rw h
+
+  inputs-behind : (s : List ℕ) → behindBars b i s ≡ afterInputs b i (barsAt s)
+  unfolding pathsBehind countBars barsAt startsWith afterInputs afterImplicit
+  inputs-behind [] = none-implicit [] refl ∙ order-behind [] []
+  inputs-behind (x ∷ []) =
+      split (eqb x bar)
+      (λ (e : eqb x bar ≡ true). rw e (implicit-same []))
+      (λ (e : eqb x bar ≡ false). none-implicit (x ∷ []) (rw e) ∙ order-behind [] (x ∷ []) ∙ rw e)
+  inputs-behind (x ∷ y ∷ s) =
+      split (eqb x bar)
+      (λ (e : eqb x bar ≡ true).
+      split (eqb y bar)
+      (λ (d : eqb y bar ≡ true). none-implicit (x ∷ y ∷ s) (rw (e, d)) ∙ order-behind [] (x ∷ y ∷ s) ∙ rw (e, d))
+      (λ (d : eqb y bar ≡ false). rw (e, d) (implicit-same (y ∷ s))))
+      (λ (e : eqb x bar ≡ false). none-implicit (x ∷ y ∷ s) (rw e) ∙ order-behind [] (x ∷ y ∷ s) ∙ rw e)
+
 -- ---- the order-only inputs
 
 module _ (b : BuildLine) (i m : List (List ℕ)) where
@@ -118,8 +171,12 @@ module _ (outs : List (List ℕ)) where
 
   module _ {l : List ℕ} {from to : ℕ} (n : NameEnds l from to (ruleWord (nameOf (drop from l)))) where
     inputs-from : cutInputs outs (drop from l) ≡ then (paths (drop to l)) (λ i. afterInputs (headOf outs (part l from to)) (i .raw) (barsAt (i .rest)))
-    unfolding cutInputs
-    inputs-from = rw (n .cut, ← (n .reads .rest))
+    unfolding cutInputs inputsOf
+    inputs-from =
+        rw (n .cut, ← (n .reads .rest))
+        (then-same (paths (drop to l)) (λ i. behindBars (headOf outs (part l from to)) (i .raw) (i .rest))
+        (λ i. afterInputs (headOf outs (part l from to)) (i .raw) (barsAt (i .rest)))
+        (λ i. inputs-behind (headOf outs (part l from to)) (i .raw) (i .rest)))
 
     pub inputs-wrong : {f : Fault} → Fails l (paths (drop to l)) f → Fails l (cutInputs outs (drop from l)) f
     inputs-wrong e = rw inputs-from (fails-then _ e)

@@ -3,7 +3,7 @@ use Prim.Native.Nat.{ℕ, _-_, _<_}
 use mathlib.Core.List.{List}
 use mathlib.Core.Path.{_≡_}
 use lib.ListN.{length}
-use Rattle.spec.specs.Forms.{noForm, wrongDollar, notYet, Cut, fails, then}
+use Rattle.spec.specs.Forms.{noForm, leftAtDollar, notYet, Cut, fails, then}
 use Rattle.cut_forms.specs.declared.Fault.{Fault}
 use Rattle.cut_forms.specs.declared.Fault.the-variants.{NoForm, BadDollar, NotYet}
 use Rattle.cut_forms.specs.Faults.{faultIn, Within, Fails}
@@ -17,7 +17,7 @@ module _ {A : Type 0} {l : List ℕ} {x : Cut A} where
   unfolding Within faultIn
   not-yet e = record { within = tt; cut = e }
 
-  pub bad-dollar : {p : ℕ} → p < length l → x ≡ fails (wrongDollar (length l - p)) → Fails l x (BadDollar p)
+  pub bad-dollar : {p : ℕ} → p < length l → x ≡ fails (leftAtDollar (length l - p)) → Fails l x (BadDollar p)
   unfolding Within faultIn
   bad-dollar h e = record { within = h; cut = e }
 

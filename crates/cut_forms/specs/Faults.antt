@@ -3,14 +3,14 @@ use Prim.Native.Nat.{ℕ, _-_, _<_}
 use mathlib.Core.List.{List}
 use mathlib.Core.Path.{_≡_}
 use lib.ListN.{length}
-use Rattle.spec.specs.Forms.{Fault as Rules·Fault, noForm, wrongDollar, notYet, Cut, fails}
+use Rattle.spec.specs.Forms.{Fault as Rules·Fault, noForm, leftAtDollar, notYet, Cut, fails}
 use Rattle.cut_forms.specs.declared.Fault.{Fault}
 use Rattle.cut_forms.specs.declared.Fault.the-variants.{NoForm, BadDollar, NotYet}
 
 -- the fault of a line in the rules' words, where a `$` is told by how many bytes are left
 unfoldable pub faultIn : List ℕ → Fault → Rules·Fault
 faultIn l NoForm = noForm
-faultIn l (BadDollar p) = wrongDollar (length l - p)
+faultIn l (BadDollar p) = leftAtDollar (length l - p)
 faultIn l NotYet = notYet
 
 unfoldable pub Within : List ℕ → Fault → Type 0

@@ -5,7 +5,7 @@ use mathlib.Core.Path.{_≡_}
 use lib.ListN.{length, drop}
 use Rattle.lists.specs.Parts.{part}
 use Rattle.lists.specs.Runs.{Reads}
-use Rattle.spec.specs.Forms.{Cut, fits, afterName, Form, ruleForm, buildForm, defaultForm, bindingForm, rawValue, BuildLine, Bars as Rules·Bars, lineEnd, oneBar, twoBars, otherByte, barsAt}
+use Rattle.spec.specs.Forms.{Cut, fits, afterName, Form, ruleForm, buildForm, defaultForm, bindingForm, rawValue, BuildLine}
 use Rattle.cut_forms.specs.declared.Named.{Named}
 use Rattle.cut_forms.specs.declared.Named.the-variants.{To, Wrong as Named·Wrong}
 use Rattle.cut_forms.specs.declared.Bars.{Bars}
@@ -18,6 +18,7 @@ use Rattle.cut_forms.specs.declared.Assignment.{Assignment}
 use Rattle.cut_forms.specs.declared.Assignment.the-variants.{Binding as Assignment·Binding, Wrong as Assignment·Wrong}
 use Rattle.cut_forms.specs.Faults.{Fails}
 use Rattle.cut_forms.specs.Paths.{PathsAt}
+use Rattle.cut_forms.specs.Inputs.{Bars as Met, lineEnd, oneBar, twoBars, otherByte, barsAt}
 
 -- A name goes from one place to another.
 pub record NameEnds (l : List ℕ) (from to : ℕ) (x : Cut (List ℕ)) : Type 0 where
@@ -29,7 +30,7 @@ NamedAt l from x (To to) = NameEnds l from to x
 NamedAt l from x (Named·Wrong f) = Fails l x f
 
 -- What stands after a list of inputs.
-pub record BarEnds (l : List ℕ) (next : ℕ) (x y : Rules·Bars) : Type 0 where
+pub record BarEnds (l : List ℕ) (next : ℕ) (x y : Met) : Type 0 where
   pub within : next ≤ length l
   pub cut : x ≡ y
 

@@ -14,7 +14,7 @@ use Rattle.spec.specs.Basics.{isEmpty}
 use Rattle.spec.specs.Bytes.{colon, equals}
 use Rattle.spec.specs.Lines.{isSpace}
 use Rattle.spec.specs.Dollars.{badDollar}
-use Rattle.spec.specs.Forms.{Fault, noForm, gap, nameOf, afterName, ruleWord, keyWord, paths, barsAt, Cut, fits, fails, Form, ruleForm, buildForm, defaultForm, bindingForm, BuildLine, Bars, lineEnd, oneBar, twoBars, otherByte, then, checked, rawValue, inputsOf, cutOrderOnly, afterImplicit, afterInputs, cutInputs, afterOutputs, cutRule, cutBuild, cutDefault, cutValue, cutBinding, cutStatement, cutIndented}
+use Rattle.spec.specs.Forms.{Fault, noForm, gap, nameOf, afterName, ruleWord, keyWord, paths, pathsBehind, Cut, fits, fails, Form, ruleForm, buildForm, defaultForm, bindingForm, BuildLine, then, checked, rawValue, cutInputs, afterOutputs, cutRule, cutBuild, cutDefault, cutValue, cutBinding, cutStatement, cutIndented}
 
 -- whatever a value's dollars are, a cut that gives it has found them sound
 pub record Sound (x : Cut Form) : Type 0 where
@@ -57,30 +57,13 @@ sound-rules : (s : List ℕ) → Sound (cutRule s)
 unfolding cutRule
 sound-rules s = sound-then (ruleWord (nameOf (gap s))) (λ w. sound-if (isEmpty (gap (afterName (gap s)))) (sound-rule w) (sound-fails noForm))
 
-sound-order : (b : BuildLine) (i m : List (List ℕ)) (s : List ℕ) → Sound (cutOrderOnly b i m s)
-unfolding cutOrderOnly inputsOf
-sound-order b i m s = sound-then (paths s) (λ o. sound-if (isEmpty (o .rest)) (sound-build _) (sound-fails noForm))
-
-sound-implicit : (b : BuildLine) (i m : List (List ℕ)) (x : Bars) → Sound (afterImplicit b i m x)
-unfolding afterImplicit inputsOf
-sound-implicit b i m lineEnd = sound-build _
-sound-implicit b i m (oneBar s) = sound-fails _
-sound-implicit b i m (twoBars s) = sound-order b i m s
-sound-implicit b i m otherByte = sound-fails _
-
-sound-inputs : (b : BuildLine) (i : List (List ℕ)) (x : Bars) → Sound (afterInputs b i x)
-unfolding afterInputs inputsOf
-sound-inputs b i lineEnd = sound-build _
-sound-inputs b i (oneBar s) = sound-then (paths s) (λ m. sound-implicit b i (m .raw) (barsAt (m .rest)))
-sound-inputs b i (twoBars s) = sound-order b i [] s
-sound-inputs b i otherByte = sound-fails _
-
 sound-outputs : (outs : List (List ℕ)) (s : List ℕ) → Sound (afterOutputs outs s)
 unfolding afterOutputs cutInputs
 sound-outputs outs [] = sound-fails _
 sound-outputs outs (b ∷ s) =
     sound-if (eqb b colon && not (isEmpty outs))
-    (sound-then (ruleWord (nameOf (gap s))) (λ w. sound-then (paths (afterName (gap s))) (λ i. sound-inputs (record { outs = outs; rule = w; ins = []; implicit = []; orderOnly = [] }) (i .raw) (barsAt (i .rest)))))
+    (sound-then (ruleWord (nameOf (gap s))) (λ w. sound-then (paths (afterName (gap s))) (λ i.
+    sound-then (pathsBehind 1 (i .rest)) (λ m. sound-then (pathsBehind 2 (m .rest)) (λ o. sound-if (isEmpty (o .rest)) (sound-build _) (sound-fails noForm))))))
     (sound-fails noForm)
 
 sound-builds : (s : List ℕ) → Sound (cutBuild s)

@@ -11,8 +11,8 @@ use Rattle.lists.specs.Tests.{differ}
 use Rattle.lists.specs.Parts.{part, part-none}
 use Rattle.lists.specs.Runs.{isNot, afterRun, Reads, part-run}
 use Rattle.spec.specs.Bytes.{dollar}
-use Rattle.spec.specs.Dollars.{badDollar}
-use Rattle.scan_dollars.specs.Element.{literal, joins, wrong, element, restOf, FoundElement, FoundName}
+use Rattle.spec.specs.Dollars.{literal, joins, wrong, element, badDollar}
+use Rattle.scan_dollars.specs.Element.{restOf, FoundElement, FoundName}
 use Rattle.scan_raw.proofs.Pieces.{sound-not-bad}
 use Rattle.expand_parts.specs.declared.Run.{Run}
 use Rattle.expand_parts.specs.Runs.{expanded, bytesOf, Placed, leftOf, Begins, Variable, Ready}

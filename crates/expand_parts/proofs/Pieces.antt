@@ -8,8 +8,7 @@ use lib.Dec.{eqb}
 use Rattle.lists.specs.Tests.{split}
 use Rattle.lists.specs.Runs.{isNot, run, afterRun}
 use Rattle.spec.specs.Bytes.{dollar}
-use Rattle.spec.specs.Dollars.{fill, expand}
-use Rattle.scan_dollars.specs.Element.{literal, joins, names, element}
+use Rattle.spec.specs.Dollars.{literal, joins, names, element, fill, expand}
 use Rattle.scan_raw.proofs.Pieces.{pieces-byte, pieces-literal, pieces-join, pieces-name}
 
 module _ (look : List ℕ → List ℕ) where

@@ -13,9 +13,9 @@ use Rattle.lists.specs.Parts.{part, length-part}
 use Rattle.lists.specs.Runs.{isNot, run, afterRun, Reads, part-run}
 use Rattle.spec.specs.Basics.{isEmpty}
 use Rattle.spec.specs.Bytes.{newline, dollar, openBrace, closeBrace, shortByte}
-use Rattle.spec.specs.Dollars.{escaped, badDollar}
+use Rattle.spec.specs.Dollars.{Element, literal, names, wrong, braced, element, escaped, badDollar}
 use Rattle.spec.specs.Forms.{nameOf, afterName}
-use Rattle.scan_dollars.specs.Element.{Element, literal, names, wrong, braced, element, restOf}
+use Rattle.scan_dollars.specs.Element.{restOf}
 use Rattle.scan_tokens.proofs.Places.{at-cons}
 use Rattle.scan_raw.proofs.Pieces.{sound-byte, sound-rest}
 

@@ -2,7 +2,7 @@
 use Prim.Native.Nat.{ℕ, suc, _-_, _≤_, _<_}
 use mathlib.Core.Bool.{true, false}
 use mathlib.Core.List.{List, [], _∷_, map}
-use mathlib.Core.Option.{some}
+use mathlib.Core.Option.{Option, some}
 use mathlib.Core.Path.{_≡_, refl, sym, _∙_, ap}
 use native.Mathlib.Omega.{arith}
 use borrow.Author.Tests.{eq-eqb, ne-eqb}
@@ -11,8 +11,8 @@ use lib.ListN.{length}
 use Rattle.lists.specs.Tests.{split}
 use Rattle.lists.specs.Bytes.{eqBytes}
 use Rattle.lists.specs.Members.{any}
-use Rattle.spec.specs.Basics.{among}
-use Rattle.spec.specs.Reading.{Rule, find, fileVar, orEmpty, hasKey, keysOf}
+use Rattle.spec.specs.Basics.{orElse, among}
+use Rattle.spec.specs.Reading.{Rule, boundTo, fileVar, hasKey, keysOf}
 use Rattle.hold_bindings.specs.declared.FoundEntry.{FoundEntry}
 use Rattle.hold_bindings.specs.declared.FoundEntry.the-variants.{At, Missing}
 use Rattle.hold_bindings.specs.Log.{Logged, ofFile, ofRules, ofKeys, ofStep, entryAt, isNamed, newest, isAt, valueOf, boundOf, boundBy, rulesIn, rulesOf, newestRule, keysAt, withKey, Owner, Owned}
@@ -54,11 +54,11 @@ unfolding valueOf
 value-kept x l (At k) h = ap (λ (e : Logged). some (e .value)) (entry-kept x l k (h k refl))
 value-kept x l Missing h = refl
 
-pub find-newest : (o : ℕ) (n : List ℕ) (log : List Logged) → find n (boundBy o log) ≡ valueOf (newest o n log) log
-unfolding find boundBy newest isNamed valueOf
+pub find-newest : (o : ℕ) (n : List ℕ) (log : List Logged) → boundTo n (boundBy o log) ≡ valueOf (newest o n log) log
+unfolding boundTo boundBy newest isNamed valueOf
 find-newest o n [] = refl
 find-newest o n (e ∷ l) =
-    let older : find n (boundBy o l) ≡ valueOf (newest o n l) (e ∷ l) =
+    let older : boundTo n (boundBy o l) ≡ valueOf (newest o n l) (e ∷ l) =
     find-newest o n l ∙ sym (value-kept e l (newest o n l) (newest-below o n l)) in
     split (eqb (e .owner) o)
     (λ (p : eqb (e .owner) o ≡ true).
@@ -68,6 +68,10 @@ find-newest o n (e ∷ l) =
     (λ (p : eqb (e .owner) o ≡ false). rw p older)
 
 -- "An unset name expands to nothing."
+-- nothing where there is no value
+abbrev pub orEmpty : Option (List ℕ) → List ℕ
+orEmpty o = orElse o (λ v. v) λ _. []
+
 pub var-newest : (n : List ℕ) (log : List Logged) → fileVar (boundBy ofFile log) n ≡ orEmpty (valueOf (newest ofFile n log) log)
 unfolding fileVar
 var-newest n log = ap orEmpty (find-newest ofFile n log)

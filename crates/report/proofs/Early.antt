@@ -13,16 +13,16 @@ use Rattle.spec.specs.declared.Refusal.{Refusal}
 use Rattle.spec.specs.declared.Refusal.the-variants.{ShortBuffer, LongManifest, BadByte, BadLine, BadDollar, NotYet, BadRule, BadPath, OverLimit, BadVersion, BadCard, BadTarget, NoRoot, Circle, MissingSource, EndlessText, LongText, NoCommand}
 use Rattle.lists.specs.Text.{bytes}
 use Rattle.lists.specs.Members.{any}
-use Rattle.spec.specs.Basics.{isEmpty}
+use Rattle.spec.specs.Basics.{isEmpty, orElse}
 use Rattle.spec.specs.Bytes.{newline}
 use Rattle.spec.specs.Dollars.{expand}
 use Rattle.spec.specs.Limits.{leastList, maxName, maxRules, maxSteps, maxValue, maxManifest}
 use Rattle.spec.specs.Answers.{numberOfRefusal}
 use Rattle.spec.specs.Lines.{Line, linesOf, isComment, isBlank, isIndented}
-use Rattle.spec.specs.Forms.{Fault, noForm, wrongDollar, notYet, Cut, fits, fails, Form, ruleForm, buildForm, defaultForm, bindingForm, cutStatement, cutIndented}
+use Rattle.spec.specs.Forms.{Fault, noForm, leftAtDollar, notYet, Cut, fits, fails, Form, ruleForm, buildForm, defaultForm, bindingForm, cutStatement, cutIndented}
 use Rattle.spec.specs.Reading.{Reading, nothingRead, hasKey, declared, fileVar, isMade}
-use Rattle.spec.specs.Statements.{Block, noBlock, ruleBlock, buildBlock, Outcome, goesOn, refused, startRule, longerThan, overCounts, ruleKey, countBinding, expandedLine, expanded, mentioned, inputsOfLine, badPaths, overPaths, overBinding, wrongVersion, addKey, addStep, stepOf, addToBlock, addVar, addDefaults, statement, blockLine}
-use Rattle.spec.specs.Manifest.{withRule, close, andThen, faultOf, ifCut, indented, readIndented, readStatement, readLine, readLines, Read, accepted, refusedWith, readOf, ifSound, badByte, readManifest}
+use Rattle.spec.specs.Statements.{Block, noBlock, ruleBlock, buildBlock, Outcome, goesOn, refused, startRule, longerThan, overCounts, ruleKey, countBinding, expandedLine, expanded, mentioned, inputsOfLine, badPaths, overPaths, overBinding, wrongVersion, addKey, addStep, addToBlock, addVar, addDefaults, statement, blockLine}
+use Rattle.spec.specs.Manifest.{withRule, close, andThen, faultOf, ifCut, indented, readIndented, readStatement, readLine, readLines, Read, accepted, refusedWith, readOf, badByte, readManifest}
 use Rattle.spec.specs.Card.{soundCard}
 use Rattle.spec.specs.Targets.{badTarget}
 use Rattle.spec.specs.Graph.{hasOrder, noRoot}
@@ -63,7 +63,7 @@ then-early (refused r) f p q = p
 fault-early : (l : Line) (e : Fault) → leb (numberOfRefusal (faultOf l e)) 10 ≡ true
 unfolding faultOf numberOfRefusal
 fault-early l noForm = refl
-fault-early l (wrongDollar n) = refl
+fault-early l (leftAtDollar n) = refl
 fault-early l notYet = refl
 
 cut-early : (l : Line) (c : Cut Form) (f : Form → Outcome) → ((x : Form) → Early (f x)) → Early (ifCut l c f)
@@ -72,7 +72,7 @@ cut-early l (fails e) f q = fault-early l e
 cut-early l (fits x) f q = last (l .ended) (BadLine (l .start)) (f x) refl (q x)
 
 statement-early : (start : ℕ) (x : Form) (rd : Reading) → Early (statement start x rd)
-unfolding statement startRule addStep stepOf addDefaults addVar numberOfRefusal
+unfolding statement startRule addStep addDefaults addVar numberOfRefusal
 statement-early start (ruleForm n) rd =
     first (declared n rd) (BadRule start) _ refl (first (longerThan maxName n || leb maxRules (length (rd .rules))) (OverLimit start) _ refl refl)
 statement-early start (buildForm x) rd =
@@ -141,8 +141,8 @@ unfolding readOf
 read-of-early (goesOn rd b) p = refl
 read-of-early (refused r) p = p
 
-sound-early : (o : Option ℕ) (k : Unit {0} → Read) → EarlyRead (k tt) → EarlyRead (ifSound o k)
-unfolding ifSound numberOfRefusal
+sound-early : (o : Option ℕ) (k : Unit {0} → Read) → EarlyRead (k tt) → EarlyRead (orElse o (λ at. refusedWith (BadByte at)) k)
+unfolding numberOfRefusal
 sound-early none k p = p
 sound-early (some at) k p = refl
 

@@ -8,7 +8,8 @@ use Rattle.scan_dollars.specs.declared.Escape.{Escape}
 use Rattle.scan_dollars.specs.declared.Escape.the-variants.{Byte, Join, Name, Bad}
 use Rattle.scan_dollars.specs.declared.After.{After}
 use Rattle.scan_dollars.specs.declared.After.the-variants.{To, Bad as Unsound}
-use Rattle.scan_dollars.specs.Element.{Element, literal, joins, wrong, element, restOf, FoundElement, FoundName, Tells, Passed, PastAt}
+use Rattle.spec.specs.Dollars.{Element, literal, joins, wrong, element}
+use Rattle.scan_dollars.specs.Element.{restOf, FoundElement, FoundName, Tells, Passed, PastAt}
 
 -- ---- `dollar`
 

@@ -13,13 +13,13 @@ use Rattle.lists.specs.Tests.{ifB}
 use Rattle.lists.specs.Parts.{part, part-none, length-part}
 use Rattle.lists.specs.Runs.{Reads, run, afterRun, part-run}
 use Rattle.spec.specs.Bytes.{closeBrace, shortByte, classOf}
-use Rattle.spec.specs.Dollars.{escaped}
+use Rattle.spec.specs.Dollars.{Element, literal, joins, names, wrong, braced, element, escaped}
 use Rattle.spec.specs.Lines.{isSpace}
 use Rattle.spec.specs.Forms.{nameOf, afterName}
 use Rattle.scan_classes.proofs.Sorted.{sorted}
 use Rattle.scan_dollars.specs.declared.Escape.{Escape}
 use Rattle.scan_dollars.specs.declared.Escape.the-variants.{Byte, Join, Name, Bad}
-use Rattle.scan_dollars.specs.Element.{Element, literal, joins, names, wrong, braced, element, restOf, FoundElement, FoundName, Tells, Passed}
+use Rattle.scan_dollars.specs.Element.{restOf, FoundElement, FoundName, Tells, Passed}
 use Rattle.scan_tokens.proofs.Places.{at-cons, at-end, not-empty}
 use Rattle.scan_tokens.proofs.Names.{part-name}
 
@@ -65,7 +65,7 @@ byClass k b s =
     ifB (eqb k 1) (λ _. names (run shortByte (b ∷ s)) (afterRun shortByte (b ∷ s))) λ _. wrong
 
 element-class : (b : ℕ) (s : List ℕ) → element (b ∷ s) ≡ byClass (classOf b) b s
-unfolding element escaped byClass
+unfolding element escaped byClass nameOf afterName
 element-class b s =
     rw (sorted b .dollar, sorted b .space, sorted b .colon, sorted b .newline, sorted b .openBrace, sorted b .short)
 

@@ -1,47 +1,15 @@
--- What a `$` begins, read whole. The laws of the crate `scan_raw` (Look) tie it to the reading byte by byte of the rules.
+-- What the answers about a `$` say of what it begins.
 use Prim.Native.Nat.{ℕ, _≤_}
-use mathlib.Core.Bool.{not, _&&_}
-use mathlib.Core.List.{List, [], _∷_}
+use mathlib.Core.List.{List}
 use mathlib.Core.Option.{Option, none, some}
 use mathlib.Core.Path.{_≡_}
-use lib.Dec.{eqb}
 use lib.ListN.{length, drop}
-use Rattle.lists.specs.Tests.{ifB}
 use Rattle.lists.specs.Parts.{part}
-use Rattle.lists.specs.Runs.{run, afterRun}
-use Rattle.spec.specs.Basics.{isEmpty}
-use Rattle.spec.specs.Bytes.{newline, openBrace, closeBrace, shortByte}
-use Rattle.spec.specs.Dollars.{escaped}
-use Rattle.spec.specs.Lines.{isSpace}
-use Rattle.spec.specs.Forms.{nameOf, afterName}
+use Rattle.spec.specs.Dollars.{Element, literal, joins, names, wrong, element}
 use Rattle.scan_dollars.specs.declared.Escape.{Escape}
 use Rattle.scan_dollars.specs.declared.Escape.the-variants.{Byte, Join, Name, Bad}
 use Rattle.scan_dollars.specs.declared.After.{After}
 use Rattle.scan_dollars.specs.declared.After.the-variants.{To, Bad as Unsound}
-
--- each with what follows it
-pub data Element : Type 0 where
-  -- `$$`, `$ ` or `$:`, with the byte that it gives
-  literal : ℕ → List ℕ → Element
-  -- a join and the next line's leading spaces
-  joins : List ℕ → Element
-  -- `$name` or `${name}`
-  names : List ℕ → List ℕ → Element
-  wrong : Element
-
--- "`${name}` takes name bytes .. A name has one byte at least"
-unfoldable pub braced : List ℕ → List ℕ → Element
-braced n [] = wrong
-braced n (b ∷ s) = ifB (eqb b closeBrace && not (isEmpty n)) (λ _. names n s) (λ _. wrong)
-
--- from the byte after the `$` on
-unfoldable pub element : List ℕ → Element
-element [] = wrong
-element (b ∷ s) =
-    ifB (escaped b) (λ _. literal b s) λ _.
-    ifB (eqb b newline) (λ _. joins (afterRun isSpace s)) λ _.
-    ifB (eqb b openBrace) (λ _. braced (nameOf s) (afterName s)) λ _.
-    ifB (shortByte b) (λ _. names (run shortByte (b ∷ s)) (afterRun shortByte (b ∷ s))) λ _. wrong
 
 -- what follows it, if it is sound
 unfoldable pub restOf : Element → Option (List ℕ)

@@ -4,7 +4,8 @@ ghost use Prim.Native.Nat.{_≤_};
 ghost use lib.ListN.{length, drop};
 ghost use Rattle.spec.specs.Forms.{nameOf, afterName};
 ghost use Rattle.scan_classes.specs.Table.{classes};
-ghost use Rattle.scan_dollars.specs.Element.{element, braced, Tells, PastAt};
+ghost use Rattle.spec.specs.Dollars.{element, braced};
+ghost use Rattle.scan_dollars.specs.Element.{Tells, PastAt};
 
 // What a `$` begins, and where the bytes after it start.
 pub enum Escape {

@@ -1,29 +1,30 @@
 -- The end of a line: a turn of each loop that looks for it, and what it says of the line and of the lines after it.
 use Prim.Native.Nat.{ℕ, suc, _+_, _-_, _≤_, _<_}
-use mathlib.Core.Bool.{Bool, true, false, not, _&&_}
+use mathlib.Core.Bool.{true, false}
 use mathlib.Core.List.{List, [], _∷_, _++_}
 use mathlib.Core.Option.{none, some}
 use mathlib.Core.Path.{_≡_, refl, sym, _∙_, ap}
 use native.Mathlib.Nat.{le-trans}
+use native.Mathlib.Numerals.{add-one}
 use native.Mathlib.Omega.{arith}
 use borrow.Author.Tests.{eqb-true, eqb-false, ne-eqb}
 use lib.Dec.{eqb}
 use lib.ListN.{length, take, drop, getD, length-drop, length-append}
 use lib.Seq.{take-at}
-use Rattle.lists.specs.Tests.{split, and-left}
+use Rattle.lists.specs.Tests.{split, differ}
 use Rattle.lists.specs.Parts.{part}
 use Rattle.lists.specs.Runs.{Reads, afterRun, run-stops}
 use Rattle.spec.specs.Bytes.{newline, space, hash, dollar}
-use Rattle.spec.specs.Lines.{At, indent, comment, body, bodyTurn, lineTurn, escaping, endsLine, lineFrom, endedFrom, lineAt, linesAfter, linesOf, isSpace}
+use Rattle.spec.specs.Lines.{At, indent, comment, body, escape, lineTurn, endsLine, withByte, linesFrom as Rules·linesFrom, linesOf, isSpace}
 use Rattle.scan_lines.specs.declared.LineEnd.{LineEnd}
 use Rattle.scan_lines.specs.declared.LineEnd.the-variants.{Ended, Open}
-use Rattle.scan_lines.specs.Endings.{linesFrom, endFrom, EndsAt, EndAt, LineEnded, LineOpen, LineAt}
+use Rattle.scan_lines.specs.Endings.{linesFrom, endFrom, EndsAt, EndAt, LineEnded, openLine, LineOpen, LineAt}
 use Rattle.scan_tokens.proofs.Places.{Going, going-on, at-cons, at-end}
 
 -- ---- one byte, or an escape
 
-end-newline : (q : At) (s : List ℕ) → escaping q ≡ false → endFrom q (newline ∷ s) ≡ some s
-unfolding endFrom endsLine
+end-newline : (q : At) (s : List ℕ) → endsLine q newline ≡ true → endFrom q (newline ∷ s) ≡ some s
+unfolding endFrom
 end-newline q s e = rw e
 
 end-comment : (b : ℕ) (s : List ℕ) → (b ≡ newline → ⊥) → endFrom comment (b ∷ s) ≡ endFrom comment s
@@ -31,19 +32,15 @@ unfolding endFrom endsLine lineTurn
 end-comment b s h = rw (ne-eqb b newline h)
 
 end-byte : (b : ℕ) (s : List ℕ) → (b ≡ newline → ⊥) → (b ≡ dollar → ⊥) → endFrom body (b ∷ s) ≡ endFrom body s
-unfolding endFrom endsLine lineTurn bodyTurn
+unfolding endFrom endsLine lineTurn
 end-byte b s h k = rw (ne-eqb b newline h, ne-eqb b dollar k)
 
-and-no : (b : Bool) → b && false ≡ false
-and-no true = refl
-and-no false = refl
-
 end-escape : (b : ℕ) (s : List ℕ) → endFrom body (dollar ∷ b ∷ s) ≡ endFrom body s
-unfolding endFrom endsLine lineTurn bodyTurn escaping
-end-escape b s = rw (and-no (eqb b newline))
+unfolding endFrom endsLine lineTurn
+end-escape b s = refl
 
 end-dollar : endFrom body (dollar ∷ []) ≡ none
-unfolding endFrom endsLine lineTurn bodyTurn
+unfolding endFrom endsLine lineTurn
 end-dollar = refl
 
 -- ---- the first byte that is no space
@@ -65,7 +62,7 @@ unfolding endFrom endsLine lineTurn
 end-hash s = refl
 
 end-other : (b : ℕ) (s : List ℕ) → (b ≡ space → ⊥) → (b ≡ hash → ⊥) → endFrom indent (b ∷ s) ≡ endFrom body (b ∷ s)
-unfolding endFrom endsLine lineTurn escaping
+unfolding endFrom endsLine lineTurn
 end-other b s h k = rw (ne-eqb b space h, ne-eqb b hash k)
 
 -- ---- at a place of the manifest
@@ -75,7 +72,7 @@ module _ (q : At) {m : List ℕ} {i j : ℕ} (a : Going (endFrom q) m i j) where
   unfolding endFrom
   open-end h = a .same ∙ rw (at-end m j h)
 
-  pub line-ends : escaping q ≡ false → j < length m → getD m j 0 ≡ newline → EndsAt q m i j
+  pub line-ends : endsLine q newline ≡ true → j < length m → getD m j 0 ≡ newline → EndsAt q m i j
   line-ends e h n =
       record { forward = a .forward; within = h; rest = a .same ∙ rw (at-cons m j h, n) (end-newline q _ e) }
 
@@ -96,77 +93,65 @@ module _ {m : List ℕ} {i j : ℕ} (a : Going (endFrom body) m i j) (h : j < le
 
 -- ---- what the end says of the line and of those after it
 
-line-split : (q : At) (s r : List ℕ) → endFrom q s ≡ some r → lineFrom q s ++ (newline ∷ r) ≡ s
-unfolding endFrom endsLine lineFrom
-line-split q [] r e = cc
-line-split q (b ∷ s) r e =
-    split (endsLine q b)
-    (λ (t : endsLine q b ≡ true).
-    let n : b ≡ newline = eqb-true b newline (and-left (eqb b newline) (not (escaping q)) t) in
-    let d : s ≡ r = let f : some s ≡ some r = rw t at e in cc in
-    rw (t, n, d))
-    (λ (t : endsLine q b ≡ false). rw t (ap (λ (l : List ℕ). b ∷ l) (line-split (lineTurn q b) s r (rw t at e))))
+ends-newline : (q : At) (b : ℕ) → endsLine q b ≡ true → b ≡ newline
+unfolding endsLine
+ends-newline indent b t = eqb-true b newline t
+ends-newline comment b t = eqb-true b newline t
+ends-newline body b t = eqb-true b newline t
+ends-newline escape b t = differ t refl
 
-line-ended : (q : At) (s r : List ℕ) → endFrom q s ≡ some r → endedFrom q s ≡ true
-unfolding endFrom endedFrom
-line-ended q [] r e = cc
-line-ended q (b ∷ s) r e =
-    split (endsLine q b) (λ (t : endsLine q b ≡ true). rw t)
-    (λ (t : endsLine q b ≡ false). rw t (line-ended (lineTurn q b) s r (rw t at e)))
+-- the line has these bytes and is ended, and then come the lines of r
+pub record Splits (q : At) (at : ℕ) (s r : List ℕ) : Type 0 where
+  pub text : List ℕ
+  pub is : text ++ (newline ∷ r) ≡ s
+  pub lines : Rules·linesFrom q at s ≡ record { start = at; text = text; ended = true } ∷ Rules·linesFrom indent (at + suc (length text)) r
 
-lines-after : (q : At) (at : ℕ) (s r : List ℕ) → endFrom q s ≡ some r → linesAfter q at s ≡ linesFrom (at + length s - length r) r
-unfolding endFrom linesAfter linesFrom
-lines-after q at [] r e = cc
-lines-after q at (b ∷ s) r e =
+line-split : (q : At) (at : ℕ) (s r : List ℕ) → endFrom q s ≡ some r → Splits q at s r
+unfolding endFrom Rules·linesFrom withByte
+line-split q at [] r e = absurd (let z : true ≡ false = cc in differ refl z)
+line-split q at (b ∷ s) r e =
     split (endsLine q b)
     (λ (t : endsLine q b ≡ true).
     let d : s ≡ r = let f : some s ≡ some r = rw t at e in cc in
-    let z : at + suc (length r) - length r ≡ suc at = omega arith in
-    rw (t, d, z))
+    let z : at + 1 ≡ suc at = add-one at in
+    record { text = []; is = rw (ends-newline q b t, d); lines = rw (t, d, z) })
     (λ (t : endsLine q b ≡ false).
-    let z : at + suc (length s) ≡ suc at + length s = omega arith in
-    rw (t, z) (lines-after (lineTurn q b) (suc at) s r (rw t at e)))
+    let w : Splits (lineTurn q b) (suc at) s r = line-split (lineTurn q b) (suc at) s r (rw t at e) in
+    let z : at + suc (suc (length (w .text))) ≡ suc at + suc (length (w .text)) = omega arith in
+    record {
+      text = b ∷ w .text;
+      is = ap (λ (l : List ℕ). b ∷ l) (w .is);
+      lines = rw t (ap (withByte at b) (w .lines) ∙ ap (λ (n : ℕ). record { start = at; text = b ∷ w .text; ended = true } ∷ Rules·linesFrom indent n r) (sym z));
+    })
 
-open-text : (q : At) (s : List ℕ) → endFrom q s ≡ none → lineFrom q s ≡ s
-unfolding endFrom lineFrom
-open-text q [] e = refl
-open-text q (b ∷ s) e =
+open-lines : (q : At) (at : ℕ) (s : List ℕ) → endFrom q s ≡ none → Rules·linesFrom q at s ≡ openLine at s
+unfolding endFrom Rules·linesFrom withByte openLine
+open-lines q at [] e = refl
+open-lines q at (b ∷ s) e =
     split (endsLine q b) (λ (t : endsLine q b ≡ true). let f : some s ≡ none = rw t at e in cc)
-    (λ (t : endsLine q b ≡ false). rw t (ap (λ (l : List ℕ). b ∷ l) (open-text (lineTurn q b) s (rw t at e))))
-
-open-ended : (q : At) (s : List ℕ) → endFrom q s ≡ none → endedFrom q s ≡ false
-unfolding endFrom endedFrom
-open-ended q [] e = refl
-open-ended q (b ∷ s) e =
-    split (endsLine q b) (λ (t : endsLine q b ≡ true). let f : some s ≡ none = rw t at e in cc)
-    (λ (t : endsLine q b ≡ false). rw t (open-ended (lineTurn q b) s (rw t at e)))
-
-open-after : (q : At) (at : ℕ) (s : List ℕ) → endFrom q s ≡ none → linesAfter q at s ≡ []
-unfolding endFrom linesAfter
-open-after q at [] e = refl
-open-after q at (b ∷ s) e =
-    split (endsLine q b) (λ (t : endsLine q b ≡ true). let f : some s ≡ none = rw t at e in cc)
-    (λ (t : endsLine q b ≡ false). rw t (open-after (lineTurn q b) (suc at) s (rw t at e)))
+    (λ (t : endsLine q b ≡ false). rw t (ap (withByte at b) (open-lines (lineTurn q b) (suc at) s (rw t at e)) ∙ open-more at b s))
+  where
+    open-more : (at b : ℕ) (s : List ℕ) → withByte at b (openLine (suc at) s) ≡ record { start = at; text = b ∷ s; ended = false } ∷ []
+    open-more at b [] = refl
+    open-more at b (c ∷ s) = refl
 
 -- ---- a line from its start
 
 ended-at : {m : List ℕ} {i e : ℕ} → EndsAt indent m i e → LineEnded m i e
 ended-at {m} {i} {e} a =
-    let s : lineFrom indent (drop i m) ++ (newline ∷ drop (e + 1) m) ≡ drop i m = line-split indent _ _ (a .rest) in
-    let n : length (lineFrom indent (drop i m)) ≡ e - i =
-    omega (arith, a .forward, a .within, length-drop i m, length-drop (e + 1) m, simp length-append at (ap length s)) in
-    let z : i + length (drop i m) - length (drop (e + 1) m) ≡ e + 1 = omega (arith, a .forward, a .within, length-drop i m, length-drop (e + 1) m) in
+    let w : Splits indent i (drop i m) (drop (e + 1) m) = line-split indent i _ _ (a .rest) in
+    let n : length (w .text) ≡ e - i =
+    omega (arith, a .forward, a .within, length-drop i m, length-drop (e + 1) m, simp length-append at (ap length (w .is))) in
+    let z : i + suc (length (w .text)) ≡ e + 1 = omega (arith, a .forward) in
+    let t : w .text ≡ part m i e = sym (take-at _ _ (e - i) n) ∙ ap (take (e - i)) (w .is) in
     record {
       forward = a .forward;
       within = a .within;
-      text = sym (take-at _ _ (e - i) n) ∙ ap (take (e - i)) s;
-      ended = line-ended indent _ _ (a .rest);
-      after = lines-after indent i _ _ (a .rest) ∙ ap (λ (k : ℕ). linesFrom k (drop (e + 1) m)) z;
+      lines = w .lines ∙ rw (z, t);
     }
 
 open-at : (m : List ℕ) (i : ℕ) → endFrom indent (drop i m) ≡ none → LineOpen m i
-open-at m i e =
-    record { text = open-text indent _ e; ended = open-ended indent _ e; after = open-after indent i _ e }
+open-at m i e = record { lines = open-lines indent i (drop i m) e }
 
 line-at : (m : List ℕ) (i : ℕ) (r : LineEnd) → EndAt indent m i r → LineAt m i r
 unfolding EndAt LineAt
@@ -200,22 +185,20 @@ module _ {m : List ℕ} {i k : ℕ} (a : Reads (afterRun isSpace) m i k) where
 -- ---- the lines of a manifest, one after the other
 
 pub lines-begin : (m : List ℕ) → linesOf m ≡ linesFrom 0 m
-unfolding linesOf linesFrom
+unfolding linesOf
 lines-begin m = refl
 
 pub lines-end : (m : List ℕ) (i : ℕ) → length m ≤ i → linesFrom i (drop i m) ≡ []
-unfolding linesFrom lineAt linesAfter
+unfolding Rules·linesFrom
 lines-end m i h = rw (at-end m i h)
 
-module _ (m : List ℕ) {i : ℕ} (h : i < length m) where
-  line-first : lineAt i (drop i m) ≡ record { start = i; text = lineFrom indent (drop i m); ended = endedFrom indent (drop i m) } ∷ []
-  unfolding lineAt
-  line-first = rw (at-cons m i h)
+open-some : (at b : ℕ) (s : List ℕ) → openLine at (b ∷ s) ≡ record { start = at; text = b ∷ s; ended = false } ∷ []
+unfolding openLine
+open-some at b s = refl
 
+module _ (m : List ℕ) {i : ℕ} (h : i < length m) where
   pub lines-next : {e : ℕ} → LineEnded m i e → linesFrom i (drop i m) ≡ record { start = i; text = part m i e; ended = true } ∷ linesFrom (e + 1) (drop (e + 1) m)
-  unfolding linesFrom
-  lines-next a = rw (line-first, a .text, a .ended, a .after)
+  lines-next a = a .lines
 
   pub lines-last : LineOpen m i → linesFrom i (drop i m) ≡ record { start = i; text = drop i m; ended = false } ∷ []
-  unfolding linesFrom
-  lines-last a = rw (line-first, a .text, a .ended, a .after)
+  lines-last a = a .lines ∙ rw (at-cons m i h) (open-some i _ _)

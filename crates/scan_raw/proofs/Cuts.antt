@@ -1,70 +1,82 @@
 -- A turn of the loops over a path and over a value, and what the ways out of these loops give.
-use Prim.Native.Nat.{ℕ, suc, _+_, _-_, _≤_, _<_}
+use Prim.Native.Nat.{ℕ, _+_, _-_, _≤_, _<_}
 use mathlib.Core.Bool.{Bool, true, false, _||_}
 use mathlib.Core.List.{List}
 use mathlib.Core.Option.{none, some}
 use mathlib.Core.Path.{_≡_, sym, _∙_, ap}
 use native.Mathlib.Omega.{arith}
-use borrow.Author.Tests.{eqb-true, ne-eqb}
+use borrow.Author.Tests.{eq-eqb, eqb-true, ne-eqb}
 use lib.Dec.{eqb}
 use lib.ListN.{length, drop, getD, length-drop}
 use Rattle.spec.specs.Bytes.{dollar, classOf}
-use Rattle.spec.specs.Dollars.{Scan, plain, endsBad, badDollar}
-use Rattle.spec.specs.Forms.{pathStop, endsPath}
+use Rattle.spec.specs.Dollars.{element, badIn, badDollar}
+use Rattle.spec.specs.Forms.{pathStop}
 use Rattle.scan_classes.proofs.Sorted.{sorted}
-use Rattle.scan_dollars.specs.Element.{element, restOf, Passed}
+use Rattle.scan_dollars.specs.Element.{restOf, Passed}
 use Rattle.scan_raw.specs.Texts.{PathEnds, PathBad, ValueBad}
 use Rattle.scan_tokens.proofs.Places.{Going, going-on, at-cons, at-end}
-use Rattle.scan_raw.proofs.Look.{ends, badAt, Cutting, look, look-dollar, look-stop, look-byte, follow-rest, follow-none, look-ends, look-bad, path-cutting, value-cutting}
+use Rattle.scan_raw.proofs.Look.{look, look-end, look-stop, look-byte, look-past, look-wrong}
 
-module _ {stop : Scan → ℕ → Bool} {text after : Scan → List ℕ → List ℕ} (k : Cutting stop text after) {s : List ℕ} {i j : ℕ} (a : Going (look stop plain 0) s i j) where
-  pub text-end : length s ≤ j → look stop plain 0 (drop i s) ≡ ends (drop j s)
-  unfolding look endsBad
-  text-end h = a .same ∙ rw (at-end s j h)
+module _ (ends : ℕ → Bool) {s : List ℕ} {i j : ℕ} (a : Going (look ends) s i j) where
+  pub text-end : length s ≤ j → look ends (drop i s) ≡ (drop j s, true)
+  text-end h = a .same ∙ rw (at-end s j h) (look-end ends)
 
   module _ (h : j < length s) where
-    pub text-stop : stop plain (getD s j 0) ≡ true → look stop plain 0 (drop i s) ≡ ends (drop j s)
-    text-stop e = a .same ∙ rw (at-cons s j h) (look-stop k _ _ e)
+    pub text-stop : ends (getD s j 0) ≡ true → look ends (drop i s) ≡ (drop j s, true)
+    text-stop e = a .same ∙ rw (at-cons s j h) (look-stop ends _ _ e)
 
-    pub text-byte : stop plain (getD s j 0) ≡ false → eqb (getD s j 0) dollar ≡ false → Going (look stop plain 0) s i (j + 1)
-    text-byte e d = going-on a (omega arith) (omega arith) (rw (at-cons s j h) (look-byte k _ _ e d))
+    pub text-byte : ends (getD s j 0) ≡ false → eqb (getD s j 0) dollar ≡ false → Going (look ends) s i (j + 1)
+    text-byte e d = going-on a (omega arith) (omega arith) (rw (at-cons s j h) (look-byte ends _ _ e d))
 
-    module _ (d : getD s j 0 ≡ dollar) where
-      pub text-past : {n : ℕ} → Passed s (j + 1) n → Going (look stop plain 0) s i n
+    module _ (o : ends dollar ≡ false) (d : getD s j 0 ≡ dollar) where
+      goes-on : ends (getD s j 0) ≡ false
+      goes-on = rw d o
+
+      pub text-past : {n : ℕ} → Passed s (j + 1) n → Going (look ends) s i n
       text-past f =
-          going-on a (omega (arith, f .forward)) (f .within)
-          (rw (at-cons s j h, d) (look-dollar k _ ∙ follow-rest k _ _ _ (f .rest)))
+          going-on a (omega (arith, f .forward)) (f .within) (rw (at-cons s j h) (look-past ends _ _ goes-on (eq-eqb _ _ d) (f .rest)))
 
-      pub text-bad : restOf (element (drop (j + 1) s)) ≡ none → look stop plain 0 (drop i s) ≡ badAt (length s - j)
-      text-bad e =
-          let n : suc (length (drop (j + 1) s)) ≡ length s - j = omega (arith, length-drop (j + 1) s) in
-          a .same ∙ rw (at-cons s j h, d) (look-dollar k _ ∙ follow-none k _ _ e ∙ ap badAt n)
+      pub text-bad : restOf (element (drop (j + 1) s)) ≡ none → look ends (drop i s) ≡ (drop j s, false)
+      text-bad q = a .same ∙ rw (at-cons s j h) (look-wrong ends _ _ goes-on (eq-eqb _ _ d) q)
+
+-- ---- the offset of a bad `$`
+
+module _ (ends : ℕ → Bool) (s : List ℕ) (i j : ℕ) where
+  none-bad : look ends (drop i s) ≡ (drop j s, true) → badIn ends (drop i s) ≡ none
+  unfolding badIn
+  none-bad e = rw (ap (λ (x : List ℕ × Bool). x .1) e)
+
+  bad-at : i ≤ j → j < length s → look ends (drop i s) ≡ (drop j s, false) → badIn ends (drop i s) ≡ some (j - i)
+  unfolding badIn
+  bad-at h k e =
+      let n : length (drop i s) - length (drop j s) ≡ j - i = omega (arith, length-drop i s, length-drop j s) in
+      rw (ap (λ (x : List ℕ × Bool). x .1) e, ap (λ (x : List ℕ × Bool). x .0) e, n)
 
 -- ---- a path from i
 
-module _ {s : List ℕ} {i j : ℕ} (a : Going (look endsPath plain 0) s i j) where
-  pub path-ends : look endsPath plain 0 (drop i s) ≡ ends (drop j s) → PathEnds s i j
+module _ {s : List ℕ} {i j : ℕ} (a : Going (look pathStop) s i j) where
+  pub path-ends : look pathStop (drop i s) ≡ (drop j s, true) → PathEnds s i j
   path-ends e =
-      let told = look-ends path-cutting (drop i s) (drop j s) e in
-      record { reads = record { forward = a .forward; within = a .within; rest = sym (told .0) }; sound = told .1 }
+      record {
+        reads = record { forward = a .forward; within = a .within; rest = sym (ap (λ (x : List ℕ × Bool). x .0) e) };
+        sound = none-bad pathStop s i j e;
+      }
 
-  pub path-bad : j < length s → look endsPath plain 0 (drop i s) ≡ badAt (length s - j) → PathBad s i j
-  path-bad h e =
-      let (o, b, n) = look-bad path-cutting (drop i s) (length s - j) e in
-      let z : o ≡ j - i = omega (arith, length-drop i s, a .forward) in
-      record { forward = a .forward; within = h; bad = b ∙ ap some z }
+  pub path-bad : j < length s → look pathStop (drop i s) ≡ (drop j s, false) → PathBad s i j
+  path-bad h e = record { forward = a .forward; within = h; bad = bad-at pathStop s i j (a .forward) h e }
 
 -- ---- a raw value
 
-module _ {s : List ℕ} {j : ℕ} (a : Going (look (λ q b. false) plain 0) s 0 j) where
-  pub value-ends : look (λ q b. false) plain 0 s ≡ ends (drop j s) → badDollar s ≡ none
-  value-ends e = look-ends value-cutting s (drop j s) e .1
+module _ (s : List ℕ) (j : ℕ) where
+  pub value-ends : look (λ b. false) s ≡ (drop j s, true) → badDollar s ≡ none
+  unfolding badDollar
+  value-ends e = none-bad (λ b. false) s 0 j e
 
-  pub value-bad : j < length s → look (λ q b. false) plain 0 s ≡ badAt (length s - j) → ValueBad s j
+  pub value-bad : j < length s → look (λ b. false) s ≡ (drop j s, false) → ValueBad s j
+  unfolding badDollar
   value-bad h e =
-      let (o, b, n) = look-bad value-cutting s (length s - j) e in
-      let z : o ≡ j = omega arith in
-      record { within = h; bad = b ∙ ap some z }
+      let z : j - 0 ≡ j = omega arith in
+      record { within = h; bad = bad-at (λ b. false) s 0 j (omega arith) h e ∙ ap some z }
 
 -- ---- classes
 

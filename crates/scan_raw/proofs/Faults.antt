@@ -7,10 +7,10 @@ use lib.ListN.{length, drop, length-drop, length-append}
 use Rattle.lists.specs.Runs.{run-append}
 use Rattle.spec.specs.declared.Refusal.the-variants.{BadDollar}
 use Rattle.spec.specs.Lines.{Line, isSpace}
-use Rattle.spec.specs.Forms.{wrongDollar, rawValue}
+use Rattle.spec.specs.Forms.{leftAtDollar, rawValue}
 use Rattle.spec.specs.Manifest.{faultOf}
 
-pub fault-place : (l : Line) (p : ℕ) → p ≤ length (l .text) → faultOf l (wrongDollar (length (l .text) - p)) ≡ BadDollar (l .start + p)
+pub fault-place : (l : Line) (p : ℕ) → p ≤ length (l .text) → faultOf l (leftAtDollar (length (l .text) - p)) ≡ BadDollar (l .start + p)
 unfolding faultOf
 fault-place l p h = let z : length (l .text) - (length (l .text) - p) ≡ p = omega arith in rw z
 

@@ -1,5 +1,6 @@
 pub mod Answers
 pub mod Look
+pub mod Fronts
 pub mod Cuts
 pub mod PathLists
 pub mod Bytes

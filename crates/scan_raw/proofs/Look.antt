@@ -1,241 +1,174 @@
--- A raw text read from the front in one pass: where it ends, or how many bytes are left from its first bad `$` on. A path and a value
--- differ only in what ends them. What a `$` begins is passed whole.
-use Prim.Native.Nat.{ℕ, suc, _+_, _-_}
+-- A raw text read from the front, turn by turn: where it ends, or where its first bad `$` stands. A path and a value differ only in what ends them. What a
+-- `$` begins is passed whole.
+use Prim.Native.Nat.{ℕ, zero, suc, _-_, _≤_}
 use mathlib.Core.Bool.{Bool, true, false, not, _&&_}
-use mathlib.Core.List.{List, [], _∷_, _++_, append-nil, append-assoc}
-use mathlib.Core.Option.{Option, none, some}
-use mathlib.Core.Path.{_≡_, refl, sym, _∙_, ap}
+use mathlib.Core.List.{List, [], _∷_}
+use mathlib.Core.Option.{none, some}
+use mathlib.Core.Path.{_≡_, refl, ap}
+use native.Mathlib.Nat.{le-refl, not-suc-le-zero}
 use native.Mathlib.Omega.{arith}
-use borrow.Author.Tests.{eqb-true}
 use lib.Dec.{eqb}
-use lib.ListN.{length}
-use Rattle.lists.specs.Tests.{ifB, split, differ}
-use Rattle.lists.specs.Runs.{run, afterRun}
+use lib.ListN.{length, length-append}
+use Rattle.lists.specs.Tests.{split}
+use Rattle.lists.specs.Runs.{run, afterRun, run-append}
 use Rattle.spec.specs.Basics.{isEmpty}
-use Rattle.spec.specs.Bytes.{newline, space, dollar, openBrace, closeBrace, shortByte, nameByte, classOf}
-use Rattle.spec.specs.Dollars.{Scan, plain, afterJoin, afterDollar, inBraces, inName, bad, afterPlain, escaped, afterEscape, turn, isBad, endsBad, lastDollar, badFrom, badDollar}
+use Rattle.spec.specs.Bytes.{newline, dollar, openBrace, closeBrace, shortByte, nameByte}
 use Rattle.spec.specs.Lines.{isSpace}
-use Rattle.spec.specs.Forms.{nameOf, afterName, pathStop, endsPath, pathFrom, afterPath}
-use Rattle.scan_classes.proofs.Sorted.{sorted}
-use Rattle.scan_dollars.specs.Element.{Element, literal, joins, names, wrong, braced, element, restOf}
+use Rattle.spec.specs.Dollars.{Element, literal, joins, names, wrong, escaped, braced, element, byte, ref, Raw, withPiece, goOn, readUp, readRaw, badIn}
+use Rattle.scan_dollars.specs.Element.{restOf}
 
-pub data Look : Type 0 where
-  ends : List ℕ → Look
-  badAt : ℕ → Look
+-- ---- what follows a `$` is no longer than what stands behind it
 
--- What ends a text, with the text up to there and the bytes after it.
-pub record Cutting (stop : Scan → ℕ → Bool) (text after : Scan → List ℕ → List ℕ) : Type 0 where
-  pub text-end : (q : Scan) → text q [] ≡ []
-  pub text-more : (q : Scan) (b : ℕ) (s : List ℕ) → text q (b ∷ s) ≡ ifB (stop q b) (λ _. []) (λ _. b ∷ text (turn q b) s)
-  pub after-end : (q : Scan) → after q [] ≡ []
-  pub after-more : (q : Scan) (b : ℕ) (s : List ℕ) → after q (b ∷ s) ≡ ifB (stop q b) (λ _. b ∷ s) (λ _. after (turn q b) s)
-  pub sound : (q : Scan) (b : ℕ) → stop q b ≡ true → endsBad q ≡ false
-  pub at-dollar : stop plain dollar ≡ false
-  pub in-escape : (b : ℕ) → stop afterDollar b ≡ false
-  pub in-braces : (n : List ℕ) (b : ℕ) → stop (inBraces n) b ≡ false
-  pub in-name : (n : List ℕ) (b : ℕ) → shortByte b ≡ true → stop (inName n) b ≡ false
-  pub past-name : (n : List ℕ) (b : ℕ) → stop (inName n) b ≡ stop plain b
-  pub in-join : (b : ℕ) → eqb b space ≡ true → stop afterJoin b ≡ false
-  pub past-join : (b : ℕ) → eqb b space ≡ false → stop afterJoin b ≡ stop plain b
+run-shorter : (p : ℕ → Bool) (s : List ℕ) → length (afterRun p s) ≤ length s
+run-shorter p s = omega (arith, simp length-append at (ap length (run-append p s)))
 
--- left is the number of bytes from the last `$` on
-unfoldable pub look : (Scan → ℕ → Bool) → Scan → ℕ → List ℕ → Look
-look stop q left [] = ifB (endsBad q) (λ _. badAt left) (λ _. ends [])
-look stop q left (b ∷ s) =
-    ifB (stop q b) (λ _. ends (b ∷ s)) λ _.
-    ifB (isBad (turn q b)) (λ _. badAt left) λ _. look stop (turn q b) (lastDollar (turn q b) left (suc (length s))) s
+braced-shorter : (n s r : List ℕ) → restOf (braced n s) ≡ some r → length r ≤ length s
+unfolding braced restOf
+braced-shorter n [] r e = let z : _≡_ {A = ℕ} 0 1 = cc in omega arith
+braced-shorter n (b ∷ s) r e =
+    split (eqb b closeBrace && not (isEmpty n))
+    (λ (t : eqb b closeBrace && not (isEmpty n) ≡ true).
+    let d : some s ≡ some r = rw t at e in
+    let z : s ≡ r = cc in
+    rw (← z) (omega arith))
+    (λ (t : eqb b closeBrace && not (isEmpty n) ≡ false).
+    let d : none ≡ some r = rw t at e in
+    let z : _≡_ {A = ℕ} 0 1 = cc in
+    omega arith)
 
--- the look goes on after what a `$` begins
-unfoldable pub follow : (Scan → ℕ → Bool) → ℕ → Element → Look
-follow stop left (literal b s) = look stop plain left s
-follow stop left (joins s) = look stop plain left s
-follow stop left (names n s) = look stop plain left s
-follow stop left wrong = badAt left
+pub element-shorter : (s r : List ℕ) → restOf (element s) ≡ some r → length r ≤ length s
+unfolding element restOf
+element-shorter [] r e = let z : _≡_ {A = ℕ} 0 1 = cc in omega arith
+element-shorter (b ∷ s) r e =
+    split (escaped b)
+    (λ (a : escaped b ≡ true).
+    let d : some s ≡ some r = rw a at e in
+    let z : s ≡ r = cc in
+    rw (← z) (omega arith))
+    (λ (a : escaped b ≡ false).
+    split (eqb b newline)
+    (λ (c : eqb b newline ≡ true).
+    let d : some (afterRun isSpace s) ≡ some r = rw (a, c) at e in
+    let z : afterRun isSpace s ≡ r = cc in
+    rw (← z) (omega (arith, run-shorter isSpace s)))
+    (λ (c : eqb b newline ≡ false).
+    split (eqb b openBrace)
+    (λ (o : eqb b openBrace ≡ true).
+    let d : restOf (braced (run nameByte s) (afterRun nameByte s)) ≡ some r = rw (a, c, o) at e in
+    omega (arith, braced-shorter (run nameByte s) (afterRun nameByte s) r d, run-shorter nameByte s))
+    (λ (o : eqb b openBrace ≡ false).
+    split (shortByte b)
+    (λ (t : shortByte b ≡ true).
+    let d : some (afterRun shortByte s) ≡ some r = rw (a, c, o, t) at e in
+    let z : afterRun shortByte s ≡ r = cc in
+    rw (← z) (omega (arith, run-shorter shortByte s)))
+    (λ (t : shortByte b ≡ false).
+    let d : none ≡ some r = rw (a, c, o, t) at e in
+    let z : _≡_ {A = ℕ} 0 1 = cc in
+    omega arith))))
 
--- what the rules say of a text of so many bytes: what is after it, and the offset of its first bad `$`
-unfoldable pub lookOf : ℕ → List ℕ → Option ℕ → Look
-lookOf n s none = ends s
-lookOf n s (some o) = badAt (n - o)
+-- ---- the number of turns does not matter, where it is as great as the number of bytes
 
-told-ends : (n : ℕ) (s : List ℕ) (o : Option ℕ) (r : List ℕ) → lookOf n s o ≡ ends r → (s ≡ r) × (o ≡ none)
-unfolding lookOf
-told-ends n s none r e = (cc, refl)
-told-ends n s (some o) r e = (cc, cc)
+go-on-same : (t : List ℕ) (x : Element) (f g : List ℕ → Raw) → ((r : List ℕ) → restOf x ≡ some r → f r ≡ g r) → goOn t x f ≡ goOn t x g
+unfolding goOn restOf
+go-on-same t (literal b s) f g h = ap (withPiece (byte b)) (h s refl)
+go-on-same t (joins s) f g h = h s refl
+go-on-same t (names n s) f g h = ap (withPiece (ref n)) (h s refl)
+go-on-same t wrong f g h = refl
 
-told-bad : (n : ℕ) (s : List ℕ) (x : Option ℕ) (m : ℕ) → lookOf n s x ≡ badAt m → (o : ℕ) × (x ≡ some o) × (n - o ≡ m)
-unfolding lookOf
-told-bad n s none m e = (0, cc, cc)
-told-bad n s (some o) m e = (o, refl, cc)
+enough : (ends : ℕ → Bool) (k l : ℕ) (s : List ℕ) → length s ≤ k → length s ≤ l → readUp ends k s ≡ readUp ends l s
+unfolding readUp
+enough ends zero zero s a b = refl
+enough ends zero (suc l) [] a b = refl
+enough ends zero (suc l) (x ∷ s) a b = absurd (not-suc-le-zero a)
+enough ends (suc k) zero [] a b = refl
+enough ends (suc k) zero (x ∷ s) a b = absurd (not-suc-le-zero b)
+enough ends (suc k) (suc l) [] a b = refl
+enough ends (suc k) (suc l) (x ∷ s) a b =
+    split (ends x) (λ (e : ends x ≡ true). rw e)
+    (λ (e : ends x ≡ false).
+    split (eqb x dollar)
+    (λ (d : eqb x dollar ≡ true).
+    rw (e, d)
+    (go-on-same (x ∷ s) (element s) (readUp ends k) (readUp ends l)
+    (λ r q. let h : length r ≤ length s = element-shorter s r q in enough ends k l r (omega arith) (omega arith))))
+    (λ (d : eqb x dollar ≡ false). rw (e, d) (ap (withPiece (byte x)) (enough ends k l s (omega arith) (omega arith)))))
 
-last-left : (q : Scan) (f a n : ℕ) → lastDollar q (a + suc n - f) (suc n) ≡ a + suc n - lastDollar q f a
-unfolding lastDollar
-last-left plain f a n = refl
-last-left afterJoin f a n = refl
-last-left afterDollar f a n = omega arith
-last-left (inBraces m) f a n = refl
-last-left (inName m) f a n = refl
-last-left bad f a n = refl
+-- ---- one turn
 
-module _ {stop : Scan → ℕ → Bool} {text after : Scan → List ℕ → List ℕ} (k : Cutting stop text after) where
-  -- where no `$` is open, it does not matter where the last one was
-  look-plain : (l m : ℕ) (s : List ℕ) → look stop plain l s ≡ look stop plain m s
-  unfolding look endsBad turn afterPlain isBad lastDollar
-  look-plain l m [] = refl
-  look-plain l m (b ∷ s) =
-      split (stop plain b) (λ (e : stop plain b ≡ true). rw e)
-      (λ (e : stop plain b ≡ false).
-      split (eqb b dollar) (λ (d : eqb b dollar ≡ true). rw (e, d)) (λ (d : eqb b dollar ≡ false). rw (e, d) (look-plain l m s)))
+module _ (ends : ℕ → Bool) where
+  pub raw-end : readRaw ends [] ≡ record { pieces = []; rest = []; sound = true }
+  unfolding readRaw readUp
+  raw-end = refl
 
-  look-join : (l : ℕ) (s : List ℕ) → look stop afterJoin l s ≡ look stop plain l (afterRun isSpace s)
-  unfolding look endsBad turn isBad lastDollar afterRun
-  look-join l [] = refl
-  look-join l (b ∷ s) =
-      split (eqb b space)
-      (λ (e : eqb b space ≡ true). rw (e, k .in-join b e) (look-join l s))
-      (λ (e : eqb b space ≡ false). rw (e, k .past-join b e))
+  pub raw-stop : (b : ℕ) (s : List ℕ) → ends b ≡ true → readRaw ends (b ∷ s) ≡ record { pieces = []; rest = b ∷ s; sound = true }
+  unfolding readRaw readUp
+  raw-stop b s e = rw e
 
-  look-name : (n : List ℕ) (l : ℕ) (s : List ℕ) → look stop (inName n) l s ≡ look stop plain l (afterRun shortByte s)
-  unfolding look endsBad turn isBad lastDollar afterRun
-  look-name n l [] = refl
-  look-name n l (b ∷ s) =
-      split (shortByte b)
-      (λ (e : shortByte b ≡ true). rw (e, k .in-name n b e) (look-name (n ++ (b ∷ [])) l s))
-      (λ (e : shortByte b ≡ false). rw (e, k .past-name n b))
+  module _ (b : ℕ) (s : List ℕ) (e : ends b ≡ false) where
+    pub raw-byte : eqb b dollar ≡ false → readRaw ends (b ∷ s) ≡ withPiece (byte b) (readRaw ends s)
+    unfolding readRaw readUp
+    raw-byte d = rw (e, d)
 
-  look-braces : (n : List ℕ) (l : ℕ) (s : List ℕ) → look stop (inBraces n) l s ≡ follow stop l (braced (n ++ nameOf s) (afterName s))
-  unfolding look follow braced endsBad turn isBad lastDollar nameOf afterName run afterRun
-  look-braces n l [] = refl
-  look-braces n l (b ∷ s) =
-      split (nameByte b)
-      (λ (e : nameByte b ≡ true). rw (e, k .in-braces n b) (look-braces (n ++ (b ∷ [])) l s ∙ rw append-assoc))
-      (λ (e : nameByte b ≡ false).
-      split (eqb b closeBrace && not (isEmpty n))
-      (λ (d : eqb b closeBrace && not (isEmpty n) ≡ true). rw (e, k .in-braces n b, append-nil n, d))
-      (λ (d : eqb b closeBrace && not (isEmpty n) ≡ false). rw (e, k .in-braces n b, append-nil n, d)))
+    pub raw-dollar : eqb b dollar ≡ true → readRaw ends (b ∷ s) ≡ goOn (b ∷ s) (element s) (readRaw ends)
+    unfolding readRaw readUp
+    raw-dollar d =
+        rw (e, d)
+        (go-on-same (b ∷ s) (element s) (readUp ends (length s)) (λ r. readUp ends (length r) r)
+        (λ r q. enough ends (length s) (length r) r (element-shorter s r q) (le-refl _)))
 
-  look-escape : (l : ℕ) (s : List ℕ) → look stop afterDollar l s ≡ follow stop l (element s)
-  unfolding look follow element endsBad turn afterEscape isBad lastDollar afterRun
-  look-escape l [] = refl
-  look-escape l (b ∷ s) =
-      split (escaped b) (λ (a : escaped b ≡ true). rw (k .in-escape b, a))
-      (λ (a : escaped b ≡ false).
-      split (eqb b newline) (λ (c : eqb b newline ≡ true). rw (k .in-escape b, a, c) (look-join l s))
-      (λ (c : eqb b newline ≡ false).
-      split (eqb b openBrace) (λ (d : eqb b openBrace ≡ true). rw (k .in-escape b, a, c, d) (look-braces [] l s))
-      (λ (d : eqb b openBrace ≡ false).
-      split (shortByte b)
-      (λ (e : shortByte b ≡ true). rw (k .in-escape b, a, c, d, e) (look-name (b ∷ []) l s))
-      (λ (e : shortByte b ≡ false). rw (k .in-escape b, a, c, d, e)))))
+-- ---- what is looked for: what follows, and whether all is sound
 
-  -- ---- one turn
+abbrev pub lookOf : Raw → List ℕ × Bool
+lookOf r = (r .rest, r .sound)
 
-  pub look-dollar : (s : List ℕ) → look stop plain 0 (dollar ∷ s) ≡ follow stop (suc (length s)) (element s)
-  unfolding look turn afterPlain isBad lastDollar
-  look-dollar s = rw (k .at-dollar) (look-escape (suc (length s)) s)
+abbrev pub look : (ℕ → Bool) → List ℕ → List ℕ × Bool
+look ends s = lookOf (readRaw ends s)
 
-  pub look-stop : (b : ℕ) (s : List ℕ) → stop plain b ≡ true → look stop plain 0 (b ∷ s) ≡ ends (b ∷ s)
-  unfolding look
-  look-stop b s e = rw e
+go-on-rest : (t : List ℕ) (x : Element) (f : List ℕ → Raw) (r : List ℕ) → restOf x ≡ some r → lookOf (goOn t x f) ≡ lookOf (f r)
+unfolding goOn restOf withPiece
+go-on-rest t (literal b s) f r e = ap (λ (l : List ℕ). lookOf (f l)) (let z : s ≡ r = cc in z)
+go-on-rest t (joins s) f r e = ap (λ (l : List ℕ). lookOf (f l)) (let z : s ≡ r = cc in z)
+go-on-rest t (names n s) f r e = ap (λ (l : List ℕ). lookOf (f l)) (let z : s ≡ r = cc in z)
+go-on-rest t wrong f r e = cc
 
-  pub look-byte : (b : ℕ) (s : List ℕ) → stop plain b ≡ false → eqb b dollar ≡ false → look stop plain 0 (b ∷ s) ≡ look stop plain 0 s
-  unfolding look turn afterPlain isBad lastDollar
-  look-byte b s e d = rw (e, d)
+go-on-none : (t : List ℕ) (x : Element) (f : List ℕ → Raw) → restOf x ≡ none → lookOf (goOn t x f) ≡ (t, false)
+unfolding goOn restOf
+go-on-none t (literal b s) f e = cc
+go-on-none t (joins s) f e = cc
+go-on-none t (names n s) f e = cc
+go-on-none t wrong f e = refl
 
-  pub follow-rest : (l : ℕ) (x : Element) (s : List ℕ) → restOf x ≡ some s → follow stop l x ≡ look stop plain 0 s
-  unfolding follow restOf
-  follow-rest l (literal b r) s e = look-plain l 0 r ∙ ap (look stop plain 0) (cc)
-  follow-rest l (joins r) s e = look-plain l 0 r ∙ ap (look stop plain 0) (cc)
-  follow-rest l (names n r) s e = look-plain l 0 r ∙ ap (look stop plain 0) (cc)
-  follow-rest l wrong s e = cc
+module _ (ends : ℕ → Bool) where
+  pub look-end : look ends [] ≡ ([], true)
+  look-end = ap lookOf (raw-end ends)
 
-  pub follow-none : (l : ℕ) (x : Element) → restOf x ≡ none → follow stop l x ≡ badAt l
-  unfolding follow restOf
-  follow-none l (literal b r) e = cc
-  follow-none l (joins r) e = cc
-  follow-none l (names n r) e = cc
-  follow-none l wrong e = refl
+  pub look-stop : (b : ℕ) (s : List ℕ) → ends b ≡ true → look ends (b ∷ s) ≡ (b ∷ s, true)
+  look-stop b s e = ap lookOf (raw-stop ends b s e)
 
-  -- ---- what the look says in the rules' words
+  module _ (b : ℕ) (s : List ℕ) (e : ends b ≡ false) where
+    pub look-byte : eqb b dollar ≡ false → look ends (b ∷ s) ≡ look ends s
+    unfolding withPiece
+    look-byte d = ap lookOf (raw-byte ends b s e d)
 
-  look-tie : (q : Scan) (f a : ℕ) (s : List ℕ) → look stop q (a + length s - f) s ≡ lookOf (a + length s) (after q s) (badFrom q f a (text q s))
-  unfolding look lookOf badFrom
-  look-tie q f a [] =
-      split (endsBad q) (λ (e : endsBad q ≡ true). rw (k .text-end q, k .after-end q, e)) (λ (e : endsBad q ≡ false). rw (k .text-end q, k .after-end q, e))
-  look-tie q f a (b ∷ s) =
-      split (stop q b) (λ (e : stop q b ≡ true). rw (k .text-more q b s, k .after-more q b s, e, k .sound q b e))
-      (λ (e : stop q b ≡ false).
-      split (isBad (turn q b))
-      (λ (d : isBad (turn q b) ≡ true). rw (k .text-more q b s, k .after-more q b s, e, d))
-      (λ (d : isBad (turn q b) ≡ false).
-      let z : suc a + length s ≡ a + suc (length s) = omega arith in
-      rw (k .text-more q b s, k .after-more q b s, e, d, last-left (turn q b) f a (length s), ← z)
-      (look-tie (turn q b) (lastDollar (turn q b) f a) (suc a) s)))
+    module _ (d : eqb b dollar ≡ true) where
+      pub look-past : {r : List ℕ} → restOf (element s) ≡ some r → look ends (b ∷ s) ≡ look ends r
+      look-past {r} q = rw (raw-dollar ends b s e d) (go-on-rest (b ∷ s) (element s) (readRaw ends) r q)
 
-  look-told : (s : List ℕ) → look stop plain 0 s ≡ lookOf (length s) (after plain s) (badDollar (text plain s))
-  unfolding badDollar
-  look-told s =
-      let z : 0 + length s ≡ length s = omega arith in
-      look-plain 0 (0 + length s - 0) s ∙ rw (look-tie plain 0 0 s, z)
+      pub look-wrong : restOf (element s) ≡ none → look ends (b ∷ s) ≡ (b ∷ s, false)
+      look-wrong q = rw (raw-dollar ends b s e d) (go-on-none (b ∷ s) (element s) (readRaw ends) q)
 
-  pub look-ends : (s r : List ℕ) → look stop plain 0 s ≡ ends r → (after plain s ≡ r) × (badDollar (text plain s) ≡ none)
-  look-ends s r e = told-ends (length s) (after plain s) (badDollar (text plain s)) r (sym (look-told s) ∙ e)
+-- ---- in the rules' words
 
-  pub look-bad : (s : List ℕ) (m : ℕ) → look stop plain 0 s ≡ badAt m → (o : ℕ) × (badDollar (text plain s) ≡ some o) × (length s - o ≡ m)
-  look-bad s m e = told-bad (length s) (after plain s) (badDollar (text plain s)) m (sym (look-told s) ∙ e)
+module _ (ends : ℕ → Bool) (s : List ℕ) where
+  pub sound-none : readRaw ends s .sound ≡ true → badIn ends s ≡ none
+  unfolding badIn
+  sound-none e = rw e
 
-  pub look-sound : (s : List ℕ) → badDollar (text plain s) ≡ none → look stop plain 0 s ≡ ends (after plain s)
-  unfolding lookOf
-  look-sound s e = look-told s ∙ rw e
-
--- ---- paths and values
-
-path-sound : (q : Scan) (b : ℕ) → endsPath q b ≡ true → endsBad q ≡ false
-unfolding endsPath endsBad
-path-sound plain b e = refl
-path-sound afterJoin b e = refl
-path-sound afterDollar b e = differ e refl
-path-sound (inBraces n) b e = differ e refl
-path-sound (inName n) b e = refl
-path-sound bad b e = differ e refl
-
-short-goes-on : (b : ℕ) → shortByte b ≡ true → pathStop b ≡ false
-unfolding pathStop
-short-goes-on b e =
-    let c : classOf b ≡ 1 = eqb-true (classOf b) 1 (sym (sorted b .short) ∙ e) in
-    rw (sorted b .space, sorted b .colon, sorted b .bar, c)
-
-pub path-cutting : Cutting endsPath pathFrom afterPath
-unfolding pathFrom afterPath endsPath endsBad pathStop
-path-cutting =
-    record {
-      text-end = λ q. refl;
-      text-more = λ q b s. refl;
-      after-end = λ q. refl;
-      after-more = λ q b s. refl;
-      sound = path-sound;
-      at-dollar = refl;
-      in-escape = λ b. refl;
-      in-braces = λ n b. refl;
-      in-name = λ n b e. short-goes-on b e;
-      past-name = λ n b. refl;
-      in-join = λ b e. let d : b ≡ space = eqb-true b space e in rw d;
-      past-join = λ b e. rw e;
-    }
-
--- a value goes to the end of its line
-pub value-cutting : Cutting (λ q b. false) (λ q s. s) (λ q s. [])
-value-cutting =
-    record {
-      text-end = λ q. refl;
-      text-more = λ q b s. refl;
-      after-end = λ q. refl;
-      after-more = λ q b s. refl;
-      sound = λ q b e. differ e refl;
-      at-dollar = refl;
-      in-escape = λ b. refl;
-      in-braces = λ n b. refl;
-      in-name = λ n b e. refl;
-      past-name = λ n b. refl;
-      in-join = λ b e. refl;
-      past-join = λ b e. refl;
-    }
+  pub none-sound : badIn ends s ≡ none → readRaw ends s .sound ≡ true
+  unfolding badIn
+  none-sound h =
+      split (readRaw ends s .sound) (λ (e : readRaw ends s .sound ≡ true). e)
+      (λ (e : readRaw ends s .sound ≡ false).
+      let d : some (length s - length (readRaw ends s .rest)) ≡ none = rw e at h in
+      cc)

@@ -1,6 +1,7 @@
 -- Lists of paths: one turn is the gap, and then either the end or one path and the rest.
 use Prim.Native.Nat.{ℕ, zero, suc, _-_, _≤_, _<_}
-use mathlib.Core.Bool.{true, false, _&&_, _||_}
+use mathlib.Core.Bool.{Bool, true, false, _&&_, _||_}
+use mathlib.Core.Option.{none, some}
 use mathlib.Core.List.{List, [], _∷_, _++_, append-nil, append-assoc}
 use mathlib.Core.Path.{_≡_, refl, sym, _∙_, ap}
 use native.Mathlib.Nat.{le-refl, not-suc-le-zero}
@@ -12,10 +13,13 @@ use Rattle.lists.specs.Tests.{ifB, split, differ, or-left, or-right}
 use Rattle.lists.specs.Parts.{part}
 use Rattle.lists.specs.Runs.{Reads}
 use Rattle.spec.specs.Bytes.{newline, space, dollar, colon, bar}
-use Rattle.spec.specs.Dollars.{Scan, plain, turn, badDollar}
-use Rattle.spec.specs.Forms.{Cut, fits, fails, wrongDollar, then, gap, pathStop, endsPath, pathFrom, afterPath, Paths, withPath, checked, pathBegins, pathsUp, paths}
+use Rattle.spec.specs.Dollars.{Element, literal, joins, names, wrong, element, Raw, withPiece, goOn, readUp, readRaw, badIn, badDollar}
+use Rattle.spec.specs.Forms.{Cut, fits, fails, leftAtDollar, then, gap, pathStop, afterPath, rawPath, Paths, withPath, checked, pathBegins, pathsUp, paths}
+use Rattle.scan_dollars.specs.Element.{restOf}
 use Rattle.scan_raw.specs.Texts.{PathEnds, PathBad, PathsStop, PathNext, PathsBad}
 use Rattle.scan_tokens.proofs.Places.{at-cons, at-end, part-passed}
+use Rattle.scan_raw.proofs.Look.{element-shorter, sound-none, none-sound}
+use Rattle.scan_raw.proofs.Fronts.{Front, front-of}
 
 -- ---- each path takes a byte at least
 
@@ -50,26 +54,77 @@ gap-first (x ∷ c ∷ s) b t h =
     let d : x ≡ b = cc in
     rw (← d) e))
 
-after-length : (q : Scan) (s : List ℕ) → length (afterPath q s) ≤ length s
-unfolding afterPath
-after-length q [] = le-refl 0
-after-length q (b ∷ s) =
-    split (endsPath q b) (λ (e : endsPath q b ≡ true). rw e (le-refl _))
-    (λ (e : endsPath q b ≡ false). rw e (omega (arith, after-length (turn q b) s)))
+-- what follows a text is no longer than what was read
+go-on-length : (t : List ℕ) (x : Element) (f : List ℕ → Raw) (n : ℕ) → length t ≤ n → ((r : List ℕ) → restOf x ≡ some r → length (f r .rest) ≤ n)
+    → length (goOn t x f .rest) ≤ n
+unfolding goOn restOf withPiece
+go-on-length t (literal b s) f n l h = h s refl
+go-on-length t (joins s) f n l h = h s refl
+go-on-length t (names m s) f n l h = h s refl
+go-on-length t wrong f n l h = l
+
+rest-length : (ends : ℕ → Bool) (k : ℕ) (s : List ℕ) → length (readUp ends k s .rest) ≤ length s
+unfolding readUp withPiece
+rest-length ends zero s = le-refl _
+rest-length ends (suc k) [] = le-refl 0
+rest-length ends (suc k) (b ∷ s) =
+    split (ends b) (λ (e : ends b ≡ true). rw e (le-refl _))
+    (λ (e : ends b ≡ false).
+    split (eqb b dollar)
+    (λ (d : eqb b dollar ≡ true).
+    rw (e, d)
+    (go-on-length (b ∷ s) (element s) (readUp ends k) (suc (length s)) (le-refl _)
+    (λ r q. omega (arith, element-shorter s r q, rest-length ends k r))))
+    (λ (d : eqb b dollar ≡ false). rw (e, d) (omega (arith, rest-length ends k s))))
+
+-- and shorter, if it is sound and the first byte does not end it
+go-on-shorter : (t : List ℕ) (x : Element) (f : List ℕ → Raw) (n : ℕ) → ((r : List ℕ) → restOf x ≡ some r → length (f r .rest) ≤ n)
+    → goOn t x f .sound ≡ true → length (goOn t x f .rest) ≤ n
+unfolding goOn restOf withPiece
+go-on-shorter t (literal b s) f n h e = h s refl
+go-on-shorter t (joins s) f n h e = h s refl
+go-on-shorter t (names m s) f n h e = h s refl
+go-on-shorter t wrong f n h e = differ e refl
+
+rest-shorter : (ends : ℕ → Bool) (b : ℕ) (s : List ℕ) → ends b ≡ false → readRaw ends (b ∷ s) .sound ≡ true
+    → length (readRaw ends (b ∷ s) .rest) ≤ length s
+unfolding readRaw readUp withPiece
+rest-shorter ends b s e o =
+    split (eqb b dollar)
+    (λ (d : eqb b dollar ≡ true).
+    rw (e, d)
+    (go-on-shorter (b ∷ s) (element s) (readUp ends (length s)) (length s)
+    (λ r q. omega (arith, element-shorter s r q, rest-length ends (length s) r)) (rw (e, d) at o)))
+    (λ (d : eqb b dollar ≡ false). rw (e, d) (rest-length ends (length s) s))
+
+goes-on-at : (b : ℕ) → eqb b space ≡ false → eqb b colon || eqb b bar ≡ false → pathStop b ≡ false
+unfolding pathStop
+goes-on-at b p e = rw (p, or-left (eqb b colon) (eqb b bar) e, or-right (eqb b colon) (eqb b bar) e)
 
 -- t is what a gap leaves
-after-shorter : (s t : List ℕ) → gap s ≡ t → pathBegins t ≡ true → length (afterPath plain t) < length t
-unfolding afterPath endsPath pathStop pathBegins
-after-shorter s [] g h = differ h refl
-after-shorter s (b ∷ t) g h =
+after-shorter : (s t : List ℕ) → gap s ≡ t → pathBegins t ≡ true → readRaw pathStop t .sound ≡ true → length (afterPath t) < length t
+unfolding pathBegins
+after-shorter s [] g h o = differ h refl
+after-shorter s (b ∷ t) g h o =
     let e : eqb b colon || eqb b bar ≡ false = not-true _ h in
-    rw (gap-first s b t g, or-left (eqb b colon) (eqb b bar) e, or-right (eqb b colon) (eqb b bar) e)
-    (omega (arith, after-length (turn plain b) t))
+    omega (arith, rest-shorter pathStop b t (goes-on-at b (gap-first s b t g) e) o)
 
 -- ---- the number of turns does not matter, where it is as great as the number of bytes
 
+-- one path and those after it
+unfoldable pub pathThen : List ℕ → Cut Paths → Cut Paths
+pathThen t c = checked (badIn pathStop t) t (λ _. then c (withPath (rawPath t)))
+
+-- only where the path is sound do those after it matter
+then-same : (t : List ℕ) (c d : Cut Paths) → (readRaw pathStop t .sound ≡ true → c ≡ d) → pathThen t c ≡ pathThen t d
+unfolding pathThen checked badIn
+then-same t c d h =
+    split (readRaw pathStop t .sound)
+    (λ (o : readRaw pathStop t .sound ≡ true). ap (pathThen t) (h o))
+    (λ (o : readRaw pathStop t .sound ≡ false). rw o)
+
 enough : (k l : ℕ) (s : List ℕ) → length s ≤ k → length s ≤ l → pathsUp k s ≡ pathsUp l s
-unfolding pathsUp
+unfolding pathsUp pathThen
 enough zero zero s a b = refl
 enough zero (suc l) [] a b = refl
 enough zero (suc l) (x ∷ s) a b = absurd (not-suc-le-zero a)
@@ -78,45 +133,50 @@ enough (suc k) zero (x ∷ s) a b = absurd (not-suc-le-zero b)
 enough (suc k) (suc l) s a b =
     split (pathBegins (gap s))
     (λ (e : pathBegins (gap s) ≡ true).
-    let h : length (afterPath plain (gap s)) < length (gap s) = after-shorter s (gap s) refl e in
-    let g : length (gap s) ≤ length s = gap-length s in
     rw e
-    (ap (λ (c : Cut Paths). checked (badDollar (pathFrom plain (gap s))) (gap s) (λ _. then c (withPath (pathFrom plain (gap s)))))
-    (enough k l (afterPath plain (gap s)) (omega arith) (omega arith))))
+    (then-same (gap s) (pathsUp k (afterPath (gap s))) (pathsUp l (afterPath (gap s)))
+    (λ o.
+    let h : length (afterPath (gap s)) < length (gap s) = after-shorter s (gap s) refl e o in
+    let g : length (gap s) ≤ length s = gap-length s in
+    enough k l (afterPath (gap s)) (omega arith) (omega arith))))
     (λ (e : pathBegins (gap s) ≡ false). rw e)
 
 unfoldable pub pathsTurn : List ℕ → Cut Paths
-pathsTurn t =
-    ifB (pathBegins t)
-    (λ _. checked (badDollar (pathFrom plain t)) t (λ _. then (paths (afterPath plain t)) (withPath (pathFrom plain t))))
-    (λ _. fits (record { raw = []; rest = t }))
+pathsTurn t = ifB (pathBegins t) (λ _. pathThen t (paths (afterPath t))) (λ _. fits (record { raw = []; rest = t }))
 
 pub paths-turn : (s : List ℕ) → paths s ≡ pathsTurn (gap s)
-unfolding paths pathsTurn pathsUp
+unfolding paths pathsTurn pathsUp pathThen
 paths-turn s =
     enough (length s) (suc (length s)) s (le-refl _) (omega arith)
     ∙ split (pathBegins (gap s))
     (λ (e : pathBegins (gap s) ≡ true).
-    let h : length (afterPath plain (gap s)) < length (gap s) = after-shorter s (gap s) refl e in
-    let g : length (gap s) ≤ length s = gap-length s in
     rw e
-    (ap (λ (c : Cut Paths). checked (badDollar (pathFrom plain (gap s))) (gap s) (λ _. then c (withPath (pathFrom plain (gap s)))))
-    (enough (length s) (length (afterPath plain (gap s))) (afterPath plain (gap s)) (omega arith) (le-refl _))))
+    (then-same (gap s) (pathsUp (length s) (afterPath (gap s))) (pathsUp (length (afterPath (gap s))) (afterPath (gap s)))
+    (λ o.
+    let h : length (afterPath (gap s)) < length (gap s) = after-shorter s (gap s) refl e o in
+    let g : length (gap s) ≤ length s = gap-length s in
+    enough (length s) (length (afterPath (gap s))) (afterPath (gap s)) (omega arith) (le-refl _))))
     (λ (e : pathBegins (gap s) ≡ false). rw e)
 
 -- ---- what a path's place says
 
-path-append : (q : Scan) (s : List ℕ) → pathFrom q s ++ afterPath q s ≡ s
-unfolding pathFrom afterPath
-path-append q [] = refl
-path-append q (b ∷ s) =
-    split (endsPath q b) (λ (e : endsPath q b ≡ true). rw e)
-    (λ (e : endsPath q b ≡ false). rw e (ap (λ (l : List ℕ). b ∷ l) (path-append (turn q b) s)))
+-- The bytes that a sound path passes are the raw path, and its dollars are sound by themselves.
+module _ {s : List ℕ} {i r : ℕ} (a : PathEnds s i r) where
+  front : Front (drop i s) (afterPath (drop i s))
+  front = front-of pathStop (drop i s) (none-sound pathStop (drop i s) (a .sound))
 
--- The bytes that a path passes are the raw path.
-pub part-path : {s : List ℕ} {i r : ℕ} → Reads (afterPath plain) s i r → part s i r ≡ pathFrom plain (drop i s)
-part-path {s} {i} {r} a =
-    part-passed s (pathFrom plain (drop i s)) (a .forward) (a .within) (ap (λ (l : List ℕ). pathFrom plain (drop i s) ++ l) (a .rest) ∙ path-append plain (drop i s))
+  part-front : part s i r ≡ front .bytes
+  part-front = part-passed s (front .bytes) (a .reads .forward) (a .reads .within) (ap (λ (l : List ℕ). front .bytes ++ l) (a .reads .rest) ∙ front .is)
+
+  part-path : part s i r ≡ rawPath (drop i s)
+  unfolding rawPath
+  part-path =
+      let n : length (drop i s) - length (afterPath (drop i s)) ≡ r - i = omega (arith, length-drop i s, length-drop r s, ap length (a .reads .rest), a .reads .forward, a .reads .within) in
+      rw n
+
+  part-sound : badDollar (part s i r) ≡ none
+  unfolding badDollar
+  part-sound = rw part-front (sound-none (λ b. false) (front .bytes) (front .sound))
 
 -- ---- one turn at places: the gap ends at g
 
@@ -130,19 +190,20 @@ module _ {s : List ℕ} {i g : ℕ} (a : Reads gap s i g) where
 
   module _ (e : pathBegins (drop g s) ≡ true) where
     pub next : {r : ℕ} → PathEnds s g r → PathNext s i g r
-    unfolding pathsTurn checked
+    unfolding pathsTurn pathThen checked
     next {r} p =
-        let h : length (afterPath plain (drop g s)) < length (drop g s) = after-shorter (drop i s) (drop g s) (sym (a .rest)) e in
+        let h : length (afterPath (drop g s)) < length (drop g s) =
+        after-shorter (drop i s) (drop g s) (sym (a .rest)) e (none-sound pathStop (drop g s) (p .sound)) in
         record {
           forward = a .forward;
           longer = omega (arith, length-drop g s, length-drop r s, p .reads .within, ap length (p .reads .rest));
           within = p .reads .within;
-          sound = rw (part-path (p .reads)) (p .sound);
-          is = turn-at ∙ rw (e, p .sound, ← (p .reads .rest), ← (part-path (p .reads)));
+          sound = part-sound p;
+          is = turn-at ∙ rw (e, p .sound, ← (p .reads .rest), ← (part-path p));
         }
 
     pub wrong-next : {p : ℕ} → PathBad s g p → PathsBad s i p
-    unfolding pathsTurn checked
+    unfolding pathsTurn pathThen checked
     wrong-next {p} b =
         let z : length (drop g s) - (p - g) ≡ length s - p = omega (arith, length-drop g s, b .forward, b .within) in
         record {
@@ -204,6 +265,6 @@ module _ {s : List ℕ} {i : ℕ} {l : List (List ℕ)} {k : ℕ} (a : Listing s
   unfolding ahead then
   list-stop p = a .same ∙ ap (ahead l) (p .is) ∙ rw (append-nil l)
 
-  pub list-bad : {p : ℕ} → PathsBad s k p → paths (drop i s) ≡ fails (wrongDollar (length s - p))
+  pub list-bad : {p : ℕ} → PathsBad s k p → paths (drop i s) ≡ fails (leftAtDollar (length s - p))
   unfolding ahead then
   list-bad p = a .same ∙ ap (ahead l) (p .is)

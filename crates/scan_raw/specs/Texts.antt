@@ -6,8 +6,8 @@ use mathlib.Core.Path.{_≡_}
 use lib.ListN.{length, drop}
 use Rattle.lists.specs.Parts.{part}
 use Rattle.lists.specs.Runs.{Reads}
-use Rattle.spec.specs.Dollars.{plain, badDollar}
-use Rattle.spec.specs.Forms.{fits, fails, wrongDollar, then, pathFrom, afterPath, withPath, paths}
+use Rattle.spec.specs.Dollars.{badIn, badDollar}
+use Rattle.spec.specs.Forms.{fits, fails, leftAtDollar, then, pathStop, afterPath, withPath, paths}
 use Rattle.scan_raw.specs.declared.PathEnd.{PathEnd}
 use Rattle.scan_raw.specs.declared.PathEnd.the-variants.{Ends, BadDollar}
 use Rattle.scan_raw.specs.declared.NextPath.{NextPath}
@@ -17,14 +17,14 @@ use Rattle.scan_raw.specs.declared.FirstBad.the-variants.{Nowhere, At}
 
 -- The path that starts at place i ends at place r, and its dollars are sound.
 pub record PathEnds (s : List ℕ) (i r : ℕ) : Type 0 where
-  pub reads : Reads (afterPath plain) s i r
-  pub sound : badDollar (pathFrom plain (drop i s)) ≡ none
+  pub reads : Reads afterPath s i r
+  pub sound : badIn pathStop (drop i s) ≡ none
 
 -- The first bad `$` of the path that starts at place i stands at place p.
 pub record PathBad (s : List ℕ) (i p : ℕ) : Type 0 where
   pub forward : i ≤ p
   pub within : p < length s
-  pub bad : badDollar (pathFrom plain (drop i s)) ≡ some (p - i)
+  pub bad : badIn pathStop (drop i s) ≡ some (p - i)
 
 unfoldable pub PathAt : List ℕ → ℕ → PathEnd → Type 0
 PathAt s i (Ends r) = PathEnds s i r
@@ -59,7 +59,7 @@ pub record PathNext (s : List ℕ) (i g r : ℕ) : Type 0 where
 pub record PathsBad (s : List ℕ) (i p : ℕ) : Type 0 where
   pub forward : i ≤ p
   pub within : p < length s
-  pub is : paths (drop i s) ≡ fails (wrongDollar (length s - p))
+  pub is : paths (drop i s) ≡ fails (leftAtDollar (length s - p))
 
 unfoldable pub NextAt : List ℕ → ℕ → NextPath → Type 0
 NextAt s i (Stop g) = PathsStop s i g

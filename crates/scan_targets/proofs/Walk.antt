@@ -1,6 +1,6 @@
 -- A caller's walk over the names of a target list with a lookup of its own: one turn of it, and its ways out.
 use Prim.Native.Nat.{ℕ, _+_, _-_, _≤_, _<_}
-use mathlib.Core.Bool.{true, false}
+use mathlib.Core.Bool.{Bool, true, false, not, _||_}
 use mathlib.Core.List.{List, [], _∷_, _++_, map, append-nil}
 use mathlib.Core.Option.{none, some}
 use mathlib.Core.Path.{_≡_, refl, sym, _∙_}
@@ -14,7 +14,7 @@ use Rattle.lists.specs.Runs.{run, Reads, afterRun}
 use Rattle.spec.specs.Basics.{among}
 use Rattle.spec.specs.Limits.{maxPath, maxTargets}
 use Rattle.spec.specs.Reading.{numberOf}
-use Rattle.spec.specs.Targets.{Target, targetsFrom, targetsOf, malformed, badLength, badName, firstBad, badTarget}
+use Rattle.spec.specs.Targets.{Target, targetsFrom, targetsOf, malformed, badLength, firstBad, badTarget}
 use Rattle.scan_targets.specs.declared.NextTarget.{NextTarget}
 use Rattle.scan_targets.specs.declared.NextTarget.the-variants.{End, Bad, Name}
 use Rattle.scan_targets.specs.Next.{other, nextIn}
@@ -142,12 +142,16 @@ unfolding badTarget targetsOf
 walk-begin files t h =
     record { within = omega arith; short = form-short t h; few = omega arith; bad = rw h; numbers = refl }
 
+-- "malformed, or a name the manifest never mentions"
+unfoldable pub badName : List (List ℕ) → List ℕ → Bool
+badName files n = badLength n || not (among n files)
+
 bad-first : (files : List (List ℕ)) (x : Target) (l : List Target) → badName files (x .name) ≡ true → firstBad files (x ∷ l) ≡ some (x .start)
-unfolding firstBad
+unfolding firstBad badName
 bad-first files x l h = rw h
 
 good-first : (files : List (List ℕ)) (x : Target) (l : List Target) → badName files (x .name) ≡ false → firstBad files (x ∷ l) ≡ firstBad files l
-unfolding firstBad
+unfolding firstBad badName
 good-first files x l h = rw h
 
 module _ {files : List (List ℕ)} {t : List ℕ} {from : ℕ} {done : List ℕ} (w : Walking files t from done) {r : NextTarget} (n : r ≡ nextIn (namesFrom t from)) where

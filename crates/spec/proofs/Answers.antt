@@ -7,7 +7,7 @@ use mathlib.Core.Path.{_≡_, refl}
 use mathlib.Core.List.{List, [], _∷_, map}
 use Rattle.spec.specs.declared.Refusal.{Refusal}
 use Rattle.spec.specs.declared.Refusal.the-variants.{ShortBuffer, LongManifest, BadByte, BadLine, BadDollar, NotYet, BadRule, BadPath, OverLimit, BadVersion, BadCard, BadTarget, NoRoot, Circle, MissingSource, EndlessText, LongText, NoCommand}
-use Rattle.spec.specs.Answers.{numberOfRefusal, placeOfRefusal, standsInText, refusalSays, inText, spot, placed}
+use Rattle.spec.specs.Answers.{numberOfRefusal, placeOfRefusal, refusalSays, inText, spot, placed}
 
 abbrev rows : ℕ → List Refusal
 rows p =
@@ -21,12 +21,12 @@ pub places : (p : ℕ) → map placeOfRefusal (rows p) ≡ 0 ∷ 0 ∷ p ∷ p �
 unfolding placeOfRefusal
 places p = refl
 
-pub in-texts : (p : ℕ) → map standsInText (rows p) ≡
+pub in-texts : (p : ℕ) → map (λ (r : Refusal). refusalSays r .text) (rows p) ≡
     false ∷ false ∷ true ∷ true ∷ true ∷ true ∷ true ∷ true ∷ true ∷ true ∷ false ∷ false ∷ false ∷ false ∷ false ∷ false ∷ false ∷ false ∷ []
-unfolding standsInText
+unfolding refusalSays
 in-texts p = refl
 
 -- where one text was read, a place in it is its offset in that text
-pub one-text : (m : List ℕ) (r : Refusal) → standsInText r ≡ true → placeOfRefusal r ≤ length m → placed (m ∷ []) (refusalSays r) ≡ inText 0 (placeOfRefusal r)
-unfolding placed refusalSays spot
-one-text m r e h = rw (e, le-leb (placeOfRefusal r) (length m) h) refl
+pub one-text : (m : List ℕ) (r : Refusal) → refusalSays r .text ≡ true → placeOfRefusal r ≤ length m → placed (m ∷ []) (refusalSays r) ≡ inText 0 (placeOfRefusal r)
+unfolding placed spot placeOfRefusal
+one-text m r e h = rw (e, le-leb (refusalSays r .value) (length m) h) refl

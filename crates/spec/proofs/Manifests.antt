@@ -15,16 +15,16 @@ use Rattle.lists.specs.Members.{any}
 use Rattle.lists.specs.Runs.{afterRun}
 use Rattle.spec.specs.declared.Refusal.{Refusal}
 use Rattle.spec.specs.declared.Refusal.the-variants.{LongManifest, BadByte, BadLine, BadRule, BadPath, OverLimit, BadVersion}
-use Rattle.spec.specs.Basics.{isEmpty}
+use Rattle.spec.specs.Basics.{isEmpty, orElse}
 use Rattle.spec.specs.Answers.{numberOfRefusal}
 use Rattle.spec.specs.Limits.{maxManifest, maxSteps, maxRules, maxName, maxValue}
 use Rattle.spec.specs.Bytes.{newline, equals}
 use Rattle.spec.specs.Lines.{Line, linesOf, isComment, isBlank, isIndented, isSpace}
 use Rattle.spec.specs.Dollars.{badDollar, expand}
-use Rattle.spec.specs.Forms.{BuildLine, Fault, noForm, wrongDollar, notYet, Cut, fits, fails, then, checked, Form, ruleForm, buildForm, defaultForm, bindingForm, keyWord, nameOf, afterName, gap, rawValue, cutValue, cutBinding, cutStatement, cutIndented}
-use Rattle.spec.specs.Reading.{Bound, Rule, Step, Reading, nothingRead, find, fileVar, hasKey, keysOf, declared, isMade}
-use Rattle.spec.specs.Statements.{Block, noBlock, ruleBlock, buildBlock, Outcome, goesOn, refused, overCounts, longerThan, ruleKey, countBinding, badPaths, mentioned, inputsOfLine, overPaths, overBinding, wrongVersion, setVar, withDefaults, startRule, addKey, addStep, stepOf, addVar, addToBlock, addDefaults, expanded, expandedLine, statement, blockLine}
-use Rattle.spec.specs.Manifest.{badByte, withRule, withStep, close, andThen, faultOf, ifCut, indented, readIndented, readStatement, readLine, readLines, Read, accepted, refusedWith, readOf, ifSound, readManifest}
+use Rattle.spec.specs.Forms.{BuildLine, Fault, noForm, leftAtDollar, notYet, Cut, fits, fails, then, checked, Form, ruleForm, buildForm, defaultForm, bindingForm, keyWord, nameOf, afterName, gap, rawValue, cutValue, cutBinding, cutStatement, cutIndented}
+use Rattle.spec.specs.Reading.{Bound, Rule, Step, Reading, nothingRead, boundTo, fileVar, hasKey, keysOf, declared, isMade}
+use Rattle.spec.specs.Statements.{Block, noBlock, ruleBlock, buildBlock, Outcome, goesOn, refused, overCounts, longerThan, ruleKey, countBinding, badPaths, mentioned, inputsOfLine, overPaths, overBinding, wrongVersion, setVar, withDefaults, startRule, addKey, addStep, addVar, addToBlock, addDefaults, expanded, expandedLine, statement, blockLine}
+use Rattle.spec.specs.Manifest.{badByte, withRule, withStep, close, andThen, faultOf, ifCut, indented, readIndented, readStatement, readLine, readLines, Read, accepted, refusedWith, readOf, readManifest}
 use Rattle.spec.specs.Sound.{SoundKey, SoundKeys, SoundRules}
 
 pub record OfReading (r : Refusal) : Type 0 where
@@ -80,11 +80,11 @@ bad-version p = record { least = omega arith; most = omega arith }
 -- ---- rules and keys
 
 no-keys : SoundKeys []
-unfolding find
+unfolding boundTo
 no-keys n raw e = let z : _≡_ {A = ℕ} 0 1 = cc in absurd (omega arith)
 
 more-keys : (n raw : List ℕ) (keys : List Bound) → SoundKey n raw → SoundKeys keys → SoundKeys (record { name = n; value = raw } ∷ keys)
-unfolding find
+unfolding boundTo
 more-keys n raw keys k h m v e =
     split (eqBytes m n)
     (λ (t : eqBytes m n ≡ true).
@@ -116,7 +116,7 @@ sound-key start k r n raw rd h keys d =
     (on h (rule-open (more-keys n raw (r .keys) key keys)))
 
 sound-step : (start : ℕ) (b : BuildLine) (rd : Reading) → Good rd → Sound (addStep start b rd)
-unfolding addStep stepOf mentioned
+unfolding addStep mentioned
 sound-step start b rd h =
     either (not (declared (b .rule) rd)) (off (bad-rule start))
     (either (badPaths (b .outs) (inputsOfLine b) rd) (off (bad-path start))
@@ -195,7 +195,7 @@ sound-binding s = sound-after (keyWord (nameOf (afterRun isSpace s))) (gap (afte
 sound-fault : (l : Line) (e : Fault) → OfReading (faultOf l e)
 unfolding faultOf numberOfRefusal
 sound-fault l noForm = record { least = omega arith; most = omega arith }
-sound-fault l (wrongDollar n) = record { least = omega arith; most = omega arith }
+sound-fault l (leftAtDollar n) = record { least = omega arith; most = omega arith }
 sound-fault l notYet = record { least = omega arith; most = omega arith }
 
 sound-cut : (l : Line) (c : Cut Form) (f : Form → Outcome) → ((x : Form) → c ≡ fits x → Sound (f x)) → Sound (ifCut l c f)
@@ -259,8 +259,8 @@ unfolding readOf
 sound-of (on h k) = read-on h
 sound-of (off a) = read-off a
 
-sound-bytes : (o : Option ℕ) (k : Unit {0} → Read) → SoundRead (k tt) → SoundRead (ifSound o k)
-unfolding ifSound numberOfRefusal
+sound-bytes : (o : Option ℕ) (k : Unit {0} → Read) → SoundRead (k tt) → SoundRead (orElse o (λ at. refusedWith (BadByte at)) k)
+unfolding numberOfRefusal
 sound-bytes none k a = a
 sound-bytes (some at) k a = read-off {r = BadByte at} (record { least = omega arith; most = omega arith })
 

@@ -12,7 +12,7 @@ use Rattle.spec.specs.declared.PlanAnswer.the-variants.{Listed, Refused}
 use Rattle.spec.specs.declared.TextAnswer.{TextAnswer}
 use Rattle.spec.specs.declared.TextAnswer.the-variants.{Refused as TextRefused}
 use Rattle.spec.specs.declared.Wanted.the-variants.{Command}
-use Rattle.spec.specs.Answers.{numberOfRefusal, Said, refusalSays, planSays, textSays}
+use Rattle.spec.specs.Answers.{numberOfRefusal, Said, planSays, textSays}
 use Rattle.spec.specs.PlanAsk.{PlanOutcome, inputsOf, planAsk, listed}
 use Rattle.spec.specs.TextAsk.{TextOutcome, textAsk, text}
 use Rattle.spec.specs.Promises.{filled, counts, AnswerIs, PlanMeets, PlanPromise, TextMeets, TextPromise}
@@ -65,7 +65,7 @@ module _ (lent : List ℕ) (room : length lent ≡ 512) where
 
   -- one that refuses everything, whatever the refusal; so also one that shows an invented circle
   pub refuses : (r : Refusal) (exit : List ℕ) → PlanPromise (inputsOf bench bothStale []) lent (Refused r) exit → ⊥
-  unfolding planSays refusalSays
+  unfolding planSays numberOfRefusal
   refuses r exit p = refusal-number r (ap (λ (s : Said). s .number) (both-said (Refused r) exit p))
 
   -- an invented list length
@@ -108,7 +108,7 @@ module _ (lent : List ℕ) (room : length lent ≡ 8192) where
 
   -- a text ask that refuses everything
   pub refuses-text : (r : Refusal) (exit : List ℕ) → TextPromise bench 0 Command lent (TextRefused r) exit → ⊥
-  unfolding textSays refusalSays
+  unfolding textSays numberOfRefusal
   refuses-text r exit p = refusal-number r (ap (λ (s : Said). s .number) (bench-says (TextRefused r) exit p .says))
 
   -- one that copies the rule unexpanded

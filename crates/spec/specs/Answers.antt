@@ -12,87 +12,57 @@ use Rattle.spec.specs.declared.TextAnswer.the-variants.{Written, Refused
 use Rattle.spec.specs.declared.Refusal.{Refusal}
 use Rattle.spec.specs.declared.Refusal.the-variants.{ShortBuffer, LongManifest, BadByte, BadLine, BadDollar, NotYet, BadRule, BadPath, OverLimit, BadVersion, BadCard, BadTarget, NoRoot, Circle, MissingSource, EndlessText, LongText, NoCommand}
 
--- the column "no."
-unfoldable pub numberOfRefusal : Refusal → ℕ
-numberOfRefusal ShortBuffer = 1
-numberOfRefusal LongManifest = 2
-numberOfRefusal (BadByte p) = 3
-numberOfRefusal (BadLine p) = 4
-numberOfRefusal (BadDollar p) = 5
-numberOfRefusal (NotYet p) = 6
-numberOfRefusal (BadRule p) = 7
-numberOfRefusal (BadPath p) = 8
-numberOfRefusal (OverLimit p) = 9
-numberOfRefusal (BadVersion p) = 10
-numberOfRefusal BadCard = 11
-numberOfRefusal (BadTarget p) = 12
-numberOfRefusal NoRoot = 13
-numberOfRefusal (Circle n) = 14
-numberOfRefusal (MissingSource f) = 15
-numberOfRefusal (EndlessText s) = 16
-numberOfRefusal (LongText s) = 17
-numberOfRefusal (NoCommand s) = 18
-
--- the column "place"
-unfoldable pub placeOfRefusal : Refusal → ℕ
-placeOfRefusal ShortBuffer = 0
-placeOfRefusal LongManifest = 0
-placeOfRefusal (BadByte p) = p
-placeOfRefusal (BadLine p) = p
-placeOfRefusal (BadDollar p) = p
-placeOfRefusal (NotYet p) = p
-placeOfRefusal (BadRule p) = p
-placeOfRefusal (BadPath p) = p
-placeOfRefusal (OverLimit p) = p
-placeOfRefusal (BadVersion p) = p
-placeOfRefusal BadCard = 0
-placeOfRefusal (BadTarget p) = p
-placeOfRefusal NoRoot = 0
-placeOfRefusal (Circle n) = n
-placeOfRefusal (MissingSource f) = f
-placeOfRefusal (EndlessText s) = s
-placeOfRefusal (LongText s) = s
-placeOfRefusal (NoCommand s) = s
-
--- Does the place stand in a text that was read: the offset of a byte or of a line's start (3 to 10). Any other place is a number by itself.
-unfoldable pub standsInText : Refusal → Bool
-standsInText ShortBuffer = false
-standsInText LongManifest = false
-standsInText (BadByte p) = true
-standsInText (BadLine p) = true
-standsInText (BadDollar p) = true
-standsInText (NotYet p) = true
-standsInText (BadRule p) = true
-standsInText (BadPath p) = true
-standsInText (OverLimit p) = true
-standsInText (BadVersion p) = true
-standsInText BadCard = false
-standsInText (BadTarget p) = false
-standsInText NoRoot = false
-standsInText (Circle n) = false
-standsInText (MissingSource f) = false
-standsInText (EndlessText s) = false
-standsInText (LongText s) = false
-standsInText (NoCommand s) = false
-
 -- what an answer says: a refusal's number with its place, and whether that stands in a text; or 0 with the count that a plan or a text gives
 pub record Said : Type 0 where
   pub number : ℕ
   pub text : Bool
   pub value : ℕ
 
+-- a number with a value that is a number by itself
+abbrev pub says : ℕ → ℕ → Said
+says n v = record { number = n; text = false; value = v }
+
+-- a refusal whose place stands in a text that was read: the offset of a byte or of a line's start
+abbrev pub saysAt : ℕ → ℕ → Said
+saysAt n p = record { number = n; text = true; value = p }
+
+-- the table of refusals, with its columns "no." and "place"
 unfoldable pub refusalSays : Refusal → Said
-unfolding numberOfRefusal standsInText placeOfRefusal
-refusalSays r = record { number = numberOfRefusal r; text = standsInText r; value = placeOfRefusal r }
+refusalSays ShortBuffer = says 1 0
+refusalSays LongManifest = says 2 0
+refusalSays (BadByte p) = saysAt 3 p
+refusalSays (BadLine p) = saysAt 4 p
+refusalSays (BadDollar p) = saysAt 5 p
+refusalSays (NotYet p) = saysAt 6 p
+refusalSays (BadRule p) = saysAt 7 p
+refusalSays (BadPath p) = saysAt 8 p
+refusalSays (OverLimit p) = saysAt 9 p
+refusalSays (BadVersion p) = saysAt 10 p
+refusalSays BadCard = says 11 0
+refusalSays (BadTarget p) = says 12 p
+refusalSays NoRoot = says 13 0
+refusalSays (Circle n) = says 14 n
+refusalSays (MissingSource f) = says 15 f
+refusalSays (EndlessText s) = says 16 s
+refusalSays (LongText s) = says 17 s
+refusalSays (NoCommand s) = says 18 s
+
+unfoldable pub numberOfRefusal : Refusal → ℕ
+unfolding refusalSays
+numberOfRefusal r = refusalSays r .number
+
+unfoldable pub placeOfRefusal : Refusal → ℕ
+unfolding refusalSays
+placeOfRefusal r = refusalSays r .value
 
 unfoldable pub planSays : PlanAnswer → Said
 unfolding refusalSays
-planSays (Listed n) = record { number = 0; text = false; value = n }
+planSays (Listed n) = says 0 n
 planSays (PlanRefused r) = refusalSays r
 
 unfoldable pub textSays : TextAnswer → Said
 unfolding refusalSays
-textSays (Written n) = record { number = 0; text = false; value = n }
+textSays (Written n) = says 0 n
 textSays (TextRefused r) = refusalSays r
 
 -- ------------------------------------------------------------------ places in texts

@@ -1,125 +1,96 @@
--- Dollars: where one is bad, what a raw text expands to, and which names it refers to.
-use Prim.Native.Nat.{ℕ, suc}
+-- Dollars: what a raw text is made of, where a `$` of it is bad, what it expands to, and which names it refers to.
+use Prim.Native.Nat.{ℕ, zero, suc, _-_}
 use mathlib.Core.List.{List, [], _∷_, _++_}
 use mathlib.Core.Option.{Option, none, some}
 use mathlib.Core.Bool.{Bool, true, false, not, _&&_, _||_}
 use lib.Dec.{eqb}
+use lib.ListN.{length}
 use Rattle.lists.specs.Tests.{ifB}
+use Rattle.lists.specs.Runs.{run, afterRun}
 use Rattle.spec.specs.Basics.{isEmpty}
 use Rattle.spec.specs.Bytes.{newline, space, dollar, colon, openBrace, closeBrace, shortByte, nameByte}
+use Rattle.spec.specs.Lines.{isSpace}
 
--- "Dollars are read from the left." Where that reading stands after the bytes so far.
-pub data Scan : Type 0 where
-  plain : Scan
-  -- after a join, whose next line's leading spaces are dropped
-  afterJoin : Scan
-  afterDollar : Scan
-  -- in `${`, with the name so far
-  inBraces : List ℕ → Scan
-  -- in `$name`, with the name so far
-  inName : List ℕ → Scan
-  bad : Scan
-
-unfoldable pub afterPlain : ℕ → Scan
-afterPlain b = ifB (eqb b dollar) (λ _. afterDollar) (λ _. plain)
+-- What a `$` begins, each with what follows it.
+pub data Element : Type 0 where
+  -- `$$`, `$ ` or `$:`, with the byte that it gives
+  literal : ℕ → List ℕ → Element
+  -- a join and the next line's leading spaces
+  joins : List ℕ → Element
+  -- `$name` or `${name}`
+  names : List ℕ → List ℕ → Element
+  wrong : Element
 
 -- "`$$`, `$ ` and `$:` give `$`, space and colon."
 unfoldable pub escaped : ℕ → Bool
 escaped b = eqb b dollar || eqb b space || eqb b colon
 
--- "`$` before a newline joins the lines .. A name has one byte at least; any other `$` is bad."
-unfoldable pub afterEscape : ℕ → Scan
-unfolding escaped shortByte
-afterEscape b =
-    ifB (escaped b) (λ _. plain) λ _.
-    ifB (eqb b newline) (λ _. afterJoin) λ _.
-    ifB (eqb b openBrace) (λ _. inBraces []) λ _.
-    ifB (shortByte b) (λ _. inName (b ∷ [])) λ _. bad
+-- the name bytes behind `${`, and what follows them: "A name has one byte at least"
+unfoldable pub braced : List ℕ → List ℕ → Element
+braced n [] = wrong
+braced n (b ∷ s) = ifB (eqb b closeBrace && not (isEmpty n)) (λ _. names n s) (λ _. wrong)
 
--- "`${name}` takes name bytes, `$name` the longest run of short-name bytes." "A join .. ends a `$name`."
-unfoldable pub turn : Scan → ℕ → Scan
-unfolding afterPlain afterEscape nameByte shortByte
-turn plain b = afterPlain b
-turn afterJoin b = ifB (eqb b space) (λ _. afterJoin) (λ _. afterPlain b)
-turn afterDollar b = afterEscape b
-turn (inBraces n) b =
-    ifB (nameByte b) (λ _. inBraces (n ++ (b ∷ []))) λ _. ifB (eqb b closeBrace && not (isEmpty n)) (λ _. plain) (λ _. bad)
-turn (inName n) b = ifB (shortByte b) (λ _. inName (n ++ (b ∷ []))) (λ _. afterPlain b)
-turn bad b = bad
-
-unfoldable pub isBad : Scan → Bool
-isBad plain = false
-isBad afterJoin = false
-isBad afterDollar = false
-isBad (inBraces n) = false
-isBad (inName n) = false
-isBad bad = true
-
--- a text may not end inside a dollar
-unfoldable pub endsBad : Scan → Bool
-endsBad plain = false
-endsBad afterJoin = false
-endsBad afterDollar = true
-endsBad (inBraces n) = true
-endsBad (inName n) = false
-endsBad bad = true
-
--- the offset of the last `$` that was opened
-unfoldable pub lastDollar : Scan → ℕ → ℕ → ℕ
-lastDollar plain from at = from
-lastDollar afterJoin from at = from
-lastDollar afterDollar from at = at
-lastDollar (inBraces n) from at = from
-lastDollar (inName n) from at = from
-lastDollar bad from at = from
-
--- `from` is the offset of the last `$` that was opened, `at` that of the next byte
-unfoldable pub badFrom : Scan → ℕ → ℕ → List ℕ → Option ℕ
-unfolding turn isBad endsBad lastDollar
-badFrom q from at [] = ifB (endsBad q) (λ _. some from) (λ _. none)
-badFrom q from at (b ∷ s) =
-    ifB (isBad (turn q b)) (λ _. some from) (λ _. badFrom (turn q b) (lastDollar (turn q b) from at) (suc at) s)
-
--- the offset in a raw text of its first bad `$`, if there is one: the place of a 5 is "the `$`"
-unfoldable pub badDollar : List ℕ → Option ℕ
-unfolding badFrom
-badDollar raw = badFrom plain 0 0 raw
+-- From the byte after the `$` on: "`$` before a newline joins the lines and drops the next line's leading spaces." "`${name}` takes name bytes, `$name` the
+-- longest run of short-name bytes", which a join ends; "any other `$` is bad."
+unfoldable pub element : List ℕ → Element
+unfolding escaped braced shortByte nameByte run afterRun
+element [] = wrong
+element (b ∷ s) =
+    ifB (escaped b) (λ _. literal b s) λ _.
+    ifB (eqb b newline) (λ _. joins (afterRun isSpace s)) λ _.
+    ifB (eqb b openBrace) (λ _. braced (run nameByte s) (afterRun nameByte s)) λ _.
+    ifB (shortByte b) (λ _. names (run shortByte (b ∷ s)) (afterRun shortByte (b ∷ s))) λ _. wrong
 
 -- a raw text is bytes and references to names
 pub data Piece : Type 0 where
   byte : ℕ → Piece
   ref : List ℕ → Piece
 
-unfoldable pub plainGives : ℕ → List Piece
-plainGives b = ifB (eqb b dollar) (λ _. []) (λ _. byte b ∷ [])
+-- A raw text as it is read from the front: its pieces, and what follows it from the byte on that ends it; or, where a `$` is bad, its pieces up to the
+-- first such `$`, and what follows from that `$` on.
+pub record Raw : Type 0 where
+  pub pieces : List Piece
+  pub rest : List ℕ
+  pub sound : Bool
 
--- what a byte gives, by where the reading stands before it
-unfoldable pub gives : Scan → ℕ → List Piece
-unfolding plainGives escaped nameByte shortByte
-gives plain b = plainGives b
-gives afterJoin b = ifB (eqb b space) (λ _. []) (λ _. plainGives b)
-gives afterDollar b = ifB (escaped b) (λ _. byte b ∷ []) (λ _. [])
-gives (inBraces n) b = ifB (nameByte b) (λ _. []) (λ _. ref n ∷ [])
-gives (inName n) b = ifB (shortByte b) (λ _. []) (λ _. ref n ∷ plainGives b)
-gives bad b = []
+unfoldable pub withPiece : Piece → Raw → Raw
+withPiece p r = record { pieces = p ∷ r .pieces; rest = r .rest; sound = r .sound }
 
--- what the end of the text gives
-unfoldable pub givesLast : Scan → List Piece
-givesLast plain = []
-givesLast afterJoin = []
-givesLast afterDollar = []
-givesLast (inBraces n) = []
-givesLast (inName n) = ref n ∷ []
-givesLast bad = []
+-- the text goes on after what the `$` at the front of `t` begins
+unfoldable pub goOn : List ℕ → Element → (List ℕ → Raw) → Raw
+unfolding withPiece
+goOn t (literal b s) k = withPiece (byte b) (k s)
+goOn t (joins s) k = k s
+goOn t (names n s) k = withPiece (ref n) (k s)
+goOn t wrong k = record { pieces = []; rest = t; sound = false }
 
-unfoldable pub piecesFrom : Scan → List ℕ → List Piece
-unfolding gives givesLast turn
-piecesFrom q [] = givesLast q
-piecesFrom q (b ∷ s) = gives q b ++ piecesFrom (turn q b) s
+-- "Dollars are read from the left", up to a byte that ends the text and stands in no dollar; each turn takes a byte at least, so `k`, which is the number
+-- of bytes, is never used up
+unfoldable pub readUp : (ℕ → Bool) → ℕ → List ℕ → Raw
+unfolding goOn element withPiece
+readUp ends zero s = record { pieces = []; rest = s; sound = true }
+readUp ends (suc k) [] = record { pieces = []; rest = []; sound = true }
+readUp ends (suc k) (b ∷ s) =
+    ifB (ends b) (λ _. record { pieces = []; rest = b ∷ s; sound = true }) λ _.
+    ifB (eqb b dollar) (λ _. goOn (b ∷ s) (element s) (readUp ends k)) (λ _. withPiece (byte b) (readUp ends k s))
+
+unfoldable pub readRaw : (ℕ → Bool) → List ℕ → Raw
+unfolding readUp
+readRaw ends s = readUp ends (length s) s
+
+-- the offset of the first bad `$`, if there is one: the place of a 5 is "the `$`"
+unfoldable pub badIn : (ℕ → Bool) → List ℕ → Option ℕ
+unfolding readRaw
+badIn ends s = ifB (readRaw ends s .sound) (λ _. none) (λ _. some (length s - length (readRaw ends s .rest)))
+
+-- of a raw text that only its end ends, as that of a value is
+unfoldable pub badDollar : List ℕ → Option ℕ
+unfolding badIn
+badDollar raw = badIn (λ b. false) raw
 
 unfoldable pub pieces : List ℕ → List Piece
-unfolding piecesFrom
-pieces raw = piecesFrom plain raw
+unfolding readRaw
+pieces raw = readRaw (λ b. false) raw .pieces
 
 unfoldable pub fill : (List ℕ → List ℕ) → List Piece → List ℕ
 fill look [] = []

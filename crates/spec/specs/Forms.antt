@@ -1,24 +1,24 @@
 -- A line cut into its form by its bytes alone: "the first byte that doesn't fit decides between 4 and 5; 6 comes as soon as its word is read".
 use Prim.Native.Nat.{ℕ, zero, suc, _-_}
 use mathlib.Core.List.{List, [], _∷_}
-use mathlib.Core.Option.{Option, none, some}
+use mathlib.Core.Option.{Option}
 use mathlib.Core.Bool.{Bool, false, not, _&&_, _||_}
 use lib.Dec.{eqb}
-use lib.ListN.{length}
+use lib.ListN.{length, take, drop}
 use Rattle.lists.specs.Tests.{ifB}
 use Rattle.lists.specs.Text.{bytes}
 use Rattle.lists.specs.Bytes.{eqBytes}
 use Rattle.lists.specs.Runs.{run, afterRun}
-use Rattle.spec.specs.Basics.{isEmpty, among}
+use Rattle.spec.specs.Basics.{isEmpty, orElse, among}
 use Rattle.spec.specs.Bytes.{newline, space, dollar, colon, bar, equals, nameByte}
-use Rattle.spec.specs.Dollars.{Scan, plain, afterJoin, afterDollar, inBraces, inName, bad, turn, badDollar}
-use Rattle.spec.specs.Lines.{isSpace}
+use Rattle.spec.specs.Dollars.{readRaw, badIn, badDollar}
+use Rattle.spec.specs.Lines.{isSpace, startsWith}
 
 -- What is wrong with a line's bytes: it fits no form (4), a `$` is bad (5), given by the number of the line's bytes from that `$` on, or a
 -- keyword or key is not yet in this edition (6).
 pub data Fault : Type 0 where
   noForm : Fault
-  wrongDollar : ℕ → Fault
+  leftAtDollar : ℕ → Fault
   notYet : Fault
 
 -- what bytes are cut into, or their first fault
@@ -81,31 +81,17 @@ keyWord w =
 
 -- ------------------------------------------------------------------ paths
 
--- what ends a path where no `$` is open; a line's bytes hold no newline but in joins
+-- "In a path, an unescaped space, `:`, `|` or newline ends it."; a line's bytes hold no newline but in joins
 unfoldable pub pathStop : ℕ → Bool
 pathStop b = eqb b space || eqb b colon || eqb b bar
 
--- "In a path, an unescaped space, `:`, `|` or newline ends it."
-unfoldable pub endsPath : Scan → ℕ → Bool
-unfolding pathStop
-endsPath plain b = pathStop b
-endsPath afterJoin b = eqb b colon || eqb b bar
-endsPath afterDollar b = false
-endsPath (inBraces n) b = false
-endsPath (inName n) b = pathStop b
-endsPath bad b = false
+-- what follows the raw path at the front, and that path
+abbrev pub afterPath : List ℕ → List ℕ
+afterPath s = readRaw pathStop s .rest
 
--- the raw path at the front
-unfoldable pub pathFrom : Scan → List ℕ → List ℕ
-unfolding endsPath turn
-pathFrom q [] = []
-pathFrom q (b ∷ s) = ifB (endsPath q b) (λ _. []) (λ _. b ∷ pathFrom (turn q b) s)
-
--- what follows it
-unfoldable pub afterPath : Scan → List ℕ → List ℕ
-unfolding endsPath turn
-afterPath q [] = []
-afterPath q (b ∷ s) = ifB (endsPath q b) (λ _. b ∷ s) (λ _. afterPath (turn q b) s)
+unfoldable pub rawPath : List ℕ → List ℕ
+unfolding readRaw pathStop
+rawPath s = take (length s - length (afterPath s)) s
 
 -- raw paths, as they are cut and before they are expanded, and what follows them
 pub record Paths : Type 0 where
@@ -117,8 +103,7 @@ withPath p ps = fits (record { raw = p ∷ ps .raw; rest = ps .rest })
 
 -- k, unless the raw text at the start of `s`, a line's bytes from some place on, has its first bad `$` at offset o
 unfoldable pub checked : {A : Type 0} → Option ℕ → List ℕ → (Unit {0} → Cut A) → Cut A
-checked none s k = k tt
-checked (some o) s k = fails (wrongDollar (length s - o))
+checked o s k = orElse o (λ at. fails (leftAtDollar (length s - at))) k
 
 -- a path begins at a byte that is neither space nor join (reading 2), nor one that ends it
 unfoldable pub pathBegins : List ℕ → Bool
@@ -127,12 +112,12 @@ pathBegins (b ∷ s) = not (eqb b colon || eqb b bar)
 
 -- the paths up to a `:`, a `|` or the line's end; each takes a byte at least, so `k`, which is the number of bytes, is never used up
 unfoldable pub pathsUp : ℕ → List ℕ → Cut Paths
-unfolding pathBegins gap checked badDollar pathFrom afterPath then withPath
+unfolding pathBegins gap checked badIn pathStop rawPath then withPath
 pathsUp zero s = fits (record { raw = []; rest = gap s })
 pathsUp (suc k) s =
     let t = gap s in
     ifB (pathBegins t)
-    (λ _. checked (badDollar (pathFrom plain t)) t (λ _. then (pathsUp k (afterPath plain t)) (withPath (pathFrom plain t))))
+    (λ _. checked (badIn pathStop t) t (λ _. then (pathsUp k (afterPath t)) (withPath (rawPath t))))
     (λ _. fits (record { raw = []; rest = t }))
 
 unfoldable pub paths : List ℕ → Cut Paths
@@ -163,49 +148,26 @@ cutRule s =
     let t = gap s in
     then (ruleWord (nameOf t)) λ w. ifB (isEmpty (gap (afterName t))) (λ _. fits (ruleForm w)) (λ _. fails noForm)
 
--- what stands after a list of inputs: nothing, `|`, `||` (read before `|`), or a byte that does not fit
-pub data Bars : Type 0 where
-  lineEnd : Bars
-  oneBar : List ℕ → Bars
-  twoBars : List ℕ → Bars
-  otherByte : Bars
+-- the number of bars here, two at most: `||` is read before `|`
+unfoldable pub countBars : List ℕ → ℕ
+unfolding startsWith
+countBars [] = 0
+countBars (b ∷ s) = ifB (eqb b bar) (λ _. ifB (startsWith bar s) (λ _. 2) (λ _. 1)) (λ _. 0)
 
-unfoldable pub barsAt : List ℕ → Bars
-barsAt [] = lineEnd
-barsAt (b ∷ []) = ifB (eqb b bar) (λ _. oneBar []) (λ _. otherByte)
-barsAt (b ∷ c ∷ s) =
-    ifB (eqb b bar) (λ _. ifB (eqb c bar) (λ _. twoBars s) (λ _. oneBar (c ∷ s))) (λ _. otherByte)
-
-unfoldable pub inputsOf : BuildLine → List (List ℕ) → List (List ℕ) → List (List ℕ) → Cut Form
-inputsOf b i m o = fits (buildForm (record { outs = b .outs; rule = b .rule; ins = i; implicit = m; orderOnly = o }))
-
--- from behind `||` on
-unfoldable pub cutOrderOnly : BuildLine → List (List ℕ) → List (List ℕ) → List ℕ → Cut Form
-unfolding then paths inputsOf
-cutOrderOnly b i m s =
-    then (paths s) λ o. ifB (isEmpty (o .rest)) (λ _. inputsOf b i m (o .raw)) (λ _. fails noForm)
-
-unfoldable pub afterImplicit : BuildLine → List (List ℕ) → List (List ℕ) → Bars → Cut Form
-unfolding cutOrderOnly inputsOf
-afterImplicit b i m lineEnd = inputsOf b i m []
-afterImplicit b i m (oneBar s) = fails noForm
-afterImplicit b i m (twoBars s) = cutOrderOnly b i m s
-afterImplicit b i m otherByte = fails noForm
-
-unfoldable pub afterInputs : BuildLine → List (List ℕ) → Bars → Cut Form
-unfolding then paths barsAt afterImplicit cutOrderOnly inputsOf
-afterInputs b i lineEnd = inputsOf b i [] []
-afterInputs b i (oneBar s) = then (paths s) λ m. afterImplicit b i (m .raw) (barsAt (m .rest))
-afterInputs b i (twoBars s) = cutOrderOnly b i [] s
-afterInputs b i otherByte = fails noForm
+-- the paths behind so many bars, if so many stand here, and else none
+unfoldable pub pathsBehind : ℕ → List ℕ → Cut Paths
+unfolding countBars paths
+pathsBehind n s = ifB (eqb (countBars s) n) (λ _. paths (drop n s)) (λ _. fits (record { raw = []; rest = s }))
 
 -- from the rule's name on
 unfoldable pub cutInputs : List (List ℕ) → List ℕ → Cut Form
-unfolding then ruleWord nameOf afterName paths barsAt afterInputs
+unfolding then ruleWord nameOf afterName paths pathsBehind
 cutInputs outs t =
     then (ruleWord (nameOf t)) λ w.
     then (paths (afterName t)) λ i.
-    afterInputs (record { outs = outs; rule = w; ins = []; implicit = []; orderOnly = [] }) (i .raw) (barsAt (i .rest))
+    then (pathsBehind 1 (i .rest)) λ m.
+    then (pathsBehind 2 (m .rest)) λ o.
+    ifB (isEmpty (o .rest)) (λ _. fits (buildForm (record { outs = outs; rule = w; ins = i .raw; implicit = m .raw; orderOnly = o .raw }))) (λ _. fails noForm)
 
 -- from the `:` on; "one output at least"
 unfoldable pub afterOutputs : List (List ℕ) → List ℕ → Cut Form

@@ -1,7 +1,7 @@
 -- Joined lines: where each starts, its bytes without the newline that ends it, and whether such a newline is there.
 use Prim.Native.Nat.{ℕ, suc}
-use mathlib.Core.List.{List, [], _∷_, _++_}
-use mathlib.Core.Bool.{Bool, true, false, not, _&&_}
+use mathlib.Core.List.{List, [], _∷_}
+use mathlib.Core.Bool.{Bool, true, false}
 use lib.Dec.{eqb}
 use Rattle.lists.specs.Tests.{ifB}
 use Rattle.lists.specs.Runs.{afterRun}
@@ -18,61 +18,42 @@ pub data At : Type 0 where
   -- after a `$` that is not itself escaped
   escape : At
 
-unfoldable pub bodyTurn : ℕ → At
-bodyTurn b = ifB (eqb b dollar) (λ _. escape) (λ _. body)
-
 unfoldable pub lineTurn : At → ℕ → At
-unfolding bodyTurn
-lineTurn indent b = ifB (eqb b space) (λ _. indent) λ _. ifB (eqb b hash) (λ _. comment) (λ _. bodyTurn b)
+lineTurn indent b = ifB (eqb b space) (λ _. indent) λ _. ifB (eqb b hash) (λ _. comment) λ _. ifB (eqb b dollar) (λ _. escape) (λ _. body)
 lineTurn comment b = comment
-lineTurn body b = bodyTurn b
+lineTurn body b = ifB (eqb b dollar) (λ _. escape) (λ _. body)
 lineTurn escape b = body
 
-unfoldable pub escaping : At → Bool
-escaping indent = false
-escaping comment = false
-escaping body = false
-escaping escape = true
-
+-- does this byte end the line
 unfoldable pub endsLine : At → ℕ → Bool
-unfolding escaping
-endsLine q b = eqb b newline && not (escaping q)
+endsLine indent b = eqb b newline
+endsLine comment b = eqb b newline
+endsLine body b = eqb b newline
+endsLine escape b = false
 
--- the bytes of the first line, without the newline that ends it
-unfoldable pub lineFrom : At → List ℕ → List ℕ
-unfolding endsLine lineTurn
-lineFrom q [] = []
-lineFrom q (b ∷ s) = ifB (endsLine q b) (λ _. []) (λ _. b ∷ lineFrom (lineTurn q b) s)
-
--- "A manifest that ends inside a joined line is refused with 4": is the first line ended
-unfoldable pub endedFrom : At → List ℕ → Bool
-unfolding endsLine lineTurn
-endedFrom q [] = false
-endedFrom q (b ∷ s) = ifB (endsLine q b) (λ _. true) (λ _. endedFrom (lineTurn q b) s)
-
--- "The start of a joined line is that of its first part."
+-- A line: where it starts ("The start of a joined line is that of its first part."), its bytes without the newline that ends it, and whether such a newline is
+-- there ("A manifest that ends inside a joined line is refused with 4.").
 pub record Line : Type 0 where
   pub start : ℕ
   pub text : List ℕ
   pub ended : Bool
 
--- the line that starts at this offset with these bytes, and nothing at the manifest's end
-unfoldable pub lineAt : ℕ → List ℕ → List Line
-unfolding lineFrom endedFrom
-lineAt at [] = []
-lineAt at (b ∷ s) = record { start = at; text = lineFrom indent (b ∷ s); ended = endedFrom indent (b ∷ s) } ∷ []
+-- this byte, at this offset, put in front of the first line
+unfoldable pub withByte : ℕ → ℕ → List Line → List Line
+withByte at b [] = record { start = at; text = b ∷ []; ended = false } ∷ []
+withByte at b (l ∷ ls) = record { start = at; text = b ∷ l .text; ended = l .ended } ∷ ls
 
--- the lines that start after the end of the present one
-unfoldable pub linesAfter : At → ℕ → List ℕ → List Line
-unfolding endsLine lineTurn lineAt
-linesAfter q at [] = []
-linesAfter q at (b ∷ s) =
-    ifB (endsLine q b) (λ _. lineAt (suc at) s ++ linesAfter indent (suc at) s)
-    (λ _. linesAfter (lineTurn q b) (suc at) s)
+-- the lines of these bytes, the first of which stands at this offset, where the reading of its line stands so
+unfoldable pub linesFrom : At → ℕ → List ℕ → List Line
+unfolding endsLine lineTurn withByte
+linesFrom q at [] = []
+linesFrom q at (b ∷ s) =
+    ifB (endsLine q b) (λ _. record { start = at; text = []; ended = true } ∷ linesFrom indent (suc at) s)
+    (λ _. withByte at b (linesFrom (lineTurn q b) (suc at) s))
 
 unfoldable pub linesOf : List ℕ → List Line
-unfolding lineAt linesAfter
-linesOf s = lineAt 0 s ++ linesAfter indent 0 s
+unfolding linesFrom
+linesOf s = linesFrom indent 0 s
 
 abbrev pub isSpace : ℕ → Bool
 isSpace b = eqb b space

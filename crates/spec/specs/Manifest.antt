@@ -8,10 +8,11 @@ use Rattle.spec.specs.declared.Refusal.{Refusal}
 use Rattle.spec.specs.declared.Refusal.the-variants.{LongManifest, BadByte, BadLine, BadDollar, NotYet, BadRule}
 use Rattle.lists.specs.Tests.{ifB}
 use Rattle.lists.specs.Text.{bytes}
+use Rattle.spec.specs.Basics.{orElse}
 use Rattle.spec.specs.Limits.{maxManifest}
 use Rattle.spec.specs.Bytes.{newline, forbidden}
 use Rattle.spec.specs.Lines.{Line, linesOf, isComment, isBlank, isIndented}
-use Rattle.spec.specs.Forms.{Fault, noForm, wrongDollar, notYet, Cut, fits, fails, Form, ruleForm, buildForm, defaultForm, bindingForm, cutStatement, cutIndented}
+use Rattle.spec.specs.Forms.{Fault, noForm, leftAtDollar, notYet, Cut, fits, fails, Form, ruleForm, buildForm, defaultForm, bindingForm, cutStatement, cutIndented}
 use Rattle.spec.specs.Reading.{Rule, Step, Reading, nothingRead, hasKey}
 use Rattle.spec.specs.Statements.{Block, noBlock, ruleBlock, buildBlock, Outcome, goesOn, refused, statement, blockLine}
 
@@ -52,7 +53,7 @@ andThen (refused r) f = refused r
 -- the refusal of a fault in a line's bytes: "line start", "the `$`"
 unfoldable pub faultOf : Line → Fault → Refusal
 faultOf l noForm = BadLine (l .start)
-faultOf l (wrongDollar left) = BadDollar (l .start + (length (l .text) - left))
+faultOf l (leftAtDollar left) = BadDollar (l .start + (length (l .text) - left))
 faultOf l notYet = NotYet (l .start)
 
 -- a line that is cut and ended is applied; "A manifest that ends inside a joined line is refused with 4", after an earlier 5 or 6 of
@@ -106,13 +107,9 @@ unfoldable pub readOf : Outcome → Read
 readOf (goesOn rd b) = accepted rd
 readOf (refused r) = refusedWith r
 
-unfoldable pub ifSound : Option ℕ → (Unit {0} → Read) → Read
-ifSound none k = k tt
-ifSound (some at) k = refusedWith (BadByte at)
-
 -- "Order: 1, 2, 3; lines from the top". An empty manifest is sound.
 unfoldable pub readManifest : List ℕ → Read
-unfolding ifSound badByte readOf readLines linesOf
+unfolding badByte readOf readLines linesOf
 readManifest s =
     ifB (ltb maxManifest (length s)) (λ _. refusedWith LongManifest) λ _.
-    ifSound (badByte newline 0 s) λ _. readOf (readLines (linesOf s) nothingRead noBlock)
+    orElse (badByte newline 0 s) (λ at. refusedWith (BadByte at)) λ _. readOf (readLines (linesOf s) nothingRead noBlock)

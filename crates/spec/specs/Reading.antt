@@ -7,7 +7,7 @@ use Rattle.lists.specs.Tests.{ifB}
 use Rattle.lists.specs.Text.{bytes}
 use Rattle.lists.specs.Bytes.{eqBytes}
 use Rattle.lists.specs.Members.{has, any}
-use Rattle.spec.specs.Basics.{among}
+use Rattle.spec.specs.Basics.{orElse, among}
 
 -- a name and its value
 pub record Bound : Type 0 where
@@ -43,20 +43,16 @@ pub record Reading : Type 0 where
 abbrev pub nothingRead : Reading
 nothingRead = record { rules = []; vars = []; files = []; steps = []; defaults = []; bindings = 0; mentions = 0; written = 0 }
 
--- the newest binding of a name: "a later line replaces it", "last one wins"
-unfoldable pub find : List ℕ → List Bound → Option (List ℕ)
+-- what the newest binding of a name binds it to: "a later line replaces it", "last one wins"
+unfoldable pub boundTo : List ℕ → List Bound → Option (List ℕ)
 unfolding eqBytes
-find n [] = none
-find n (b ∷ l) = ifB (eqBytes n (b .name)) (λ _. some (b .value)) (λ _. find n l)
-
-abbrev pub orEmpty : Option (List ℕ) → List ℕ
-orEmpty none = []
-orEmpty (some v) = v
+boundTo n [] = none
+boundTo n (b ∷ l) = ifB (eqBytes n (b .name)) (λ _. some (b .value)) (λ _. boundTo n l)
 
 -- "An unset name expands to nothing."
 unfoldable pub fileVar : List Bound → List ℕ → List ℕ
-unfolding find
-fileVar vars n = orEmpty (find n vars)
+unfolding boundTo
+fileVar vars n = orElse (boundTo n vars) (λ v. v) λ _. []
 
 -- is this name bound here
 unfoldable pub hasKey : List ℕ → List Bound → Bool

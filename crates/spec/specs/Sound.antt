@@ -5,7 +5,7 @@ use mathlib.Core.Option.{none, some}
 use mathlib.Core.Bool.{true}
 use mathlib.Core.Path.{_≡_}
 use Rattle.spec.specs.Dollars.{badDollar}
-use Rattle.spec.specs.Reading.{Bound, Reading, find, keysOf}
+use Rattle.spec.specs.Reading.{Bound, Reading, boundTo, keysOf}
 use Rattle.spec.specs.Statements.{ruleKey}
 
 pub record SoundKey (n raw : List ℕ) : Type 0 where
@@ -13,7 +13,7 @@ pub record SoundKey (n raw : List ℕ) : Type 0 where
   pub sound : badDollar raw ≡ none
 
 abbrev pub SoundKeys : List Bound → Type 0
-SoundKeys keys = (n raw : List ℕ) → find n keys ≡ some raw → SoundKey n raw
+SoundKeys keys = (n raw : List ℕ) → boundTo n keys ≡ some raw → SoundKey n raw
 
 abbrev pub SoundRules : Reading → Type 0
 SoundRules rd = (rule : List ℕ) → SoundKeys (keysOf rule (rd .rules))

@@ -15,7 +15,7 @@ use Rattle.spec.specs.Limits.{maxSteps, maxFiles, maxRules, maxBindings,
 use Rattle.spec.specs.Dollars.{expand}
 use Rattle.spec.specs.Forms.{Form, ruleForm, buildForm, defaultForm, bindingForm, BuildLine}
 use Rattle.spec.specs.Reading.{Rule, Step, Reading, fileVar, hasKey, declared, mention, numbersOf, isMade}
-use Rattle.version.specs.Version.{refused as versionRefused}
+use Rattle.version.specs.Version.{refusedVersion}
 
 -- the open block: none, a rule's (with the start of its line and what it holds so far), or a build step's
 pub data Block : Type 0 where
@@ -91,14 +91,6 @@ unfolding mention sum
 mentioned ps rd =
     record { rules = rd .rules; vars = rd .vars; files = mention (rd .files) ps; steps = rd .steps; defaults = rd .defaults; bindings = rd .bindings; mentions = rd .mentions + length ps; written = rd .written + sum (map (λ (p : List ℕ). length p) ps) }
 
--- the step, whose files are numbered "outputs before inputs in each line"; it joins the steps when its block closes
-unfoldable pub stepOf : BuildLine → Reading → Outcome
-unfolding numbersOf
-stepOf b rd =
-    goesOn rd
-    (buildBlock
-    (record { outs = numbersOf (rd .files) (b .outs); ins = numbersOf (rd .files) (b .ins); implicit = numbersOf (rd .files) (b .implicit); orderOnly = numbersOf (rd .files) (b .orderOnly); rule = b .rule; block = [] }))
-
 -- the line with its paths expanded
 unfoldable pub expandedLine : Reading → BuildLine → BuildLine
 unfolding expanded
@@ -114,15 +106,15 @@ unfoldable pub overPaths : List (List ℕ) → Bool
 unfolding any longerThan
 overPaths ps = any (longerThan maxPath) ps
 
--- a build line whose paths are expanded
+-- a build line whose paths are expanded: the step, whose files are numbered "outputs before inputs in each line", joins the steps when its block closes
 unfoldable pub addStep : ℕ → BuildLine → Reading → Outcome
-unfolding declared badPaths inputsOfLine mentioned overPaths overCounts stepOf
+unfolding declared badPaths inputsOfLine mentioned overPaths overCounts numbersOf
 addStep start b rd =
     let after = mentioned (b .outs ++ inputsOfLine b) rd in
     ifB (not (declared (b .rule) rd)) (λ _. refused (BadRule start)) λ _.
     ifB (badPaths (b .outs) (inputsOfLine b) rd) (λ _. refused (BadPath start)) λ _.
     ifB (overPaths (b .outs ++ inputsOfLine b) || overCounts after || leb maxSteps (length (rd .steps))) (λ _. refused (OverLimit start)) λ _.
-    stepOf b after
+    goesOn after (buildBlock (record { outs = numbersOf (after .files) (b .outs); ins = numbersOf (after .files) (b .ins); implicit = numbersOf (after .files) (b .implicit); orderOnly = numbersOf (after .files) (b .orderOnly); rule = b .rule; block = [] }))
 
 -- ------------------------------------------------------------------ variables
 
@@ -148,8 +140,8 @@ setVar n v rd =
 
 -- "`ninja_required_version` at file level is checked at once": "version malformed or above OURS" (10)
 unfoldable pub wrongVersion : List ℕ → List ℕ → Bool
-unfolding eqBytes versionRefused
-wrongVersion n v = eqBytes n (bytes "ninja_required_version") && versionRefused v
+unfolding eqBytes refusedVersion
+wrongVersion n v = eqBytes n (bytes "ninja_required_version") && refusedVersion v
 
 -- "`NAME = value`: expanded at once; a later line replaces it."
 unfoldable pub addVar : ℕ → List ℕ → List ℕ → Reading → Outcome

@@ -35,16 +35,11 @@ unended last (b ∷ s) = unended b s
 unfoldable pub badLength : List ℕ → Bool
 badLength n = isEmpty n || ltb maxPath (length n)
 
--- "malformed, or a name the manifest never mentions"
-unfoldable pub badName : List (List ℕ) → List ℕ → Bool
-unfolding badLength among
-badName files n = badLength n || not (among n files)
-
--- "the first bad name counts"
+-- "malformed, or a name the manifest never mentions": "the first bad name counts"
 unfoldable pub firstBad : List (List ℕ) → List Target → Option ℕ
-unfolding badName
+unfolding badLength among
 firstBad files [] = none
-firstBad files (t ∷ ts) = ifB (badName files (t .name)) (λ _. some (t .start)) (λ _. firstBad files ts)
+firstBad files (t ∷ ts) = ifB (badLength (t .name) || not (among (t .name) files)) (λ _. some (t .start)) (λ _. firstBad files ts)
 
 -- "an over-long list or one with an unended last name"
 unfoldable pub malformed : List ℕ → Bool

@@ -13,12 +13,12 @@ use Rattle.spec.specs.declared.Key.{Key}
 use Rattle.spec.specs.declared.Key.the-variants.{Command, Description, Generator, Depfile, Pool}
 use Rattle.spec.specs.declared.Refusal.{Refusal}
 use Rattle.spec.specs.declared.Refusal.the-variants.{EndlessText, LongText}
-use Rattle.spec.specs.Basics.{among}
+use Rattle.spec.specs.Basics.{orElse, among}
 use Rattle.spec.specs.Bytes.{space, newline}
 use Rattle.spec.specs.Dollars.{expand, refs}
 use Rattle.spec.specs.Graph.{stepAt}
 use Rattle.spec.specs.Limits.{maxText}
-use Rattle.spec.specs.Reading.{Step, Reading, find, fileVar, keysOf, numberOf}
+use Rattle.spec.specs.Reading.{Step, Reading, boundTo, fileVar, keysOf, numberOf}
 
 -- ------------------------------------------------------------------ a rule's keys
 
@@ -69,26 +69,13 @@ pub data Found : Type 0 where
   asIs : List ℕ → Found
   ofRule : List ℕ → Found
 
--- from the rule on, from the block on, from the step's own names on: the first of them that has the name
-unfoldable pub orRule : Reading → List ℕ → Option (List ℕ) → Found
-unfolding fileVar
-orRule rd n (some raw) = ofRule raw
-orRule rd n none = asIs (fileVar (rd .vars) n)
-
-unfoldable pub orBlock : Reading → Step → List ℕ → Option (List ℕ) → Found
-unfolding orRule find keysOf
-orBlock rd s n (some v) = asIs v
-orBlock rd s n none = orRule rd n (find n (keysOf (s .rule) (rd .rules)))
-
-unfoldable pub orStep : Reading → Step → List ℕ → Option (List ℕ) → Found
-unfolding orBlock find
-orStep rd s n (some v) = asIs v
-orStep rd s n none = orBlock rd s n (find n (s .block))
-
 -- "looked up as: `in`, `in_newline`, `out`; the block; the rule ..; the file, as its variables stand at the end of the manifest"
 unfoldable pub lookup : Reading → Step → List ℕ → Found
-unfolding orStep ofStep
-lookup rd s n = orStep rd s n (ofStep rd s n)
+unfolding ofStep boundTo keysOf fileVar
+lookup rd s n =
+    orElse (ofStep rd s n) asIs λ _.
+    orElse (boundTo n (s .block)) asIs λ _.
+    orElse (boundTo n (keysOf (s .rule) (rd .rules))) ofRule λ _. asIs (fileVar (rd .vars) n)
 
 abbrev pub onFound : {A : Type 0} → Found → (List ℕ → A) → (List ℕ → A) → A
 onFound (asIs v) f g = f v

@@ -12,24 +12,26 @@ use Rattle.spec.specs.declared.Key.the-variants.{Command as commandKey, 
 use Rattle.spec.specs.declared.Wanted.{Wanted}
 use Rattle.spec.specs.declared.Wanted.the-variants.{Command, Description}
 use Rattle.lists.specs.Tests.{ifB}
+use Rattle.lists.specs.Text.{bytes}
 use Rattle.spec.specs.Limits.{maxText}
 use Rattle.spec.specs.Reading.{Reading, isPhony}
 use Rattle.spec.specs.Manifest.{Read, accepted, refusedWith, readManifest}
 use Rattle.spec.specs.Graph.{stepAt}
-use Rattle.spec.specs.Text.{textOf, keyName, nameText, nameRefusal}
+use Rattle.spec.specs.Text.{textOf, nameText, nameRefusal}
 
 pub data TextOutcome : Type 0 where
   text : List ℕ → TextOutcome
   noText : Refusal → TextOutcome
 
 -- "whether `command` or `description` is wanted"
+unfoldable pub wantedName : Wanted → List ℕ
+wantedName Command = bytes "command"
+wantedName Description = bytes "description"
+
+-- the same by the key, for functions that go by the numbers of keys
 unfoldable pub wantedKey : Wanted → Key
 wantedKey Command = commandKey
 wantedKey Description = descriptionKey
-
-unfoldable pub wantedName : Wanted → List ℕ
-unfolding wantedKey keyName
-wantedName w = keyName (wantedKey w)
 
 abbrev pub orText : Option Refusal → (Unit {0} → List ℕ) → TextOutcome
 orText none t = text (t tt)

@@ -13,21 +13,27 @@ use Rattle.lists.specs.Parts.{length-part}
 use Rattle.lists.specs.Runs.{Reads, reads-place}
 use Rattle.spec.specs.Bytes.{newline, forbidden}
 use Rattle.spec.specs.Lines.{isComment, isBlank, isIndented}
-use Rattle.spec.specs.Forms.{noForm, wrongDollar, notYet, Cut, fits, fails, then, Paths, withPath, paths}
+use Rattle.spec.specs.Forms.{noForm, leftAtDollar, notYet, Cut, fits, fails, then, Paths, withPath, paths}
 use Rattle.spec.specs.Manifest.{badByte}
 use Rattle.spec.specs.Targets.{Target, badLength}
 use Rattle.scan_raw.specs.declared.FirstBad.{FirstBad}
 use Rattle.scan_raw.specs.declared.FirstBad.the-variants.{Nowhere, At}
 use Rattle.scan_lines.specs.declared.LineKind.{LineKind}
 use Rattle.scan_lines.specs.declared.LineKind.the-variants.{Comment, Blank, Indented, Statement}
-use Rattle.scan_dollars.specs.Element.{element, restOf, Passed}
+use Rattle.spec.specs.Dollars.{element}
+use Rattle.scan_dollars.specs.Element.{restOf, Passed}
 use Rattle.scan_raw.specs.Texts.{PathEnds, PathBad, PathsStop, PathNext, PathsBad, placeOf}
-use Rattle.scan_lines.specs.Endings.{LineEnded, LineOpen, kindOf}
+use Rattle.scan_lines.specs.Endings.{LineEnded, openLine, LineOpen, kindOf}
 use Rattle.scan_targets.specs.declared.NextTarget.{NextTarget}
 use Rattle.scan_targets.specs.declared.NextTarget.the-variants.{End, Bad, Name}
 use Rattle.scan_targets.specs.Next.{nextIn}
-use Rattle.test_scan.specs.Scanners.{orNone, placeAfter, restNumber, dollarNumber, pathCut, pathNumber, pathsNumber, endNumber, kindNumber}
+use Rattle.test_scan.specs.Scanners.{orNone, placeAfter, restNumber, dollarNumber, pathCut, pathNumber, pathsNumber, endOf, endNumber, kindNumber}
 use Rattle.test_scan.specs.Targets.{targetNumber}
+
+open-ends : (at : ℕ) (s : List ℕ) → endOf (openLine at s) ≡ 0
+unfolding endOf openLine
+open-ends at [] = refl
+open-ends at (b ∷ s) = refl
 
 -- ---- a start that is no place is the end
 
@@ -69,22 +75,26 @@ module _ (s : List ℕ) (i : ℕ) {k : ℕ} (e : k ≡ min i (length s)) where
 
   -- a line
   pub line-ends : {r : ℕ} → LineEnded s k r → r + 1 ≡ endNumber s i
-  unfolding endNumber
+  unfolding endNumber endOf
   line-ends {r} l =
       let z : k + (r - k) ≡ r = omega (arith, l .forward) in
       let w : k ≡ i = omega (arith, l .forward, l .within) in
-      rw (← w, l .ended, l .text, length-part s k r (omega (arith, l .within)), z)
+      rw (← w, l .lines, length-part s k r (omega (arith, l .within)), z)
 
   pub line-stays-open : LineOpen s k → 0 ≡ endNumber s i
-  unfolding endNumber
-  line-stays-open l = rw (← drop-start, l .ended)
+  unfolding endNumber endOf
+  line-stays-open l =
+      elim (decLe i (length s)) [
+        | yes h ↦ (let w : k ≡ i = omega arith in rw (← w, l .lines) (sym (open-ends k (drop k s))))
+        | no h ↦ (let d : drop i s ≡ [] = drop-of-length-le s {i = i} (omega arith) in rw d)
+      ]
 
 -- ---- lists of paths
 
 number-next : (s p : List ℕ) (c : Cut Paths) → pathsNumber s (then c (withPath p)) ≡ pathsNumber s c
 unfolding pathsNumber then withPath
 number-next s p (fits ps) = refl
-number-next s p (fails (wrongDollar left)) = refl
+number-next s p (fails (leftAtDollar left)) = refl
 number-next s p (fails noForm) = refl
 number-next s p (fails notYet) = refl
 

@@ -1,13 +1,13 @@
 -- The numbers that the scanners' functions answer, for every input. A start past the end leaves nothing, as the end does.
 use Prim.Native.Nat.{ℕ, _+_, _-_, _*_}
-use mathlib.Core.List.{List}
+use mathlib.Core.List.{List, [], _∷_}
 use mathlib.Core.Option.{Option, none, some}
 use lib.ListN.{length, drop}
 use Rattle.lists.specs.Tests.{ifB}
-use Rattle.spec.specs.Dollars.{plain, badDollar}
-use Rattle.spec.specs.Lines.{indent, lineFrom, endedFrom, isComment, isBlank, isIndented}
-use Rattle.spec.specs.Forms.{noForm, wrongDollar, notYet, Cut, fits, fails, pathFrom, afterPath, Paths}
-use Rattle.scan_dollars.specs.Element.{restOf, element}
+use Rattle.spec.specs.Dollars.{element, badIn}
+use Rattle.spec.specs.Lines.{indent, Line, linesFrom, isComment, isBlank, isIndented}
+use Rattle.spec.specs.Forms.{noForm, leftAtDollar, notYet, Cut, fits, fails, pathStop, afterPath, Paths}
+use Rattle.scan_dollars.specs.Element.{restOf}
 
 -- 0 for none, p + 1 for place p
 unfoldable pub orNone : Option ℕ → ℕ
@@ -35,18 +35,18 @@ dollarNumber s i = restNumber s (restOf (element (drop i s)))
 
 unfoldable pub pathCut : List ℕ → ℕ → Option ℕ → ℕ
 unfolding placeAfter
-pathCut s i none = 2 * placeAfter (afterPath plain) s i
+pathCut s i none = 2 * placeAfter afterPath s i
 pathCut s i (some o) = 2 * (i + o) + 1
 
 -- the path at place i
 unfoldable pub pathNumber : List ℕ → ℕ → ℕ
-unfolding pathCut badDollar pathFrom
-pathNumber s i = pathCut s i (badDollar (pathFrom plain (drop i s)))
+unfolding pathCut badIn pathStop
+pathNumber s i = pathCut s i (badIn pathStop (drop i s))
 
 -- a list of paths; a bad `$` is all that such a list fails by
 unfoldable pub pathsNumber : List ℕ → Cut Paths → ℕ
 pathsNumber s (fits ps) = 2 * (length s - length (ps .rest))
-pathsNumber s (fails (wrongDollar left)) = 2 * (length s - left) + 1
+pathsNumber s (fails (leftAtDollar left)) = 2 * (length s - left) + 1
 pathsNumber s (fails noForm) = 0
 pathsNumber s (fails notYet) = 0
 
@@ -55,15 +55,20 @@ pathsNumber s (fails notYet) = 0
 unfoldable pub wordNumber : Cut (List ℕ) → ℕ
 wordNumber (fits w) = 0
 wordNumber (fails noForm) = 4
-wordNumber (fails (wrongDollar left)) = 5
+wordNumber (fails (leftAtDollar left)) = 5
 wordNumber (fails notYet) = 6
 
 -- ---- lines
 
--- the place behind the newline that ends the line at place i, or 0 where no newline does
+-- the place behind the newline that ends the first of these lines, or 0 where no newline does
+unfoldable pub endOf : List Line → ℕ
+endOf [] = 0
+endOf (l ∷ ls) = ifB (l .ended) (λ _. l .start + length (l .text) + 1) (λ _. 0)
+
+-- of the line at place i
 unfoldable pub endNumber : List ℕ → ℕ → ℕ
-unfolding lineFrom endedFrom
-endNumber m i = ifB (endedFrom indent (drop i m)) (λ _. i + length (lineFrom indent (drop i m)) + 1) (λ _. 0)
+unfolding endOf linesFrom
+endNumber m i = endOf (linesFrom indent i (drop i m))
 
 -- 0 for a comment, 1 for a blank line, 2 for an indented one, 3 for a statement
 unfoldable pub kindNumber : List ℕ → ℕ

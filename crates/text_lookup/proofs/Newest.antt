@@ -2,19 +2,20 @@
 use Prim.Native.Nat.{ℕ, _<_}
 use mathlib.Core.List.{List}
 use mathlib.Core.Bool.{true, false}
-use mathlib.Core.Option.{none, some}
+use mathlib.Core.Option.{Option, none, some}
 use mathlib.Core.Path.{_≡_, sym, _∙_, ap}
 use native.Mathlib.Omega.{arith}
 use lib.ListN.{length}
 use Rattle.lists.specs.Text.{bytes}
 use Rattle.lists.specs.Bytes.{eqBytes}
-use Rattle.spec.specs.Reading.{find, fileVar, orEmpty}
-use Rattle.spec.specs.Text.{asIs, ofStep, orRule, orBlock, orStep, lookup}
+use Rattle.spec.specs.Basics.{orElse}
+use Rattle.spec.specs.Reading.{boundTo, fileVar}
+use Rattle.spec.specs.Text.{asIs, ofRule, ofStep, lookup}
 use Rattle.hold_bindings.specs.declared.FoundEntry.{FoundEntry}
 use Rattle.hold_bindings.specs.declared.FoundEntry.the-variants.{At, Missing}
 use Rattle.hold_bindings.specs.Log.{Logged, ofFile, ofKeys, ofStep as ofBlock, entryAt, newest, valueOf, boundBy}
 use Rattle.hold_bindings.specs.Held.{HoldsBindings}
-use Rattle.hold_bindings.proofs.Lookups.{newest-below, find-newest}
+use Rattle.hold_bindings.proofs.Lookups.{newest-below, find-newest, orEmpty}
 use Rattle.text_lookup.specs.declared.Asked.{Asked}
 use Rattle.text_lookup.specs.declared.Source.{Source}
 use Rattle.text_lookup.specs.declared.Source.the-variants.{Inputs, InputLines, Outputs, Value, Text, Unset}
@@ -28,70 +29,68 @@ module _ (o : ℕ) (n : List ℕ) (a : Asked) {texts bind : List ℕ} {f : Found
       let m : k < a .entries = omega (arith, w .scope .bound .rows .counted) in
       record { entry = record { log = w .log; count = a .entries; held = w .scope .bound; below = m }; low = m }
 
-  entry-found : {k : ℕ} (log : List Logged) → HoldsBindings log texts bind (a .entries) → f ≡ At k → find n (boundBy o log) ≡ some (entryAt k log .value)
+  entry-found : {k : ℕ} (log : List Logged) → HoldsBindings log texts bind (a .entries) → f ≡ At k → boundTo n (boundBy o log) ≡ some (entryAt k log .value)
   unfolding valueOf
   entry-found {k} log h e = find-newest o n log ∙ rw (sym (q log h) ∙ e)
 
-  entry-missing : (log : List Logged) → HoldsBindings log texts bind (a .entries) → f ≡ Missing → find n (boundBy o log) ≡ none
+  entry-missing : (log : List Logged) → HoldsBindings log texts bind (a .entries) → f ≡ Missing → boundTo n (boundBy o log) ≡ none
   unfolding valueOf
   entry-missing log h e = find-newest o n log ∙ rw (sym (q log h) ∙ e)
 
 module _ (n : List ℕ) {texts bind : List ℕ} {a : Asked} {f : FoundEntry} where
   module _ (q : (log : List Logged) → HoldsBindings log texts bind (a .entries) → f ≡ newest ofFile n log) where
     pub file-found : {k : ℕ} → InScope texts bind a → f ≡ At k → Looks texts bind a (fromFile n) (Value k)
-    unfolding meaning orRule fileVar
+    unfolding meaning fileVar
     file-found {k} w e =
         record {
-          means = λ log rd s c. ap asIs (ap orEmpty (ap (find n) (c .vars) ∙ entry-found ofFile n a q log (c .bound) e));
+          means = λ log rd s c. ap asIs (ap orEmpty (ap (boundTo n) (c .vars) ∙ entry-found ofFile n a q log (c .bound) e));
           value = λ j d. let z : k ≡ j = cc in rw (← z) (entry-there ofFile n a q w e);
           text = λ j d. let z : _≡_ {A = ℕ} 0 1 = cc in absurd (omega arith);
         }
 
     pub file-unset : f ≡ Missing → Looks texts bind a (fromFile n) Unset
-    unfolding meaning orRule fileVar
+    unfolding meaning fileVar
     file-unset e =
         record {
-          means = λ log rd s c. ap asIs (ap orEmpty (ap (find n) (c .vars) ∙ entry-missing ofFile n a q log (c .bound) e));
+          means = λ log rd s c. ap asIs (ap orEmpty (ap (boundTo n) (c .vars) ∙ entry-missing ofFile n a q log (c .bound) e));
           value = λ j d. let z : _≡_ {A = ℕ} 0 1 = cc in absurd (omega arith);
           text = λ j d. let z : _≡_ {A = ℕ} 0 1 = cc in absurd (omega arith);
         }
 
   module _ (q : (log : List Logged) → HoldsBindings log texts bind (a .entries) → f ≡ newest (ofKeys (a .rule)) n log) where
     pub rule-found : {k : ℕ} → InScope texts bind a → f ≡ At k → Looks texts bind a (fromRule n) (Text k)
-    unfolding meaning orBlock orRule
+    unfolding meaning
     rule-found {k} w e =
         record {
-          means = λ log rd s c. ap (orRule rd n) (ap (find n) (c .keys) ∙ entry-found (ofKeys (a .rule)) n a q log (c .bound) e);
+          means = λ log rd s c. ap (λ (o : Option (List ℕ)). orElse o ofRule λ _. fromFile n rd s) (ap (boundTo n) (c .keys) ∙ entry-found (ofKeys (a .rule)) n a q log (c .bound) e);
           value = λ j d. let z : _≡_ {A = ℕ} 0 1 = cc in absurd (omega arith);
           text = λ j d. let z : k ≡ j = cc in rw (← z) (entry-there (ofKeys (a .rule)) n a q w e);
         }
 
     pub rule-missing : {r : Source} → f ≡ Missing → Looks texts bind a (fromFile n) r → Looks texts bind a (fromRule n) r
-    unfolding orBlock
     rule-missing {r} e l =
         record {
           means = λ log rd s c.
-              ap (orRule rd n) (ap (find n) (c .keys) ∙ entry-missing (ofKeys (a .rule)) n a q log (c .bound) e) ∙ l .means log rd s c;
+              ap (λ (o : Option (List ℕ)). orElse o ofRule λ _. fromFile n rd s) (ap (boundTo n) (c .keys) ∙ entry-missing (ofKeys (a .rule)) n a q log (c .bound) e) ∙ l .means log rd s c;
           value = l .value;
           text = l .text;
         }
 
   module _ (q : (log : List Logged) → HoldsBindings log texts bind (a .entries) → f ≡ newest (ofBlock (a .step)) n log) where
     pub block-found : {k : ℕ} → InScope texts bind a → f ≡ At k → Looks texts bind a (fromBlock n) (Value k)
-    unfolding meaning orStep orBlock
+    unfolding meaning
     block-found {k} w e =
         record {
-          means = λ log rd s c. ap (orBlock rd s n) (ap (find n) (c .block) ∙ entry-found (ofBlock (a .step)) n a q log (c .bound) e);
+          means = λ log rd s c. ap (λ (o : Option (List ℕ)). orElse o asIs λ _. fromRule n rd s) (ap (boundTo n) (c .block) ∙ entry-found (ofBlock (a .step)) n a q log (c .bound) e);
           value = λ j d. let z : k ≡ j = cc in rw (← z) (entry-there (ofBlock (a .step)) n a q w e);
           text = λ j d. let z : _≡_ {A = ℕ} 0 1 = cc in absurd (omega arith);
         }
 
     pub block-missing : {r : Source} → f ≡ Missing → Looks texts bind a (fromRule n) r → Looks texts bind a (fromBlock n) r
-    unfolding orStep
     block-missing {r} e l =
         record {
           means = λ log rd s c.
-              ap (orBlock rd s n) (ap (find n) (c .block) ∙ entry-missing (ofBlock (a .step)) n a q log (c .bound) e) ∙ l .means log rd s c;
+              ap (λ (o : Option (List ℕ)). orElse o asIs λ _. fromRule n rd s) (ap (boundTo n) (c .block) ∙ entry-missing (ofBlock (a .step)) n a q log (c .bound) e) ∙ l .means log rd s c;
           value = l .value;
           text = l .text;
         }
@@ -100,7 +99,7 @@ module _ (n : List ℕ) {texts bind : List ℕ} {a : Asked} {f : FoundEntry} whe
 
 module _ (n : List ℕ) {texts bind : List ℕ} (a : Asked) where
   pub looks-inputs : eqBytes n (bytes "in") ≡ true → Looks texts bind a (λ rd s. lookup rd s n) Inputs
-  unfolding lookup orStep ofStep meaning
+  unfolding lookup ofStep meaning
   looks-inputs e =
       record {
         means = λ log rd s c. rw e;
@@ -110,7 +109,7 @@ module _ (n : List ℕ) {texts bind : List ℕ} (a : Asked) where
 
   module _ (p : eqBytes n (bytes "in") ≡ false) where
     pub looks-lines : eqBytes n (bytes "in_newline") ≡ true → Looks texts bind a (λ rd s. lookup rd s n) InputLines
-    unfolding lookup orStep ofStep meaning
+    unfolding lookup ofStep meaning
     looks-lines e =
         record {
           means = λ log rd s c. rw (p, e);
@@ -120,7 +119,7 @@ module _ (n : List ℕ) {texts bind : List ℕ} (a : Asked) where
 
     module _ (q : eqBytes n (bytes "in_newline") ≡ false) where
       pub looks-outputs : eqBytes n (bytes "out") ≡ true → Looks texts bind a (λ rd s. lookup rd s n) Outputs
-      unfolding lookup orStep ofStep meaning
+      unfolding lookup ofStep meaning
       looks-outputs e =
           record {
             means = λ log rd s c. rw (p, q, e);

@@ -4,8 +4,9 @@ use mathlib.Core.List.{List}
 use mathlib.Core.Option.{Option, none, some}
 use mathlib.Core.Path.{_≡_, refl, sym, _∙_}
 use native.Mathlib.Omega.{arith}
-use Rattle.spec.specs.Reading.{Step, Reading, find, keysOf}
-use Rattle.spec.specs.Text.{asIs, ofRule, ofStep, orRule, orBlock, orStep, lookup}
+use Rattle.spec.specs.Basics.{orElse}
+use Rattle.spec.specs.Reading.{Step, Reading, boundTo, keysOf}
+use Rattle.spec.specs.Text.{asIs, ofRule, ofStep, lookup}
 use Rattle.scan_classes.specs.Table.{classes}
 use Rattle.hold_bindings.specs.Log.{Logged, entryAt}
 use Rattle.hold_bindings.specs.Held.{HoldsBindings}
@@ -13,20 +14,19 @@ use Rattle.text_references.specs.Begins.{Ready}
 use Rattle.text_lookup.specs.declared.Asked.{Asked}
 use Rattle.text_lookup.specs.declared.Source.{Source}
 use Rattle.text_lookup.specs.declared.Source.the-variants.{Text}
-use Rattle.text_lookup.specs.Scope.{Scope, InScope, meaning, There, Looks}
+use Rattle.text_lookup.specs.Scope.{Scope, InScope, meaning, fromBlock, There, Looks}
 
 module _ (rd : Reading) (s : Step) (n : List ℕ) where
-  rule-text : (o b k : Option (List ℕ)) (raw : List ℕ) → orStep rd s n o ≡ ofRule raw → b ≡ find n (s .block) → k ≡ find n (keysOf (s .rule) (rd .rules)) → k ≡ some raw
-  unfolding orStep orBlock orRule
+  rule-text : (o b k : Option (List ℕ)) (raw : List ℕ) → (orElse o asIs λ _. fromBlock n rd s) ≡ ofRule raw → b ≡ boundTo n (s .block) → k ≡ boundTo n (keysOf (s .rule) (rd .rules)) → k ≡ some raw
   rule-text (some v) b k raw e p q = let d : asIs v ≡ ofRule raw = e in let z : _≡_ {A = ℕ} 0 1 = cc in absurd (omega arith)
   rule-text none (some v) k raw e p q = let d : asIs v ≡ ofRule raw = rw (sym p) at e in let z : _≡_ {A = ℕ} 0 1 = cc in absurd (omega arith)
   rule-text none none none raw e p q = let d = rw (sym p, sym q) at e in let z : _≡_ {A = ℕ} 0 1 = cc in absurd (omega arith)
   rule-text none none (some r) raw e p q = let d : ofRule r ≡ ofRule raw = rw (sym p, sym q) at e in cc
 
   -- what the lookup finds in the rule is one of the rule's keys
-  pub found-key : (raw : List ℕ) → lookup rd s n ≡ ofRule raw → find n (keysOf (s .rule) (rd .rules)) ≡ some raw
+  pub found-key : (raw : List ℕ) → lookup rd s n ≡ ofRule raw → boundTo n (keysOf (s .rule) (rd .rules)) ≡ some raw
   unfolding lookup
-  found-key raw e = rule-text (ofStep rd s n) (find n (s .block)) (find n (keysOf (s .rule) (rd .rules))) raw e refl refl
+  found-key raw e = rule-text (ofStep rd s n) (boundTo n (s .block)) (boundTo n (keysOf (s .rule) (rd .rules))) raw e refl refl
 
 -- the value of an entry as the table gives it
 abbrev pub ValueOf : List ℕ → List ℕ → ℕ → List ℕ → Type 0

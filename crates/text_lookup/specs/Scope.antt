@@ -1,13 +1,13 @@
 -- What a step's names are looked up in, and what an answer means.
 use Prim.Native.Nat.{ℕ, _<_}
 use mathlib.Core.List.{List, []}
-use mathlib.Core.Option.{none}
 use mathlib.Core.Path.{_≡_}
 use Rattle.spec.specs.Bytes.{space, newline}
 use Rattle.spec.specs.Limits.{maxSteps}
-use Rattle.spec.specs.Reading.{Step, Reading, keysOf}
+use Rattle.spec.specs.Basics.{orElse}
+use Rattle.spec.specs.Reading.{Step, Reading, boundTo, fileVar, keysOf}
 use Rattle.spec.specs.Sound.{SoundKeys}
-use Rattle.spec.specs.Text.{joinedBy, namesOf, Found, asIs, ofRule, orRule, orBlock, orStep}
+use Rattle.spec.specs.Text.{joinedBy, namesOf, Found, asIs, ofRule}
 use Rattle.hold_bindings.specs.Log.{Logged, ofFile, ofKeys, ofStep, entryAt, boundBy}
 use Rattle.hold_bindings.specs.Held.{maxEntries, HoldsBindings, HasEntry}
 use Rattle.text_lookup.specs.declared.Asked.{Asked}
@@ -43,13 +43,13 @@ meaning rd s log Unset = asIs []
 
 -- the lookup's later parts
 abbrev pub fromFile : List ℕ → Reading → Step → Found
-fromFile n rd s = orRule rd n none
+fromFile n rd s = asIs (fileVar (rd .vars) n)
 
 abbrev pub fromRule : List ℕ → Reading → Step → Found
-fromRule n rd s = orBlock rd s n none
+fromRule n rd s = orElse (boundTo n (keysOf (s .rule) (rd .rules))) ofRule λ _. fromFile n rd s
 
 abbrev pub fromBlock : List ℕ → Reading → Step → Found
-fromBlock n rd s = orStep rd s n none
+fromBlock n rd s = orElse (boundTo n (s .block)) asIs λ _. fromRule n rd s
 
 -- an entry of the table
 pub record There (texts bind : List ℕ) (a : Asked) (k : ℕ) : Type 0 where

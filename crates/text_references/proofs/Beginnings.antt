@@ -13,9 +13,9 @@ use Rattle.lists.specs.Tests.{split}
 use Rattle.lists.specs.Parts.{part, part-none}
 use Rattle.lists.specs.Runs.{isNot, run, afterRun, Reads, part-run}
 use Rattle.spec.specs.Bytes.{dollar}
-use Rattle.spec.specs.Dollars.{badDollar, pieces, byte}
+use Rattle.spec.specs.Dollars.{literal, joins, wrong, element, badDollar, pieces, byte}
 use Rattle.spec.specs.Dollars as rules
-use Rattle.scan_dollars.specs.Element.{literal, joins, wrong, element, restOf, FoundElement, FoundName}
+use Rattle.scan_dollars.specs.Element.{restOf, FoundElement, FoundName}
 use Rattle.scan_raw.proofs.Pieces.{pieces-byte, pieces-literal, pieces-join, pieces-name, sound-not-bad}
 use Rattle.expand_parts.proofs.Raw.{sound-run, literal-here, plain-forward, dollar-here, sound-here, sound-next}
 use Rattle.text_references.specs.declared.Piece.{Piece}

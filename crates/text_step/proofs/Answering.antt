@@ -13,6 +13,7 @@ use Rattle.spec.specs.declared.Refusal.the-variants.{EndlessText, LongText, NoC
 use Rattle.spec.specs.declared.TextAnswer.{TextAnswer}
 use Rattle.spec.specs.declared.TextAnswer.the-variants.{Written, Refused}
 use Rattle.spec.specs.declared.Wanted.{Wanted}
+use Rattle.spec.specs.declared.Wanted.the-variants.{Command, Description}
 use Rattle.spec.specs.declared.Key.{Key}
 use Rattle.spec.specs.Limits.{maxText}
 use Rattle.spec.specs.Answers.{numberOfRefusal, placeOfRefusal, refusalSays, textSays}
@@ -120,6 +121,12 @@ module _ {t : List ℕ} {bs : Buffers} {before : List ℕ} {c : Counts} (w : Tex
   no-command {step} wanted q z =
       record { meets = λ log rd h. rw (q log rd (h .bound) (h .graphed)) (meets-none step before before refl z) }
 
+-- what is wanted, by its key
+name-of-key : (wanted : Wanted) → wantedName wanted ≡ keyName (wantedKey wanted)
+unfolding wantedName wantedKey keyName
+name-of-key Command = refl
+name-of-key Description = refl
+
 -- the step that was picked, in any reading
 module _ {bs : Buffers} {c : Counts} {step : ℕ} {a : Asked} (p : Picks (bs .texts) (bs .bind) (bs .graph) c step a) where
   pub picked-here : {log : List Logged} {rd : Reading} → HoldsReading log bs c rd → SoundRules rd → Here bs a log rd (stepAt (rd .steps) step)
@@ -161,11 +168,11 @@ module _ {bs : Buffers} {c : Counts} {step : ℕ} {a : Asked} (p : Picks (bs .te
 
   pub step-text : {t before exit : List ℕ} {wanted : Wanted} {key : Key} {r : TextAnswer} → TextAsk t bs c before → key ≡ wantedKey wanted
       → TextAt bs a step key before exit r → TextOf bs c step wanted before exit r
-  unfolding textOfStep wantedName
-  step-text w z q =
+  unfolding textOfStep
+  step-text {wanted = wanted} w z q =
       record {
         meets = λ log rd h.
             let x = p .picked log rd (h .bound) (h .graphed) in
             let f : leb (length (rd .steps)) step ≡ false = lt-leb (length (rd .steps)) step (x .there) in
-            rw (f, x .command, ← z) (q .meets log rd (picked-here h (sound-any (w .holds .bound) (w .sound) (h .bound))));
+            rw (f, x .command, name-of-key wanted, ← z) (q .meets log rd (picked-here h (sound-any (w .holds .bound) (w .sound) (h .bound))));
       }

@@ -3,7 +3,7 @@ use mathlib.Core.Bool.{true, false}
 use mathlib.Core.Path.{_≡_, refl}
 use Rattle.lists.specs.Text.{bytes}
 use Rattle.version.specs.declared.ReadVersion.the-variants.{Read, Malformed}
-use Rattle.version.specs.Version.{version, digit, inRange, numberFrom, number, patchFrom, minorFrom, majorFrom, readVersion, above, tooNew, refused}
+use Rattle.version.specs.Version.{version, digit, inRange, numberFrom, number, patchFrom, minorFrom, majorFrom, readVersion, above, tooNew, refusedVersion}
 
 -- What is read.
 reads :
@@ -23,10 +23,10 @@ reads = (refl, refl, refl, refl, refl, refl, refl, refl, refl, refl, refl)
 
 -- What is refused.
 refusals :
-    (refused (bytes "1.5") ≡ false)
-    × (refused (bytes "1.5.1") ≡ true)
-    × (refused (bytes "1.4.9") ≡ false)
-    × (refused (bytes "2") ≡ true)
-    × (refused (bytes "1.x") ≡ true)
-unfolding digit inRange numberFrom number patchFrom minorFrom majorFrom readVersion above tooNew refused
+    (refusedVersion (bytes "1.5") ≡ false)
+    × (refusedVersion (bytes "1.5.1") ≡ true)
+    × (refusedVersion (bytes "1.4.9") ≡ false)
+    × (refusedVersion (bytes "2") ≡ true)
+    × (refusedVersion (bytes "1.x") ≡ true)
+unfolding digit inRange numberFrom number patchFrom minorFrom majorFrom readVersion above tooNew refusedVersion
 refusals = (refl, refl, refl, refl, refl)

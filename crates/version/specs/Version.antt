@@ -89,9 +89,9 @@ unfolding above
 tooNew (Read v) = above v ours
 tooNew Malformed = true
 
-unfoldable pub refused : List ℕ → Bool
+unfoldable pub refusedVersion : List ℕ → Bool
 unfolding tooNew readVersion
-refused s = tooNew (readVersion s)
+refusedVersion s = tooNew (readVersion s)
 
 both-false : (b : Bool) → ifB b (λ _. false) (λ _. false) ≡ false
 both-false true = refl

@@ -1,7 +1,7 @@
 // The version that a manifest asks for: read from bytes, and compared.
 ghost use mathlib.Core.Path.{_≡_};
 ghost use lib.ListN.{drop};
-ghost use Rattle.version.specs.Version.{digit, number, minorFrom, patchFrom, readVersion, above, refused};
+ghost use Rattle.version.specs.Version.{digit, number, minorFrom, patchFrom, readVersion, above, refusedVersion};
 ghost use Rattle.version.specs.Part.{partOf};
 
 pub struct Version {
@@ -139,7 +139,7 @@ impl Version {
 
     // Whether a manifest that asks for this version is refused.
     pub fn refused(s: &[u8]) -> bool
-        ensures { λ r. ⌜ r ≡ refused (now (s .entry)) ⌝ }
+        ensures { λ r. ⌜ r ≡ refusedVersion (now (s .entry)) ⌝ }
     {
         match Version::read(s) {
             ReadVersion::Read(v) => v.above(Version::OURS),

@@ -1,7 +1,7 @@
 -- `cut_builds::after_implicit` meets its contract.
 use mathlib.Core.Path.{subst, ap}
 use borrow.Author.Needs.{needs}
-use Rattle.spec.specs.Forms.{afterImplicit}
+use Rattle.cut_forms.specs.Inputs.{afterImplicit}
 use Rattle.cut_forms.specs.Statements.{BarEnds, BarsAt, StatementAt}
 use Rattle.cut_forms.proofs.Faults.{no-form}
 use Rattle.cut_builds.proofs.Builds.{no-paths, inputs-at}

@@ -2,7 +2,7 @@
 use mathlib.Core.Path.{subst, ap}
 use mathlib.Core.List.{[]}
 use borrow.Author.Needs.{needs}
-use Rattle.spec.specs.Forms.{afterInputs}
+use Rattle.cut_forms.specs.Inputs.{afterInputs}
 use Rattle.cut_forms.specs.Statements.{BarEnds, BarsAt, StatementAt}
 use Rattle.cut_forms.proofs.Faults.{no-form}
 use Rattle.cut_builds.proofs.Builds.{no-paths, inputs-at}

@@ -3,7 +3,7 @@ use Prim.Native.Nat.{_-_}
 use mathlib.Core.Path.{refl}
 use borrow.Author.Needs.{needs}
 use lib.ListN.{length}
-use Rattle.spec.specs.Lines.{body, escaping}
+use Rattle.spec.specs.Lines.{body, endsLine}
 use Rattle.scan_lines.specs.Endings.{endFrom, EndAt}
 use Rattle.scan_tokens.proofs.Places.{Going, going-begin}
 use Rattle.scan_lines.proofs.Ends.{open-end, line-ends, body-more, body-escape, body-dollar}
@@ -23,7 +23,7 @@ shared-slice-read-b : tie.Need-shared-slice-read-b Inv-loop μ-loop
 shared-slice-read-b c = search needs
 
 returns : tie.Need-returns Inv-loop μ-loop
-unfolding EndAt escaping
+unfolding EndAt endsLine
 returns c = line-ends body (c .before .before .before .loop .inv) refl (c .before .before .loop-test .taken) (c .if1 .taken)
 
 add-if3 : tie.Need-add-if3 Inv-loop μ-loop

@@ -3,7 +3,7 @@ use Prim.Native.Nat.{_-_}
 use mathlib.Core.Path.{refl}
 use borrow.Author.Needs.{needs}
 use lib.ListN.{length}
-use Rattle.spec.specs.Lines.{comment, escaping}
+use Rattle.spec.specs.Lines.{comment, endsLine}
 use Rattle.scan_lines.specs.Endings.{endFrom, EndAt}
 use Rattle.scan_tokens.proofs.Places.{Going, going-begin}
 use Rattle.scan_lines.proofs.Ends.{open-end, line-ends, comment-more}
@@ -23,7 +23,7 @@ shared-slice-read-if1 : tie.Need-shared-slice-read-if1 Inv-loop μ-loop
 shared-slice-read-if1 c = search needs
 
 returns : tie.Need-returns Inv-loop μ-loop
-unfolding EndAt escaping
+unfolding EndAt endsLine
 returns c = line-ends comment (c .before .before .before .loop .inv) refl (c .before .before .loop-test .taken) (c .if1 .taken)
 
 add-i : tie.Need-add-i Inv-loop μ-loop

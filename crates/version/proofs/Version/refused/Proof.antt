@@ -1,7 +1,7 @@
 -- `Version::refused` meets its contract.
 use mathlib.Core.Path.{sym, _∙_, ap}
 use borrow.Author.Needs.{needs}
-use Rattle.version.specs.Version.{refused, tooNew}
+use Rattle.version.specs.Version.{refusedVersion, tooNew}
 use Rattle.version.proofs.Version.refused.Statement.{statement}
 use Rattle.version.proofs.Version.refused.Tie as tie
 
@@ -18,11 +18,11 @@ enum-told : tie.Need-enum-told
 enum-told c = search needs
 
 returns : tie.Need-returns
-unfolding refused tooNew
+unfolding refusedVersion tooNew
 returns c = c .above .ensures ∙ sym (ap tooNew (sym (c .before .before .before .before .read .ensures) ∙ c .before .before .v .given .1))
 
 returns-2 : tie.Need-returns-2
-unfolding refused tooNew
+unfolding refusedVersion tooNew
 returns-2 c = sym (ap tooNew (sym (c .before .before .read .ensures) ∙ c .enum-told .given .1))
 
 pub refused-spec : {M : Type 1} → statement M
