@@ -50,8 +50,11 @@ same-length-3 : tie.Need-same-length-3
 same-length-3 c = search needs
 
 returns-2 : tie.Need-returns-2
-returns-2 c = record { space = search needs; promise = let w = path-within _ _ (inside (c .before .before .before .before .before)) in
-    default-added (now (c .before .before .before .before .before .before .before .before .before .before .before .before .before .before .before .before .before .before .args .raw)) (c .before .before .before .before .before .before .before .before .before .expand .ensures) (omega (arith, w .short, c .before .before .before .before .before .before .before .before .before .before .before .before .before .before .before .before .before .before .pre .room)) (inside (c .before .before .before .before .before)) (c .before .before .put-default .ensures) }
+returns-2 c = record {
+  space = search needs;
+  promise = let w = path-within _ _ (inside (c .before .before .before .before .before)) in
+      default-added (now (c .before .before .before .before .before .before .before .before .before .before .before .before .before .before .before .before .before .before .args .raw)) (c .before .before .before .before .before .before .before .before .before .expand .ensures) (omega (arith, w .short, c .before .before .before .before .before .before .before .before .before .before .before .before .before .before .before .before .before .before .pre .room)) (inside (c .before .before .before .before .before)) (c .before .before .put-default .ensures);
+}
 
 pub add-default-spec : {M : Type 1} → statement M
 add-default-spec =

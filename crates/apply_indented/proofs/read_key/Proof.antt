@@ -38,10 +38,10 @@ same-length-2 : tie.Need-same-length-2
 same-length-2 c = search needs
 
 returns : tie.Need-returns
-returns c = line-applied (lineOf _ _ _) (setting-told (lineOf _ _ _) (c .before .before .before .before .before .before .before .before .before .before .before .before .cut-block-line .ensures) (c .before .before .before .before .before .before .before .before .before .before .from .given .1)) (c .before .before .before .before .before .before .before .before .raw-value .ensures) (c .before .before .before .before .add-key .ensures)
+returns c = record { space = search needs; promise = line-applied (lineOf _ _ _) (setting-told (lineOf _ _ _) (c .before .before .before .before .before .before .before .before .before .before .before .before .cut-block-line .ensures) (c .before .before .before .before .before .before .before .before .before .before .from .given .1)) (c .before .before .before .before .before .before .before .before .raw-value .ensures) (c .before .before .before .before .add-key .ensures .promise) }
 
 returns-2 : tie.Need-returns-2
-returns-2 c = wrong-key (lineOf _ _ _) (wrong-told (lineOf _ _ _) (c .before .before .before .cut-block-line .ensures) (c .before .r .given .1))
+returns-2 c = record { space = search needs; promise = wrong-key (lineOf _ _ _) (wrong-told (lineOf _ _ _) (c .before .before .before .cut-block-line .ensures) (c .before .r .given .1)) }
 
 pub read-key-spec : {M : Type 1} → statement M
 read-key-spec =

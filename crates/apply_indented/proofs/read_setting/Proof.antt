@@ -41,10 +41,10 @@ same-length-3 : tie.Need-same-length-3
 same-length-3 c = search needs
 
 returns : tie.Need-returns
-returns c = line-applied (lineOf _ _ _) (setting-told (lineOf _ _ _) (c .before .before .before .before .before .before .before .before .before .before .before .before .before .before .before .cut-block-line .ensures) (c .before .before .before .before .before .before .before .before .before .before .before .before .before .from .given .1)) (c .before .before .before .before .before .before .before .before .before .before .before .raw-value .ensures) (c .before .before .before .before .before .before .add-to-block .ensures)
+returns c = record { space = search needs; promise = line-applied (lineOf _ _ _) (setting-told (lineOf _ _ _) (c .before .before .before .before .before .before .before .before .before .before .before .before .before .before .before .cut-block-line .ensures) (c .before .before .before .before .before .before .before .before .before .before .before .before .before .from .given .1)) (c .before .before .before .before .before .before .before .before .before .before .before .raw-value .ensures) (c .before .before .before .before .before .before .add-to-block .ensures .promise) }
 
 returns-2 : tie.Need-returns-2
-returns-2 c = wrong-setting (lineOf _ _ _) (wrong-told (lineOf _ _ _) (c .before .before .before .cut-block-line .ensures) (c .before .r .given .1))
+returns-2 c = record { space = search needs; promise = wrong-setting (lineOf _ _ _) (wrong-told (lineOf _ _ _) (c .before .before .before .cut-block-line .ensures) (c .before .r .given .1)) }
 
 pub read-setting-spec : {M : Type 1} → statement M
 read-setting-spec =

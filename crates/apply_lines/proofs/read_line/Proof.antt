@@ -52,7 +52,7 @@ same-length-5 : tie.Need-same-length-5
 same-length-5 c = search needs
 
 returns-3 : tie.Need-returns-3
-returns-3 c = record { space = search needs; promise = indented-read (lineOf _ _ _) (c .before .before .before .before .before .before .before .before .before .before .before .before .line-kind .ensures) (c .before .before .before .before .before .before .before .before .before .before .enum-told3 .given .1) (c .before .before .before .before .before .before .read-indented .ensures) }
+returns-3 c = record { space = search needs; promise = indented-read (lineOf _ _ _) (c .before .before .before .before .before .before .before .before .before .before .before .before .line-kind .ensures) (c .before .before .before .before .before .before .before .before .before .before .enum-told3 .given .1) (c .before .before .before .before .before .before .read-indented .ensures .promise) }
 
 same-length-6 : tie.Need-same-length-6
 same-length-6 c = search needs

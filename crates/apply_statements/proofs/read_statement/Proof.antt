@@ -65,7 +65,7 @@ same-length-2 : tie.Need-same-length-2
 same-length-2 c = search needs
 
 returns : tie.Need-returns
-returns c = record { space = search needs; promise = rule-read (lineOf _ _ _) (rule-told (lineOf _ _ _) (c .before .before .before .before .before .before .before .before .before .before .before .cut-file-line .ensures) (c .before .before .before .before .before .before .before .before .before .from .given .1)) (c .before .before .before .before .start-rule .ensures) }
+returns c = record { space = search needs; promise = rule-read (lineOf _ _ _) (rule-told (lineOf _ _ _) (c .before .before .before .before .before .before .before .before .before .before .before .cut-file-line .ensures) (c .before .before .before .before .before .before .before .before .before .from .given .1)) (c .before .before .before .before .start-rule .ensures .promise) }
 
 same-length-3 : tie.Need-same-length-3
 same-length-3 c = search needs
@@ -119,7 +119,7 @@ same-length-17 : tie.Need-same-length-17
 same-length-17 c = search needs
 
 returns-4 : tie.Need-returns-4
-returns-4 c = record { space = search needs; promise = var-read (lineOf _ _ _) (binding-told (lineOf _ _ _) (c .before .before .before .before .before .before .before .before .before .before .before .before .before .before .before .cut-file-line .ensures) (c .before .before .before .before .before .before .before .before .before .before .before .before .before .from2 .given .1)) (c .before .before .before .before .before .before .before .before .before .before .before .raw-value .ensures) (c .before .before .before .before .before .before .add-var .ensures) }
+returns-4 c = record { space = search needs; promise = var-read (lineOf _ _ _) (binding-told (lineOf _ _ _) (c .before .before .before .before .before .before .before .before .before .before .before .before .before .before .before .cut-file-line .ensures) (c .before .before .before .before .before .before .before .before .before .before .before .before .before .from2 .given .1)) (c .before .before .before .before .before .before .before .before .before .before .before .raw-value .ensures) (c .before .before .before .before .before .before .add-var .ensures .promise) }
 
 returns-5 : tie.Need-returns-5
 returns-5 c = record { space = search needs; promise = wrong-read (lineOf _ _ _) (refused-told (lineOf _ _ _) (c .before .before .before .cut-file-line .ensures) (c .before .r .given .1)) }
