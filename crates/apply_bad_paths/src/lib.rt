@@ -1,8 +1,10 @@
 // The refusals under 8 of a build line: an empty path, an output of an earlier step, two equal outputs.
+ghost use Rattle.lists.specs.Lent.{Spare, Leaves};
 ghost use Rattle.apply_bad_paths.specs.Asks.{LineAsks, InputsChecked, Checked};
 ghost use Rattle.hold_reading.specs.Buffers.{buffers};
 use apply_equal_outputs::has_equal_outputs;
 use apply_path_checks::PathKind;
+use apply_path_checks::PathList;
 use apply_path_checks::has_wrong;
 use cut_forms::BuildPlaces;
 use hold_reading::Counts;
@@ -21,23 +23,29 @@ fn has_wrong_input(
     c: Counts,
 ) -> bool
     requires { ⌜ LineAsks (now t) (now l) (buffers (now names) (now index) (now texts) (now bind) (now graph)) (now word) c p ⌝ }
-    ensures { λ r. ⌜ InputsChecked (now (l .entry)) (buffers (now (names .entry)) (now (index .entry)) (now (texts .entry)) (now (bind .entry)) (now (graph .entry))) c p r ⌝ }
+    ensures { λ r. ⌜ Leaves (Spare (now (word .entry)) (now (word .exit))) (InputsChecked (now (l .entry)) (buffers (now (names .entry)) (now (index .entry)) (now (texts .entry)) (now (bind .entry)) (now (graph .entry))) c p r) ⌝ }
 {
     let kind = PathKind::Input;
-    let at = p.ins;
-    if has_wrong(t, l, at, kind, names, index, texts, bind, graph, word, c) {
+    let ins = PathList { start: p.ins, kind };
+    if has_wrong(t, l, ins, names, index, texts, bind, graph, word, c) {
         return true;
     }
-    let at = p.implicit;
-    if has_wrong(t, l, at, kind, names, index, texts, bind, graph, word, c) {
+    let implicit = PathList {
+        start: p.implicit,
+        kind,
+    };
+    if has_wrong(t, l, implicit, names, index, texts, bind, graph, word, c) {
         return true;
     }
-    let at = p.order;
-    has_wrong(t, l, at, kind, names, index, texts, bind, graph, word, c)
+    let order = PathList {
+        start: p.order,
+        kind,
+    };
+    has_wrong(t, l, order, names, index, texts, bind, graph, word, c)
 }
 
 // "empty path, output made twice (also within one step)" (8), of a build line. The columns of the graph stay; behind them lies a table of the
-// outputs, and the word buffer is left with a path as far as it fits.
+// outputs. The word buffer is working space.
 pub fn bad_paths(
     t: &[u8; 256],
     l: &[u8],
@@ -51,11 +59,13 @@ pub fn bad_paths(
     c: Counts,
 ) -> bool
     requires { ⌜ LineAsks (now t) (now l) (buffers (now names) (now index) (now texts) (now bind) (now graph)) (now word) c p ⌝ }
-    ensures { λ r. ⌜ Checked (now (l .entry)) (buffers (now (names .entry)) (now (index .entry)) (now (texts .entry)) (now (bind .entry)) (now (graph .entry))) c p (now (graph .exit)) r ⌝ }
+    ensures { λ r. ⌜ Leaves (Spare (now (word .entry)) (now (word .exit))) (Checked (now (l .entry)) (buffers (now (names .entry)) (now (index .entry)) (now (texts .entry)) (now (bind .entry)) (now (graph .entry))) c p (now (graph .exit)) r) ⌝ }
 {
-    let kind = PathKind::Output;
-    let at = p.outs;
-    if has_wrong(t, l, at, kind, names, index, texts, bind, graph, word, c) {
+    let outs = PathList {
+        start: p.outs,
+        kind: PathKind::Output,
+    };
+    if has_wrong(t, l, outs, names, index, texts, bind, graph, word, c) {
         return true;
     }
     if has_wrong_input(t, l, p, names, index, texts, bind, graph, word, c) {

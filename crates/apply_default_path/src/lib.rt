@@ -1,4 +1,5 @@
 // One path of a default line: its limits, and the output's number behind the defaults.
+ghost use Rattle.lists.specs.Lent.{Spare, Leaves};
 ghost use Rattle.apply_path_checks.specs.Checks.{RawAsks};
 ghost use Rattle.apply_default_path.specs.Defaults.{PutAsks, Puts, Names};
 ghost use Rattle.hold_reading.specs.Buffers.{buffers};
@@ -35,7 +36,7 @@ fn put_default(names: &[u8], index: &[u32], graph: &mut [u32], c: Counts, path: 
     }
 }
 
-// One path of a default line, which is an output's.
+// One path of a default line, which is an output's. The word buffer is working space.
 pub fn add_default(
     t: &[u8; 256],
     raw: &[u8],
@@ -48,7 +49,7 @@ pub fn add_default(
     c: Counts,
 ) -> AddedDefault
     requires { ⌜ RawAsks (now t) (now raw) (buffers (now names) (now index) (now texts) (now bind) (now graph)) (now word) c ⌝ }
-    ensures { λ r. ⌜ Names (buffers (now (names .entry)) (now (index .entry)) (now (texts .entry)) (now (bind .entry)) (now (graph .entry))) c (now (raw .entry)) (now (graph .exit)) r ⌝ }
+    ensures { λ r. ⌜ Leaves ((Spare (now (graph .entry)) (now (graph .exit))) × (Spare (now (word .entry)) (now (word .exit)))) (Names (buffers (now (names .entry)) (now (index .entry)) (now (texts .entry)) (now (bind .entry)) (now (graph .entry))) c (now (raw .entry)) (now (graph .exit)) r) ⌝ }
 {
     let n = expand(t, raw, texts, bind, c.entries, word);
     if path_over(n, c) {

@@ -2,6 +2,7 @@
 ghost use mathlib.Core.Path.{_≡_};
 ghost use Prim.Native.Nat.{_+_, _≤_, _<_};
 ghost use lib.ListN.{length};
+ghost use Rattle.lists.specs.Lent.{Spare, Leaves};
 ghost use Rattle.spec.specs.Limits.{maxMentions, maxWritten, maxFiles};
 ghost use Rattle.hold_reading.specs.Held.{columnsEnd};
 ghost use Rattle.apply_files.specs.Path.{overCounted, Again, First, Fits, AddsPath};
@@ -77,7 +78,7 @@ pub fn add_path(
     c: Counts,
 ) -> Mentioned
     requires { ⌜ Fits (now path) (now names) (now index) (now graph) c ⌝ }
-    ensures { λ r. ⌜ AddsPath (now (path .entry)) (now (names .entry)) (now (index .entry)) (now (graph .entry)) c (now (names .exit)) (now (index .exit)) (now (graph .exit)) r ⌝ }
+    ensures { λ r. ⌜ Leaves ((Spare (now (names .entry)) (now (names .exit))) × (Spare (now (index .entry)) (now (index .exit))) × (Spare (now (graph .entry)) (now (graph .exit)))) (AddsPath (now (path .entry)) (now (names .entry)) (now (index .entry)) (now (graph .entry)) c (now (names .exit)) (now (index .exit)) (now (graph .exit)) r) ⌝ }
 {
     let files = c.files;
     match add(names, index, files, path) {

@@ -2,16 +2,17 @@
 use Prim.Native.Nat.{ℕ}
 use mathlib.Core.List.{List}
 use mathlib.Core.Path.{_≡_, refl, sym}
-use native.Mathlib.Omega.{arith}
-use lib.ListN.{length, drop, length-drop}
-use Rattle.lists.specs.Parts.{part, part-to-end}
+use native.Mathlib.Nat.{le-trans}
+use lib.ListN.{drop}
+use Rattle.lists.specs.Parts.{part}
 use Rattle.spec.specs.declared.Refusal.{Refusal}
 use Rattle.spec.specs.declared.Refusal.the-variants.{BadLine}
 use Rattle.spec.specs.Lines.{Line}
-use Rattle.spec.specs.Forms.{cutIndented}
+use Rattle.spec.specs.Forms.{rawValue, cutIndented}
 use Rattle.spec.specs.Reading.{Reading}
 use Rattle.spec.specs.Statements.{Block, noBlock, ruleBlock, buildBlock, refused, blockLine}
 use Rattle.spec.specs.Manifest.{ifCut, indented, readIndented}
+use Rattle.scan_raw.proofs.Faults.{raw-length}
 use Rattle.hold_bindings.specs.Log.{Logged}
 use Rattle.cut_refusals.specs.Cuts.{Wrong, SoundBinding}
 use Rattle.hold_reading.specs.declared.Counts.{Counts}
@@ -28,27 +29,29 @@ use Rattle.apply_indented.specs.Asks.{KeyAsks, Asks}
 -- ---- a line that is cut
 
 module _ (l : Line) {from to at : ℕ} (s : SoundBinding l (cutIndented (l .text)) from to at) where
-  line-is : (rd : Reading) (b : Block) → readIndented l rd b ≡ blockLine (l .start) b (part (l .text) from to) (drop at (l .text)) rd
+  line-is : (rd : Reading) (b : Block) → readIndented l rd b ≡ blockLine (l .start) b (part (l .text) from to) (rawValue (drop at (l .text))) rd
   unfolding readIndented ifCut indented blockLine
   line-is rd noBlock = refl
   line-is rd (ruleBlock k r) = rw (s .places .cut, s .ended)
   line-is rd (buildBlock x) = rw (s .places .cut, s .ended)
 
-  pub line-applied : {texts bind : List ℕ} {c : Counts} {o : Open} {texts′ bind′ : List ℕ} {r : LineAnswer}
-      → Meets texts bind c o (λ rd b. blockLine (l .start) b (part (l .text) from to) (part (l .text) at (length (l .text))) rd) texts′ bind′ r
-      → Meets texts bind c o (readIndented l) texts′ bind′ r
-  line-applied m = record { agrees = λ log rd b w. rw (line-is rd b, sym (part-to-end (l .text) at)) (m .agrees log rd b w) }
+  -- with the part of the line that is its value
+  module _ {raw : List ℕ} (v : raw ≡ rawValue (drop at (l .text))) where
+    pub line-applied : {texts bind : List ℕ} {c : Counts} {o : Open} {texts′ bind′ : List ℕ} {r : LineAnswer}
+        → Meets texts bind c o (λ rd b. blockLine (l .start) b (part (l .text) from to) raw rd) texts′ bind′ r
+        → Meets texts bind c o (readIndented l) texts′ bind′ r
+    line-applied m = record { agrees = λ log rd b w. rw (line-is rd b, sym v) (m .agrees log rd b w) }
 
-  pub value-asks : {t texts bind word : List ℕ} {c : Counts} {o : Open} → Asks t (l .start) (l .text) texts bind word c o
-      → ValueAsks t (part (l .text) at (length (l .text))) texts bind word c o
-  value-asks a =
-      record {
-        table = a .cut .table;
-        short = rw (part-to-end (l .text) at) (omega (arith, a .cut .short, length-drop at (l .text)));
-        dollars = rw (part-to-end (l .text) at) (s .dollars);
-        room = a .room;
-        sound = a .sound;
-      }
+    pub value-asks : {t texts bind word : List ℕ} {c : Counts} {o : Open} → Asks t (l .start) (l .text) texts bind word c o
+        → ValueAsks t raw texts bind word c o
+    value-asks a =
+        record {
+          table = a .cut .table;
+          short = rw v (le-trans (raw-length (l .text) at) (a .cut .short));
+          dollars = rw v (s .dollars);
+          room = a .room;
+          sound = a .sound;
+        }
 
 -- ---- a line that is refused
 

@@ -1,4 +1,5 @@
 // Indented lines: "An indented line belongs to the open rule or build block; with none open it is refused with 4."
+ghost use Rattle.lists.specs.Lent.{Spare, Leaves};
 ghost use Rattle.spec.specs.Manifest.{readIndented};
 ghost use Rattle.scan_cursor.specs.Spans.{lineOf};
 ghost use Rattle.hold_reading.specs.Binds.{Meets};
@@ -10,6 +11,7 @@ use cut_refusals::cut_block_line;
 use hold_reading::Counts;
 use hold_reading::LineAnswer;
 use hold_reading::Open;
+use scan_raw::texts::raw_value;
 use spec::Refusal;
 
 // In the block of the rule whose line starts at `head`, and which is declared at an entry of the table of bindings.
@@ -25,24 +27,18 @@ fn read_key(
     c: Counts,
 ) -> LineAnswer
     requires { ⌜ KeyAsks (now t) start (now l) (now texts) (now bind) c (Open.Rule head entry) ⌝ }
-    ensures { λ r. ⌜ Meets (now (texts .entry)) (now (bind .entry)) c (Open.Rule head entry) (readIndented (lineOf start (now (l .entry)) ended)) (now (texts .exit)) (now (bind .exit)) r ⌝ }
+    ensures { λ r. ⌜ Leaves ((Spare (now (texts .entry)) (now (texts .exit))) × (Spare (now (bind .entry)) (now (bind .exit)))) (Meets (now (texts .entry)) (now (bind .entry)) c (Open.Rule head entry) (readIndented (lineOf start (now (l .entry)) ended)) (now (texts .exit)) (now (bind .exit)) r) ⌝ }
 {
     match cut_block_line(t, start, l, ended) {
-        BlockLine::Binding(from, to, at) => add_key(
-            start,
-            head,
-            entry,
-            &l[from..to],
-            &l[at..],
-            texts,
-            bind,
-            c,
-        ),
+        BlockLine::Binding(from, to, at) => {
+            let raw = raw_value(l, at);
+            add_key(start, head, entry, &l[from..to], raw, texts, bind, c)
+        }
         BlockLine::Refused(r) => LineAnswer::Refused(r),
     }
 }
 
-// In the newest step's block.
+// In the newest step's block. The word buffer is working space.
 fn read_setting(
     t: &[u8; 256],
     start: usize,
@@ -54,19 +50,13 @@ fn read_setting(
     c: Counts,
 ) -> LineAnswer
     requires { ⌜ Asks (now t) start (now l) (now texts) (now bind) (now word) c Open.Step ⌝ }
-    ensures { λ r. ⌜ Meets (now (texts .entry)) (now (bind .entry)) c Open.Step (readIndented (lineOf start (now (l .entry)) ended)) (now (texts .exit)) (now (bind .exit)) r ⌝ }
+    ensures { λ r. ⌜ Leaves ((Spare (now (texts .entry)) (now (texts .exit))) × (Spare (now (bind .entry)) (now (bind .exit))) × (Spare (now (word .entry)) (now (word .exit)))) (Meets (now (texts .entry)) (now (bind .entry)) c Open.Step (readIndented (lineOf start (now (l .entry)) ended)) (now (texts .exit)) (now (bind .exit)) r) ⌝ }
 {
     match cut_block_line(t, start, l, ended) {
-        BlockLine::Binding(from, to, at) => add_to_block(
-            t,
-            start,
-            &l[from..to],
-            &l[at..],
-            texts,
-            bind,
-            word,
-            c,
-        ),
+        BlockLine::Binding(from, to, at) => {
+            let raw = raw_value(l, at);
+            add_to_block(t, start, &l[from..to], raw, texts, bind, word, c)
+        }
         BlockLine::Refused(r) => LineAnswer::Refused(r),
     }
 }
@@ -84,7 +74,7 @@ pub fn read_indented(
     block: Open,
 ) -> LineAnswer
     requires { ⌜ Asks (now t) start (now l) (now texts) (now bind) (now word) c block ⌝ }
-    ensures { λ r. ⌜ Meets (now (texts .entry)) (now (bind .entry)) c block (readIndented (lineOf start (now (l .entry)) ended)) (now (texts .exit)) (now (bind .exit)) r ⌝ }
+    ensures { λ r. ⌜ Leaves ((Spare (now (texts .entry)) (now (texts .exit))) × (Spare (now (bind .entry)) (now (bind .exit))) × (Spare (now (word .entry)) (now (word .exit)))) (Meets (now (texts .entry)) (now (bind .entry)) c block (readIndented (lineOf start (now (l .entry)) ended)) (now (texts .exit)) (now (bind .exit)) r) ⌝ }
 {
     match block {
         Open::Nothing => LineAnswer::Refused(Refusal::BadLine(start)),

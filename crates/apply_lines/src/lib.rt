@@ -1,8 +1,9 @@
 // A line by its kind: a comment, a blank line, an indented line or a statement.
+ghost use Rattle.lists.specs.Lent.{Spare, Leaves};
 ghost use Rattle.spec.specs.Manifest.{readLine};
 ghost use Rattle.scan_cursor.specs.Spans.{lineOf};
 ghost use Rattle.apply_statements.specs.Asks.{LineAsks, LineMeets};
-ghost use Rattle.hold_reading.specs.Buffers.{buffers};
+ghost use Rattle.hold_reading.specs.Buffers.{SameRoom, buffers};
 use apply_indented::read_indented;
 use apply_rules::close;
 use apply_statements::read_file_line;
@@ -26,7 +27,7 @@ pub fn read_line(
     s: State,
 ) -> LineAnswer
     requires { ⌜ LineAsks (now t) (line .start) (now l) (buffers (now names) (now index) (now texts) (now bind) (now graph)) (now word) (s .counts) (s .open) ⌝ }
-    ensures { λ r. ⌜ LineMeets (buffers (now (names .entry)) (now (index .entry)) (now (texts .entry)) (now (bind .entry)) (now (graph .entry))) (s .counts) (s .open) (readLine (lineOf (line .start) (now (l .entry)) (line .ended))) (buffers (now (names .exit)) (now (index .exit)) (now (texts .exit)) (now (bind .exit)) (now (graph .exit))) r ⌝ }
+    ensures { λ r. ⌜ Leaves (SameRoom (buffers (now (names .entry)) (now (index .entry)) (now (texts .entry)) (now (bind .entry)) (now (graph .entry))) (buffers (now (names .exit)) (now (index .exit)) (now (texts .exit)) (now (bind .exit)) (now (graph .exit))) × (Spare (now (word .entry)) (now (word .exit)))) (LineMeets (buffers (now (names .entry)) (now (index .entry)) (now (texts .entry)) (now (bind .entry)) (now (graph .entry))) (s .counts) (s .open) (readLine (lineOf (line .start) (now (l .entry)) (line .ended))) (buffers (now (names .exit)) (now (index .exit)) (now (texts .exit)) (now (bind .exit)) (now (graph .exit))) r) ⌝ }
 {
     let c = s.counts;
     let block = s.open;

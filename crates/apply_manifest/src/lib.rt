@@ -1,6 +1,7 @@
 // The manifest reader: 2 and 3 for the whole manifest, then its lines from the top.
+ghost use Rattle.lists.specs.Lent.{Spare, Leaves};
 ghost use Rattle.apply_manifest.specs.Manifests.{Roomy, LinesAsk, TopAsk, LinesRead, IsRead};
-ghost use Rattle.hold_reading.specs.Buffers.{buffers};
+ghost use Rattle.hold_reading.specs.Buffers.{SameRoom, buffers};
 use apply_lines::read_line;
 use apply_rules::close;
 use hold_names::clear;
@@ -35,7 +36,7 @@ fn read_from_top(
     word: &mut [u8],
 ) -> LineAnswer
     requires { ⌜ TopAsk (now t) (now m) (buffers (now names) (now index) (now texts) (now bind) (now graph)) (now word) ⌝ }
-    ensures { λ r. ⌜ LinesRead (now (m .entry)) (buffers (now (names .exit)) (now (index .exit)) (now (texts .exit)) (now (bind .exit)) (now (graph .exit))) r ⌝ }
+    ensures { λ r. ⌜ Leaves (SameRoom (buffers (now (names .entry)) (now (index .entry)) (now (texts .entry)) (now (bind .entry)) (now (graph .entry))) (buffers (now (names .exit)) (now (index .exit)) (now (texts .exit)) (now (bind .exit)) (now (graph .exit))) × (Spare (now (word .entry)) (now (word .exit)))) (LinesRead (now (m .entry)) (buffers (now (names .exit)) (now (index .exit)) (now (texts .exit)) (now (bind .exit)) (now (graph .exit))) r) ⌝ }
 {
     let mut c = Counts {
         files: 0,
@@ -98,13 +99,13 @@ fn read_lines(
     word: &mut [u8],
 ) -> LineAnswer
     requires { ⌜ LinesAsk (now t) (now m) (buffers (now names) (now index) (now texts) (now bind) (now graph)) (now word) ⌝ }
-    ensures { λ r. ⌜ LinesRead (now (m .entry)) (buffers (now (names .exit)) (now (index .exit)) (now (texts .exit)) (now (bind .exit)) (now (graph .exit))) r ⌝ }
+    ensures { λ r. ⌜ Leaves (SameRoom (buffers (now (names .entry)) (now (index .entry)) (now (texts .entry)) (now (bind .entry)) (now (graph .entry))) (buffers (now (names .exit)) (now (index .exit)) (now (texts .exit)) (now (bind .exit)) (now (graph .exit))) × (Spare (now (word .entry)) (now (word .exit)))) (LinesRead (now (m .entry)) (buffers (now (names .exit)) (now (index .exit)) (now (texts .exit)) (now (bind .exit)) (now (graph .exit))) r) ⌝ }
 {
     clear(index);
     read_from_top(t, m, names, index, texts, bind, graph, word)
 }
 
-// Reads a manifest into the buffers. "Order: 1, 2, 3; lines from the top."
+// Reads a manifest into the buffers. "Order: 1, 2, 3; lines from the top." The word buffer is working space, and after a refusal all are.
 pub fn read_manifest(
     t: &[u8; 256],
     m: &[u8],
@@ -116,7 +117,7 @@ pub fn read_manifest(
     word: &mut [u8],
 ) -> ReadAnswer
     requires { ⌜ Roomy (now t) (buffers (now names) (now index) (now texts) (now bind) (now graph)) (now word) ⌝ }
-    ensures { λ r. ⌜ IsRead (now (m .entry)) (buffers (now (names .exit)) (now (index .exit)) (now (texts .exit)) (now (bind .exit)) (now (graph .exit))) r ⌝ }
+    ensures { λ r. ⌜ Leaves (SameRoom (buffers (now (names .entry)) (now (index .entry)) (now (texts .entry)) (now (bind .entry)) (now (graph .entry))) (buffers (now (names .exit)) (now (index .exit)) (now (texts .exit)) (now (bind .exit)) (now (graph .exit))) × (Spare (now (word .entry)) (now (word .exit)))) (IsRead (now (m .entry)) (buffers (now (names .exit)) (now (index .exit)) (now (texts .exit)) (now (bind .exit)) (now (graph .exit))) r) ⌝ }
 {
     if MANIFEST < m.len() {
         return ReadAnswer::Refused(Refusal::LongManifest);

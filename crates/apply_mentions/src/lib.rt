@@ -1,6 +1,7 @@
 // Files mentioned by a line: each path is expanded and marked in the graph's columns.
+ghost use Rattle.lists.specs.Lent.{Spare, Leaves};
 ghost use Rattle.apply_mentions.specs.Asks.{Asks, Mentions, ListAsks, MentionsAll};
-ghost use Rattle.hold_reading.specs.Buffers.{buffers};
+ghost use Rattle.hold_reading.specs.Buffers.{SameRoom, buffers};
 use apply_files::Mentioned;
 use apply_files::add_path;
 use apply_files::path_over;
@@ -9,7 +10,7 @@ use cut_forms::paths::next_listed;
 use expand_dollars::expand;
 use hold_reading::Counts;
 
-// A raw path. The word buffer is left with the path as far as it fits.
+// A raw path. The word buffer is working space.
 pub fn mention(
     t: &[u8; 256],
     raw: &[u8],
@@ -22,7 +23,7 @@ pub fn mention(
     c: Counts,
 ) -> Mentioned
     requires { ⌜ Asks (now t) (now raw) (buffers (now names) (now index) (now texts) (now bind) (now graph)) (now word) c ⌝ }
-    ensures { λ r. ⌜ Mentions (now (raw .entry)) (buffers (now (names .entry)) (now (index .entry)) (now (texts .entry)) (now (bind .entry)) (now (graph .entry))) c (now (names .exit)) (now (index .exit)) (now (graph .exit)) r ⌝ }
+    ensures { λ r. ⌜ Leaves (SameRoom (buffers (now (names .entry)) (now (index .entry)) (now (texts .entry)) (now (bind .entry)) (now (graph .entry))) (buffers (now (names .exit)) (now (index .exit)) (now (texts .entry)) (now (bind .entry)) (now (graph .exit))) × (Spare (now (word .entry)) (now (word .exit)))) (Mentions (now (raw .entry)) (buffers (now (names .entry)) (now (index .entry)) (now (texts .entry)) (now (bind .entry)) (now (graph .entry))) c (now (names .exit)) (now (index .exit)) (now (graph .exit)) r) ⌝ }
 {
     let n = expand(t, raw, texts, bind, c.entries, word);
     if path_over(n, c) {
@@ -45,7 +46,7 @@ pub fn mention_all(
     c: Counts,
 ) -> Mentioned
     requires { ⌜ ListAsks (now t) (now l) (buffers (now names) (now index) (now texts) (now bind) (now graph)) (now word) c at ⌝ }
-    ensures { λ r. ⌜ MentionsAll (now (l .entry)) at (buffers (now (names .entry)) (now (index .entry)) (now (texts .entry)) (now (bind .entry)) (now (graph .entry))) c (now (names .exit)) (now (index .exit)) (now (graph .exit)) r ⌝ }
+    ensures { λ r. ⌜ Leaves (SameRoom (buffers (now (names .entry)) (now (index .entry)) (now (texts .entry)) (now (bind .entry)) (now (graph .entry))) (buffers (now (names .exit)) (now (index .exit)) (now (texts .entry)) (now (bind .entry)) (now (graph .exit))) × (Spare (now (word .entry)) (now (word .exit)))) (MentionsAll (now (l .entry)) at (buffers (now (names .entry)) (now (index .entry)) (now (texts .entry)) (now (bind .entry)) (now (graph .entry))) c (now (names .exit)) (now (index .exit)) (now (graph .exit)) r) ⌝ }
 {
     let mut i = at;
     let mut d = c;

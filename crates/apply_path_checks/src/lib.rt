@@ -1,6 +1,7 @@
 // The refusals under 8 that a path has by itself. Each path of a list is cut and expanded once, and looked at for what its kind is refused for.
 ghost use mathlib.Core.Path.{_≡_};
 ghost use mathlib.Core.List.{List};
+ghost use Rattle.lists.specs.Lent.{Spare, Leaves};
 ghost use Rattle.spec.specs.Reading.{Reading, isMade};
 ghost use Rattle.hold_bindings.specs.Log.{Logged};
 ghost use Rattle.hold_reading.specs.Held.{HoldsReading};
@@ -21,6 +22,12 @@ pub enum PathKind {
     Input,
     Output,
     Default,
+}
+
+// A list of a line's paths: where it starts, and of which kind they are.
+pub struct PathList {
+    pub start: usize,
+    pub kind: PathKind,
 }
 
 // Whether a path is the output of an earlier step: its entry among the makers is not 0.
@@ -59,7 +66,7 @@ fn is_wrong(
     c: Counts,
 ) -> bool
     requires { ⌜ RawAsks (now t) (now raw) (buffers (now names) (now index) (now texts) (now bind) (now graph)) (now word) c ⌝ }
-    ensures { λ r. ⌜ ((log : List Logged) (rd : Reading) → HoldsReading log (buffers (now (names .entry)) (now (index .entry)) (now (texts .entry)) (now (bind .entry)) (now (graph .entry))) c rd → r ≡ wrongPath kind rd (pathOf rd (now (raw .entry)))) ⌝ }
+    ensures { λ r. ⌜ Leaves (Spare (now (word .entry)) (now (word .exit))) ((log : List Logged) (rd : Reading) → HoldsReading log (buffers (now (names .entry)) (now (index .entry)) (now (texts .entry)) (now (bind .entry)) (now (graph .entry))) c rd → r ≡ wrongPath kind rd (pathOf rd (now (raw .entry)))) ⌝ }
 {
     let n = expand(t, raw, texts, bind, c.entries, word);
     if n == 0 {
@@ -72,12 +79,11 @@ fn is_wrong(
     }
 }
 
-// Whether a path of the list that starts at a place is refused.
+// Whether a path of the list is refused. The word buffer is working space.
 pub fn has_wrong(
     t: &[u8; 256],
     l: &[u8],
-    start: usize,
-    kind: PathKind,
+    list: PathList,
     names: &[u8],
     index: &[u32],
     texts: &[u8],
@@ -86,10 +92,11 @@ pub fn has_wrong(
     word: &mut [u8],
     c: Counts,
 ) -> bool
-    requires { ⌜ PathAsks (now t) (now l) (buffers (now names) (now index) (now texts) (now bind) (now graph)) (now word) c start ⌝ }
-    ensures { λ r. ⌜ AnyWrong kind (now (l .entry)) (buffers (now (names .entry)) (now (index .entry)) (now (texts .entry)) (now (bind .entry)) (now (graph .entry))) c start r ⌝ }
+    requires { ⌜ PathAsks (now t) (now l) (buffers (now names) (now index) (now texts) (now bind) (now graph)) (now word) c (list .start) ⌝ }
+    ensures { λ r. ⌜ Leaves (Spare (now (word .entry)) (now (word .exit))) (AnyWrong (list .kind) (now (l .entry)) (buffers (now (names .entry)) (now (index .entry)) (now (texts .entry)) (now (bind .entry)) (now (graph .entry))) c (list .start) r) ⌝ }
 {
-    let mut i = start;
+    let kind = list.kind;
+    let mut i = list.start;
     loop {
         match next_listed(t, l, i) {
             ListPath::Path(from, to) => {

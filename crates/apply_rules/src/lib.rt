@@ -1,4 +1,5 @@
 // Rule blocks: "`rule NAME`, then indented `key = value` lines: `command` (needed), `description`, `generator`, each at most once, kept unexpanded."
+ghost use Rattle.lists.specs.Lent.{Spare, Leaves};
 ghost use Rattle.spec.specs.Statements.{startRule, blockLine};
 ghost use Rattle.spec.specs.Manifest.{close};
 ghost use Rattle.hold_reading.specs.Binds.{SoundBlock, Meets};
@@ -24,7 +25,7 @@ pub fn start_rule(
     c: Counts,
 ) -> LineAnswer
     requires { ⌜ SoundBlock (now texts) (now bind) c Open.Nothing ⌝ }
-    ensures { λ r. ⌜ Meets (now (texts .entry)) (now (bind .entry)) c Open.Nothing (λ rd b. startRule start (now (name .entry)) rd) (now (texts .exit)) (now (bind .exit)) r ⌝ }
+    ensures { λ r. ⌜ Leaves ((Spare (now (texts .entry)) (now (texts .exit))) × (Spare (now (bind .entry)) (now (bind .exit)))) (Meets (now (texts .entry)) (now (bind .entry)) c Open.Nothing (λ rd b. startRule start (now (name .entry)) rd) (now (texts .exit)) (now (bind .exit)) r) ⌝ }
 {
     if is_declared(texts, bind, c, name) {
         return LineAnswer::Refused(Refusal::BadRule(start));
@@ -57,7 +58,7 @@ pub fn add_key(
     c: Counts,
 ) -> LineAnswer
     requires { ⌜ SoundBlock (now texts) (now bind) c (Open.Rule head entry) ⌝ }
-    ensures { λ r. ⌜ Meets (now (texts .entry)) (now (bind .entry)) c (Open.Rule head entry) (λ rd b. blockLine start b (now (name .entry)) (now (raw .entry)) rd) (now (texts .exit)) (now (bind .exit)) r ⌝ }
+    ensures { λ r. ⌜ Leaves ((Spare (now (texts .entry)) (now (texts .exit))) × (Spare (now (bind .entry)) (now (bind .exit)))) (Meets (now (texts .entry)) (now (bind .entry)) c (Open.Rule head entry) (λ rd b. blockLine start b (now (name .entry)) (now (raw .entry)) rd) (now (texts .exit)) (now (bind .exit)) r) ⌝ }
 {
     if is_bad_key(texts, bind, c.entries, entry, name) {
         return LineAnswer::Refused(Refusal::BadRule(start));

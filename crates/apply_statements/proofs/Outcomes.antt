@@ -3,18 +3,20 @@ use Prim.Native.Nat.{ℕ, _≤_}
 use mathlib.Core.Bool.{true, false}
 use mathlib.Core.List.{List}
 use mathlib.Core.Path.{_≡_, _∙_, ap}
+use native.Mathlib.Nat.{le-trans}
 use native.Mathlib.Omega.{arith}
-use lib.ListN.{length, length-drop}
+use lib.ListN.{length, drop}
 use Rattle.lists.specs.Tests.{split}
 use Rattle.lists.specs.Text.{bytes}
-use Rattle.lists.specs.Parts.{part, part-to-end}
+use Rattle.lists.specs.Parts.{part}
 use Rattle.spec.specs.declared.Refusal.{Refusal}
 use Rattle.spec.specs.Dollars.{expand}
 use Rattle.spec.specs.Lines.{Line}
-use Rattle.spec.specs.Forms.{BuildLine, cutStatement, Form, fits}
+use Rattle.spec.specs.Forms.{BuildLine, rawValue, cutStatement, Form, fits}
 use Rattle.spec.specs.Reading.{Reading, fileVar, hasKey}
 use Rattle.spec.specs.Statements.{Block, noBlock, ruleBlock, buildBlock, Outcome, goesOn, refused, startRule, addStep, expandedLine, addDefaults, expanded, addVar, statement}
 use Rattle.spec.specs.Manifest.{close, andThen, ifCut, readStatement}
+use Rattle.scan_raw.proofs.Faults.{raw-length}
 use Rattle.hold_bindings.specs.Log.{Logged}
 use Rattle.cut_refusals.specs.Cuts.{Wrong, SoundBinding}
 use Rattle.cut_forms.specs.declared.BuildPlaces.{BuildPlaces}
@@ -88,14 +90,11 @@ module _ (l : Line) {bs : Buffers} {c : Counts} {r : LineAnswer} where
   unfolding statement
   default-read a m = line-as (λ rd b. cut-read l (a .1 .cut) (a .0) rd b) (adding-met (m (a .1 .raw) (a .1 .stands)))
 
-  pub var-read : {texts′ bind′ : List ℕ} {from to at : ℕ} → SoundBinding l (cutStatement (l .text)) from to at
-      → Meets (bs .texts) (bs .bind) c Nothing (λ rd b. addVar (l .start) (part (l .text) from to) (expand (fileVar (rd .vars)) (part (l .text) at (length (l .text)))) rd) texts′ bind′ r
+  pub var-read : {texts′ bind′ : List ℕ} {from to at : ℕ} {raw : List ℕ} → SoundBinding l (cutStatement (l .text)) from to at → raw ≡ rawValue (drop at (l .text))
+      → Meets (bs .texts) (bs .bind) c Nothing (λ rd b. addVar (l .start) (part (l .text) from to) (expand (fileVar (rd .vars)) raw) rd) texts′ bind′ r
       → LineMeets bs c Nothing (readStatement l) (withBindings bs texts′ bind′) r
   unfolding statement
-  var-read {at = at} a m =
-      line-as
-      (λ rd b. cut-read l (a .places .cut) (a .ended) rd b ∙ rw (part-to-end (l .text) at))
-      (binding-met m)
+  var-read a v m = line-as (λ rd b. cut-read l (a .places .cut) (a .ended) rd b ∙ rw v) (binding-met m)
 
 pub wrong-read : (l : Line) {bs : Buffers} {c : Counts} {r : Refusal} → Wrong l (cutStatement (l .text)) r
     → LineMeets bs c Nothing (readStatement l) bs (Refused r)
@@ -132,12 +131,12 @@ module _ (l : Line) {t : List ℕ} {bs : Buffers} {word : List ℕ} {c : Counts}
         whole = between-whole (a .between);
       }
 
-  pub value-asks : {from to at : ℕ} → SoundBinding l (cutStatement (l .text)) from to at → ValueAsks t (part (l .text) at (length (l .text))) (bs .texts) (bs .bind) word c Nothing
-  value-asks {at = at} s =
+  pub value-asks : {from to at : ℕ} {raw : List ℕ} → SoundBinding l (cutStatement (l .text)) from to at → raw ≡ rawValue (drop at (l .text)) → ValueAsks t raw (bs .texts) (bs .bind) word c Nothing
+  value-asks {at = at} s v =
       record {
         table = a .cut .table;
-        short = rw (part-to-end (l .text) at) (omega (arith, short, length-drop at (l .text)));
-        dollars = rw (part-to-end (l .text) at) (s .dollars);
+        short = rw v (le-trans (raw-length (l .text) at) short);
+        dollars = rw v (s .dollars);
         room = omega (arith, a .room .word-room);
         sound = between-sound (a .between);
       }

@@ -1,12 +1,15 @@
 // Lines without indent: they close the open block before their own fault, and then are cut and applied.
+ghost use Rattle.lists.specs.Lent.{Spare, Leaves};
 ghost use Rattle.spec.specs.Manifest.{close, andThen, readStatement};
 ghost use Rattle.scan_cursor.specs.Spans.{lineOf};
 ghost use Rattle.apply_statements.specs.Asks.{LineAsks, LineMeets};
-ghost use Rattle.hold_reading.specs.Buffers.{buffers};
+ghost use Rattle.hold_reading.specs.Buffers.{SameRoom, buffers};
 use apply_builds::add_step;
+use apply_defaults::DefaultStatement;
 use apply_defaults::add_defaults;
 use apply_rules::close;
 use apply_rules::start_rule;
+use apply_steps::BuildStatement;
 use apply_variables::add_var;
 use cut_refusals::FileLine;
 use cut_refusals::cut_file_line;
@@ -15,8 +18,9 @@ use hold_reading::Line;
 use hold_reading::LineAnswer;
 use hold_reading::Open;
 use hold_reading::State;
+use scan_raw::texts::raw_value;
 
-// A line where no block is open.
+// A line where no block is open. The word buffer is working space, and after a refusal all are.
 pub fn read_statement(
     t: &[u8; 256],
     line: Line,
@@ -30,35 +34,23 @@ pub fn read_statement(
     c: Counts,
 ) -> LineAnswer
     requires { ⌜ LineAsks (now t) (line .start) (now l) (buffers (now names) (now index) (now texts) (now bind) (now graph)) (now word) c Open.Nothing ⌝ }
-    ensures { λ r. ⌜ LineMeets (buffers (now (names .entry)) (now (index .entry)) (now (texts .entry)) (now (bind .entry)) (now (graph .entry))) c Open.Nothing (readStatement (lineOf (line .start) (now (l .entry)) (line .ended))) (buffers (now (names .exit)) (now (index .exit)) (now (texts .exit)) (now (bind .exit)) (now (graph .exit))) r ⌝ }
+    ensures { λ r. ⌜ Leaves (SameRoom (buffers (now (names .entry)) (now (index .entry)) (now (texts .entry)) (now (bind .entry)) (now (graph .entry))) (buffers (now (names .exit)) (now (index .exit)) (now (texts .exit)) (now (bind .exit)) (now (graph .exit))) × (Spare (now (word .entry)) (now (word .exit)))) (LineMeets (buffers (now (names .entry)) (now (index .entry)) (now (texts .entry)) (now (bind .entry)) (now (graph .entry))) c Open.Nothing (readStatement (lineOf (line .start) (now (l .entry)) (line .ended))) (buffers (now (names .exit)) (now (index .exit)) (now (texts .exit)) (now (bind .exit)) (now (graph .exit))) r) ⌝ }
 {
     let start = line.start;
     match cut_file_line(t, start, l, line.ended) {
         FileLine::Rule(from, to) => start_rule(start, &l[from..to], texts, bind, c),
-        FileLine::Build(p) => add_step(t, start, l, p, names, index, texts, bind, graph, word, c),
-        FileLine::Default(at) => add_defaults(
-            t,
-            start,
-            l,
-            at,
-            names,
-            index,
-            texts,
-            bind,
-            graph,
-            word,
-            c,
-        ),
-        FileLine::Binding(from, to, at) => add_var(
-            t,
-            start,
-            &l[from..to],
-            &l[at..],
-            texts,
-            bind,
-            word,
-            c,
-        ),
+        FileLine::Build(p) => {
+            let s = BuildStatement { start, places: p };
+            add_step(t, l, s, names, index, texts, bind, graph, word, c)
+        }
+        FileLine::Default(at) => {
+            let s = DefaultStatement { start, paths: at };
+            add_defaults(t, l, s, names, index, texts, bind, graph, word, c)
+        }
+        FileLine::Binding(from, to, at) => {
+            let raw = raw_value(l, at);
+            add_var(t, start, &l[from..to], raw, texts, bind, word, c)
+        }
         FileLine::Refused(r) => LineAnswer::Refused(r),
     }
 }
@@ -77,7 +69,7 @@ pub fn read_file_line(
     s: State,
 ) -> LineAnswer
     requires { ⌜ LineAsks (now t) (line .start) (now l) (buffers (now names) (now index) (now texts) (now bind) (now graph)) (now word) (s .counts) (s .open) ⌝ }
-    ensures { λ r. ⌜ LineMeets (buffers (now (names .entry)) (now (index .entry)) (now (texts .entry)) (now (bind .entry)) (now (graph .entry))) (s .counts) (s .open) (λ rd b. andThen (close rd b) (readStatement (lineOf (line .start) (now (l .entry)) (line .ended)))) (buffers (now (names .exit)) (now (index .exit)) (now (texts .exit)) (now (bind .exit)) (now (graph .exit))) r ⌝ }
+    ensures { λ r. ⌜ Leaves (SameRoom (buffers (now (names .entry)) (now (index .entry)) (now (texts .entry)) (now (bind .entry)) (now (graph .entry))) (buffers (now (names .exit)) (now (index .exit)) (now (texts .exit)) (now (bind .exit)) (now (graph .exit))) × (Spare (now (word .entry)) (now (word .exit)))) (LineMeets (buffers (now (names .entry)) (now (index .entry)) (now (texts .entry)) (now (bind .entry)) (now (graph .entry))) (s .counts) (s .open) (λ rd b. andThen (close rd b) (readStatement (lineOf (line .start) (now (l .entry)) (line .ended)))) (buffers (now (names .exit)) (now (index .exit)) (now (texts .exit)) (now (bind .exit)) (now (graph .exit))) r) ⌝ }
 {
     let c = s.counts;
     let block = s.open;

@@ -1,6 +1,7 @@
 // A build line is written: its files are mentioned, and its step is put into the graph's columns.
+ghost use Rattle.lists.specs.Lent.{Spare, Leaves};
 ghost use Rattle.apply_steps.specs.Asks.{StepAsks, Writes};
-ghost use Rattle.hold_reading.specs.Buffers.{buffers};
+ghost use Rattle.hold_reading.specs.Buffers.{SameRoom, buffers};
 use apply_files::Mentioned;
 use apply_step_columns::put_step;
 use apply_step_columns::rule_number;
@@ -12,12 +13,18 @@ use hold_reading::Open;
 use spec::Refusal;
 use spec::limits::STEPS;
 
-// The step of a line whose 7s and 8s were looked for before: only a limit can be met.
+// A build line: where it starts in the manifest, and where its parts stand in it.
+pub struct BuildStatement {
+    pub start: usize,
+    pub places: BuildPlaces,
+}
+
+// The step of a line whose 7s and 8s were looked for before: only a limit can be met. The word buffer is
+// working space.
 pub fn write_step(
     t: &[u8; 256],
-    start: usize,
     l: &[u8],
-    p: BuildPlaces,
+    s: BuildStatement,
     names: &mut [u8],
     index: &mut [u32],
     texts: &[u8],
@@ -26,11 +33,12 @@ pub fn write_step(
     word: &mut [u8],
     c: Counts,
 ) -> LineAnswer
-    requires { ⌜ StepAsks (now t) (now l) (buffers (now names) (now index) (now texts) (now bind) (now graph)) (now word) c p ⌝ }
-    ensures { λ r. ⌜ Writes (now (l .entry)) (buffers (now (names .entry)) (now (index .entry)) (now (texts .entry)) (now (bind .entry)) (now (graph .entry))) c start p (now (names .exit)) (now (index .exit)) (now (graph .exit)) r ⌝ }
+    requires { ⌜ StepAsks (now t) (now l) (buffers (now names) (now index) (now texts) (now bind) (now graph)) (now word) c (s .places) ⌝ }
+    ensures { λ r. ⌜ Leaves (SameRoom (buffers (now (names .entry)) (now (index .entry)) (now (texts .entry)) (now (bind .entry)) (now (graph .entry))) (buffers (now (names .exit)) (now (index .exit)) (now (texts .entry)) (now (bind .entry)) (now (graph .exit))) × (Spare (now (word .entry)) (now (word .exit)))) (Writes (now (l .entry)) (buffers (now (names .entry)) (now (index .entry)) (now (texts .entry)) (now (bind .entry)) (now (graph .entry))) c (s .start) (s .places) (now (names .exit)) (now (index .exit)) (now (graph .exit)) r) ⌝ }
 {
+    let p = s.places;
     if STEPS <= c.steps {
-        return LineAnswer::Refused(Refusal::OverLimit(start));
+        return LineAnswer::Refused(Refusal::OverLimit(s.start));
     }
     match four(t, l, p, names, index, texts, bind, graph, word, c) {
         Mentioned::On(d) => {
@@ -40,6 +48,6 @@ pub fn write_step(
             let e = put_step(graph, c.paths, n, d);
             LineAnswer::Goes(e, Open::Step)
         }
-        Mentioned::Over => LineAnswer::Refused(Refusal::OverLimit(start)),
+        Mentioned::Over => LineAnswer::Refused(Refusal::OverLimit(s.start)),
     }
 }

@@ -1,5 +1,6 @@
 // Variables, and the lines of build blocks: a value is expanded at once with the file's variables as they then stand.
 ghost use mathlib.Core.Path.{_≡_};
+ghost use Rattle.lists.specs.Lent.{Spare, Leaves};
 ghost use Rattle.spec.specs.Dollars.{expand};
 ghost use Rattle.spec.specs.Reading.{fileVar};
 ghost use Rattle.spec.specs.Statements.{addVar, wrongVersion, blockLine};
@@ -35,7 +36,7 @@ fn set_var(
     c: Counts,
 ) -> LineAnswer
     requires { ⌜ Roomy (now texts) (now bind) c Open.Nothing (now name) (now value) ⌝ }
-    ensures { λ r. ⌜ Meets (now (texts .entry)) (now (bind .entry)) c Open.Nothing (λ rd b. addVar start (now (name .entry)) (now (value .entry)) rd) (now (texts .exit)) (now (bind .exit)) r ⌝ }
+    ensures { λ r. ⌜ Leaves ((Spare (now (texts .entry)) (now (texts .exit))) × (Spare (now (bind .entry)) (now (bind .exit)))) (Meets (now (texts .entry)) (now (bind .entry)) c Open.Nothing (λ rd b. addVar start (now (name .entry)) (now (value .entry)) rd) (now (texts .exit)) (now (bind .exit)) r) ⌝ }
 {
     if is_wrong_version(name, value) {
         return LineAnswer::Refused(Refusal::BadVersion(start));
@@ -44,7 +45,7 @@ fn set_var(
     LineAnswer::Goes(d, Open::Nothing)
 }
 
-// `NAME = value`, where no block is open. The word buffer is left with the value as far as it fits.
+// `NAME = value`, where no block is open. The word buffer is working space.
 pub fn add_var(
     t: &[u8; 256],
     start: usize,
@@ -56,7 +57,7 @@ pub fn add_var(
     c: Counts,
 ) -> LineAnswer
     requires { ⌜ Asks (now t) (now raw) (now texts) (now bind) (now word) c Open.Nothing ⌝ }
-    ensures { λ r. ⌜ Meets (now (texts .entry)) (now (bind .entry)) c Open.Nothing (λ rd b. addVar start (now (name .entry)) (expand (fileVar (rd .vars)) (now (raw .entry))) rd) (now (texts .exit)) (now (bind .exit)) r ⌝ }
+    ensures { λ r. ⌜ Leaves ((Spare (now (texts .entry)) (now (texts .exit))) × (Spare (now (bind .entry)) (now (bind .exit))) × (Spare (now (word .entry)) (now (word .exit)))) (Meets (now (texts .entry)) (now (bind .entry)) c Open.Nothing (λ rd b. addVar start (now (name .entry)) (expand (fileVar (rd .vars)) (now (raw .entry))) rd) (now (texts .exit)) (now (bind .exit)) r) ⌝ }
 {
     let n = expand(t, raw, texts, bind, c.entries, word);
     if binding_over(name.len(), n, c) {
@@ -65,7 +66,7 @@ pub fn add_var(
     set_var(start, name, &word[..n], texts, bind, c)
 }
 
-// A line of the newest step's block, which is open.
+// A line of the newest step's block, which is open. The word buffer is working space.
 pub fn add_to_block(
     t: &[u8; 256],
     start: usize,
@@ -77,7 +78,7 @@ pub fn add_to_block(
     c: Counts,
 ) -> LineAnswer
     requires { ⌜ Asks (now t) (now raw) (now texts) (now bind) (now word) c Open.Step ⌝ }
-    ensures { λ r. ⌜ Meets (now (texts .entry)) (now (bind .entry)) c Open.Step (λ rd b. blockLine start b (now (name .entry)) (now (raw .entry)) rd) (now (texts .exit)) (now (bind .exit)) r ⌝ }
+    ensures { λ r. ⌜ Leaves ((Spare (now (texts .entry)) (now (texts .exit))) × (Spare (now (bind .entry)) (now (bind .exit))) × (Spare (now (word .entry)) (now (word .exit)))) (Meets (now (texts .entry)) (now (bind .entry)) c Open.Step (λ rd b. blockLine start b (now (name .entry)) (now (raw .entry)) rd) (now (texts .exit)) (now (bind .exit)) r) ⌝ }
 {
     let len = expand(t, raw, texts, bind, c.entries, word);
     if binding_over(name.len(), len, c) {

@@ -11,6 +11,8 @@ use cut_forms::Assignment;
 use cut_forms::Fault;
 use cut_forms::Named;
 use cut_forms::Statement;
+use scan_classes::EQUALS;
+use scan_classes::class_in;
 use scan_keywords::Word;
 use scan_keywords::key_word;
 use scan_keywords::rule_word;
@@ -60,14 +62,14 @@ fn cut_value(t: &[u8; 256], l: &[u8], from: usize, to: usize) -> Assignment
     if l.len() <= at {
         return Assignment::Wrong(Fault::NoForm);
     }
-    if l[at] != b'=' {
+    if class_in(t, l[at]) != EQUALS {
         return Assignment::Wrong(Fault::NoForm);
     }
-    let raw = raw_value(l, at + 1);
-    let start = l.len() - raw.len();
+    let value = at + 1;
+    let raw = raw_value(l, value);
     match bad_dollar(t, raw) {
-        FirstBad::Nowhere => Assignment::Binding(from, to, start),
-        FirstBad::At(p) => Assignment::Wrong(Fault::BadDollar(start + p)),
+        FirstBad::Nowhere => Assignment::Binding(from, to, value),
+        FirstBad::At(p) => Assignment::Wrong(Fault::BadDollar(l.len() - raw.len() + p)),
     }
 }
 

@@ -3,18 +3,16 @@ use Prim.Native.Nat.{ℕ, _+_, _-_, _≤_, _<_}
 use mathlib.Core.Bool.{Bool, true, false}
 use mathlib.Core.List.{List}
 use mathlib.Core.Option.{none}
-use mathlib.Core.Path.{_≡_, sym, _∙_, ap}
+use mathlib.Core.Path.{_≡_, sym, _∙_}
 use native.Mathlib.Nat.{le-trans}
 use native.Mathlib.Omega.{arith}
 use borrow.Author.Tests.{ne-eqb, not-true, not-false}
-use lib.ListN.{length, drop, getD, length-append, length-drop}
-use lib.Seq.{drop-drop, drop-append-seam}
+use lib.ListN.{length, drop, getD}
 use Rattle.lists.specs.Parts.{part}
-use Rattle.lists.specs.Runs.{Reads, run, run-append}
+use Rattle.lists.specs.Runs.{Reads}
 use Rattle.spec.specs.Basics.{isEmpty}
 use Rattle.spec.specs.Bytes.{equals}
 use Rattle.spec.specs.Dollars.{badDollar}
-use Rattle.spec.specs.Lines.{isSpace}
 use Rattle.spec.specs.Forms.{Fault as Rules·Fault, noForm, fits, fails, gap, nameOf, afterName, ruleWord, keyWord, paths, checked, bindingForm, cutRule, cutDefault, rawValue, cutValue, cutBinding}
 use Rattle.scan_raw.specs.Texts.{ValueBad}
 use Rattle.scan_tokens.proofs.Places.{at-cons, at-end}
@@ -75,18 +73,6 @@ module _ {l : List ℕ} {at end : ℕ} {any : Bool} (w : ListEnds l at end any) 
 
 -- ---- `NAME = value`
 
--- The raw value lies at the end of the line.
-raw-last : (s : List ℕ) → drop (length s - length (rawValue s)) s ≡ rawValue s
-unfolding rawValue
-raw-last s =
-    let n : length s - length (rawValue s) ≡ length (run isSpace s) = omega (arith, simp length-append at (ap length (run-append isSpace s))) in
-    rw n (ap (drop (length (run isSpace s))) (sym (run-append isSpace s)) ∙ drop-append-seam (run isSpace s) (rawValue s))
-
-pub raw-at : (l : List ℕ) (k : ℕ) → k ≤ length l → drop (length l - length (rawValue (drop k l))) l ≡ rawValue (drop k l)
-raw-at l k h =
-    let n : length l - length (rawValue (drop k l)) ≡ k + (length (drop k l) - length (rawValue (drop k l))) = omega (arith, length-drop k l, raw-length (drop k l) 0) in
-    rw n (sym (drop-drop _ k l) ∙ raw-last (drop k l))
-
 module _ {l : List ℕ} {to at : ℕ} (g : Reads gap l to at) where
   pub value-none : (w : List ℕ) → length l ≤ at → cutValue w (gap (drop to l)) ≡ fails noForm
   unfolding cutValue
@@ -105,14 +91,14 @@ module _ {l : List ℕ} {to at : ℕ} (g : Reads gap l to at) where
       unfolding cutValue
       value-is w = rw (← (g .rest), at-cons l at h, e, v)
 
-      pub value-sound : {from : ℕ} → from ≤ to → badDollar raw ≡ none → BindingAt l (cutValue (part l from to) (gap (drop to l))) from to (length l - length raw)
+      pub value-sound : {from : ℕ} → from ≤ to → badDollar raw ≡ none → BindingAt l (cutValue (part l from to) (gap (drop to l))) from to (at + 1)
       unfolding checked
       value-sound {from} o d =
           record {
             ordered = o;
             within = le-trans (g .forward) (g .within);
             starts = omega arith;
-            cut = value-is (part l from to) ∙ rw (d, v, raw-at l (at + 1) (omega arith));
+            cut = value-is (part l from to) ∙ rw (d, v);
           }
 
       pub value-bad : (w : List ℕ) {p : ℕ} → ValueBad raw p → Fails l (cutValue w (gap (drop to l))) (BadDollar (length l - length raw + p))

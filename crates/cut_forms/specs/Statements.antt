@@ -5,7 +5,7 @@ use mathlib.Core.Path.{_≡_}
 use lib.ListN.{length, drop}
 use Rattle.lists.specs.Parts.{part}
 use Rattle.lists.specs.Runs.{Reads}
-use Rattle.spec.specs.Forms.{Cut, fits, afterName, Form, ruleForm, buildForm, defaultForm, bindingForm, BuildLine, Bars as Rules·Bars, lineEnd, oneBar, twoBars, otherByte, barsAt}
+use Rattle.spec.specs.Forms.{Cut, fits, afterName, Form, ruleForm, buildForm, defaultForm, bindingForm, rawValue, BuildLine, Bars as Rules·Bars, lineEnd, oneBar, twoBars, otherByte, barsAt}
 use Rattle.cut_forms.specs.declared.Named.{Named}
 use Rattle.cut_forms.specs.declared.Named.the-variants.{To, Wrong as Named·Wrong}
 use Rattle.cut_forms.specs.declared.Bars.{Bars}
@@ -72,11 +72,12 @@ pub record DefaultAt (l : List ℕ) (x : Cut Form) (at : ℕ) : Type 0 where
   pub stands : PathsAt l at raw
   pub cut : x ≡ fits (defaultForm raw)
 
+-- `NAME = value`: the name, and the place behind the `=`, from which the value is handed back.
 pub record BindingAt (l : List ℕ) (x : Cut Form) (from to at : ℕ) : Type 0 where
   pub ordered : from ≤ to
   pub within : to ≤ length l
   pub starts : at ≤ length l
-  pub cut : x ≡ fits (bindingForm (part l from to) (drop at l))
+  pub cut : x ≡ fits (bindingForm (part l from to) (rawValue (drop at l)))
 
 unfoldable pub StatementAt : List ℕ → Cut Form → Statement → Type 0
 StatementAt l x (Rule from to) = RuleAt l x from to

@@ -8,7 +8,7 @@ pub enum Statement {
     Build(BuildPlaces),
     // where the paths start
     Default(usize),
-    // where the name starts and ends, and where the raw value starts
+    // where the name starts and ends, and the place behind the `=`: `raw_value` hands the value back from there
     Binding(usize, usize, usize),
     Wrong(Fault),
 }

@@ -10,7 +10,7 @@ use Rattle.spec.specs.declared.Refusal.the-variants.{BadLine, BadDollar, NotYet
 use Rattle.spec.specs.Limits.{maxManifest, maxPlace}
 use Rattle.spec.specs.Lines.{Line}
 use Rattle.spec.specs.Dollars.{badDollar}
-use Rattle.spec.specs.Forms.{Cut, Form, cutStatement, cutIndented}
+use Rattle.spec.specs.Forms.{Cut, Form, rawValue, cutStatement, cutIndented}
 use Rattle.spec.specs.Statements.{Outcome, refused}
 use Rattle.spec.specs.Manifest.{ifCut}
 use Rattle.scan_classes.specs.Table.{classes}
@@ -51,7 +51,7 @@ Wrong l x r = (f : Form → Outcome) → ifCut l x f ≡ refused r
 pub record SoundBinding (l : Line) (x : Cut Form) (from to at : ℕ) : Type 0 where
   pub ended : l .ended ≡ true
   pub places : BindingAt (l .text) x from to at
-  pub dollars : badDollar (drop at (l .text)) ≡ none
+  pub dollars : badDollar (rawValue (drop at (l .text))) ≡ none
 
 unfoldable pub FileLineAt : Line → FileLine → Type 0
 FileLineAt l (Rule from to) = (l .ended ≡ true) × RuleAt (l .text) (cutStatement (l .text)) from to

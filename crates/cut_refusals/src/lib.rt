@@ -17,7 +17,7 @@ pub enum FileLine {
     Build(BuildPlaces),
     // where the paths start
     Default(usize),
-    // where the name starts and ends, and where the raw value starts
+    // where the name starts and ends, and the place behind the `=`
     Binding(usize, usize, usize),
     Refused(Refusal),
 }

@@ -120,7 +120,8 @@ pub record HoldsReading (log : List Logged) (bs : Buffers) (c : Counts) (rd : Re
   -- every name was a path within its limit, so a longer expansion is no file's name
   pub short : overPaths (rd .files) ≡ false
 
--- an outcome and an answer agree: what goes on is held, a refusal is the same and says nothing of the buffers
+-- An outcome and an answer agree: what goes on is held, and a refusal is the same. The buffers are working space after a refusal, which the
+-- promises say by their room (`SameRoom`, `Spare`).
 pub data Agrees (bs : Buffers) : Outcome → LineAnswer → Type 0 where
   goes : {log : List Logged} {rd : Reading} {b : Block} {c : Counts} {o : Open} → HoldsReading log bs c (joined rd b) → Opens log b o
       → Agrees bs (goesOn rd b) (Goes c o)

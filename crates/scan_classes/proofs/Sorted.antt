@@ -3,7 +3,7 @@ use Prim.Native.Nat.{ℕ, _≤_, _<_}
 use mathlib.Core.Bool.{Bool, true, false, not}
 use mathlib.Core.Path.{_≡_, refl, sym, _∙_, ap}
 use native.Mathlib.Omega.{arith}
-use borrow.Author.Tests.{ltb-true, ltb-false, le-leb, lt-leb, ne-eqb, not-true}
+use borrow.Author.Tests.{ltb-true, ltb-false, le-leb, lt-leb, eq-eqb, eqb-true, ne-eqb, not-true}
 use lib.Dec.{eqb, ltb, lit<}
 use Rattle.lists.specs.Tests.{split}
 use Rattle.spec.specs.Bytes.{newline, space, hash, dollar, dot, colon, equals, openBrace, bar, closeBrace, between, letter, digit, shortByte, nameByte, forbidden, classOf}
@@ -97,3 +97,12 @@ sorted b =
   where
     one : (k n : ℕ) → k < 256 → every (λ b c. same (eqb b k) (eqb c n)) 0 classes ≡ true → eqb 0 n ≡ false → eqb b k ≡ eqb (classOf b) n
     one k n l t z = agree (λ b. eqb b k) (λ c. eqb c n) t (λ b h. high-eqb b h k l) z b
+
+-- ---- a byte that has a class x of its own, told by the class c
+
+module _ {b c x k : ℕ} (own : eqb b k ≡ eqb (classOf b) x) (is : c ≡ classOf b) where
+  pub in-class : c ≡ x → b ≡ k
+  in-class e = eqb-true b k (own ∙ eq-eqb (classOf b) x (sym is ∙ e))
+
+  pub not-in-class : (c ≡ x → ⊥) → b ≡ k → ⊥
+  not-in-class n e = n (is ∙ eqb-true (classOf b) x (sym own ∙ eq-eqb b k e))

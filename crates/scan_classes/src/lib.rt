@@ -18,7 +18,13 @@ pub const COLON: u8 = 6;
 
 pub const BAR: u8 = 7;
 
+pub const EQUALS: u8 = 8;
+
+pub const HASH: u8 = 9;
+
 pub const OPEN_BRACE: u8 = 10;
+
+pub const CLOSE_BRACE: u8 = 11;
 
 pub const FORBIDDEN: u8 = 12;
 

@@ -32,7 +32,7 @@ fn braced(t: &[u8; 256], s: &[u8], from: usize) -> Escape
     if s.len() <= end {
         return Escape::Bad;
     }
-    if s[end] != b'}' {
+    if scan_classes::class_in(t, s[end]) != scan_classes::CLOSE_BRACE {
         return Escape::Bad;
     }
     if end <= from {

@@ -1,7 +1,7 @@
 // The version that a manifest asks for: read from bytes, and compared.
 ghost use mathlib.Core.Path.{_≡_};
 ghost use lib.ListN.{drop};
-ghost use Rattle.version.specs.Version.{digit, number, minorFrom, patchFrom, readVersion, above, refused, least};
+ghost use Rattle.version.specs.Version.{digit, number, minorFrom, patchFrom, readVersion, above, refused};
 ghost use Rattle.version.specs.Part.{partOf};
 
 pub struct Version {
@@ -71,7 +71,7 @@ fn minor_from(s: &[u8], from: usize, major: u32) -> ReadVersion
     ReadVersion::Read(Version {
         major,
         minor,
-        patch: 0,
+        ..Version::LEAST
     })
 }
 
@@ -101,6 +101,7 @@ impl Version {
         patch: 0,
     };
 
+    // What a version has where its bytes name no number: "absent ones 0".
     pub const LEAST: Version = Version {
         major: 0,
         minor: 0,
@@ -119,8 +120,7 @@ impl Version {
         }
         ReadVersion::Read(Version {
             major,
-            minor: 0,
-            patch: 0,
+            ..Version::LEAST
         })
     }
 
@@ -145,12 +145,5 @@ impl Version {
             ReadVersion::Read(v) => v.above(Version::OURS),
             ReadVersion::Malformed => true,
         }
-    }
-
-    // The version that a manifest asks for where it names none.
-    pub fn least() -> Version
-        ensures { λ r. ⌜ r ≡ least ⌝ }
-    {
-        Version::LEAST
     }
 }

@@ -15,7 +15,7 @@ same-length-2 : tie.Need-same-length-2
 same-length-2 c = search needs
 
 returns : tie.Need-returns
-returns c = line-output (c .before .before .before .has-wrong .ensures) (c .if1 .taken)
+returns c = record { space = search needs; promise = line-output (c .before .before .before .has-wrong .ensures .promise) (c .if1 .taken) }
 
 has-wrong-input-requires : tie.Need-has-wrong-input-requires
 has-wrong-input-requires c κs = line-asks (c .before .before .before .before .before .before .before .before .before .before .before .before .before .before .before .pre) (search needs)
@@ -27,7 +27,7 @@ same-length-4 : tie.Need-same-length-4
 same-length-4 c = search needs
 
 returns-2 : tie.Need-returns-2
-returns-2 c = line-input (c .before .before .before .before .before .before .before .before .before .has-wrong .ensures) (c .before .before .before .before .before .before .if1 .left) (c .before .before .before .has-wrong-input .ensures) (c .if2 .taken)
+returns-2 c = record { space = search needs; promise = line-input (c .before .before .before .before .before .before .before .before .before .has-wrong .ensures .promise) (c .before .before .before .before .before .before .if1 .left) (c .before .before .before .has-wrong-input .ensures .promise) (c .if2 .taken) }
 
 has-equal-outputs-requires : tie.Need-has-equal-outputs-requires
 has-equal-outputs-requires c κs = room-asks (c .before .before .before .before .before .before .before .before .before .before .before .before .before .before .before .before .before .before .before .before .pre)
@@ -39,7 +39,7 @@ same-length-6 : tie.Need-same-length-6
 same-length-6 c = search needs
 
 returns-3 : tie.Need-returns-3
-returns-3 c = line-twice (c .before .before .before .before .before .before .before .before .before .before .before .before .before .has-wrong .ensures) (c .before .before .before .before .before .before .before .before .before .before .if1 .left) (c .before .before .before .before .before .before .before .has-wrong-input .ensures) (c .before .before .before .before .if2 .left) (c .before .before .has-equal-outputs .ensures)
+returns-3 c = record { space = search needs; promise = line-twice (c .before .before .before .before .before .before .before .before .before .before .before .before .before .has-wrong .ensures .promise) (c .before .before .before .before .before .before .before .before .before .before .if1 .left) (c .before .before .before .before .before .before .before .has-wrong-input .ensures .promise) (c .before .before .before .before .if2 .left) (c .before .before .has-equal-outputs .ensures) }
 
 pub bad-paths-spec : {M : Type 1} → statement M
 bad-paths-spec =

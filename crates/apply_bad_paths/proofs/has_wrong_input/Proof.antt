@@ -12,7 +12,7 @@ same-length : tie.Need-same-length
 same-length c = search needs
 
 returns : tie.Need-returns
-returns c = ins-wrong (c .before .before .before .has-wrong .ensures) (c .if1 .taken)
+returns c = record { space = search needs; promise = ins-wrong (c .before .before .before .has-wrong .ensures .promise) (c .if1 .taken) }
 
 has-wrong-requires-2 : tie.Need-has-wrong-requires-2
 has-wrong-requires-2 c κs = list-asks (c .before .before .before .before .before .before .before .before .before .before .before .before .before .pre) (search needs) (c .before .before .before .before .before .before .before .before .before .before .before .before .before .pre .stands .implicit .within)
@@ -21,7 +21,7 @@ same-length-2 : tie.Need-same-length-2
 same-length-2 c = search needs
 
 returns-2 : tie.Need-returns-2
-returns-2 c = implicit-wrong (c .before .before .before .before .before .before .before .before .has-wrong .ensures) (c .before .before .before .before .before .if1 .left) (c .before .before .before .has-wrong2 .ensures) (c .if2 .taken)
+returns-2 c = record { space = search needs; promise = implicit-wrong (c .before .before .before .before .before .before .before .before .has-wrong .ensures .promise) (c .before .before .before .before .before .if1 .left) (c .before .before .before .has-wrong2 .ensures .promise) (c .if2 .taken) }
 
 has-wrong-requires-3 : tie.Need-has-wrong-requires-3
 has-wrong-requires-3 c κs = list-asks (c .before .before .before .before .before .before .before .before .before .before .before .before .before .before .before .before .before .before .pre) (search needs) (c .before .before .before .before .before .before .before .before .before .before .before .before .before .before .before .before .before .before .pre .stands .orderOnly .within)
@@ -30,7 +30,7 @@ same-length-3 : tie.Need-same-length-3
 same-length-3 c = search needs
 
 returns-3 : tie.Need-returns-3
-returns-3 c = order-wrong (c .before .before .before .before .before .before .before .before .before .before .before .before .has-wrong .ensures) (c .before .before .before .before .before .before .before .before .before .if1 .left) (c .before .before .before .before .before .before .before .has-wrong2 .ensures) (c .before .before .before .before .if2 .left) (c .before .before .has-wrong3 .ensures)
+returns-3 c = record { space = search needs; promise = order-wrong (c .before .before .before .before .before .before .before .before .before .before .before .before .has-wrong .ensures .promise) (c .before .before .before .before .before .before .before .before .before .if1 .left) (c .before .before .before .before .before .before .before .has-wrong2 .ensures .promise) (c .before .before .before .before .if2 .left) (c .before .before .has-wrong3 .ensures .promise) }
 
 pub has-wrong-input-spec : {M : Type 1} → statement M
 has-wrong-input-spec =

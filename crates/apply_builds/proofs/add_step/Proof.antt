@@ -18,7 +18,7 @@ is-declared-requires : tie.Need-is-declared-requires
 is-declared-requires c κs = search needs
 
 returns : tie.Need-returns
-returns c = λ b w. line-unknown (c .before .before .before .before .before .before .before .before .before .before .args .start) (c .before .is-declared .ensures) (not-true _ (c .if1 .taken)) w
+returns c = record { space = search needs; promise = λ b w. line-unknown (c .before .before .before .before .before .before .before .before .before .before .before .args .s .start) (c .before .is-declared .ensures) (not-true _ (c .if1 .taken)) w }
 
 bad-paths-requires : tie.Need-bad-paths-requires
 bad-paths-requires c κs = search needs
@@ -36,10 +36,10 @@ same-length-4 : tie.Need-same-length-4
 same-length-4 c = search needs
 
 returns-2 : tie.Need-returns-2
-returns-2 c = λ b w. line-bad (c .before .before .before .before .before .before .before .before .before .before .before .before .before .before .before .before .before .before .before .before .args .start) (c .before .before .before .before .before .before .before .before .before .before .before .is-declared .ensures) (not-false _ (c .before .before .before .before .before .before .before .before .before .before .if1 .left)) (c .before .before .before .before .before .bad-paths .ensures) (c .if2 .taken) w
+returns-2 c = record { space = search needs; promise = λ b w. line-bad (c .before .before .before .before .before .before .before .before .before .before .before .before .before .before .before .before .before .before .before .before .before .args .s .start) (c .before .before .before .before .before .before .before .before .before .before .before .is-declared .ensures) (not-false _ (c .before .before .before .before .before .before .before .before .before .before .if1 .left)) (c .before .before .before .before .before .bad-paths .ensures .promise) (c .if2 .taken) w }
 
 write-step-requires : tie.Need-write-step-requires
-write-step-requires c κs = step-asks (c .before .before .before .before .before .before .before .before .before .before .before .before .before .before .before .before .before .before .before .before .before .before .before .before .pre) (c .before .before .before .before .before .before .before .before .before .bad-paths .ensures .kept) (search needs)
+write-step-requires c κs = step-asks (c .before .before .before .before .before .before .before .before .before .before .before .before .before .before .before .before .before .before .before .before .before .before .before .before .before .pre) (c .before .before .before .before .before .before .before .before .before .bad-paths .ensures .promise .kept) (search needs)
 
 same-length-5 : tie.Need-same-length-5
 same-length-5 c = search needs
@@ -54,7 +54,7 @@ same-length-8 : tie.Need-same-length-8
 same-length-8 c = search needs
 
 returns-3 : tie.Need-returns-3
-returns-3 c = λ b w. line-written (c .before .before .before .before .before .before .before .before .before .before .before .before .before .before .before .before .before .before .before .before .before .before .before .before .before .before .before .before .before .before .before .before .before .args .start) (c .before .before .before .before .before .before .before .before .before .before .before .before .before .before .before .before .before .before .before .before .before .before .before .before .is-declared .ensures) (not-false _ (c .before .before .before .before .before .before .before .before .before .before .before .before .before .before .before .before .before .before .before .before .before .before .before .if1 .left)) (c .before .before .before .before .before .before .before .before .before .before .before .before .before .before .before .before .before .before .bad-paths .ensures) (c .before .before .before .before .before .before .before .before .before .before .before .before .before .if2 .left) (c .before .before .before .before .before .before .before .before .write-step .ensures) w
+returns-3 c = record { space = search needs; promise = λ b w. line-written (c .before .before .before .before .before .before .before .before .before .before .before .before .before .before .before .before .before .before .before .before .before .before .before .before .before .before .before .before .before .before .before .before .before .before .args .s .start) (c .before .before .before .before .before .before .before .before .before .before .before .before .before .before .before .before .before .before .before .before .before .before .before .before .is-declared .ensures) (not-false _ (c .before .before .before .before .before .before .before .before .before .before .before .before .before .before .before .before .before .before .before .before .before .before .before .if1 .left)) (c .before .before .before .before .before .before .before .before .before .before .before .before .before .before .before .before .before .before .bad-paths .ensures .promise) (c .before .before .before .before .before .before .before .before .before .before .before .before .before .if2 .left) (c .before .before .before .before .before .before .before .before .write-step .ensures .promise) w }
 
 pub add-step-spec : {M : Type 1} → statement M
 add-step-spec =

@@ -25,7 +25,7 @@ same-length : tie.Need-same-length
 same-length c = search needs
 
 returns : tie.Need-returns
-returns c = default-over (now (c .before .before .before .before .before .before .before .before .before .before .before .before .before .args .raw)) (c .before .before .before .before .expand .ensures) (sym (c .before .path-over .ensures) ∙ c .if1 .taken)
+returns c = record { space = search needs; promise = default-over (now (c .before .before .before .before .before .before .before .before .before .before .before .before .before .args .raw)) (c .before .before .before .before .expand .ensures) (sym (c .before .path-over .ensures) ∙ c .if1 .taken) }
 
 slice-reshare-prefix-put-default : tie.Need-slice-reshare-prefix-put-default
 slice-reshare-prefix-put-default c = let w = path-within _ _ (inside (c .before)) in omega (arith, w .short, c .before .before .before .before .before .before .before .before .before .before .before .before .before .before .pre .room)
@@ -50,9 +50,11 @@ same-length-3 : tie.Need-same-length-3
 same-length-3 c = search needs
 
 returns-2 : tie.Need-returns-2
-returns-2 c =
-    let w = path-within _ _ (inside (c .before .before .before .before .before)) in
-    default-added (now (c .before .before .before .before .before .before .before .before .before .before .before .before .before .before .before .before .before .before .args .raw)) (c .before .before .before .before .before .before .before .before .before .expand .ensures) (omega (arith, w .short, c .before .before .before .before .before .before .before .before .before .before .before .before .before .before .before .before .before .before .pre .room)) (inside (c .before .before .before .before .before)) (c .before .before .put-default .ensures)
+returns-2 c = record {
+  space = search needs;
+  promise = let w = path-within _ _ (inside (c .before .before .before .before .before)) in
+      default-added (now (c .before .before .before .before .before .before .before .before .before .before .before .before .before .before .before .before .before .before .args .raw)) (c .before .before .before .before .before .before .before .before .before .expand .ensures) (omega (arith, w .short, c .before .before .before .before .before .before .before .before .before .before .before .before .before .before .before .before .before .before .pre .room)) (inside (c .before .before .before .before .before)) (c .before .before .put-default .ensures);
+}
 
 pub add-default-spec : {M : Type 1} → statement M
 add-default-spec =

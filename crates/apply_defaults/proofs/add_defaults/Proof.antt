@@ -14,10 +14,10 @@ same-length-2 : tie.Need-same-length-2
 same-length-2 c = search needs
 
 returns : tie.Need-returns
-returns c = λ ps w. line-wrong (c .before .before .before .before .before .before .before .before .before .before .before .before .before .args .start) (c .before .before .before .has-wrong .ensures) (c .if1 .taken) w
+returns c = record { space = search needs; promise = λ ps w. line-wrong (c .before .before .before .before .before .before .before .before .before .before .before .before .before .args .s .start) (c .before .before .before .has-wrong .ensures .promise) (c .if1 .taken) w }
 
 add-sound-requires : tie.Need-add-sound-requires
-add-sound-requires c κs = sound-asks (c .before .before .before .before .before .before .before .before .before .before .before .before .before .before .before .pre) (search needs) (c .before .before .before .before .before .has-wrong .ensures) (c .before .before .if1 .left)
+add-sound-requires c κs = sound-asks (c .before .before .before .before .before .before .before .before .before .before .before .before .before .before .before .pre) (search needs) (c .before .before .before .before .before .has-wrong .ensures .promise) (c .before .before .if1 .left)
 
 same-length-3 : tie.Need-same-length-3
 same-length-3 c = search needs
@@ -26,7 +26,7 @@ same-length-4 : tie.Need-same-length-4
 same-length-4 c = search needs
 
 returns-2 : tie.Need-returns-2
-returns-2 c = λ ps w. line-sound (c .before .before .before .before .before .before .before .before .before .before .before .before .before .before .before .before .before .before .before .before .args .start) (c .before .before .before .before .before .before .before .before .before .before .has-wrong .ensures) (c .before .before .before .before .before .before .before .if1 .left) w (c .before .before .before .before .add-sound .ensures ps w)
+returns-2 c = record { space = search needs; promise = λ ps w. line-sound (c .before .before .before .before .before .before .before .before .before .before .before .before .before .before .before .before .before .before .before .before .args .s .start) (c .before .before .before .before .before .before .before .before .before .before .has-wrong .ensures .promise) (c .before .before .before .before .before .before .before .if1 .left) w (c .before .before .before .before .add-sound .ensures .promise ps w) }
 
 pub add-defaults-spec : {M : Type 1} → statement M
 add-defaults-spec =

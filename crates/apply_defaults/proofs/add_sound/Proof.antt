@@ -14,17 +14,17 @@ use Rattle.apply_defaults.proofs.add_sound.Tie as tie
 use Rattle.hold_reading.specs.Buffers.{buffers}
 
 abbrev Inv-loop : tie.InvT-loop
-Inv-loop t start l at names index texts bind graph₀ word₀ d₀ i₀ graph word d i = (length graph ≡ length graph₀) × (length word ≡ length word₀) × Adding l (buffers names index texts bind graph₀) d₀ start at graph d i
+Inv-loop t l s names index texts bind graph₀ word₀ d₀ i₀ graph word d i = (length graph ≡ length graph₀) × (length word ≡ length word₀) × Adding l (buffers names index texts bind graph₀) d₀ (s .start) i₀ graph d i
 
 abbrev μ-loop : tie.MeasureT-loop
-μ-loop t start l at names index texts bind graph₀ word₀ d₀ i₀ graph word d i = length l - i
+μ-loop t l s names index texts bind graph₀ word₀ d₀ i₀ graph word d i = length l - i
 
 -- the path of this turn
 next : (s : tie.After-known-told Inv-loop μ-loop) → PathNext (now (s .before .before .before .before .before .before .before .before .before .before .before .before .args .l)) (s .before .before .before .before .loop .i) (s .before .from .given .0 .0) (s .before .from .given .0 .1 .0)
 next s = goes-on _ _ _ (s .before .before .before .next-listed .ensures) (s .before .from .given .1)
 
 loop-holds : tie.Need-loop-holds Inv-loop μ-loop
-loop-holds c = (refl, refl, add-begin (c .before .before .before .before .before .before .before .args .start) (c .before .before .before .before .before .before .before .pre .right) (c .before .before .before .before .before .before .before .pre .asks .stands .within))
+loop-holds c = (refl, refl, add-begin (c .before .before .before .before .before .before .before .args .s .start) (c .before .before .before .before .before .before .before .pre .right) (c .before .before .before .before .before .before .before .pre .asks .stands .within))
 
 next-listed-requires : tie.Need-next-listed-requires Inv-loop μ-loop
 next-listed-requires c κs = search needs
@@ -54,7 +54,7 @@ loop-less : tie.Need-loop-less Inv-loop μ-loop
 loop-less c = omega (arith, next (c .before .before .before .before .before .before .before .before .before .before .before) .longer, next (c .before .before .before .before .before .before .before .before .before .before .before) .within, next (c .before .before .before .before .before .before .before .before .before .before .before) .forward)
 
 loop-again : tie.Need-loop-again Inv-loop μ-loop
-loop-again c = (search needs, search needs, add-on (c .before .before .before .before .before .before .before .before .before .before .before .before .before .before .before .loop .inv .2) (next (c .before .before .before .before .before .before .before .before .before .before .before)) (c .before .before .before .before .before .before .before .add-default .ensures) (c .before .e .given .1))
+loop-again c = (search needs, search needs, add-on (c .before .before .before .before .before .before .before .before .before .before .before .before .before .before .before .loop .inv .2) (next (c .before .before .before .before .before .before .before .before .before .before .before)) (c .before .before .before .before .before .before .before .add-default .ensures .promise) (c .before .e .given .1))
 
 enum-told : tie.Need-enum-told Inv-loop μ-loop
 enum-told c = search needs
@@ -66,7 +66,7 @@ same-length-2 : tie.Need-same-length-2 Inv-loop μ-loop
 same-length-2 c = search needs
 
 returns : tie.Need-returns Inv-loop μ-loop
-returns c = λ ps w. add-over (c .before .before .before .before .before .before .before .before .before .before .before .before .before .before .loop .inv .2) (next (c .before .before .before .before .before .before .before .before .before .before)) (c .before .before .before .before .before .before .add-default .ensures) (c .enum-told .given .1) w
+returns c = record { space = search needs; promise = λ ps w. add-over (c .before .before .before .before .before .before .before .before .before .before .before .before .before .before .loop .inv .2) (next (c .before .before .before .before .before .before .before .before .before .before)) (c .before .before .before .before .before .before .add-default .ensures .promise) (c .enum-told .given .1) w }
 
 enum-told-2 : tie.Need-enum-told-2 Inv-loop μ-loop
 enum-told-2 c = search needs
@@ -78,7 +78,7 @@ same-length-4 : tie.Need-same-length-4 Inv-loop μ-loop
 same-length-4 c = search needs
 
 returns-2 : tie.Need-returns-2 Inv-loop μ-loop
-returns-2 c = λ ps w. add-end (c .before .before .before .loop .inv .2) (stops _ _ _ (c .before .before .next-listed .ensures) (c .enum-told2 .given .1)) w
+returns-2 c = record { space = search needs; promise = λ ps w. add-end (c .before .before .before .loop .inv .2) (stops _ _ _ (c .before .before .next-listed .ensures) (c .enum-told2 .given .1)) w }
 
 pub add-sound-spec : {M : Type 1} → statement M
 add-sound-spec =

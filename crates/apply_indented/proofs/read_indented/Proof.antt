@@ -21,7 +21,7 @@ read-setting-requires : tie.Need-read-setting-requires
 read-setting-requires c κs = rw (c .before .before .before .enum-told2 .given .1) at (c .before .before .before .before .before .before .before .before .before .pre)
 
 returns : tie.Need-returns
-returns c = rw (c .enum-told .given .1) (no-block (lineOf _ _ _))
+returns c = record { space = search needs; promise = rw (c .enum-told .given .1) (no-block (lineOf _ _ _)) }
 
 same-length : tie.Need-same-length
 same-length c = search needs
@@ -30,7 +30,7 @@ same-length-2 : tie.Need-same-length-2
 same-length-2 c = search needs
 
 returns-2 : tie.Need-returns-2
-returns-2 c = rw (c .before .before .before .before .before .before .before .before .block .given .1) (c .before .before .before .before .read-key .ensures)
+returns-2 c = record { space = search needs; promise = rw (c .before .before .before .before .before .before .before .before .block .given .1) (c .before .before .before .before .read-key .ensures .promise) }
 
 same-length-3 : tie.Need-same-length-3
 same-length-3 c = search needs
@@ -42,7 +42,7 @@ same-length-5 : tie.Need-same-length-5
 same-length-5 c = search needs
 
 returns-3 : tie.Need-returns-3
-returns-3 c = rw (c .before .before .before .before .before .before .before .before .before .before .enum-told2 .given .1) (c .before .before .before .before .before .before .read-setting .ensures)
+returns-3 c = record { space = search needs; promise = rw (c .before .before .before .before .before .before .before .before .before .before .enum-told2 .given .1) (c .before .before .before .before .before .before .read-setting .ensures .promise) }
 
 pub read-indented-spec : {M : Type 1} → statement M
 read-indented-spec =

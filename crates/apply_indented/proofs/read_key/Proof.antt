@@ -13,23 +13,17 @@ cut-block-line-requires c κs = search needs
 enum-known-from : tie.Need-enum-known-from
 enum-known-from c = search needs
 
+raw-value-requires : tie.Need-raw-value-requires
+raw-value-requires c κs = let s = setting-told (lineOf _ _ _) (c .before .before .before .cut-block-line .ensures) (c .before .from .given .1) in s .places .starts
+
 sub-add-key : tie.Need-sub-add-key
-sub-add-key c = let s = setting-told (lineOf _ _ _) (c .before .before .before .cut-block-line .ensures) (c .before .from .given .1) in omega (arith, s .places .ordered)
+sub-add-key c = let s = setting-told (lineOf _ _ _) (c .before .before .before .before .cut-block-line .ensures) (c .before .before .from .given .1) in omega (arith, s .places .ordered)
 
 part-add-key-start : tie.Need-part-add-key-start
-part-add-key-start c = let s = setting-told (lineOf _ _ _) (c .before .before .before .cut-block-line .ensures) (c .before .from .given .1) in omega (arith, s .places .ordered)
+part-add-key-start c = let s = setting-told (lineOf _ _ _) (c .before .before .before .before .cut-block-line .ensures) (c .before .before .from .given .1) in omega (arith, s .places .ordered)
 
 part-add-key-end : tie.Need-part-add-key-end
-part-add-key-end c = let s = setting-told (lineOf _ _ _) (c .before .before .before .cut-block-line .ensures) (c .before .from .given .1) in omega (arith, s .places .within)
-
-sub-add-key-2 : tie.Need-sub-add-key-2
-sub-add-key-2 c = let s = setting-told (lineOf _ _ _) (c .before .before .before .before .cut-block-line .ensures) (c .before .before .from .given .1) in omega (arith, s .places .starts)
-
-part-add-key-start-2 : tie.Need-part-add-key-start-2
-part-add-key-start-2 c = let s = setting-told (lineOf _ _ _) (c .before .before .before .before .cut-block-line .ensures) (c .before .before .from .given .1) in omega (arith, s .places .starts)
-
-part-add-key-end-2 : tie.Need-part-add-key-end-2
-part-add-key-end-2 c = search needs
+part-add-key-end c = let s = setting-told (lineOf _ _ _) (c .before .before .before .before .cut-block-line .ensures) (c .before .before .from .given .1) in omega (arith, s .places .within)
 
 add-key-requires : tie.Need-add-key-requires
 add-key-requires c κs = search needs
@@ -44,10 +38,10 @@ same-length-2 : tie.Need-same-length-2
 same-length-2 c = search needs
 
 returns : tie.Need-returns
-returns c = line-applied (lineOf _ _ _) (setting-told (lineOf _ _ _) (c .before .before .before .before .before .before .before .before .before .before .before .before .cut-block-line .ensures) (c .before .before .before .before .before .before .before .before .before .before .from .given .1)) (c .before .before .before .before .add-key .ensures)
+returns c = record { space = search needs; promise = line-applied (lineOf _ _ _) (setting-told (lineOf _ _ _) (c .before .before .before .before .before .before .before .before .before .before .before .before .cut-block-line .ensures) (c .before .before .before .before .before .before .before .before .before .before .from .given .1)) (c .before .before .before .before .before .before .before .before .raw-value .ensures) (c .before .before .before .before .add-key .ensures .promise) }
 
 returns-2 : tie.Need-returns-2
-returns-2 c = wrong-key (lineOf _ _ _) (wrong-told (lineOf _ _ _) (c .before .before .before .cut-block-line .ensures) (c .before .r .given .1))
+returns-2 c = record { space = search needs; promise = wrong-key (lineOf _ _ _) (wrong-told (lineOf _ _ _) (c .before .before .before .cut-block-line .ensures) (c .before .r .given .1)) }
 
 pub read-key-spec : {M : Type 1} → statement M
 read-key-spec =
@@ -55,12 +49,10 @@ read-key-spec =
     (tie.spec
     cut-block-line-requires
     enum-known-from
+    raw-value-requires
     sub-add-key
     part-add-key-start
     part-add-key-end
-    sub-add-key-2
-    part-add-key-start-2
-    part-add-key-end-2
     add-key-requires
     enum-known-r
     same-length

@@ -13,26 +13,20 @@ cut-block-line-requires c κs = search needs
 enum-known-from : tie.Need-enum-known-from
 enum-known-from c = search needs
 
+raw-value-requires : tie.Need-raw-value-requires
+raw-value-requires c κs = let s = setting-told (lineOf _ _ _) (c .before .before .before .cut-block-line .ensures) (c .before .from .given .1) in s .places .starts
+
 sub-add-to-block : tie.Need-sub-add-to-block
-sub-add-to-block c = let s = setting-told (lineOf _ _ _) (c .before .before .before .cut-block-line .ensures) (c .before .from .given .1) in omega (arith, s .places .ordered)
+sub-add-to-block c = let s = setting-told (lineOf _ _ _) (c .before .before .before .before .cut-block-line .ensures) (c .before .before .from .given .1) in omega (arith, s .places .ordered)
 
 part-add-to-block-start : tie.Need-part-add-to-block-start
-part-add-to-block-start c = let s = setting-told (lineOf _ _ _) (c .before .before .before .cut-block-line .ensures) (c .before .from .given .1) in omega (arith, s .places .ordered)
+part-add-to-block-start c = let s = setting-told (lineOf _ _ _) (c .before .before .before .before .cut-block-line .ensures) (c .before .before .from .given .1) in omega (arith, s .places .ordered)
 
 part-add-to-block-end : tie.Need-part-add-to-block-end
-part-add-to-block-end c = let s = setting-told (lineOf _ _ _) (c .before .before .before .cut-block-line .ensures) (c .before .from .given .1) in omega (arith, s .places .within)
-
-sub-add-to-block-2 : tie.Need-sub-add-to-block-2
-sub-add-to-block-2 c = let s = setting-told (lineOf _ _ _) (c .before .before .before .before .cut-block-line .ensures) (c .before .before .from .given .1) in omega (arith, s .places .starts)
-
-part-add-to-block-start-2 : tie.Need-part-add-to-block-start-2
-part-add-to-block-start-2 c = let s = setting-told (lineOf _ _ _) (c .before .before .before .before .cut-block-line .ensures) (c .before .before .from .given .1) in omega (arith, s .places .starts)
-
-part-add-to-block-end-2 : tie.Need-part-add-to-block-end-2
-part-add-to-block-end-2 c = search needs
+part-add-to-block-end c = let s = setting-told (lineOf _ _ _) (c .before .before .before .before .cut-block-line .ensures) (c .before .before .from .given .1) in omega (arith, s .places .within)
 
 add-to-block-requires : tie.Need-add-to-block-requires
-add-to-block-requires c κs = value-asks (lineOf _ _ _) (setting-told (lineOf _ _ _) (c .before .before .before .before .before .before .before .before .cut-block-line .ensures) (c .before .before .before .before .before .before .from .given .1)) (c .before .before .before .before .before .before .before .before .before .before .before .before .before .pre)
+add-to-block-requires c κs = value-asks (lineOf _ _ _) (setting-told (lineOf _ _ _) (c .before .before .before .before .before .before .before .before .cut-block-line .ensures) (c .before .before .before .before .before .before .from .given .1)) (c .before .before .before .before .raw-value .ensures) (c .before .before .before .before .before .before .before .before .before .before .before .before .before .pre)
 
 enum-known-r : tie.Need-enum-known-r
 enum-known-r c = search needs
@@ -47,10 +41,10 @@ same-length-3 : tie.Need-same-length-3
 same-length-3 c = search needs
 
 returns : tie.Need-returns
-returns c = line-applied (lineOf _ _ _) (setting-told (lineOf _ _ _) (c .before .before .before .before .before .before .before .before .before .before .before .before .before .before .before .cut-block-line .ensures) (c .before .before .before .before .before .before .before .before .before .before .before .before .before .from .given .1)) (c .before .before .before .before .before .before .add-to-block .ensures)
+returns c = record { space = search needs; promise = line-applied (lineOf _ _ _) (setting-told (lineOf _ _ _) (c .before .before .before .before .before .before .before .before .before .before .before .before .before .before .before .cut-block-line .ensures) (c .before .before .before .before .before .before .before .before .before .before .before .before .before .from .given .1)) (c .before .before .before .before .before .before .before .before .before .before .before .raw-value .ensures) (c .before .before .before .before .before .before .add-to-block .ensures .promise) }
 
 returns-2 : tie.Need-returns-2
-returns-2 c = wrong-setting (lineOf _ _ _) (wrong-told (lineOf _ _ _) (c .before .before .before .cut-block-line .ensures) (c .before .r .given .1))
+returns-2 c = record { space = search needs; promise = wrong-setting (lineOf _ _ _) (wrong-told (lineOf _ _ _) (c .before .before .before .cut-block-line .ensures) (c .before .r .given .1)) }
 
 pub read-setting-spec : {M : Type 1} → statement M
 read-setting-spec =
@@ -58,12 +52,10 @@ read-setting-spec =
     (tie.spec
     cut-block-line-requires
     enum-known-from
+    raw-value-requires
     sub-add-to-block
     part-add-to-block-start
     part-add-to-block-end
-    sub-add-to-block-2
-    part-add-to-block-start-2
-    part-add-to-block-end-2
     add-to-block-requires
     enum-known-r
     same-length

@@ -31,7 +31,7 @@ read-file-line-requires : tie.Need-read-file-line-requires
 read-file-line-requires c κs = search needs
 
 returns : tie.Need-returns
-returns c = comment-read (lineOf _ _ _) (c .before .before .line-kind .ensures) (c .enum-told .given .1)
+returns c = record { space = search needs; promise = comment-read (lineOf _ _ _) (c .before .before .line-kind .ensures) (c .enum-told .given .1) }
 
 same-length : tie.Need-same-length
 same-length c = search needs
@@ -40,7 +40,7 @@ same-length-2 : tie.Need-same-length-2
 same-length-2 c = search needs
 
 returns-2 : tie.Need-returns-2
-returns-2 c = blank-read (lineOf _ _ _) (c .before .before .before .before .before .line-kind .ensures) (c .before .before .before .enum-told2 .given .1) (c .close .ensures)
+returns-2 c = record { space = search needs; promise = blank-read (lineOf _ _ _) (c .before .before .before .before .before .line-kind .ensures) (c .before .before .before .enum-told2 .given .1) (c .close .ensures) }
 
 same-length-3 : tie.Need-same-length-3
 same-length-3 c = search needs
@@ -52,7 +52,7 @@ same-length-5 : tie.Need-same-length-5
 same-length-5 c = search needs
 
 returns-3 : tie.Need-returns-3
-returns-3 c = indented-read (lineOf _ _ _) (c .before .before .before .before .before .before .before .before .before .before .before .before .line-kind .ensures) (c .before .before .before .before .before .before .before .before .before .before .enum-told3 .given .1) (c .before .before .before .before .before .before .read-indented .ensures)
+returns-3 c = record { space = search needs; promise = indented-read (lineOf _ _ _) (c .before .before .before .before .before .before .before .before .before .before .before .before .line-kind .ensures) (c .before .before .before .before .before .before .before .before .before .before .enum-told3 .given .1) (c .before .before .before .before .before .before .read-indented .ensures .promise) }
 
 same-length-6 : tie.Need-same-length-6
 same-length-6 c = search needs
@@ -73,7 +73,7 @@ same-length-11 : tie.Need-same-length-11
 same-length-11 c = search needs
 
 returns-4 : tie.Need-returns-4
-returns-4 c = statement-read (lineOf _ _ _) (c .before .before .before .before .before .before .before .before .before .before .before .before .before .before .before .before .before .before .before .before .before .line-kind .ensures) (c .before .before .before .before .before .before .before .before .before .before .before .before .before .before .before .before .before .before .before .enum-told4 .given .1) (c .before .before .before .before .before .before .before .before .before .before .before .before .read-file-line .ensures)
+returns-4 c = record { space = search needs; promise = statement-read (lineOf _ _ _) (c .before .before .before .before .before .before .before .before .before .before .before .before .before .before .before .before .before .before .before .before .before .line-kind .ensures) (c .before .before .before .before .before .before .before .before .before .before .before .before .before .before .before .before .before .before .before .enum-told4 .given .1) (c .before .before .before .before .before .before .before .before .before .before .before .before .read-file-line .ensures .promise) }
 
 pub read-line-spec : {M : Type 1} → statement M
 read-line-spec =

@@ -29,7 +29,7 @@ same-length-6 : tie.Need-same-length-6
 same-length-6 c = search needs
 
 returns : tie.Need-returns
-returns c = search needs
+returns c = record { space = search needs; promise = c .before .before .before .before .before .before .before .before .before .before .before .before .read-from-top .ensures .promise }
 
 pub read-lines-spec : {M : Type 1} → statement M
 read-lines-spec =

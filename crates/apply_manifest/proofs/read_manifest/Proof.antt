@@ -7,7 +7,7 @@ use Rattle.apply_manifest.proofs.read_manifest.Tie as tie
 
 returns : tie.Need-returns
 unfolding IsRead
-returns c = too-long _ (c .if1 .taken)
+returns c = record { space = search needs; promise = too-long _ (c .if1 .taken) }
 
 bad-byte-requires : tie.Need-bad-byte-requires
 bad-byte-requires c κs = search needs
@@ -29,7 +29,7 @@ enum-known-r c = search needs
 
 returns-2 : tie.Need-returns-2
 unfolding IsRead
-returns-2 c = bad-bytes _ _ (c .before .before .before .before .if1 .left) (c .before .before .before .bad-byte .ensures) (c .before .p .given .1)
+returns-2 c = record { space = search needs; promise = bad-bytes _ _ (c .before .before .before .before .if1 .left) (c .before .before .before .bad-byte .ensures) (c .before .p .given .1) }
 
 same-length : tie.Need-same-length
 same-length c = search needs
@@ -51,7 +51,7 @@ same-length-6 c = search needs
 
 returns-3 : tie.Need-returns-3
 unfolding IsRead
-returns-3 c = lines-accepted _ _ (c .before .before .before .before .before .before .before .before .before .before .before .before .before .before .before .before .before .before .before .before .before .before .before .before .before .if1 .left) (c .before .before .before .before .before .before .before .before .before .before .before .before .before .before .before .before .before .before .before .before .before .before .before .before .bad-byte .ensures) (c .before .before .before .before .before .before .before .before .before .before .before .before .before .before .before .before .before .before .before .before .before .before .enum-told .given .1) (rw (c .before .c .given .1) at (c .before .before .before .before .before .before .before .before .before .before .before .before .before .before .before .read-lines .ensures))
+returns-3 c = record { space = search needs; promise = lines-accepted _ _ (c .before .before .before .before .before .before .before .before .before .before .before .before .before .before .before .before .before .before .before .before .before .before .before .before .before .if1 .left) (c .before .before .before .before .before .before .before .before .before .before .before .before .before .before .before .before .before .before .before .before .before .before .before .before .bad-byte .ensures) (c .before .before .before .before .before .before .before .before .before .before .before .before .before .before .before .before .before .before .before .before .before .before .enum-told .given .1) (rw (c .before .c .given .1) at (c .before .before .before .before .before .before .before .before .before .before .before .before .before .before .before .read-lines .ensures .promise)) }
 
 same-length-7 : tie.Need-same-length-7
 same-length-7 c = search needs
@@ -73,7 +73,7 @@ same-length-12 c = search needs
 
 returns-4 : tie.Need-returns-4
 unfolding IsRead
-returns-4 c = lines-refused _ _ (c .before .before .before .before .before .before .before .before .before .before .before .before .before .before .before .before .before .before .before .before .before .before .before .before .before .if1 .left) (c .before .before .before .before .before .before .before .before .before .before .before .before .before .before .before .before .before .before .before .before .before .before .before .before .bad-byte .ensures) (c .before .before .before .before .before .before .before .before .before .before .before .before .before .before .before .before .before .before .before .before .before .before .enum-told .given .1) (rw (c .before .r .given .1) at (c .before .before .before .before .before .before .before .before .before .before .before .before .before .before .before .read-lines .ensures))
+returns-4 c = record { space = search needs; promise = lines-refused _ _ (c .before .before .before .before .before .before .before .before .before .before .before .before .before .before .before .before .before .before .before .before .before .before .before .before .before .if1 .left) (c .before .before .before .before .before .before .before .before .before .before .before .before .before .before .before .before .before .before .before .before .before .before .before .before .bad-byte .ensures) (c .before .before .before .before .before .before .before .before .before .before .before .before .before .before .before .before .before .before .before .before .before .before .enum-told .given .1) (rw (c .before .r .given .1) at (c .before .before .before .before .before .before .before .before .before .before .before .before .before .before .before .read-lines .ensures .promise)) }
 
 pub read-manifest-spec : {M : Type 1} → statement M
 read-manifest-spec =

@@ -22,7 +22,7 @@ same-length : tie.Need-same-length
 same-length c = search needs
 
 returns : tie.Need-returns
-returns c = mention-over (c .before .before .before .before .before .before .before .before .before .before .before .before .before .pre) (c .before .before .before .before .expand .ensures) (sym (c .before .path-over .ensures) ∙ c .if1 .taken)
+returns c = record { space = search needs; promise = mention-over (c .before .before .before .before .before .before .before .before .before .before .before .before .before .pre) (c .before .before .before .before .expand .ensures) (sym (c .before .path-over .ensures) ∙ c .if1 .taken) }
 
 slice-reshare-prefix-add-path : tie.Need-slice-reshare-prefix-add-path
 slice-reshare-prefix-add-path c = omega (arith, path-fits (c .before .before .before .before .before .before .before .before .before .before .before .before .before .pre) (c .before .before .before .before .expand .ensures) (inside c))
@@ -46,7 +46,7 @@ same-length-5 : tie.Need-same-length-5
 same-length-5 c = search needs
 
 returns-2 : tie.Need-returns-2
-returns-2 c = mention-marked (c .before .before .before .before .before .before .before .before .before .before .before .before .before .before .before .before .before .before .before .before .before .before .before .before .pre) (c .before .before .before .before .before .before .before .before .before .before .before .before .before .before .before .expand .ensures) (inside (c .before .before .before .before .before .before .before .before .before .before .before)) (c .before .before .before .before .before .before .add-path .ensures)
+returns-2 c = record { space = search needs; promise = mention-marked (c .before .before .before .before .before .before .before .before .before .before .before .before .before .before .before .before .before .before .before .before .before .before .before .before .pre) (c .before .before .before .before .before .before .before .before .before .before .before .before .before .before .before .expand .ensures) (inside (c .before .before .before .before .before .before .before .before .before .before .before)) (c .before .before .before .before .before .before .add-path .ensures .promise) }
 
 pub mention-spec : {M : Type 1} → statement M
 mention-spec =

@@ -44,7 +44,7 @@ loop-less : tie.Need-loop-less Inv-loop μ-loop
 loop-less c = let n : PathNext _ _ _ _ = goes-on _ _ _ (c .before .before .before .before .before .before .before .before .before .before .before .before .before .before .before .before .before .before .before .before .next-listed .ensures) (c .before .before .before .before .before .before .before .before .before .before .before .before .before .before .before .before .before .before .from .given .1) in omega (arith, n .forward, n .longer, n .within)
 
 loop-again : tie.Need-loop-again Inv-loop μ-loop
-loop-again c = pass-on (c .before .before .before .before .before .before .before .before .before .before .before .before .before .before .before .before .before .before .before .before .before .loop .inv) (goes-on _ _ _ (c .before .before .before .before .before .before .before .before .before .before .before .before .before .before .before .before .before .before .before .before .next-listed .ensures) (c .before .before .before .before .before .before .before .before .before .before .before .before .before .before .before .before .before .before .from .given .1)) (search needs) (search needs) (search needs) (search needs) (rw (c .before .e .given .1) at (c .before .before .before .before .before .before .before .before .before .before .before .mention .ensures))
+loop-again c = pass-on (c .before .before .before .before .before .before .before .before .before .before .before .before .before .before .before .before .before .before .before .before .before .loop .inv) (goes-on _ _ _ (c .before .before .before .before .before .before .before .before .before .before .before .before .before .before .before .before .before .before .before .before .next-listed .ensures) (c .before .before .before .before .before .before .before .before .before .before .before .before .before .before .before .before .before .before .from .given .1)) (search needs) (search needs) (search needs) (search needs) (rw (c .before .e .given .1) at (c .before .before .before .before .before .before .before .before .before .before .before .mention .ensures .promise))
 
 enum-told : tie.Need-enum-told Inv-loop μ-loop
 enum-told c = search needs
@@ -62,7 +62,7 @@ same-length-4 : tie.Need-same-length-4 Inv-loop μ-loop
 same-length-4 c = search needs
 
 returns : tie.Need-returns Inv-loop μ-loop
-returns c = pass-over (c .before .before .before .before .before .before .before .before .before .before .before .before .before .before .before .before .before .before .before .before .loop .inv) (goes-on _ _ _ (c .before .before .before .before .before .before .before .before .before .before .before .before .before .before .before .before .before .before .before .next-listed .ensures) (c .before .before .before .before .before .before .before .before .before .before .before .before .before .before .before .before .before .from .given .1)) (rw (c .enum-told .given .1) at (c .before .before .before .before .before .before .before .before .before .before .mention .ensures))
+returns c = record { space = search needs; promise = pass-over (c .before .before .before .before .before .before .before .before .before .before .before .before .before .before .before .before .before .before .before .before .loop .inv) (goes-on _ _ _ (c .before .before .before .before .before .before .before .before .before .before .before .before .before .before .before .before .before .before .before .next-listed .ensures) (c .before .before .before .before .before .before .before .before .before .before .before .before .before .before .before .before .before .from .given .1)) (rw (c .enum-told .given .1) at (c .before .before .before .before .before .before .before .before .before .before .mention .ensures .promise)) }
 
 enum-told-2 : tie.Need-enum-told-2 Inv-loop μ-loop
 enum-told-2 c = search needs
@@ -80,7 +80,7 @@ same-length-8 : tie.Need-same-length-8 Inv-loop μ-loop
 same-length-8 c = search needs
 
 returns-2 : tie.Need-returns-2 Inv-loop μ-loop
-returns-2 c = pass-end (c .before .before .before .loop .inv) (stops _ _ _ (c .before .before .next-listed .ensures) (c .enum-told2 .given .1))
+returns-2 c = record { space = search needs; promise = pass-end (c .before .before .before .loop .inv) (stops _ _ _ (c .before .before .next-listed .ensures) (c .enum-told2 .given .1)) }
 
 pub mention-all-spec : {M : Type 1} → statement M
 mention-all-spec =

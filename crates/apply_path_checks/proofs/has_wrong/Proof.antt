@@ -13,10 +13,10 @@ use Rattle.apply_path_checks.proofs.has_wrong.Tie as tie
 use Rattle.hold_reading.specs.Buffers.{buffers}
 
 abbrev Inv-loop : tie.InvT-loop
-Inv-loop t l start kind names index texts bind graph word₀ c i₀ word i = (length word ≡ length word₀) × Looked kind l (buffers names index texts bind graph) c start i
+Inv-loop t l names index texts bind graph word₀ c kind i₀ word i = (length word ≡ length word₀) × Looked kind l (buffers names index texts bind graph) c i₀ i
 
 abbrev μ-loop : tie.MeasureT-loop
-μ-loop t l start kind names index texts bind graph word₀ c i₀ word i = length l - i
+μ-loop t l names index texts bind graph word₀ c kind i₀ word i = length l - i
 
 -- the path of this turn
 next : (s : tie.After-known-told Inv-loop μ-loop) → PathNext (now (s .before .before .before .before .before .before .before .before .before .before .before .before .args .l)) (s .before .before .before .before .loop .i) (s .before .from .given .0 .0) (s .before .from .given .0 .1 .0)
@@ -49,13 +49,13 @@ same-length : tie.Need-same-length Inv-loop μ-loop
 same-length c = search needs
 
 returns : tie.Need-returns Inv-loop μ-loop
-returns c = look-found (c .before .before .before .before .before .before .before .before .before .before .loop .inv .1) (next (c .before .before .before .before .before .before)) (c .before .before .before .is-wrong .ensures) (c .if1 .taken)
+returns c = record { space = search needs; promise = look-found (c .before .before .before .before .before .before .before .before .before .before .loop .inv .1) (next (c .before .before .before .before .before .before)) (c .before .before .before .is-wrong .ensures .promise) (c .if1 .taken) }
 
 loop-less : tie.Need-loop-less Inv-loop μ-loop
 loop-less c = omega (arith, next (c .before .before .before .before .before .before) .longer, next (c .before .before .before .before .before .before) .within, next (c .before .before .before .before .before .before) .forward)
 
 loop-again : tie.Need-loop-again Inv-loop μ-loop
-loop-again c = (search needs, look-more (c .before .before .before .before .before .before .before .before .before .before .loop .inv .1) (next (c .before .before .before .before .before .before)) (c .before .before .before .is-wrong .ensures) (c .if1 .left))
+loop-again c = (search needs, look-more (c .before .before .before .before .before .before .before .before .before .before .loop .inv .1) (next (c .before .before .before .before .before .before)) (c .before .before .before .is-wrong .ensures .promise) (c .if1 .left))
 
 enum-told : tie.Need-enum-told Inv-loop μ-loop
 enum-told c = search needs
@@ -64,7 +64,7 @@ same-length-2 : tie.Need-same-length-2 Inv-loop μ-loop
 same-length-2 c = search needs
 
 returns-2 : tie.Need-returns-2 Inv-loop μ-loop
-returns-2 c = look-end (c .before .before .before .loop .inv .1) (stops _ _ _ (c .before .before .next-listed .ensures) (c .enum-told .given .1))
+returns-2 c = record { space = search needs; promise = look-end (c .before .before .before .loop .inv .1) (stops _ _ _ (c .before .before .next-listed .ensures) (c .enum-told .given .1)) }
 
 pub has-wrong-spec : {M : Type 1} → statement M
 has-wrong-spec =

@@ -12,7 +12,7 @@ same-length : tie.Need-same-length
 same-length c = search needs
 
 returns : tie.Need-returns
-returns c = empty-wrong (now (c .before .before .before .before .before .before .before .before .before .before .before .before .args .raw)) (c .before .before .before .expand .ensures) (c .before .before .before .before .before .before .before .before .before .before .before .before .args .kind) (c .if1 .taken)
+returns c = record { space = search needs; promise = empty-wrong (now (c .before .before .before .before .before .before .before .before .before .before .before .before .args .raw)) (c .before .before .before .expand .ensures) (c .before .before .before .before .before .before .before .before .before .before .before .before .args .kind) (c .if1 .taken) }
 
 enum-told : tie.Need-enum-told
 enum-told c = search needs
@@ -33,19 +33,19 @@ same-length-2 : tie.Need-same-length-2
 same-length-2 c = search needs
 
 returns-2 : tie.Need-returns-2
-returns-2 c = input-right (now (c .before .before .before .before .before .before .before .before .before .before .before .before .before .before .args .raw)) (c .before .before .before .before .before .expand .ensures) (c .before .before .before .before .before .before .before .before .before .before .before .before .before .before .args .kind) (c .before .before .if1 .left) (c .enum-told .given .1)
+returns-2 c = record { space = search needs; promise = input-right (now (c .before .before .before .before .before .before .before .before .before .before .before .before .before .before .args .raw)) (c .before .before .before .before .before .expand .ensures) (c .before .before .before .before .before .before .before .before .before .before .before .before .before .before .args .kind) (c .before .before .if1 .left) (c .enum-told .given .1) }
 
 same-length-3 : tie.Need-same-length-3
 same-length-3 c = search needs
 
 returns-3 : tie.Need-returns-3
-returns-3 c = output-wrong (now (c .before .before .before .before .before .before .before .before .before .before .before .before .before .before .before .before .args .raw)) (c .before .before .before .before .before .before .before .expand .ensures) (c .before .before .before .before .before .before .before .before .before .before .before .before .before .before .before .before .args .kind) (c .before .before .before .before .if1 .left) (c .is-made .ensures) (c .before .before .enum-told2 .given .1)
+returns-3 c = record { space = search needs; promise = output-wrong (now (c .before .before .before .before .before .before .before .before .before .before .before .before .before .before .before .before .args .raw)) (c .before .before .before .before .before .before .before .expand .ensures) (c .before .before .before .before .before .before .before .before .before .before .before .before .before .before .before .before .args .kind) (c .before .before .before .before .if1 .left) (c .is-made .ensures) (c .before .before .enum-told2 .given .1) }
 
 same-length-4 : tie.Need-same-length-4
 same-length-4 c = search needs
 
 returns-4 : tie.Need-returns-4
-returns-4 c = default-wrong (now (c .before .before .before .before .before .before .before .before .before .before .before .before .before .before .before .before .args .raw)) (c .before .before .before .before .before .before .before .expand .ensures) (c .before .before .before .before .before .before .before .before .before .before .before .before .before .before .before .before .args .kind) (c .before .before .before .before .if1 .left) (c .is-made2 .ensures) (c .before .before .enum-told3 .given .1)
+returns-4 c = record { space = search needs; promise = default-wrong (now (c .before .before .before .before .before .before .before .before .before .before .before .before .before .before .before .before .args .raw)) (c .before .before .before .before .before .before .before .expand .ensures) (c .before .before .before .before .before .before .before .before .before .before .before .before .before .before .before .before .args .kind) (c .before .before .before .before .if1 .left) (c .is-made2 .ensures) (c .before .before .enum-told3 .given .1) }
 
 pub is-wrong-spec : {M : Type 1} → statement M
 is-wrong-spec =

@@ -17,7 +17,7 @@ same-length-2 : tie.Need-same-length-2
 same-length-2 c = search needs
 
 returns : tie.Need-returns
-returns c = let a = c .before .before .before .before .before .before .before .before .args in keys-bad (a .start) (a .head) (a .entry) (now (a .name)) (now (a .raw)) (c .before .is-bad-key .ensures) (c .if1 .taken)
+returns c = record { space = search needs; promise = let a = c .before .before .before .before .before .before .before .before .args in keys-bad (a .start) (a .head) (a .entry) (now (a .name)) (now (a .raw)) (c .before .is-bad-key .ensures) (c .if1 .taken) }
 
 binding-over-requires : tie.Need-binding-over-requires
 binding-over-requires c κs = search needs
@@ -29,9 +29,11 @@ same-length-4 : tie.Need-same-length-4
 same-length-4 c = search needs
 
 returns-2 : tie.Need-returns-2
-returns-2 c =
-    let a = c .before .before .before .before .before .before .before .before .before .before .args in
-    keys-over (a .start) (a .head) (a .entry) (now (a .name)) (now (a .raw)) (c .before .before .before .is-bad-key .ensures) (c .before .before .if1 .left) (sym (c .before .binding-over .ensures) ∙ c .if2 .taken)
+returns-2 c = record {
+  space = search needs;
+  promise = let a = c .before .before .before .before .before .before .before .before .before .before .args in
+      keys-over (a .start) (a .head) (a .entry) (now (a .name)) (now (a .raw)) (c .before .before .before .is-bad-key .ensures) (c .before .before .if1 .left) (sym (c .before .binding-over .ensures) ∙ c .if2 .taken);
+}
 
 mul-push-binding : tie.Need-mul-push-binding
 mul-push-binding c = let p = of-rule (c .before .before .before .before .before .before .before .before .before .before .before .before .pre) in omega (arith, p .below, p .table .held .rows .few)
@@ -51,9 +53,11 @@ same-length-6 : tie.Need-same-length-6
 same-length-6 c = search needs
 
 returns-3 : tie.Need-returns-3
-returns-3 c =
-    let a = c .before .before .before .before .before .before .before .before .before .before .before .before .before .before .before .before .before .args in
-    keys-go (a .start) (a .head) (a .entry) (now (a .name)) (now (a .raw)) (c .before .before .before .before .before .before .before .before .before .before .is-bad-key .ensures) (c .before .before .before .before .before .before .before .before .before .if1 .left) (sym (c .before .before .before .before .before .before .before .before .binding-over .ensures) ∙ c .before .before .before .before .before .before .before .if2 .left) (c .before .before .before .before .push-binding .ensures)
+returns-3 c = record {
+  space = search needs;
+  promise = let a = c .before .before .before .before .before .before .before .before .before .before .before .before .before .before .before .before .before .args in
+      keys-go (a .start) (a .head) (a .entry) (now (a .name)) (now (a .raw)) (c .before .before .before .before .before .before .before .before .before .before .is-bad-key .ensures) (c .before .before .before .before .before .before .before .before .before .if1 .left) (sym (c .before .before .before .before .before .before .before .before .binding-over .ensures) ∙ c .before .before .before .before .before .before .before .if2 .left) (c .before .before .before .before .push-binding .ensures);
+}
 
 pub add-key-spec : {M : Type 1} → statement M
 add-key-spec =

@@ -15,7 +15,7 @@ same-length-2 : tie.Need-same-length-2
 same-length-2 c = search needs
 
 returns : tie.Need-returns
-returns c = let a = c .before .before .before .before .before .before .before .args in start-twice (a .start) (now (a .name)) (c .before .is-declared .ensures) (c .if1 .taken)
+returns c = record { space = search needs; promise = let a = c .before .before .before .before .before .before .before .args in start-twice (a .start) (now (a .name)) (c .before .is-declared .ensures) (c .if1 .taken) }
 
 same-length-3 : tie.Need-same-length-3
 same-length-3 c = search needs
@@ -24,7 +24,7 @@ same-length-4 : tie.Need-same-length-4
 same-length-4 c = search needs
 
 returns-2 : tie.Need-returns-2
-returns-2 c = let a = c .before .before .before .before .before .before .before .before .args in start-long (a .start) (now (a .name)) (c .before .before .is-declared .ensures) (c .before .if1 .left) (c .if2 .taken)
+returns-2 c = record { space = search needs; promise = let a = c .before .before .before .before .before .before .before .before .args in start-long (a .start) (now (a .name)) (c .before .before .is-declared .ensures) (c .before .if1 .left) (c .if2 .taken) }
 
 same-length-5 : tie.Need-same-length-5
 same-length-5 c = search needs
@@ -33,7 +33,7 @@ same-length-6 : tie.Need-same-length-6
 same-length-6 c = search needs
 
 returns-3 : tie.Need-returns-3
-returns-3 c = let a = c .before .before .before .before .before .before .before .before .before .before .args in start-many (a .start) (now (a .name)) (c .before .before .before .before .is-declared .ensures) (c .before .before .before .if1 .left) (c .before .before .if2 .left) (c .if3 .taken)
+returns-3 c = record { space = search needs; promise = let a = c .before .before .before .before .before .before .before .before .before .before .args in start-many (a .start) (now (a .name)) (c .before .before .before .before .is-declared .ensures) (c .before .before .before .if1 .left) (c .before .before .if2 .left) (c .if3 .taken) }
 
 slice-aggregate-push : tie.Need-slice-aggregate-push
 slice-aggregate-push c = search needs
@@ -54,9 +54,11 @@ same-length-8 : tie.Need-same-length-8
 same-length-8 c = search needs
 
 returns-4 : tie.Need-returns-4
-returns-4 c =
-    let a = c .before .before .before .before .before .before .before .before .before .before .before .before .before .before .before .before .before .before .before .args in
-    start-goes (a .start) (now (a .name)) (c .before .before .before .before .before .before .before .before .before .before .before .before .before .is-declared .ensures) (c .before .before .before .before .before .before .before .before .before .before .before .before .if1 .left) (c .before .before .before .before .before .before .before .before .before .before .before .if2 .left) (c .before .before .before .before .before .before .before .before .before .if3 .left) (c .before .before .before .before .before .push .ensures)
+returns-4 c = record {
+  space = search needs;
+  promise = let a = c .before .before .before .before .before .before .before .before .before .before .before .before .before .before .before .before .before .before .before .args in
+      start-goes (a .start) (now (a .name)) (c .before .before .before .before .before .before .before .before .before .before .before .before .before .is-declared .ensures) (c .before .before .before .before .before .before .before .before .before .before .before .before .if1 .left) (c .before .before .before .before .before .before .before .before .before .before .before .if2 .left) (c .before .before .before .before .before .before .before .before .before .if3 .left) (c .before .before .before .before .before .push .ensures);
+}
 
 pub start-rule-spec : {M : Type 1} → statement M
 start-rule-spec =

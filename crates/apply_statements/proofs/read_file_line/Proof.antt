@@ -37,7 +37,7 @@ same-length-6 : tie.Need-same-length-6
 same-length-6 c = search needs
 
 returns : tie.Need-returns
-returns c = closed-then (rw (c .before .before .before .before .before .before .before .before .before .before .before .before .before .before .before .before .before .before .before .before .d .given .1) at (c .before .before .before .before .before .before .before .before .before .before .before .before .before .before .before .before .before .before .before .before .before .before .close .ensures)) (c .before .before .before .before .before .before .before .before .before .before .before .before .read-statement .ensures)
+returns c = record { space = search needs; promise = closed-then (rw (c .before .before .before .before .before .before .before .before .before .before .before .before .before .before .before .before .before .before .before .before .d .given .1) at (c .before .before .before .before .before .before .before .before .before .before .before .before .before .before .before .before .before .before .before .before .before .before .close .ensures)) (c .before .before .before .before .before .before .before .before .before .before .before .before .read-statement .ensures .promise) }
 
 same-length-7 : tie.Need-same-length-7
 same-length-7 c = search needs
@@ -46,7 +46,7 @@ same-length-8 : tie.Need-same-length-8
 same-length-8 c = search needs
 
 returns-2 : tie.Need-returns-2
-returns-2 c = not-closed (readStatement (lineOf _ _ _)) (rw (c .before .r .given .1) at (c .before .before .before .close .ensures))
+returns-2 c = record { space = search needs; promise = not-closed (readStatement (lineOf _ _ _)) (rw (c .before .r .given .1) at (c .before .before .before .close .ensures)) }
 
 pub read-file-line-spec : {M : Type 1} → statement M
 read-file-line-spec =

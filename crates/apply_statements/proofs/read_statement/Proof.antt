@@ -40,26 +40,20 @@ add-defaults-requires c κs = default-asks (lineOf _ _ _) (c .before .before .be
 enum-known-from-2 : tie.Need-enum-known-from-2
 enum-known-from-2 c = search needs
 
+raw-value-requires : tie.Need-raw-value-requires
+raw-value-requires c κs = let s = binding-told (lineOf _ _ _) (c .before .before .before .cut-file-line .ensures) (c .before .from2 .given .1) in s .places .starts
+
 sub-add-var : tie.Need-sub-add-var
-sub-add-var c = let s = binding-told (lineOf _ _ _) (c .before .before .before .cut-file-line .ensures) (c .before .from2 .given .1) in omega (arith, s .places .ordered)
+sub-add-var c = let s = binding-told (lineOf _ _ _) (c .before .before .before .before .cut-file-line .ensures) (c .before .before .from2 .given .1) in omega (arith, s .places .ordered)
 
 part-add-var-start : tie.Need-part-add-var-start
-part-add-var-start c = let s = binding-told (lineOf _ _ _) (c .before .before .before .cut-file-line .ensures) (c .before .from2 .given .1) in omega (arith, s .places .ordered)
+part-add-var-start c = let s = binding-told (lineOf _ _ _) (c .before .before .before .before .cut-file-line .ensures) (c .before .before .from2 .given .1) in omega (arith, s .places .ordered)
 
 part-add-var-end : tie.Need-part-add-var-end
-part-add-var-end c = let s = binding-told (lineOf _ _ _) (c .before .before .before .cut-file-line .ensures) (c .before .from2 .given .1) in omega (arith, s .places .within)
-
-sub-add-var-2 : tie.Need-sub-add-var-2
-sub-add-var-2 c = let s = binding-told (lineOf _ _ _) (c .before .before .before .before .cut-file-line .ensures) (c .before .before .from2 .given .1) in omega (arith, s .places .starts)
-
-part-add-var-start-2 : tie.Need-part-add-var-start-2
-part-add-var-start-2 c = let s = binding-told (lineOf _ _ _) (c .before .before .before .before .cut-file-line .ensures) (c .before .before .from2 .given .1) in omega (arith, s .places .starts)
-
-part-add-var-end-2 : tie.Need-part-add-var-end-2
-part-add-var-end-2 c = search needs
+part-add-var-end c = let s = binding-told (lineOf _ _ _) (c .before .before .before .before .cut-file-line .ensures) (c .before .before .from2 .given .1) in omega (arith, s .places .within)
 
 add-var-requires : tie.Need-add-var-requires
-add-var-requires c κs = value-asks (lineOf _ _ _) (c .before .before .before .before .before .before .before .before .before .before .before .before .before .before .before .before .pre) (binding-told (lineOf _ _ _) (c .before .before .before .before .before .before .before .before .cut-file-line .ensures) (c .before .before .before .before .before .before .from2 .given .1))
+add-var-requires c κs = value-asks (lineOf _ _ _) (c .before .before .before .before .before .before .before .before .before .before .before .before .before .before .before .before .pre) (binding-told (lineOf _ _ _) (c .before .before .before .before .before .before .before .before .cut-file-line .ensures) (c .before .before .before .before .before .before .from2 .given .1)) (c .before .before .before .before .raw-value .ensures)
 
 enum-known-r : tie.Need-enum-known-r
 enum-known-r c = search needs
@@ -71,7 +65,7 @@ same-length-2 : tie.Need-same-length-2
 same-length-2 c = search needs
 
 returns : tie.Need-returns
-returns c = rule-read (lineOf _ _ _) (rule-told (lineOf _ _ _) (c .before .before .before .before .before .before .before .before .before .before .before .cut-file-line .ensures) (c .before .before .before .before .before .before .before .before .before .from .given .1)) (c .before .before .before .before .start-rule .ensures)
+returns c = record { space = search needs; promise = rule-read (lineOf _ _ _) (rule-told (lineOf _ _ _) (c .before .before .before .before .before .before .before .before .before .before .before .cut-file-line .ensures) (c .before .before .before .before .before .before .before .before .before .from .given .1)) (c .before .before .before .before .start-rule .ensures .promise) }
 
 same-length-3 : tie.Need-same-length-3
 same-length-3 c = search needs
@@ -92,7 +86,7 @@ same-length-8 : tie.Need-same-length-8
 same-length-8 c = search needs
 
 returns-2 : tie.Need-returns-2
-returns-2 c = build-read (lineOf _ _ _) (build-told (lineOf _ _ _) (c .before .before .before .before .before .before .before .before .before .before .before .before .before .before .before .before .before .before .cut-file-line .ensures) (c .before .before .before .before .before .before .before .before .before .before .before .before .before .before .before .before .p .given .1)) (c .before .before .before .before .before .before .before .before .add-step .ensures)
+returns-2 c = record { space = search needs; promise = build-read (lineOf _ _ _) (build-told (lineOf _ _ _) (c .before .before .before .before .before .before .before .before .before .before .before .before .before .before .before .before .before .before .cut-file-line .ensures) (c .before .before .before .before .before .before .before .before .before .before .before .before .before .before .before .before .p .given .1)) (c .before .before .before .before .before .before .before .before .add-step .ensures .promise) }
 
 same-length-9 : tie.Need-same-length-9
 same-length-9 c = search needs
@@ -113,7 +107,7 @@ same-length-14 : tie.Need-same-length-14
 same-length-14 c = search needs
 
 returns-3 : tie.Need-returns-3
-returns-3 c = default-read (lineOf _ _ _) (default-told (lineOf _ _ _) (c .before .before .before .before .before .before .before .before .before .before .before .before .before .before .cut-file-line .ensures) (c .before .before .before .before .before .before .before .before .before .before .before .before .at .given .1)) (c .before .before .before .before .add-defaults .ensures)
+returns-3 c = record { space = search needs; promise = default-read (lineOf _ _ _) (default-told (lineOf _ _ _) (c .before .before .before .before .before .before .before .before .before .before .before .before .before .before .cut-file-line .ensures) (c .before .before .before .before .before .before .before .before .before .before .before .before .at .given .1)) (c .before .before .before .before .add-defaults .ensures .promise) }
 
 same-length-15 : tie.Need-same-length-15
 same-length-15 c = search needs
@@ -125,10 +119,10 @@ same-length-17 : tie.Need-same-length-17
 same-length-17 c = search needs
 
 returns-4 : tie.Need-returns-4
-returns-4 c = var-read (lineOf _ _ _) (binding-told (lineOf _ _ _) (c .before .before .before .before .before .before .before .before .before .before .before .before .before .before .before .cut-file-line .ensures) (c .before .before .before .before .before .before .before .before .before .before .before .before .before .from2 .given .1)) (c .before .before .before .before .before .before .add-var .ensures)
+returns-4 c = record { space = search needs; promise = var-read (lineOf _ _ _) (binding-told (lineOf _ _ _) (c .before .before .before .before .before .before .before .before .before .before .before .before .before .before .before .cut-file-line .ensures) (c .before .before .before .before .before .before .before .before .before .before .before .before .before .from2 .given .1)) (c .before .before .before .before .before .before .before .before .before .before .before .raw-value .ensures) (c .before .before .before .before .before .before .add-var .ensures .promise) }
 
 returns-5 : tie.Need-returns-5
-returns-5 c = wrong-read (lineOf _ _ _) (refused-told (lineOf _ _ _) (c .before .before .before .cut-file-line .ensures) (c .before .r .given .1))
+returns-5 c = record { space = search needs; promise = wrong-read (lineOf _ _ _) (refused-told (lineOf _ _ _) (c .before .before .before .cut-file-line .ensures) (c .before .r .given .1)) }
 
 pub read-statement-spec : {M : Type 1} → statement M
 read-statement-spec =
@@ -145,12 +139,10 @@ read-statement-spec =
     enum-known-at
     add-defaults-requires
     enum-known-from-2
+    raw-value-requires
     sub-add-var
     part-add-var-start
     part-add-var-end
-    sub-add-var-2
-    part-add-var-start-2
-    part-add-var-end-2
     add-var-requires
     enum-known-r
     same-length

@@ -18,7 +18,7 @@ end-place-requires-2 : tie.Need-end-place-requires-2
 end-place-requires-2 c κs = omega (arith, c .before .before .before .before .before .before .before .before .before .before .before .before .before .before .before .before .before .before .before .before .before .before .before .before .pre .few)
 
 two-requires-2 : tie.Need-two-requires-2
-two-requires-2 c κs = rw (c .before .before .before .before .end-place2 .ensures) (four-second (c .before .before .before .before .before .before .before .before .before .before .before .before .before .before .before .before .before .before .before .before .before .before .before .before .before .before .before .before .before .pre) (search needs) (search needs) (rw (c .before .before .before .before .before .before .d .given .1, c .before .before .before .before .before .before .before .before .before .before .before .before .before .before .before .before .before .before .before .before .before .end-place .ensures) at (c .before .before .before .before .before .before .before .before .before .before .before .before .before .before .before .before .two .ensures)))
+two-requires-2 c κs = rw (c .before .before .before .before .end-place2 .ensures) (four-second (c .before .before .before .before .before .before .before .before .before .before .before .before .before .before .before .before .before .before .before .before .before .before .before .before .before .before .before .before .before .pre) (search needs) (search needs) (rw (c .before .before .before .before .before .before .d .given .1, c .before .before .before .before .before .before .before .before .before .before .before .before .before .before .before .before .before .before .before .before .before .end-place .ensures) at (c .before .before .before .before .before .before .before .before .before .before .before .before .before .before .before .before .two .ensures .promise)))
 
 enum-told : tie.Need-enum-told
 enum-told c = search needs
@@ -36,7 +36,7 @@ same-length-4 : tie.Need-same-length-4
 same-length-4 c = search needs
 
 returns : tie.Need-returns
-returns c = four-on (rw (c .before .before .before .before .before .before .before .before .before .before .before .before .before .before .before .d .given .1, c .before .before .before .before .before .before .before .before .before .before .before .before .before .before .before .before .before .before .before .before .before .before .before .before .before .before .before .before .before .before .end-place .ensures) at (c .before .before .before .before .before .before .before .before .before .before .before .before .before .before .before .before .before .before .before .before .before .before .before .before .before .two .ensures)) (rw (c .before .before .before .before .before .before .before .before .before .before .before .before .before .end-place2 .ensures) at (c .before .before .before .before .before .before .before .before .two2 .ensures))
+returns c = record { space = search needs; promise = four-on (rw (c .before .before .before .before .before .before .before .before .before .before .before .before .before .before .before .d .given .1, c .before .before .before .before .before .before .before .before .before .before .before .before .before .before .before .before .before .before .before .before .before .before .before .before .before .before .before .before .before .before .end-place .ensures) at (c .before .before .before .before .before .before .before .before .before .before .before .before .before .before .before .before .before .before .before .before .before .before .before .before .before .two .ensures .promise)) (rw (c .before .before .before .before .before .before .before .before .before .before .before .before .before .end-place2 .ensures) at (c .before .before .before .before .before .before .before .before .two2 .ensures .promise)) }
 
 same-length-5 : tie.Need-same-length-5
 same-length-5 c = search needs
@@ -51,7 +51,7 @@ same-length-8 : tie.Need-same-length-8
 same-length-8 c = search needs
 
 returns-2 : tie.Need-returns-2
-returns-2 c = four-over (rw (c .enum-told .given .1, c .before .before .before .before .before .before .before .before .before .before .before .before .before .before .before .end-place .ensures) at (c .before .before .before .before .before .before .before .before .before .before .two .ensures))
+returns-2 c = record { space = search needs; promise = four-over (rw (c .enum-told .given .1, c .before .before .before .before .before .before .before .before .before .before .before .before .before .before .before .end-place .ensures) at (c .before .before .before .before .before .before .before .before .before .before .two .ensures .promise)) }
 
 pub four-spec : {M : Type 1} → statement M
 four-spec =

@@ -13,12 +13,12 @@ enum-known-d : tie.Need-enum-known-d
 enum-known-d c = search needs
 
 add-put : tie.Need-add-put
-add-put c = omega (arith, c .before .before .before .before .before .before .before .before .before .before .before .before .before .before .before .before .before .before .before .before .before .before .before .before .pre .low)
+add-put c = omega (arith, c .before .before .before .before .before .before .before .before .before .before .before .before .before .before .before .before .before .before .before .before .before .before .before .before .before .pre .low)
 
 put-requires : tie.Need-put-requires
 put-requires c κs =
-    let a = c .before .before .before .before .before .before .before .before .before .before .before .before .before .before .before .before .before .before .before .before .before .before .before .before .pre in
-    let w = one-held (a .asks) (rw (c .before .before .d .given .1) at (c .before .before .before .before .before .before .before .before .before .before .before .before .mention-all .ensures)) in
+    let a = c .before .before .before .before .before .before .before .before .before .before .before .before .before .before .before .before .before .before .before .before .before .before .before .before .before .pre in
+    let w = one-held (a .asks) (rw (c .before .before .before .d .given .1) at (c .before .before .before .before .before .before .before .before .before .before .before .before .before .mention-all .ensures .promise)) in
     (omega (arith, a .low, graph-long (w .columns)), omega (arith, w .few-mentions, w .mentions-low))
 
 enum-told : tie.Need-enum-told
@@ -37,7 +37,7 @@ same-length-4 : tie.Need-same-length-4
 same-length-4 c = search needs
 
 returns : tie.Need-returns
-returns c = one-on (rw (c .before .before .before .before .before .d .given .1) at (c .before .before .before .before .before .before .before .before .before .before .before .before .before .before .before .mention-all .ensures)) (c .before .before .before .before .before .before .before .before .before .before .before .before .before .before .before .before .before .before .before .before .before .before .before .before .before .before .before .pre .low) (c .before .before .put .ensures)
+returns c = record { space = search needs; promise = one-on (rw (c .before .before .before .before .before .before .d .given .1) at (c .before .before .before .before .before .before .before .before .before .before .before .before .before .before .before .before .mention-all .ensures .promise)) (c .before .before .before .before .before .before .before .before .before .before .before .before .before .before .before .before .before .before .before .before .before .before .before .before .before .before .before .before .pre .low) (c .before .before .put .ensures) }
 
 same-length-5 : tie.Need-same-length-5
 same-length-5 c = search needs
@@ -52,7 +52,7 @@ same-length-8 : tie.Need-same-length-8
 same-length-8 c = search needs
 
 returns-2 : tie.Need-returns-2
-returns-2 c = one-over (rw (c .enum-told .given .1) at (c .before .before .before .before .before .before .before .before .before .before .mention-all .ensures))
+returns-2 c = record { space = search needs; promise = one-over (rw (c .enum-told .given .1) at (c .before .before .before .before .before .before .before .before .before .before .mention-all .ensures .promise)) }
 
 pub one-spec : {M : Type 1} → statement M
 one-spec =

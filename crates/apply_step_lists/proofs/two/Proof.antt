@@ -11,11 +11,11 @@ one-requires c κs = two-first (c .before .before .before .before .before .befor
 enum-known-d : tie.Need-enum-known-d
 enum-known-d c = search needs
 
-add-one : tie.Need-add-one
-add-one c = omega (arith, c .before .before .before .before .before .before .before .before .before .before .before .before .before .before .before .before .before .before .before .before .before .before .before .pre .low)
+add-t24 : tie.Need-add-t24
+add-t24 c = omega (arith, c .before .before .before .before .before .before .before .before .before .before .before .before .before .before .before .before .before .before .before .before .before .before .before .before .pre .low)
 
 one-requires-2 : tie.Need-one-requires-2
-one-requires-2 c κs = two-second (c .before .before .before .before .before .before .before .before .before .before .before .before .before .before .before .before .before .before .before .before .before .before .before .before .before .before .before .pre) (search needs) (search needs) (rw (c .before .before .before .before .before .d .given .1) at (c .before .before .before .before .before .before .before .before .before .before .before .before .before .before .before .one .ensures))
+one-requires-2 c κs = two-second (c .before .before .before .before .before .before .before .before .before .before .before .before .before .before .before .before .before .before .before .before .before .before .before .before .before .before .before .before .pre) (search needs) (search needs) (rw (c .before .before .before .before .before .before .d .given .1) at (c .before .before .before .before .before .before .before .before .before .before .before .before .before .before .before .before .one .ensures .promise))
 
 enum-told : tie.Need-enum-told
 enum-told c = search needs
@@ -33,7 +33,7 @@ same-length-4 : tie.Need-same-length-4
 same-length-4 c = search needs
 
 returns : tie.Need-returns
-returns c = two-on (rw (c .before .before .before .before .before .before .before .before .before .before .before .before .before .before .d .given .1) at (c .before .before .before .before .before .before .before .before .before .before .before .before .before .before .before .before .before .before .before .before .before .before .before .before .one .ensures)) (c .before .before .before .before .before .before .before .before .one2 .ensures)
+returns c = record { space = search needs; promise = two-on (rw (c .before .before .before .before .before .before .before .before .before .before .before .before .before .before .before .d .given .1) at (c .before .before .before .before .before .before .before .before .before .before .before .before .before .before .before .before .before .before .before .before .before .before .before .before .before .one .ensures .promise)) (c .before .before .before .before .before .before .before .before .one2 .ensures .promise) }
 
 same-length-5 : tie.Need-same-length-5
 same-length-5 c = search needs
@@ -48,7 +48,7 @@ same-length-8 : tie.Need-same-length-8
 same-length-8 c = search needs
 
 returns-2 : tie.Need-returns-2
-returns-2 c = two-over (rw (c .enum-told .given .1) at (c .before .before .before .before .before .before .before .before .before .before .one .ensures))
+returns-2 c = record { space = search needs; promise = two-over (rw (c .enum-told .given .1) at (c .before .before .before .before .before .before .before .before .before .before .one .ensures .promise)) }
 
 pub two-spec : {M : Type 1} → statement M
 two-spec =
@@ -56,7 +56,7 @@ two-spec =
     (tie.spec
     one-requires
     enum-known-d
-    add-one
+    add-t24
     one-requires-2
     enum-told
     same-length

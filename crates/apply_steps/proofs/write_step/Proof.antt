@@ -6,28 +6,28 @@ use Rattle.apply_steps.proofs.write_step.Statement.{statement}
 use Rattle.apply_steps.proofs.write_step.Tie as tie
 
 returns : tie.Need-returns
-returns c = write-many (c .before .before .before .before .before .before .before .before .before .args .start) (omega (arith, c .if1 .taken))
+returns c = record { space = search needs; promise = write-many (c .before .before .before .before .before .before .before .before .before .before .args .s .start) (omega (arith, c .if1 .taken)) }
 
 four-requires : tie.Need-four-requires
-four-requires c κs = write-four (c .before .before .before .before .before .before .before .before .before .before .before .before .before .pre) (omega (arith, c .before .before .before .before .if1 .left))
+four-requires c κs = write-four (c .before .before .before .before .before .before .before .before .before .before .before .before .before .before .pre) (omega (arith, c .before .before .before .before .if1 .left))
 
 enum-known-d : tie.Need-enum-known-d
 enum-known-d c = search needs
 
 sub-rule-number : tie.Need-sub-rule-number
-sub-rule-number c = omega (arith, c .before .before .before .before .before .before .before .before .before .before .before .before .before .before .before .before .before .before .before .before .before .before .before .before .before .pre .stands .ordered)
+sub-rule-number c = omega (arith, c .before .before .before .before .before .before .before .before .before .before .before .before .before .before .before .before .before .before .before .before .before .before .before .before .before .before .pre .stands .ordered)
 
 part-rule-number-start : tie.Need-part-rule-number-start
-part-rule-number-start c = omega (arith, c .before .before .before .before .before .before .before .before .before .before .before .before .before .before .before .before .before .before .before .before .before .before .before .before .before .pre .stands .ordered, c .before .before .before .before .before .before .before .before .before .before .before .before .before .before .before .before .before .before .before .before .before .before .before .before .before .pre .stands .ins .within)
+part-rule-number-start c = omega (arith, c .before .before .before .before .before .before .before .before .before .before .before .before .before .before .before .before .before .before .before .before .before .before .before .before .before .before .pre .stands .ordered, c .before .before .before .before .before .before .before .before .before .before .before .before .before .before .before .before .before .before .before .before .before .before .before .before .before .before .pre .stands .ins .within)
 
 part-rule-number-end : tie.Need-part-rule-number-end
-part-rule-number-end c = omega (arith, c .before .before .before .before .before .before .before .before .before .before .before .before .before .before .before .before .before .before .before .before .before .before .before .before .before .pre .stands .ordered, c .before .before .before .before .before .before .before .before .before .before .before .before .before .before .before .before .before .before .before .before .before .before .before .before .before .pre .stands .ins .within)
+part-rule-number-end c = omega (arith, c .before .before .before .before .before .before .before .before .before .before .before .before .before .before .before .before .before .before .before .before .before .before .before .before .before .before .pre .stands .ordered, c .before .before .before .before .before .before .before .before .before .before .before .before .before .before .before .before .before .before .before .before .before .before .before .before .before .before .pre .stands .ins .within)
 
 rule-number-requires : tie.Need-rule-number-requires
-rule-number-requires c κs = write-rule (c .before .before .before .before .before .before .before .before .before .before .before .before .before .before .before .before .before .before .before .before .before .before .before .before .before .before .pre) (rw (c .before .before .d .given .1) at (c .before .before .before .before .before .before .before .before .before .before .before .before .four .ensures))
+rule-number-requires c κs = write-rule (c .before .before .before .before .before .before .before .before .before .before .before .before .before .before .before .before .before .before .before .before .before .before .before .before .before .before .before .pre) (rw (c .before .before .d .given .1) at (c .before .before .before .before .before .before .before .before .before .before .before .before .four .ensures .promise))
 
 put-step-requires : tie.Need-put-step-requires
-put-step-requires c κs = write-columns (c .before .before .before .before .before .before .before .before .before .before .before .before .before .before .before .before .before .before .before .before .before .before .before .before .before .before .before .before .pre) (rw (c .before .before .before .before .d .given .1) at (c .before .before .before .before .before .before .before .before .before .before .before .before .before .before .four .ensures)) (c .before .before .before .before .before .before .before .before .before .before .before .before .before .before .before .before .before .before .before .if1 .left) _ (c .before .rule-number .ensures)
+put-step-requires c κs = write-columns (c .before .before .before .before .before .before .before .before .before .before .before .before .before .before .before .before .before .before .before .before .before .before .before .before .before .before .before .before .before .pre) (rw (c .before .before .before .before .d .given .1) at (c .before .before .before .before .before .before .before .before .before .before .before .before .before .before .four .ensures .promise)) (c .before .before .before .before .before .before .before .before .before .before .before .before .before .before .before .before .before .before .before .if1 .left) _ (c .before .rule-number .ensures)
 
 enum-told : tie.Need-enum-told
 enum-told c = search needs
@@ -45,7 +45,7 @@ same-length-4 : tie.Need-same-length-4
 same-length-4 c = search needs
 
 returns-2 : tie.Need-returns-2
-returns-2 c = write-goes (c .before .before .before .before .before .before .before .before .before .before .before .before .before .before .before .before .before .before .before .before .before .before .before .before .before .before .before .before .before .before .before .args .start) (c .before .before .before .before .before .before .before .before .before .before .before .before .before .before .before .before .before .before .before .before .before .before .if1 .left) (rw (c .before .before .before .before .before .before .before .d .given .1) at (c .before .before .before .before .before .before .before .before .before .before .before .before .before .before .before .before .before .four .ensures)) (c .before .before .before .before .rule-number .ensures) (c .before .before .put-step .ensures)
+returns-2 c = record { space = search needs; promise = write-goes (c .before .before .before .before .before .before .before .before .before .before .before .before .before .before .before .before .before .before .before .before .before .before .before .before .before .before .before .before .before .before .before .before .args .s .start) (c .before .before .before .before .before .before .before .before .before .before .before .before .before .before .before .before .before .before .before .before .before .before .if1 .left) (rw (c .before .before .before .before .before .before .before .d .given .1) at (c .before .before .before .before .before .before .before .before .before .before .before .before .before .before .before .before .before .four .ensures .promise)) (c .before .before .before .before .rule-number .ensures) (c .before .before .put-step .ensures) }
 
 same-length-5 : tie.Need-same-length-5
 same-length-5 c = search needs
@@ -60,7 +60,7 @@ same-length-8 : tie.Need-same-length-8
 same-length-8 c = search needs
 
 returns-3 : tie.Need-returns-3
-returns-3 c = write-over (c .before .before .before .before .before .before .before .before .before .before .before .before .before .before .before .before .before .before .before .before .before .before .before .before .args .start) (rw (c .enum-told .given .1) at (c .before .before .before .before .before .before .before .before .before .before .four .ensures))
+returns-3 c = record { space = search needs; promise = write-over (c .before .before .before .before .before .before .before .before .before .before .before .before .before .before .before .before .before .before .before .before .before .before .before .before .before .args .s .start) (rw (c .enum-told .given .1) at (c .before .before .before .before .before .before .before .before .before .before .four .ensures .promise)) }
 
 pub write-step-spec : {M : Type 1} → statement M
 write-step-spec =

@@ -34,9 +34,11 @@ same-length-3 : tie.Need-same-length-3
 same-length-3 c = search needs
 
 returns : tie.Need-returns
-returns c =
-    let a = c .before .before .before .before .before .before .before .before .before .before .before .before .before .args in
-    line-over (a .start) (now (a .name)) (now (a .raw)) (c .before .before .before .before .expand .ensures) (sym (c .before .binding-over .ensures) ∙ c .if1 .taken)
+returns c = record {
+  space = search needs;
+  promise = let a = c .before .before .before .before .before .before .before .before .before .before .before .before .before .args in
+      line-over (a .start) (now (a .name)) (now (a .raw)) (c .before .before .before .before .expand .ensures) (sym (c .before .binding-over .ensures) ∙ c .if1 .taken);
+}
 
 sub-push-binding : tie.Need-sub-push-binding
 sub-push-binding c = omega (arith, step-begun (begin c .pre .sound))
@@ -68,10 +70,12 @@ same-length-6 : tie.Need-same-length-6
 same-length-6 c = search needs
 
 returns-2 : tie.Need-returns-2
-returns-2 c =
-    let s = c .before .before .before .before .before .before in
-    let a = begin s .args in
-    line-goes (a .start) (now (a .name)) (now (a .raw)) (s .before .before .before .before .before .before .before .expand .ensures) (value-fits (begin s .pre) _ _ (inside s)) (rw (value-counted (begin s .pre) _ _ (inside s) (s .before .before .before .before .before .before .before .expand .ensures)) (inside s)) (c .before .before .before .before .push-binding .ensures)
+returns-2 c = record {
+  space = search needs;
+  promise = let s = c .before .before .before .before .before .before in
+      let a = begin s .args in
+      line-goes (a .start) (now (a .name)) (now (a .raw)) (s .before .before .before .before .before .before .before .expand .ensures) (value-fits (begin s .pre) _ _ (inside s)) (rw (value-counted (begin s .pre) _ _ (inside s) (s .before .before .before .before .before .before .before .expand .ensures)) (inside s)) (c .before .before .before .before .push-binding .ensures);
+}
 
 pub add-to-block-spec : {M : Type 1} → statement M
 add-to-block-spec =

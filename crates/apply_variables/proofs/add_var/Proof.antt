@@ -34,9 +34,11 @@ same-length-3 : tie.Need-same-length-3
 same-length-3 c = search needs
 
 returns : tie.Need-returns
-returns c =
-    let a = c .before .before .before .before .before .before .before .before .before .before .before .before .before .args in
-    var-over (a .start) (now (a .name)) (now (a .raw)) (c .before .before .before .before .expand .ensures) (sym (c .before .binding-over .ensures) ∙ c .if1 .taken)
+returns c = record {
+  space = search needs;
+  promise = let a = c .before .before .before .before .before .before .before .before .before .before .before .before .before .args in
+      var-over (a .start) (now (a .name)) (now (a .raw)) (c .before .before .before .before .expand .ensures) (sym (c .before .binding-over .ensures) ∙ c .if1 .taken);
+}
 
 slice-reshare-prefix-set-var : tie.Need-slice-reshare-prefix-set-var
 slice-reshare-prefix-set-var c = omega (arith, value-fits (begin c .pre) _ _ (inside c))
@@ -59,10 +61,12 @@ same-length-6 : tie.Need-same-length-6
 same-length-6 c = search needs
 
 returns-2 : tie.Need-returns-2
-returns-2 c =
-    let s = c .before .before .before .before .before .before .before .before in
-    let a = begin s .args in
-    var-valued (a .start) (now (a .name)) (now (a .raw)) (s .before .before .before .before .expand .ensures) (value-fits (begin s .pre) _ _ (inside s)) (c .before .before .before .before .set-var .ensures)
+returns-2 c = record {
+  space = search needs;
+  promise = let s = c .before .before .before .before .before .before .before .before in
+      let a = begin s .args in
+      var-valued (a .start) (now (a .name)) (now (a .raw)) (s .before .before .before .before .expand .ensures) (value-fits (begin s .pre) _ _ (inside s)) (c .before .before .before .before .set-var .ensures .promise);
+}
 
 pub add-var-spec : {M : Type 1} → statement M
 add-var-spec =

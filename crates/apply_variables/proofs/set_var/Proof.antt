@@ -10,9 +10,11 @@ is-wrong-version-requires : tie.Need-is-wrong-version-requires
 is-wrong-version-requires c κs = search needs
 
 returns : tie.Need-returns
-returns c =
-    let a = c .before .before .before .before .before .before .args in
-    var-wrong (a .start) (now (a .name)) (now (a .value)) (c .before .before .before .before .before .before .pre .within) (sym (c .before .is-wrong-version .ensures) ∙ c .if1 .taken)
+returns c = record {
+  space = search needs;
+  promise = let a = c .before .before .before .before .before .before .args in
+      var-wrong (a .start) (now (a .name)) (now (a .value)) (c .before .before .before .before .before .before .pre .within) (sym (c .before .is-wrong-version .ensures) ∙ c .if1 .taken);
+}
 
 push-binding-requires : tie.Need-push-binding-requires
 push-binding-requires c κs =
@@ -26,9 +28,11 @@ same-length-2 : tie.Need-same-length-2
 same-length-2 c = search needs
 
 returns-2 : tie.Need-returns-2
-returns-2 c =
-    let a = c .before .before .before .before .before .before .before .before .before .before .before .before .before .args in
-    var-goes (a .start) (now (a .name)) (now (a .value)) (c .before .before .before .before .before .before .before .before .before .before .before .before .before .pre .within) (sym (c .before .before .before .before .before .before .before .before .is-wrong-version .ensures) ∙ c .before .before .before .before .before .before .before .if1 .left) (c .before .before .before .before .push-binding .ensures)
+returns-2 c = record {
+  space = search needs;
+  promise = let a = c .before .before .before .before .before .before .before .before .before .before .before .before .before .args in
+      var-goes (a .start) (now (a .name)) (now (a .value)) (c .before .before .before .before .before .before .before .before .before .before .before .before .before .pre .within) (sym (c .before .before .before .before .before .before .before .before .is-wrong-version .ensures) ∙ c .before .before .before .before .before .before .before .if1 .left) (c .before .before .before .before .push-binding .ensures);
+}
 
 pub set-var-spec : {M : Type 1} → statement M
 set-var-spec =

@@ -12,7 +12,7 @@ enum-known-c : tie.Need-enum-known-c
 enum-known-c c = search needs
 
 plan-read-requires : tie.Need-plan-read-requires
-plan-read-requires c κs = askable (c .before .before .before .before .before .before .before .before .before .before .before .before .before .before .before .before .before .before .before .before .before .before .before .before .before .before .before .before .before .before .before .before .before .before .before .before .pre .room) (read-accepted _ _ (c .before .before .before .before .before .before .before .before .before .before .before .before .before .before .before .before .before .before .before .read-manifest .ensures) (c .before .before .before .before .before .c .given .1))
+plan-read-requires c κs = askable (c .before .before .before .before .before .before .before .before .before .before .before .before .before .before .before .before .before .before .before .before .before .before .before .before .before .before .before .before .before .before .before .before .before .before .before .before .pre .room) (read-accepted _ _ (c .before .before .before .before .before .before .before .before .before .before .before .before .before .before .before .before .before .before .before .read-manifest .ensures .promise) (c .before .before .before .before .before .c .given .1))
 
 enum-known-r : tie.Need-enum-known-r
 enum-known-r c = search needs
@@ -42,7 +42,7 @@ same-length-7 : tie.Need-same-length-7
 same-length-7 c = search needs
 
 returns : tie.Need-returns
-returns c = planned _ _ _ _ (c .before .before .before .before .before .before .before .before .before .before .before .before .before .before .before .before .before .before .before .before .before .before .before .before .before .before .before .before .before .before .before .before .before .before .before .before .before .before .before .pre .room) (read-accepted _ _ (c .before .before .before .before .before .before .before .before .before .before .before .before .before .before .before .before .before .before .before .before .before .before .read-manifest .ensures) (c .before .before .before .before .before .before .before .before .c .given .1)) (c .before .before .plan-read .ensures)
+returns c = planned _ _ _ _ (c .before .before .before .before .before .before .before .before .before .before .before .before .before .before .before .before .before .before .before .before .before .before .before .before .before .before .before .before .before .before .before .before .before .before .before .before .before .before .before .pre .room) (read-accepted _ _ (c .before .before .before .before .before .before .before .before .before .before .before .before .before .before .before .before .before .before .before .before .before .before .read-manifest .ensures .promise) (c .before .before .before .before .before .before .before .before .c .given .1)) (c .before .before .plan-read .ensures)
 
 same-length-8 : tie.Need-same-length-8
 same-length-8 c = search needs
@@ -66,7 +66,7 @@ same-length-14 : tie.Need-same-length-14
 same-length-14 c = search needs
 
 returns-2 : tie.Need-returns-2
-returns-2 c = unread _ _ _ _ (c .before .before .before .before .before .before .before .before .before .before .before .before .before .before .before .before .before .before .before .before .before .before .before .before .before .before .before .before .before .before .before .before .before .before .before .before .pre .room) (read-refused _ _ (c .before .before .before .before .before .before .before .before .before .before .before .before .before .before .before .before .before .before .before .read-manifest .ensures) (c .before .before .before .before .before .r .given .1)) (c .before .before .zero-from .ensures)
+returns-2 c = unread _ _ _ _ (c .before .before .before .before .before .before .before .before .before .before .before .before .before .before .before .before .before .before .before .before .before .before .before .before .before .before .before .before .before .before .before .before .before .before .before .before .pre .room) (read-refused _ _ (c .before .before .before .before .before .before .before .before .before .before .before .before .before .before .before .before .before .before .before .read-manifest .ensures .promise) (c .before .before .before .before .before .r .given .1)) (c .before .before .zero-from .ensures)
 
 pub plan-manifest-spec : {M : Type 1} → statement M
 plan-manifest-spec =

@@ -2,6 +2,7 @@
 use mathlib.Core.Path.{subst}
 use native.Mathlib.Omega.{arith}
 use borrow.Author.Needs.{needs}
+use Rattle.scan_classes.proofs.Sorted.{sorted, in-class, not-in-class}
 use Rattle.scan_raw.specs.Texts.{ValueBad, ValueAt}
 use Rattle.cut_forms.specs.Statements.{AssignmentAt}
 use Rattle.cut_forms.proofs.Faults.{no-form}
@@ -16,21 +17,21 @@ returns : tie.Need-returns
 unfolding AssignmentAt
 returns c = no-form (value-none (c .before .gap .ensures) _ (c .if1 .taken))
 
-shared-slice-read-if2 : tie.Need-shared-slice-read-if2
-shared-slice-read-if2 c = search needs
+shared-slice-read-class-in : tie.Need-shared-slice-read-class-in
+shared-slice-read-class-in c = search needs
+
+class-in-requires : tie.Need-class-in-requires
+class-in-requires c κs = search needs
 
 returns-2 : tie.Need-returns-2
 unfolding AssignmentAt
-returns-2 c = no-form (value-other (c .before .before .before .gap .ensures) (c .before .before .if1 .left) _ (c .if2 .taken))
+returns-2 c = no-form (value-other (c .before .before .before .before .gap .ensures) (c .before .before .before .if1 .left) _ (not-in-class (sorted _ .equals) (c .before .class-in .ensures) (c .if2 .taken)))
 
-add-raw-value : tie.Need-add-raw-value
-add-raw-value c = search needs
+add-value : tie.Need-add-value
+add-value c = search needs
 
 raw-value-requires : tie.Need-raw-value-requires
 raw-value-requires c κs = search needs
-
-sub-start : tie.Need-sub-start
-sub-start c = value-short (c .before .before .before .before .gap .ensures) (c .raw-value .ensures)
 
 bad-dollar-requires : tie.Need-bad-dollar-requires
 bad-dollar-requires c κs = search needs
@@ -41,19 +42,22 @@ enum-told c = search needs
 enum-known-p : tie.Need-enum-known-p
 enum-known-p c = search needs
 
-add-t18 : tie.Need-add-t18
+sub-t20 : tie.Need-sub-t20
+sub-t20 c = omega (arith, value-short (c .before .before .before .before .before .before .before .before .before .gap .ensures) (c .before .before .before .before .raw-value .ensures))
+
+add-t21 : tie.Need-add-t21
 unfolding ValueAt
-add-t18 c =
+add-t21 c =
     let b : ValueBad _ _ = subst (ValueAt _) (c .before .p .given .1) (c .before .before .before .bad-dollar .ensures) in
-    omega (arith, value-short (c .before .before .before .before .before .before .before .before .gap .ensures) (c .before .before .before .before .raw-value .ensures), b .within)
+    omega (arith, value-short (c .before .before .before .before .before .before .before .before .before .gap .ensures) (c .before .before .before .before .raw-value .ensures), b .within)
 
 returns-3 : tie.Need-returns-3
 unfolding AssignmentAt ValueAt
-returns-3 c = value-sound (c .before .before .before .before .before .before .before .gap .ensures) (c .before .before .before .before .before .before .if1 .left) (c .before .before .before .before .if2 .left) (c .before .before .before .raw-value .ensures) (c .before .before .before .before .before .before .before .before .before .pre .1) (subst (ValueAt _) (c .enum-told .given .1) (c .before .before .bad-dollar .ensures))
+returns-3 c = value-sound (c .before .before .before .before .before .before .before .before .gap .ensures) (c .before .before .before .before .before .before .before .if1 .left) (in-class (sorted _ .equals) (c .before .before .before .before .before .class-in .ensures) (c .before .before .before .before .if2 .left)) (c .before .before .before .raw-value .ensures) (c .before .before .before .before .before .before .before .before .before .before .pre .1) (subst (ValueAt _) (c .enum-told .given .1) (c .before .before .bad-dollar .ensures))
 
 returns-4 : tie.Need-returns-4
 unfolding AssignmentAt ValueAt
-returns-4 c = value-bad (c .before .before .before .before .before .before .before .before .gap .ensures) (c .before .before .before .before .before .before .before .if1 .left) (c .before .before .before .before .before .if2 .left) (c .before .before .before .before .raw-value .ensures) _ (subst (ValueAt _) (c .before .p .given .1) (c .before .before .before .bad-dollar .ensures))
+returns-4 c = value-bad (c .before .before .before .before .before .before .before .before .before .gap .ensures) (c .before .before .before .before .before .before .before .before .if1 .left) (in-class (sorted _ .equals) (c .before .before .before .before .before .before .class-in .ensures) (c .before .before .before .before .before .if2 .left)) (c .before .before .before .before .raw-value .ensures) _ (subst (ValueAt _) (c .before .p .given .1) (c .before .before .before .bad-dollar .ensures))
 
 pub cut-value-spec : {M : Type 1} → statement M
 cut-value-spec =
@@ -61,14 +65,15 @@ cut-value-spec =
     (tie.spec
     gap-requires
     returns
-    shared-slice-read-if2
+    shared-slice-read-class-in
+    class-in-requires
     returns-2
-    add-raw-value
+    add-value
     raw-value-requires
-    sub-start
     bad-dollar-requires
     enum-told
     enum-known-p
-    add-t18
+    sub-t20
+    add-t21
     returns-3
     returns-4)
