@@ -157,7 +157,15 @@ fn sort(
             steps: done,
         };
         match explore_root(
-            mentions, ends, made, roots, reached, seen, next, path, order,
+            mentions,
+            ends,
+            made,
+            roots,
+            reached,
+            seen,
+            next,
+            path,
+            order,
         ) {
             Visit::Done(k) => {
                 done = k;

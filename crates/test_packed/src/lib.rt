@@ -4,6 +4,7 @@ ghost use mathlib.Core.Path.{_≡_};
 ghost use mathlib.Core.Bool.{true};
 ghost use Prim.Native.Nat.{_≤_};
 ghost use lib.ListN.{length};
+ghost use Rattle.lists.specs.Lent.{Spare};
 ghost use Rattle.test_packed.specs.Parts.{Behind};
 use answers::Numbers;
 use byteorder::equal;
@@ -120,8 +121,10 @@ fn read_expected(fd: i32, bytes: &mut [u8]) -> Expected
     }
 }
 
-// Is the answer the next one of those expected.
-fn meets(fd: i32, n: Numbers, is_plan: bool, list: &[u32], buf: &[u8], bytes: &mut [u8]) -> Met {
+// Is the answer the next one of those expected, which is read into `bytes`: working space.
+fn meets(fd: i32, n: Numbers, is_plan: bool, list: &[u32], buf: &[u8], bytes: &mut [u8]) -> Met
+    ensures { λ _. ⌜ Spare (now (bytes .entry)) (now (bytes .exit)) ⌝ }
+{
     let e = read_expected(fd, bytes);
     if !e.whole {
         return Met {
@@ -150,7 +153,9 @@ pub fn check(
     list: &[u32],
     buf: &[u8],
     bytes: &mut [u8],
-) -> Met {
+) -> Met
+    ensures { λ _. ⌜ Spare (now (bytes .entry)) (now (bytes .exit)) ⌝ }
+{
     let mut yes = false;
     let mut i = 0;
     while i < count {

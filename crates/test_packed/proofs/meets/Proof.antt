@@ -1,4 +1,4 @@
--- `cases::meets` meets its contract.
+-- `test_packed::meets` meets its contract.
 use mathlib.Core.Path.{sym}
 use borrow.Author.Tests.{not-false}
 use lib.Seq.{length-take-le}
@@ -13,7 +13,7 @@ same-length : tie.Need-same-length
 same-length c = search needs
 
 returns : tie.Need-returns
-returns c = search needs
+returns c = record { long = same-length c }
 
 slice-reshare-prefix-holds-words : tie.Need-slice-reshare-prefix-holds-words
 slice-reshare-prefix-holds-words c = c .before .before .before .before .before .before .before .before .before .read-expected .ensures (not-false _ (c .before .before .before .before .before .if1 .left))
@@ -37,19 +37,19 @@ same-length-2 : tie.Need-same-length-2
 same-length-2 c = search needs
 
 returns-2 : tie.Need-returns-2
-returns-2 c = search needs
+returns-2 c = record { long = same-length-2 c }
 
 same-length-3 : tie.Need-same-length-3
 same-length-3 c = search needs
 
 returns-3 : tie.Need-returns-3
-returns-3 c = search needs
+returns-3 c = record { long = same-length-3 c }
 
 same-length-4 : tie.Need-same-length-4
 same-length-4 c = search needs
 
 returns-4 : tie.Need-returns-4
-returns-4 c = search needs
+returns-4 c = record { long = same-length-4 c }
 
 pub meets-spec : {M : Type 1} → statement M
 meets-spec =
