@@ -38,7 +38,7 @@ braced-other n (x ∷ s) b r e =
     (λ (t : eqb x closeBrace && not (isEmpty n) ≡ false). let q : wrong ≡ literal b r = rw t at e in let z : _≡_ {A = ℕ} 0 1 = cc in omega arith)
 
 pub literal-here : (s : List ℕ) {b : ℕ} {r : List ℕ} → element s ≡ literal b r → s ≡ b ∷ r
-unfolding element
+unfolding element nameOf afterName
 literal-here [] e = cc
 literal-here (x ∷ s) {b} {r} e =
     split (escaped x) (λ (t : escaped x ≡ true). let q : literal x s ≡ literal b r = rw t at e in cc)
