@@ -17,9 +17,9 @@ use Rattle.spec.specs.Answers.{Said, refusalSays}
 use Rattle.answers.specs.declared.Numbers.{Numbers as Two}
 use Rattle.answers.specs.Numbers.{said}
 use Rattle.scan_classes.specs.Table.{classes}
-use Rattle.apply_manifest.specs.Manifests.{Roomy, IsRead}
+use Rattle.apply_manifest.specs.Manifests.{Roomy}
 use Rattle.test_manifest.specs.declared.ReadNumbers.{ReadNumbers}
-use Rattle.test_manifest.specs.Numbers.{bare, inNumbers, Judges, Reads}
+use Rattle.test_manifest.specs.Numbers.{bare, inNumbers, Judges, Reads, ReadWhole}
 use Rattle.hold_reading.specs.Buffers.{Buffers}
 
 module _ {bs : Buffers} {word : List ℕ} where
@@ -68,7 +68,7 @@ module _ {m : List ℕ} {bs : Buffers} {word : List ℕ} {b : Bool} (j : Judges 
     small = λ n. (q, record { names-stay = refl; index-stay = refl; texts-stay = refl; bind-stay = refl; graph-stay = refl; word-stay = refl });
   }
 
-  pub has-read : (a : ReadAnswer) {r : ReadNumbers} {bs′ : Buffers} {word′ : List ℕ} → b ≡ true → IsRead m bs′ a → r ≡ inNumbers a
+  pub has-read : (a : ReadAnswer) {r : ReadNumbers} {bs′ : Buffers} {word′ : List ℕ} → b ≡ true → ReadWhole m bs word a bs′ word′ → r ≡ inNumbers a
       → Reads m bs word r bs′ word′
   has-read a e i q = record { roomy = λ p. record { answer = a; read = i; says = q }; small = λ n. absurd (n (j .enough e)) }
 

@@ -3,13 +3,15 @@ use Prim.Native.Nat.{ℕ}
 use mathlib.Core.Bool.{Bool, true, false}
 use mathlib.Core.List.{List}
 use mathlib.Core.Path.{_≡_}
+use lib.ListN.{length}
+use Rattle.lists.specs.Fill.{zeros}
 use Rattle.spec.specs.Answers.{refusalSays}
 use Rattle.scan_classes.specs.Table.{classes}
 use Rattle.apply_manifest.specs.declared.ReadAnswer.{ReadAnswer}
 use Rattle.apply_manifest.specs.declared.ReadAnswer.the-variants.{Accepted, Refused}
 use Rattle.apply_manifest.specs.Manifests.{Roomy, IsRead}
 use Rattle.test_manifest.specs.declared.ReadNumbers.{ReadNumbers}
-use Rattle.hold_reading.specs.Buffers.{Buffers}
+use Rattle.hold_reading.specs.Buffers.{Buffers, SameRoom}
 
 -- a number and a place, and nothing counted
 abbrev pub bare : ℕ → ℕ → ReadNumbers
@@ -38,10 +40,29 @@ pub record Judges (bs : Buffers) (word : List ℕ) (r : Bool) : Type 0 where
   pub enough : r ≡ true → Roomy classes bs word
   pub lacking : r ≡ false → Roomy classes bs word → ⊥
 
--- the manifest has been read into the buffers, or refused, and the numbers say which
-pub record ReadAs (m : List ℕ) (r : ReadNumbers) (bs : Buffers) : Type 0 where
+-- all zero, with the room that they had
+pub record Cleared (bs bs′ : Buffers) : Type 0 where
+  pub names : bs′ .names ≡ zeros (length (bs .names))
+  pub index : bs′ .index ≡ zeros (length (bs .index))
+  pub texts : bs′ .texts ≡ zeros (length (bs .texts))
+  pub bind : bs′ .bind ≡ zeros (length (bs .bind))
+  pub graph : bs′ .graph ≡ zeros (length (bs .graph))
+
+-- what is left of the buffers: they hold what was read, and a refusal leaves them all zero
+unfoldable pub Left : ReadAnswer → Buffers → Buffers → Type 0
+Left (Accepted c) bs bs′ = SameRoom bs bs′
+Left (Refused r) bs bs′ = Cleared bs bs′
+
+-- The manifest has been read into the buffers, or refused. The word buffer is left zero.
+pub record ReadWhole (m : List ℕ) (bs : Buffers) (word : List ℕ) (a : ReadAnswer) (bs′ : Buffers) (word′ : List ℕ) : Type 0 where
+  pub read : IsRead m bs′ a
+  pub left : Left a bs bs′
+  pub word-zero : word′ ≡ zeros (length word)
+
+-- the same, and the numbers say which
+pub record ReadAs (m : List ℕ) (bs : Buffers) (word : List ℕ) (r : ReadNumbers) (bs′ : Buffers) (word′ : List ℕ) : Type 0 where
   pub answer : ReadAnswer
-  pub read : IsRead m bs answer
+  pub read : ReadWhole m bs word answer bs′ word′
   pub says : r ≡ inNumbers answer
 
 -- buffers as they were
@@ -55,5 +76,5 @@ pub record Untouched (bs : Buffers) (word : List ℕ) (bs′ : Buffers) (word′
 
 -- What the reader answers; or, where a buffer has no room for some manifest, 255 and the buffers as they were.
 pub record Reads (m : List ℕ) (bs : Buffers) (word : List ℕ) (r : ReadNumbers) (bs′ : Buffers) (word′ : List ℕ) : Type 0 where
-  pub roomy : Roomy classes bs word → ReadAs m r bs′
+  pub roomy : Roomy classes bs word → ReadAs m bs word r bs′ word′
   pub small : (Roomy classes bs word → ⊥) → (r ≡ bare 255 0) × Untouched bs word bs′ word′

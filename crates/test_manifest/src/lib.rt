@@ -1,6 +1,7 @@
 // The manifest reader for Rust: the buffers come from outside, so their room is checked first.
 ghost use mathlib.Core.Path.{_≡_};
-ghost use Rattle.test_manifest.specs.Numbers.{bare, inNumbers, Judges, Reads};
+ghost use Rattle.apply_manifest.specs.Manifests.{Roomy};
+ghost use Rattle.test_manifest.specs.Numbers.{bare, inNumbers, Cleared, Judges, ReadWhole, Reads};
 ghost use Rattle.hold_reading.specs.Buffers.{buffers};
 use answers::of_refusal;
 use apply_manifest::ReadAnswer;
@@ -107,7 +108,50 @@ fn in_numbers(a: ReadAnswer) -> ReadNumbers
     }
 }
 
-// Reads a manifest into buffers of any length. Buffers without room are answered with 255 and not touched.
+// Zeroes the buffers that a manifest was read into.
+fn clear_all(
+    names: &mut [u8],
+    index: &mut [u32],
+    texts: &mut [u8],
+    bind: &mut [u32],
+    graph: &mut [u32],
+)
+    ensures { λ _. ⌜ Cleared (buffers (now (names .entry)) (now (index .entry)) (now (texts .entry)) (now (bind .entry)) (now (graph .entry))) (buffers (now (names .exit)) (now (index .exit)) (now (texts .exit)) (now (bind .exit)) (now (graph .exit))) ⌝ }
+{
+    slices::bytes::zero_from(names, 0);
+    slices::words::zero_from(index, 0);
+    slices::bytes::zero_from(texts, 0);
+    slices::words::zero_from(bind, 0);
+    slices::words::zero_from(graph, 0);
+}
+
+// The reader with what a total entry promises of its buffers: a refusal leaves them all zero, and the word buffer is zero in any case.
+fn read_or_clear(
+    t: &[u8; 256],
+    m: &[u8],
+    names: &mut [u8],
+    index: &mut [u32],
+    texts: &mut [u8],
+    bind: &mut [u32],
+    graph: &mut [u32],
+    word: &mut [u8],
+) -> ReadAnswer
+    requires { ⌜ Roomy (now t) (buffers (now names) (now index) (now texts) (now bind) (now graph)) (now word) ⌝ }
+    ensures { λ r. ⌜ ReadWhole (now (m .entry)) (buffers (now (names .entry)) (now (index .entry)) (now (texts .entry)) (now (bind .entry)) (now (graph .entry))) (now (word .entry)) r (buffers (now (names .exit)) (now (index .exit)) (now (texts .exit)) (now (bind .exit)) (now (graph .exit))) (now (word .exit)) ⌝ }
+{
+    let a = read_manifest(t, m, names, index, texts, bind, graph, word);
+    slices::bytes::zero_from(word, 0);
+    match a {
+        ReadAnswer::Accepted(c) => ReadAnswer::Accepted(c),
+        ReadAnswer::Refused(r) => {
+            clear_all(names, index, texts, bind, graph);
+            ReadAnswer::Refused(r)
+        }
+    }
+}
+
+// Reads a manifest into buffers of any length. The word buffer is left zero, and all are after a refusal. Buffers without room are answered with 255
+// and not touched.
 #[no_mangle]
 pub extern "C" fn kestrenyo_read(
     manifest: &[u8],
@@ -124,5 +168,5 @@ pub extern "C" fn kestrenyo_read(
         return uncounted(255, 0);
     }
     let t = table();
-    in_numbers(read_manifest(&t, manifest, names, index, texts, bind, graph, word))
+    in_numbers(read_or_clear(&t, manifest, names, index, texts, bind, graph, word))
 }

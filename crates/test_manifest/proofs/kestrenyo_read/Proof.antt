@@ -35,8 +35,8 @@ returns c = too-small (c .before .before .is-roomy .ensures) (not-true _ (c .bef
 table-requires : tie.Need-table-requires
 table-requires c κs = search needs
 
-read-manifest-requires : tie.Need-read-manifest-requires
-read-manifest-requires c κs = lent (c .before .before .before .before .before .before .before .table .ensures) (c .before .before .before .before .before .before .before .before .before .is-roomy .ensures .enough (not-false _ (c .before .before .before .before .before .before .before .before .if1 .left)))
+read-or-clear-requires : tie.Need-read-or-clear-requires
+read-or-clear-requires c κs = lent (c .before .before .before .before .before .before .before .table .ensures) (c .before .before .before .before .before .before .before .before .before .is-roomy .ensures .enough (not-false _ (c .before .before .before .before .before .before .before .before .if1 .left)))
 
 in-numbers-requires : tie.Need-in-numbers-requires
 in-numbers-requires c κs = search needs
@@ -60,7 +60,7 @@ same-length-12 : tie.Need-same-length-12
 same-length-12 c = search needs
 
 returns-2 : tie.Need-returns-2
-returns-2 c = has-read (c .before .before .before .before .before .before .before .before .before .before .before .before .before .before .before .before .before .before .before .before .before .before .before .is-roomy .ensures) _ (not-false _ (c .before .before .before .before .before .before .before .before .before .before .before .before .before .before .before .before .before .before .before .before .before .before .if1 .left)) (c .before .before .before .before .before .before .before .before .before .before .before .before .before .read-manifest .ensures) (c .in-numbers .ensures)
+returns-2 c = has-read (c .before .before .before .before .before .before .before .before .before .before .before .before .before .before .before .before .before .before .before .before .before .before .before .is-roomy .ensures) _ (not-false _ (c .before .before .before .before .before .before .before .before .before .before .before .before .before .before .before .before .before .before .before .before .before .before .if1 .left)) (c .before .before .before .before .before .before .before .before .before .before .before .before .before .read-or-clear .ensures) (c .in-numbers .ensures)
 
 pub kestrenyo-read-spec : {M : Type 1} → statement M
 kestrenyo-read-spec =
@@ -76,7 +76,7 @@ kestrenyo-read-spec =
     same-length-6
     returns
     table-requires
-    read-manifest-requires
+    read-or-clear-requires
     in-numbers-requires
     same-length-7
     same-length-8

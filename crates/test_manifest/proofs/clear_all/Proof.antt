@@ -1,0 +1,55 @@
+-- `test_manifest::clear_all` meets its contract.
+use borrow.Author.Needs.{needs}
+use denote.Ref.{now}
+use Rattle.test_manifest.proofs.Clearing.{all-zero}
+use Rattle.test_manifest.proofs.clear_all.Statement.{statement}
+use Rattle.test_manifest.proofs.clear_all.Tie as tie
+
+zero-from-requires : tie.Need-zero-from-requires
+zero-from-requires c κs = search needs
+
+zero-from-requires-2 : tie.Need-zero-from-requires-2
+zero-from-requires-2 c κs = search needs
+
+zero-from-requires-3 : tie.Need-zero-from-requires-3
+zero-from-requires-3 c κs = search needs
+
+zero-from-requires-4 : tie.Need-zero-from-requires-4
+zero-from-requires-4 c κs = search needs
+
+zero-from-requires-5 : tie.Need-zero-from-requires-5
+zero-from-requires-5 c κs = search needs
+
+same-length : tie.Need-same-length
+same-length c = search needs
+
+same-length-2 : tie.Need-same-length-2
+same-length-2 c = search needs
+
+same-length-3 : tie.Need-same-length-3
+same-length-3 c = search needs
+
+same-length-4 : tie.Need-same-length-4
+same-length-4 c = search needs
+
+same-length-5 : tie.Need-same-length-5
+same-length-5 c = search needs
+
+returns : tie.Need-returns
+returns c = let a = c .before .before .before .before .before .before .before .before .before .before .before .before .before .before .before .before .before .before .before .before .before .before .before .before .before .args in record { names = all-zero (now (a .names)) (c .before .before .before .before .before .before .before .before .before .before .before .before .before .before .before .before .before .before .zero-from .ensures); index = all-zero (now (a .index)) (c .before .before .before .before .before .before .before .before .before .before .before .before .before .before .zero-from2 .ensures); texts = all-zero (now (a .texts)) (c .before .before .before .before .before .before .before .before .before .before .zero-from3 .ensures); bind = all-zero (now (a .bind)) (c .before .before .before .before .before .before .zero-from4 .ensures); graph = all-zero (now (a .graph)) (c .before .before .zero-from5 .ensures) }
+
+pub clear-all-spec : {M : Type 1} → statement M
+clear-all-spec =
+    tie.close
+    (tie.spec
+    zero-from-requires
+    zero-from-requires-2
+    zero-from-requires-3
+    zero-from-requires-4
+    zero-from-requires-5
+    same-length
+    same-length-2
+    same-length-3
+    same-length-4
+    same-length-5
+    returns)
