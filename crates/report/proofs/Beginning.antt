@@ -7,7 +7,7 @@ use borrow.Author.Tests.{eq-eqb, ne-eqb, eqb-false}
 use lib.ListN.{length, take, replicate}
 use lib.Seq.{drop-length}
 use Rattle.lists.specs.Fill.{zeroed}
-use Rattle.spec.specs.Answers.{Said, numberOfRefusal, refusalSays}
+use Rattle.spec.specs.Answers.{Said, numberOfRefusal}
 use Rattle.spec.specs.PlanAsk.{Inputs, PlanOutcome, listed, circular, noPlan, planAsk}
 use Rattle.spec.specs.Promises.{filled, PlanMeets}
 use Rattle.answers.specs.declared.Numbers.{Numbers as Two}
@@ -91,7 +91,7 @@ fits-all e h = record { listed-fits = λ _. omega arith; circle-fits = λ _. ome
 
 module _ (i : Inputs) (room : ℕ) where
   plan-fits : (o : PlanOutcome) → planAsk i room ≡ o → (list exit : List ℕ) (s : Said) → length exit ≡ length list → PlanMeets o list s exit → Fits s (length exit)
-  unfolding PlanMeets refusalSays
+  unfolding PlanMeets numberOfRefusal
   plan-fits (listed l) e list exit s k m = fits-all (ap (λ (x : Said). x .value) (m .says)) (omega (arith, fits-filled l list exit (m .leaves) k))
   plan-fits (circular steps ts) e list exit s k m =
       fits-all (ap (λ (x : Said). x .value) (m .shown .says)) (omega (arith, fits-filled (m .circle) list exit (m .shown .leaves) k))
@@ -157,7 +157,7 @@ list-written manifest (s ∷ l) list line listExit k w j p = checked-written man
 module _ (i : Inputs) (room : ℕ) (list line listExit : List ℕ) {r : Begun} {exit : List ℕ} (s : Said)
     (k : length listExit ≡ length list) (j : length exit ≡ length line) (p : Opens (planOpening (i .manifest) s listExit) line r exit) where
   plan-right : (o : PlanOutcome) → planAsk i room ≡ o → PlanMeets o list s listExit → Right (i .manifest) o r listExit exit
-  unfolding PlanMeets Outputs refusalSays
+  unfolding PlanMeets Outputs numberOfRefusal
   plan-right (listed l) e m =
       let n : s .number ≡ 0 = ap (λ (x : Said). x .number) (m .says) in
       let v : s .value ≡ length l = ap (λ (x : Said). x .value) (m .says) in

@@ -10,7 +10,7 @@ use Rattle.lists.specs.Parts.{part, length-part}
 use Rattle.answers.specs.declared.Numbers.{Numbers as Two}
 use Rattle.answers.specs.Numbers.{said}
 use Rattle.spec.specs.declared.Wanted.the-variants.{Command}
-use Rattle.spec.specs.Answers.{Said, refusalSays}
+use Rattle.spec.specs.Answers.{numberOfRefusal, Said}
 use Rattle.spec.specs.TextAsk.{TextOutcome, text, noText, textAsk}
 use Rattle.spec.specs.Promises.{filled, TextMeets}
 use Rattle.printing.specs.Lines.{refusedLine, headOf, lineOf}
@@ -45,7 +45,7 @@ says-command manifest step lent exit s k m = rw k at (meets-says (textAsk manife
 -- ---- the check of all texts
 
 says-fine : (o : TextOutcome) (rest : Checks) → outcomeSays o .number ≡ 0 → afterText o rest ≡ rest
-unfolding outcomeSays afterText refusalSays
+unfolding outcomeSays afterText numberOfRefusal
 says-fine (text t) rest e = refl
 says-fine (noText r) rest e = absurd (not-0 r e)
 
@@ -100,7 +100,7 @@ record Text (o : TextOutcome) (lent : List ℕ) (s : Said) (exit : List ℕ) : T
   shown : exit ≡ filled bytes lent
 
 text-of : (o : TextOutcome) (lent exit : List ℕ) (s : Said) → s .number ≡ 0 → TextMeets o lent s exit → Text o lent s exit
-unfolding TextMeets refusalSays
+unfolding TextMeets numberOfRefusal
 text-of (text t) lent exit s e m = record { bytes = t; outcome = refl; counted = ap (λ (x : Said). x .value) (m .says); shown = m .leaves }
 text-of (noText r) lent exit s e m = absurd (not-0 r (sym (ap (λ (x : Said). x .number) (m .says)) ∙ e))
 
