@@ -14,10 +14,10 @@ use Rattle.lists.specs.Tests.{split, and-left}
 use Rattle.lists.specs.Parts.{part}
 use Rattle.lists.specs.Runs.{Reads, afterRun, run-stops}
 use Rattle.spec.specs.Bytes.{newline, space, hash, dollar}
-use Rattle.spec.specs.Lines.{At, indent, comment, body, bodyTurn, lineTurn, escaping, endsLine, lineFrom, endedFrom, lineAt, linesAfter, linesOf, isSpace}
+use Rattle.spec.specs.Lines.{At, indent, comment, body, bodyTurn, lineTurn, escaping, endsLine, lineFrom, endedFrom, lineAt, linesAfter, linesOf, isSpace, startsWith, isComment}
 use Rattle.scan_lines.specs.declared.LineEnd.{LineEnd}
-use Rattle.scan_lines.specs.declared.LineEnd.the-variants.{Ended, Open}
-use Rattle.scan_lines.specs.Endings.{linesFrom, endFrom, EndsAt, EndAt, LineEnded, LineOpen, LineAt}
+use Rattle.scan_lines.specs.declared.LineEnd.the-variants.{Ended, Comment as CommentEnded, Open}
+use Rattle.scan_lines.specs.Endings.{linesFrom, endFrom, EndsAt, EndAt, LineEnded, CommentAt, LineOpen, LineAt}
 use Rattle.scan_tokens.proofs.Places.{Going, going-on, at-cons, at-end}
 
 -- ---- one byte, or an escape
@@ -168,15 +168,25 @@ open-at : (m : List ℕ) (i : ℕ) → endFrom indent (drop i m) ≡ none → Li
 open-at m i e =
     record { text = open-text indent _ e; ended = open-ended indent _ e; after = open-after indent i _ e }
 
-line-at : (m : List ℕ) (i : ℕ) (r : LineEnd) → EndAt indent m i r → LineAt m i r
-unfolding EndAt LineAt
-line-at m i (Ended e) a = ended-at a
-line-at m i Open a = open-at m i a
+-- what is read as far as p at place j is read as far as `indent` at the line's start
+module _ (p : At) {m : List ℕ} {i j : ℕ} (h : i ≤ j) (f : endFrom indent (drop i m) ≡ endFrom p (drop j m)) where
+  ended-from : {e : ℕ} → EndsAt p m j e → LineEnded m i e
+  ended-from a = ended-at (record { forward = le-trans h (a .forward); within = a .within; rest = f ∙ a .rest })
 
-end-from : (q p : At) (m : List ℕ) (i j : ℕ) (r : LineEnd) → i ≤ j → endFrom q (drop i m) ≡ endFrom p (drop j m) → EndAt p m j r → EndAt q m i r
-unfolding EndAt
-end-from q p m i j (Ended e) h f a = record { forward = le-trans h (a .forward); within = a .within; rest = f ∙ a .rest }
-end-from q p m i j Open h f a = f ∙ a
+  open-from : endFrom p (drop j m) ≡ none → LineOpen m i
+  open-from e = open-at m i (f ∙ e)
+
+-- a line is a comment by its first byte that is no space, and that lies before its end
+comment-text : (s : List ℕ) → isComment (lineFrom indent s) ≡ isComment s
+unfolding isComment startsWith afterRun lineFrom endsLine lineTurn escaping
+comment-text [] = refl
+comment-text (b ∷ s) =
+    split (eqb b newline)
+    (λ (e : eqb b newline ≡ true). let d : b ≡ newline = eqb-true b newline e in rw d)
+    (λ (e : eqb b newline ≡ false).
+    split (eqb b space)
+    (λ (d : eqb b space ≡ true). rw (e, d) (comment-text s))
+    (λ (d : eqb b space ≡ false). rw (e, d)))
 
 -- its first byte that is no space stands at k
 module _ {m : List ℕ} {i k : ℕ} (a : Reads (afterRun isSpace) m i k) where
@@ -188,14 +198,33 @@ module _ {m : List ℕ} {i k : ℕ} (a : Reads (afterRun isSpace) m i k) where
   line-of-spaces h = open-at m i (after-spaces ∙ rw (at-end m k h))
 
   module _ (h : k < length m) where
-    pub line-of-comment : (r : LineEnd) → getD m k 0 ≡ hash → EndAt comment m k r → LineAt m i r
-    line-of-comment r e f =
-        line-at m i r (end-from indent comment m i k r (a .forward) (after-spaces ∙ rw (at-cons m k h, e) (end-hash _)) f)
+    module _ (e : getD m k 0 ≡ hash) where
+      from-hash : endFrom indent (drop i m) ≡ endFrom comment (drop k m)
+      from-hash = after-spaces ∙ rw (at-cons m k h, e) (end-hash _)
 
-    pub line-of-body : (r : LineEnd) → (getD m k 0 ≡ hash → ⊥) → EndAt body m k r → LineAt m i r
-    line-of-body r n f =
-        let s : getD m k 0 ≡ space → ⊥ = eqb-false _ _ (run-stops isSpace (drop i m) _ _ (sym (a .rest) ∙ at-cons m k h)) in
-        line-at m i r (end-from indent body m i k r (a .forward) (after-spaces ∙ rw (at-cons m k h) (end-other _ _ s n)) f)
+      comment-here : isComment (drop i m) ≡ true
+      unfolding isComment startsWith
+      comment-here = rw (← (a .rest), at-cons m k h, e)
+
+      pub line-of-comment : (r : LineEnd) → EndAt comment m k r → LineAt m i r
+      unfolding EndAt LineAt
+      line-of-comment (Ended n) f = ended-from comment (a .forward) from-hash f
+      line-of-comment (CommentEnded n) f =
+          let l : LineEnded m i n = ended-from comment (a .forward) from-hash (f .1) in
+          record { line = l; is = rw (← (l .text)) (comment-text (drop i m) ∙ comment-here) }
+      line-of-comment Open f = open-from comment (a .forward) from-hash f
+
+    module _ (n : getD m k 0 ≡ hash → ⊥) where
+      from-body : endFrom indent (drop i m) ≡ endFrom body (drop k m)
+      from-body =
+          let s : getD m k 0 ≡ space → ⊥ = eqb-false _ _ (run-stops isSpace (drop i m) _ _ (sym (a .rest) ∙ at-cons m k h)) in
+          after-spaces ∙ rw (at-cons m k h) (end-other _ _ s n)
+
+      pub line-of-body : (r : LineEnd) → EndAt body m k r → LineAt m i r
+      unfolding EndAt LineAt
+      line-of-body (Ended e) f = ended-from body (a .forward) from-body f
+      line-of-body (CommentEnded e) f = let z : _≡_ {A = ℕ} 0 1 = let g = f .0 in cc in absurd (omega arith)
+      line-of-body Open f = open-from body (a .forward) from-body f
 
 -- ---- the lines of a manifest, one after the other
 
