@@ -1,14 +1,13 @@
 -- The reader goes from line to line: what it has passed are comments.
 use Prim.Native.Nat.{ℕ, _-_, _≤_, _<_}
-use mathlib.Core.Bool.{true, _&&_}
+use mathlib.Core.Bool.{true}
 use mathlib.Core.List.{List, [], _∷_, _++_}
 use mathlib.Core.Path.{_≡_, refl, sym, _∙_, ap, subst}
 use native.Mathlib.Omega.{arith}
-use lib.ListN.{length, drop}
+use lib.ListN.{length}
 use Rattle.lists.specs.Tests.{and-left, and-right}
 use Rattle.lists.specs.Parts.{part}
 use Rattle.spec.specs.Lines.{Line, isComment}
-use Rattle.scan_lines.specs.Endings.{linesFrom}
 use Rattle.scan_cursor.specs.declared.LineBounds.{LineBounds}
 use Rattle.scan_cursor.specs.Spans.{lineOf, LineSpan, LineHere, onlyComments, NextLine}
 

@@ -17,7 +17,7 @@ use Rattle.spec.specs.Bytes.{newline, space, hash, dollar}
 use Rattle.spec.specs.Lines.{At, indent, comment, body, bodyTurn, lineTurn, escaping, endsLine, lineFrom, endedFrom, lineAt, linesAfter, linesOf, isSpace, startsWith, isComment}
 use Rattle.scan_lines.specs.declared.LineEnd.{LineEnd}
 use Rattle.scan_lines.specs.declared.LineEnd.the-variants.{Ended, Comment as CommentEnded, Open}
-use Rattle.scan_lines.specs.Endings.{linesFrom, endFrom, EndsAt, EndAt, LineEnded, CommentAt, LineOpen, LineAt}
+use Rattle.scan_lines.specs.Endings.{linesFrom, endFrom, EndsAt, EndAt, LineEnded, LineOpen, LineAt}
 use Rattle.scan_tokens.proofs.Places.{Going, going-on, at-cons, at-end}
 
 -- ---- one byte, or an escape
