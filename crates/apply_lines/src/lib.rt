@@ -31,7 +31,7 @@ pub fn read_line(
 {
     let c = s.counts;
     let block = s.open;
-    match line_kind(l) {
+    match line_kind(t, l) {
         LineKind::Comment => LineAnswer::Goes(c, block),
         LineKind::Blank => close(texts, bind, c, block),
         LineKind::Indented => read_indented(

@@ -1,20 +1,22 @@
 -- The loop over the lines: what is held before each line, and that the lines that are left end as all lines do.
-use Prim.Native.Nat.{ℕ, _≤_}
-use mathlib.Core.List.{List, []}
-use mathlib.Core.Path.{_≡_, refl, sym, ap, subst}
+use Prim.Native.Nat.{ℕ, _≤_, _<_}
+use mathlib.Core.Bool.{true}
+use mathlib.Core.List.{List, [], _∷_, _++_}
+use mathlib.Core.Path.{_≡_, refl, sym, _∙_, ap, subst}
 use native.Mathlib.Omega.{arith}
 use lib.ListN.{length, drop}
+use Rattle.lists.specs.Tests.{and-left, and-right}
 use Rattle.lists.specs.Parts.{part, length-part}
 use Rattle.spec.specs.declared.Refusal.{Refusal}
 use Rattle.spec.specs.Basics.{sum}
-use Rattle.spec.specs.Lines.{Line, linesOf}
-use Rattle.spec.specs.Reading.{nothingRead}
-use Rattle.spec.specs.Statements.{noBlock, Outcome}
+use Rattle.spec.specs.Lines.{Line, linesOf, isComment}
+use Rattle.spec.specs.Reading.{Reading, nothingRead}
+use Rattle.spec.specs.Statements.{Block, noBlock, Outcome}
 use Rattle.spec.specs.Manifest.{close, andThen, readLine, readLines}
 use Rattle.scan_lines.specs.Endings.{linesFrom}
 use Rattle.scan_lines.proofs.Ends.{lines-begin, lines-end}
 use Rattle.scan_cursor.specs.declared.LineBounds.{LineBounds}
-use Rattle.scan_cursor.specs.Spans.{lineOf, LineSpan}
+use Rattle.scan_cursor.specs.Spans.{lineOf, LineSpan, LineHere, onlyComments, NextLine}
 use Rattle.hold_reading.specs.declared.Counts.{Counts}
 use Rattle.hold_reading.specs.declared.Open.{Open}
 use Rattle.hold_reading.specs.declared.Open.the-variants.{Nothing}
@@ -40,17 +42,31 @@ pub record Same (bs₀ : Buffers) (word₀ : List ℕ) (bs : Buffers) (word : Li
 pub same-begin : {bs : Buffers} {word : List ℕ} → Same bs word bs word
 same-begin = record { names-same = refl; ends-same = refl; texts-same = refl; bind-same = refl; graph-same = refl; word-same = refl }
 
--- before the line that starts at place i
-pub record Turning (m : List ℕ) (bs : Buffers) (c : Counts) (o : Open) (i : ℕ) : Type 0 where
-  pub within : i ≤ length m
-  pub between : Between bs c o
-  pub left : readLines (linesFrom i (drop i m)) (between .reading) (between .block) ≡ readLines (linesOf m) nothingRead noBlock
+-- a comment changes nothing
+past-comments : (ls ks : List Line) (rd : Reading) (b : Block) → onlyComments ls ≡ true → readLines (ls ++ ks) rd b ≡ readLines ks rd b
+unfolding onlyComments readLines readLine andThen
+past-comments [] ks rd b e = refl
+past-comments (l ∷ ls) ks rd b e =
+    rw (and-left (isComment (l .text)) (onlyComments ls) e)
+    (past-comments ls ks rd b (and-right (isComment (l .text)) (onlyComments ls) e))
 
-pub turn-begin : {t m : List ℕ} {bs : Buffers} {word : List ℕ} → TopAsk t m bs word → Turning m bs noCounts Nothing 0
+-- the lines from place i on say what those from the next line on say
+from-next : {m : List ℕ} {i : ℕ} {s : LineBounds} (n : NextLine m i s) (rd : Reading) (b : Block) → readLines (linesFrom (s .start) (drop (s .start) m)) rd b ≡ readLines (linesFrom i (drop i m)) rd b
+from-next n rd b = rw (n .lines) (sym (past-comments (n .passed) _ rd b (n .comments)))
+
+-- before the line s
+pub record Turning (m : List ℕ) (bs : Buffers) (c : Counts) (o : Open) (s : LineBounds) : Type 0 where
+  pub within : s .start ≤ length m
+  pub here : LineHere m (s .start) s
+  pub between : Between bs c o
+  pub left : readLines (linesFrom (s .start) (drop (s .start) m)) (between .reading) (between .block) ≡ readLines (linesOf m) nothingRead noBlock
+
+pub turn-begin : {t m : List ℕ} {bs : Buffers} {word : List ℕ} {s : LineBounds} → TopAsk t m bs word → NextLine m 0 s → Turning m bs noCounts Nothing s
 unfolding sum
-turn-begin {m = m} {bs = bs} a =
+turn-begin {m = m} {bs = bs} a n =
     record {
-      within = omega arith;
+      within = n .within;
+      here = n .here;
       between =
           record {
             log = [];
@@ -59,16 +75,20 @@ turn-begin {m = m} {bs = bs} a =
             holds = start-held bs (a .empty) (a .roomy .texts-room) (a .roomy .bind-room) (omega (arith, a .roomy .room .scratch));
             opens = nothing;
           };
-      left = ap (λ (ls : List Line). readLines ls nothingRead noBlock) (sym (lines-begin m));
+      left = from-next n nothingRead noBlock ∙ ap (λ (ls : List Line). readLines ls nothingRead noBlock) (sym (lines-begin m));
     }
 
-module _ {m : List ℕ} {bs : Buffers} {c : Counts} {o : Open} {i : ℕ} (w : Turning m bs c o i) where
+module _ {m : List ℕ} {bs : Buffers} {c : Counts} {o : Open} {s : LineBounds} (w : Turning m bs c o s) where
+  abbrev i : ℕ
+  i = s .start
+
   -- what a line asks
-  pub turn-asks : {t : List ℕ} {bs₀ : Buffers} {word₀ word : List ℕ} {s : LineBounds} → TopAsk t m bs₀ word₀
-      → Same bs₀ word₀ bs word → LineSpan m i s
-      → LineAsks t i (part m i (s .end)) bs word c o
-  turn-asks {s = s} a e l =
+  pub turn-asks : {t : List ℕ} {bs₀ : Buffers} {word₀ word : List ℕ} → TopAsk t m bs₀ word₀
+      → Same bs₀ word₀ bs word → s .start < length m
+      → LineAsks t (s .start) (part m (s .start) (s .end)) bs word c o
+  turn-asks a e h =
       let r = a .roomy .room in
+      let l : LineSpan m i s = w .here .span h in
       record {
         cut = record { table = a .roomy .table; near = rw (length-part m i (s .end) (l .within)) (omega (arith, a .short, l .forward, l .within)); short = rw (length-part m i (s .end) (l .within)) (omega (arith, a .short, l .forward, l .within)) };
         room =
@@ -81,22 +101,27 @@ module _ {m : List ℕ} {bs : Buffers} {c : Counts} {o : Open} {i : ℕ} (w : Tu
       }
 
   -- the first of the lines that are left, and those behind it
-  module _ {s : LineBounds} (l : LineSpan m i s) where
+  module _ (h : s .start < length m) where
+    pub turn-span : LineSpan m (s .start) s
+    turn-span = w .here .span h
+
     turn-left : andThen (readLine (lineOf i (part m i (s .end)) (s .ended)) (w .between .reading) (w .between .block)) (readLines (linesFrom (s .next) (drop (s .next) m)))
         ≡ readLines (linesOf m) nothingRead noBlock
     unfolding readLines
-    turn-left = rw (l .lines) at (w .left)
+    turn-left = rw (turn-span .lines) at (w .left)
 
-    pub turn-on : {bs′ : Buffers} {d : Counts} {q : Open}
+    pub turn-on : {bs′ : Buffers} {d : Counts} {q : Open} {r : LineBounds}
         → LineMeets bs c o (readLine (lineOf i (part m i (s .end)) (s .ended))) bs′ (Goes d q)
-        → Turning m bs′ d q (s .next)
+        → NextLine m (s .next) r
+        → Turning m bs′ d q r
     unfolding andThen
-    turn-on k =
+    turn-on k n =
         let g = agreed-on (k .agrees (w .between .log) (w .between .reading) (w .between .block) (w .between .holds) (w .between .opens)) in
         record {
-          within = l .most;
+          within = n .within;
+          here = n .here;
           between = record { log = g .log; reading = g .reading; block = g .block; holds = g .holds; opens = g .opens };
-          left = rw (g .outcome) at turn-left;
+          left = from-next n (g .reading) (g .block) ∙ (rw (g .outcome) at turn-left);
         }
 
     pub turn-refused : {bs′ : Buffers} {r : Refusal}
@@ -111,7 +136,7 @@ module _ {m : List ℕ} {bs : Buffers} {c : Counts} {o : Open} {i : ℕ} (w : Tu
   pub turn-sound : SoundBlock (bs .texts) (bs .bind) c o
   turn-sound = sound (w .between .reading) (w .between .holds) (w .between .opens)
 
-  pub turn-end : {r : LineAnswer} → length m ≤ i → Meets (bs .texts) (bs .bind) c o close (bs .texts) (bs .bind) r → LinesRead m bs r
+  pub turn-end : {r : LineAnswer} → length m ≤ s .start → Meets (bs .texts) (bs .bind) c o close (bs .texts) (bs .bind) r → LinesRead m bs r
   unfolding readLines
   turn-end {r} h k =
       let e : close (w .between .reading) (w .between .block) ≡ readLines (linesOf m) nothingRead noBlock = rw (lines-end m i h) at (w .left) in

@@ -10,9 +10,7 @@ use hold_reading::Line;
 use hold_reading::LineAnswer;
 use hold_reading::Open;
 use hold_reading::State;
-use scan_cursor::left_from;
 use scan_cursor::line_from;
-use scan_cursor::top;
 use scan_raw::FirstBad;
 use scan_raw::manifest::bad_byte;
 use spec::Refusal;
@@ -50,12 +48,12 @@ fn read_from_top(
         written: 0,
     };
     let mut block = Open::Nothing;
-    let mut i = top(m);
-    while 0 < left_from(m, i) {
-        let s = line_from(m, i);
+    let mut s = line_from(m, 0);
+    while s.start < m.len() {
+        let start = s.start;
         let end = s.end;
         let line = Line {
-            start: i,
+            start,
             ended: s.ended,
         };
         let kept = State {
@@ -65,7 +63,7 @@ fn read_from_top(
         match read_line(
             t,
             line,
-            &m[i..end],
+            &m[start..end],
             names,
             index,
             texts,
@@ -77,7 +75,7 @@ fn read_from_top(
             LineAnswer::Goes(d, o) => {
                 c = d;
                 block = o;
-                i = s.next;
+                s = line_from(m, s.next);
             }
             LineAnswer::Refused(r) => {
                 return LineAnswer::Refused(r);

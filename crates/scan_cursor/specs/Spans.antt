@@ -1,11 +1,11 @@
 -- Where a line lies in the manifest.
 use Prim.Native.Nat.{ℕ, _≤_, _<_}
-use mathlib.Core.Bool.{Bool}
-use mathlib.Core.List.{List, _∷_}
+use mathlib.Core.Bool.{Bool, true, _&&_}
+use mathlib.Core.List.{List, [], _∷_, _++_}
 use mathlib.Core.Path.{_≡_}
 use lib.ListN.{length, drop}
 use Rattle.lists.specs.Parts.{part}
-use Rattle.spec.specs.Lines.{Line}
+use Rattle.spec.specs.Lines.{Line, isComment}
 use Rattle.scan_lines.specs.Endings.{linesFrom}
 use Rattle.scan_cursor.specs.declared.LineBounds.{LineBounds}
 
@@ -20,3 +20,23 @@ pub record LineSpan (m : List ℕ) (i : ℕ) (s : LineBounds) : Type 0 where
   pub on : i < s .next
   pub most : s .next ≤ length m
   pub lines : linesFrom i (drop i m) ≡ lineOf i (part m i (s .end)) (s .ended) ∷ linesFrom (s .next) (drop (s .next) m)
+
+-- The line that starts at place i, or the manifest's end.
+pub record LineHere (m : List ℕ) (i : ℕ) (s : LineBounds) : Type 0 where
+  pub starts : s .start ≡ i
+  pub most : s .next ≤ length m
+  pub span : i < length m → LineSpan m i s
+  pub comment : s .comment ≡ true → (i < length m) × (isComment (part m i (s .end)) ≡ true)
+
+unfoldable pub onlyComments : List Line → Bool
+onlyComments [] = true
+onlyComments (l ∷ ls) = isComment (l .text) && onlyComments ls
+
+-- s is the line behind some comments that start at place i, or the manifest's end.
+pub record NextLine (m : List ℕ) (i : ℕ) (s : LineBounds) : Type 0 where
+  pub forward : i ≤ s .start
+  pub within : s .start ≤ length m
+  pub here : LineHere m (s .start) s
+  pub passed : List Line
+  pub comments : onlyComments passed ≡ true
+  pub lines : linesFrom i (drop i m) ≡ passed ++ linesFrom (s .start) (drop (s .start) m)

@@ -1,9 +1,9 @@
 // A reader over the manifest keeps the lent bytes and the place reached. The borrow checker covers no function over a struct
 // that holds a reference, so each is proved by hand; `next_line` leaves the work to `line_at`, which takes a plain slice.
-ghost use Prim.Native.Nat.{_+_, _<_, _≤_};
+ghost use Prim.Native.Nat.{_≤_};
 ghost use lib.ListN.{length};
 ghost use mathlib.Core.Path.{_≡_};
-ghost use Rattle.scan_cursor.specs.Spans.{LineSpan};
+ghost use Rattle.scan_cursor.specs.Spans.{LineHere, NextLine};
 use scan_lines::LineEnd;
 use scan_lines::line_end;
 
@@ -12,15 +12,18 @@ pub struct Reader<'a> {
     pub cursor: usize,
 }
 
-// Where a line's bytes end, whether a newline ends them, and where the next line starts.
+// Where a line starts and its bytes end, whether a newline ends them, whether it is a comment, and where the next line starts. At the
+// manifest's end it starts and ends there.
 pub struct LineBounds {
+    pub start: usize,
     pub end: usize,
     pub ended: bool,
+    pub comment: bool,
     pub next: usize,
 }
 
 // At the top of the manifest.
-pub fn start<'a>(m: &'a [u8]) -> Reader<'a>
+fn start<'a>(m: &'a [u8]) -> Reader<'a>
     ensures { λ r. ⌜ (r .manifest ≡ m .entry) × (r .cursor ≡ 0) ⌝ }
 {
     Reader {
@@ -29,23 +32,8 @@ pub fn start<'a>(m: &'a [u8]) -> Reader<'a>
     }
 }
 
-// The place reached.
-pub fn reached<'a>(r: Reader<'a>) -> usize
-    ensures { λ n. ⌜ n ≡ r .entry .cursor ⌝ }
-{
-    r.cursor
-}
-
-// How many bytes are left.
-pub fn left<'a>(r: Reader<'a>) -> usize
-    requires { ⌜ r .cursor ≤ length (now (r .manifest)) ⌝ }
-    ensures { λ n. ⌜ n + r .entry .cursor ≡ length (now (r .entry .manifest)) ⌝ }
-{
-    r.manifest.len() - r.cursor
-}
-
 // Moved on to a place.
-pub fn moved<'a>(r: Reader<'a>, place: usize) -> Reader<'a>
+fn moved<'a>(r: Reader<'a>, place: usize) -> Reader<'a>
     ensures { λ q. ⌜ (q .manifest ≡ r .entry .manifest) × (q .cursor ≡ place) ⌝ }
 {
     Reader {
@@ -55,50 +43,62 @@ pub fn moved<'a>(r: Reader<'a>, place: usize) -> Reader<'a>
 }
 
 // The line that starts at the place reached.
-pub fn next_line<'a>(r: Reader<'a>) -> LineBounds
-    requires { ⌜ r .cursor < length (now (r .manifest)) ⌝ }
-    ensures { λ s. ⌜ LineSpan (now (r .entry .manifest)) (r .entry .cursor) s ⌝ }
+fn next_line<'a>(r: Reader<'a>) -> LineBounds
+    requires { ⌜ r .cursor ≤ length (now (r .manifest)) ⌝ }
+    ensures { λ s. ⌜ LineHere (now (r .entry .manifest)) (r .entry .cursor) s ⌝ }
 {
     line_at(r.manifest, r.cursor)
 }
 
 // The line that starts at a place of a slice.
 fn line_at(m: &[u8], place: usize) -> LineBounds
-    requires { ⌜ place < length (now m) ⌝ }
-    ensures { λ r. ⌜ LineSpan (now (m .entry)) place r ⌝ }
+    requires { ⌜ place ≤ length (now m) ⌝ }
+    ensures { λ r. ⌜ LineHere (now (m .entry)) place r ⌝ }
 {
+    if m.len() <= place {
+        return LineBounds {
+            start: place,
+            end: place,
+            ended: false,
+            comment: false,
+            next: place,
+        };
+    }
     match line_end(m, place) {
         LineEnd::Ended(e) => LineBounds {
+            start: place,
             end: e,
             ended: true,
+            comment: false,
+            next: e + 1,
+        },
+        LineEnd::Comment(e) => LineBounds {
+            start: place,
+            end: e,
+            ended: true,
+            comment: true,
             next: e + 1,
         },
         LineEnd::Open => LineBounds {
+            start: place,
             end: m.len(),
             ended: false,
+            comment: false,
             next: m.len(),
         },
     }
 }
 
-// The reader over the manifest, for callers that keep a plain slice and a place: where it starts, how many bytes are left when it
-// is moved to a place, and the line that starts there.
-pub fn top(m: &[u8]) -> usize
-    ensures { λ r. ⌜ r ≡ 0 ⌝ }
-{
-    reached(start(m))
-}
-
-pub fn left_from(m: &[u8], from: usize) -> usize
-    requires { ⌜ from ≤ length (now m) ⌝ }
-    ensures { λ r. ⌜ r + from ≡ length (now (m .entry)) ⌝ }
-{
-    left(moved(start(m), from))
-}
-
+// The first line from a place on that is no comment, or the manifest's end: the reader goes from line to line.
 pub fn line_from(m: &[u8], from: usize) -> LineBounds
-    requires { ⌜ from < length (now m) ⌝ }
-    ensures { λ r. ⌜ LineSpan (now (m .entry)) from r ⌝ }
+    requires { ⌜ from ≤ length (now m) ⌝ }
+    ensures { λ r. ⌜ NextLine (now (m .entry)) from r ⌝ }
 {
-    next_line(moved(start(m), from))
+    let mut r = moved(start(m), from);
+    let mut s = next_line(r);
+    while s.comment {
+        r = moved(r, s.next);
+        s = next_line(r);
+    }
+    s
 }

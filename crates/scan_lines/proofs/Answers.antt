@@ -3,8 +3,8 @@ use Prim.Native.Nat.{ℕ}
 use mathlib.Core.List.{List}
 use mathlib.Core.Path.{_≡_}
 use Rattle.scan_lines.specs.declared.LineEnd.{LineEnd}
-use Rattle.scan_lines.specs.declared.LineEnd.the-variants.{Ended, Open}
-use Rattle.scan_lines.specs.Endings.{LineEnded, LineOpen, LineAt}
+use Rattle.scan_lines.specs.declared.LineEnd.the-variants.{Ended, Comment, Open}
+use Rattle.scan_lines.specs.Endings.{LineEnded, CommentAt, LineOpen, LineAt}
 
 -- ---- `line_end`
 
@@ -12,6 +12,10 @@ module _ (m : List ℕ) (i : ℕ) (r : LineEnd) (p : LineAt m i r) where
   pub line-ended : {e : ℕ} → r ≡ Ended e → LineEnded m i e
   unfolding LineAt
   line-ended e = rw e at p
+
+  pub line-comment : {e : ℕ} → r ≡ Comment e → CommentAt m i e
+  unfolding LineAt
+  line-comment e = rw e at p
 
   pub line-open : r ≡ Open → LineOpen m i
   unfolding LineAt

@@ -15,9 +15,9 @@ use Rattle.lists.specs.Tests.{split, differ}
 use Rattle.lists.specs.Parts.{part}
 use Rattle.lists.specs.Runs.{Reads, afterRun, run-stops}
 use Rattle.spec.specs.Bytes.{newline, space, hash, dollar}
-use Rattle.spec.specs.Lines.{At, indent, comment, body, escape, lineTurn, endsLine, withByte, linesFrom as Rules·linesFrom, linesOf, isSpace}
+use Rattle.spec.specs.Lines.{At, indent, comment, body, escape, lineTurn, endsLine, withByte, linesFrom as Rules·linesFrom, linesOf, isSpace, startsWith, isComment}
 use Rattle.scan_lines.specs.declared.LineEnd.{LineEnd}
-use Rattle.scan_lines.specs.declared.LineEnd.the-variants.{Ended, Open}
+use Rattle.scan_lines.specs.declared.LineEnd.the-variants.{Ended, Comment as CommentEnded, Open}
 use Rattle.scan_lines.specs.Endings.{linesFrom, endFrom, EndsAt, EndAt, LineEnded, openLine, LineOpen, LineAt}
 use Rattle.scan_tokens.proofs.Places.{Going, going-on, at-cons, at-end}
 
@@ -137,31 +137,47 @@ open-lines q at (b ∷ s) e =
 
 -- ---- a line from its start
 
-ended-at : {m : List ℕ} {i e : ℕ} → EndsAt indent m i e → LineEnded m i e
-ended-at {m} {i} {e} a =
-    let w : Splits indent i (drop i m) (drop (e + 1) m) = line-split indent i _ _ (a .rest) in
-    let n : length (w .text) ≡ e - i =
-    omega (arith, a .forward, a .within, length-drop i m, length-drop (e + 1) m, simp length-append at (ap length (w .is))) in
-    let z : i + suc (length (w .text)) ≡ e + 1 = omega (arith, a .forward) in
-    let t : w .text ≡ part m i e = sym (take-at _ _ (e - i) n) ∙ ap (take (e - i)) (w .is) in
-    record {
-      forward = a .forward;
-      within = a .within;
-      lines = w .lines ∙ rw (z, t);
-    }
+module _ {m : List ℕ} {i e : ℕ} (a : EndsAt indent m i e) where
+  its-split : Splits indent i (drop i m) (drop (e + 1) m)
+  its-split = line-split indent i _ _ (a .rest)
+
+  its-length : length (its-split .text) ≡ e - i
+  its-length = omega (arith, a .forward, a .within, length-drop i m, length-drop (e + 1) m, simp length-append at (ap length (its-split .is)))
+
+  its-text : its-split .text ≡ part m i e
+  its-text = sym (take-at _ _ (e - i) its-length) ∙ ap (take (e - i)) (its-split .is)
+
+  ended-at : LineEnded m i e
+  ended-at =
+      let z : i + suc (length (its-split .text)) ≡ e + 1 = omega (arith, a .forward, its-length) in
+      record {
+        forward = a .forward;
+        within = a .within;
+        lines = its-split .lines ∙ rw (z, its-text);
+      }
+
+  before-newline : part m i e ++ (newline ∷ drop (e + 1) m) ≡ drop i m
+  before-newline = rw (← its-text) (its-split .is)
 
 open-at : (m : List ℕ) (i : ℕ) → endFrom indent (drop i m) ≡ none → LineOpen m i
 open-at m i e = record { lines = open-lines indent i (drop i m) e }
 
-line-at : (m : List ℕ) (i : ℕ) (r : LineEnd) → EndAt indent m i r → LineAt m i r
-unfolding EndAt LineAt
-line-at m i (Ended e) a = ended-at a
-line-at m i Open a = open-at m i a
+-- what is read as far as p at place j is read as far as `indent` at the line's start
+module _ (p : At) {m : List ℕ} {i j : ℕ} (h : i ≤ j) (f : endFrom indent (drop i m) ≡ endFrom p (drop j m)) where
+  ends-from : {e : ℕ} → EndsAt p m j e → EndsAt indent m i e
+  ends-from a = record { forward = le-trans h (a .forward); within = a .within; rest = f ∙ a .rest }
 
-end-from : (q p : At) (m : List ℕ) (i j : ℕ) (r : LineEnd) → i ≤ j → endFrom q (drop i m) ≡ endFrom p (drop j m) → EndAt p m j r → EndAt q m i r
-unfolding EndAt
-end-from q p m i j (Ended e) h f a = record { forward = le-trans h (a .forward); within = a .within; rest = f ∙ a .rest }
-end-from q p m i j Open h f a = f ∙ a
+  open-from : endFrom p (drop j m) ≡ none → LineOpen m i
+  open-from e = open-at m i (f ∙ e)
+
+-- a line is a comment by its first byte that is no space, and that lies before its end
+comment-text : (t r : List ℕ) → isComment (t ++ (newline ∷ r)) ≡ isComment t
+unfolding isComment startsWith afterRun
+comment-text [] r = refl
+comment-text (b ∷ t) r =
+    split (eqb b space)
+    (λ (d : eqb b space ≡ true). rw d (comment-text t r))
+    (λ (d : eqb b space ≡ false). rw d)
 
 -- its first byte that is no space stands at k
 module _ {m : List ℕ} {i k : ℕ} (a : Reads (afterRun isSpace) m i k) where
@@ -173,14 +189,33 @@ module _ {m : List ℕ} {i k : ℕ} (a : Reads (afterRun isSpace) m i k) where
   line-of-spaces h = open-at m i (after-spaces ∙ rw (at-end m k h))
 
   module _ (h : k < length m) where
-    pub line-of-comment : (r : LineEnd) → getD m k 0 ≡ hash → EndAt comment m k r → LineAt m i r
-    line-of-comment r e f =
-        line-at m i r (end-from indent comment m i k r (a .forward) (after-spaces ∙ rw (at-cons m k h, e) (end-hash _)) f)
+    module _ (e : getD m k 0 ≡ hash) where
+      from-hash : endFrom indent (drop i m) ≡ endFrom comment (drop k m)
+      from-hash = after-spaces ∙ rw (at-cons m k h, e) (end-hash _)
 
-    pub line-of-body : (r : LineEnd) → (getD m k 0 ≡ hash → ⊥) → EndAt body m k r → LineAt m i r
-    line-of-body r n f =
-        let s : getD m k 0 ≡ space → ⊥ = eqb-false _ _ (run-stops isSpace (drop i m) _ _ (sym (a .rest) ∙ at-cons m k h)) in
-        line-at m i r (end-from indent body m i k r (a .forward) (after-spaces ∙ rw (at-cons m k h) (end-other _ _ s n)) f)
+      comment-here : isComment (drop i m) ≡ true
+      unfolding isComment startsWith
+      comment-here = rw (← (a .rest), at-cons m k h, e)
+
+      pub line-of-comment : (r : LineEnd) → EndAt comment m k r → LineAt m i r
+      unfolding EndAt LineAt
+      line-of-comment (Ended n) f = ended-at (ends-from comment (a .forward) from-hash f)
+      line-of-comment (CommentEnded n) f =
+          let l : EndsAt indent m i n = ends-from comment (a .forward) from-hash (f .1) in
+          record { line = ended-at l; is = sym (comment-text (part m i n) (drop (n + 1) m)) ∙ ap isComment (before-newline l) ∙ comment-here }
+      line-of-comment Open f = open-from comment (a .forward) from-hash f
+
+    module _ (n : getD m k 0 ≡ hash → ⊥) where
+      from-body : endFrom indent (drop i m) ≡ endFrom body (drop k m)
+      from-body =
+          let s : getD m k 0 ≡ space → ⊥ = eqb-false _ _ (run-stops isSpace (drop i m) _ _ (sym (a .rest) ∙ at-cons m k h)) in
+          after-spaces ∙ rw (at-cons m k h) (end-other _ _ s n)
+
+      pub line-of-body : (r : LineEnd) → EndAt body m k r → LineAt m i r
+      unfolding EndAt LineAt
+      line-of-body (Ended e) f = ended-at (ends-from body (a .forward) from-body f)
+      line-of-body (CommentEnded e) f = let z : _≡_ {A = ℕ} 0 1 = let g = f .0 in cc in absurd (omega arith)
+      line-of-body Open f = open-from body (a .forward) from-body f
 
 -- ---- the lines of a manifest, one after the other
 

@@ -3,12 +3,16 @@ ghost use mathlib.Core.Path.{_≡_};
 ghost use Prim.Native.Nat.{_≤_};
 ghost use lib.ListN.{length};
 ghost use Rattle.spec.specs.Lines.{comment, body};
+ghost use Rattle.scan_classes.specs.Table.{classes};
 ghost use Rattle.scan_lines.specs.Endings.{EndAt, LineAt, kindOf};
+use scan_classes::HASH;
+use scan_classes::class_in;
 use scan_tokens::spaces;
 
-// Where the newline that ends a line stands, if the manifest does not end inside that line.
+// Where the newline that ends a line stands, if the manifest does not end inside that line. A comment is told apart.
 pub enum LineEnd {
     Ended(usize),
+    Comment(usize),
     Open,
 }
 
@@ -27,7 +31,7 @@ fn comment_end(m: &[u8], from: usize) -> LineEnd
     let mut i = from;
     while i < m.len() {
         if m[i] == b'\n' {
-            return LineEnd::Ended(i);
+            return LineEnd::Comment(i);
         }
         i += 1;
     }
@@ -73,14 +77,15 @@ pub fn line_end(m: &[u8], from: usize) -> LineEnd
 }
 
 // The kind of a line, given without the newline that ends it.
-pub fn line_kind(s: &[u8]) -> LineKind
+pub fn line_kind(t: &[u8; 256], s: &[u8]) -> LineKind
+    requires { ⌜ now t ≡ classes ⌝ }
     ensures { λ r. ⌜ r ≡ kindOf (now (s .entry)) ⌝ }
 {
     let i = spaces(s, 0);
     if s.len() <= i {
         return LineKind::Blank;
     }
-    if s[i] == b'#' {
+    if class_in(t, s[i]) == HASH {
         return LineKind::Comment;
     }
     if s[0] == b' ' {

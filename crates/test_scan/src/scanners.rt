@@ -164,6 +164,7 @@ pub extern "C" fn kestrenyo_line_end(m: &[u8], from: usize) -> usize
     let i = start_in(m, from);
     match scan_lines::line_end(m, i) {
         LineEnd::Ended(end) => end + 1,
+        LineEnd::Comment(end) => end + 1,
         LineEnd::Open => 0,
     }
 }
@@ -173,7 +174,8 @@ pub extern "C" fn kestrenyo_line_end(m: &[u8], from: usize) -> usize
 pub extern "C" fn kestrenyo_line_kind(s: &[u8]) -> u8
     ensures { λ r. ⌜ r ≡ kindNumber (now (s .entry)) ⌝ }
 {
-    match scan_lines::line_kind(s) {
+    let t = scan_classes::table();
+    match scan_lines::line_kind(&t, s) {
         LineKind::Comment => 0,
         LineKind::Blank => 1,
         LineKind::Indented => 2,

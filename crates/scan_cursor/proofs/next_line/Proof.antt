@@ -1,7 +1,7 @@
 -- `scan_cursor::next_line` meets its contract: a walk of its MIR, by hand. The struct is taken apart, and `line_at` is called on the slice and the number. All that the proof knows of `line_at` is that it meets its contract.
 -- The struct is Copy: what it owns is had twice, one copy is kept whole for the exit, and of the other what the slice owns goes to the callee, beside the lifetime's token, which comes back.
 use mathlib.Core.Path.{_≡_, refl}
-use Prim.Native.Nat.{_<_, _^_}
+use Prim.Native.Nat.{_≤_, _<_, _^_}
 use mathlib.Core.List.{[], _∷_}
 use lib.Dec.{T as Holds}
 use lib.ListN.{length}
@@ -41,7 +41,7 @@ use denote.Triple.Table.{entered, cited}
 use denote.Triple.Walked.{says, needs, Stays, stay-none, walkOf, goes-none, Walks, ends-at, walked, walk-meets}
 use denote.Exit.{yes}
 use denote.Triple.Clauses.{ensured, lasts}
-use Rattle.scan_cursor.specs.Spans.{LineSpan}
+use Rattle.scan_cursor.specs.Spans.{LineHere}
 use Rattle.scan_cursor.specs.declared.LineBounds.{LineBounds}
 use Rattle.scan_cursor.specs.declared.Reader.{Reader}
 use Rattle.scan_cursor.proofs.Reader as T
@@ -69,7 +69,7 @@ module _ {M : Type 1} (𝓤 : URA M) (H : Heap 𝓤) (A : Atoms 𝓤) (mem : Mem
   abbrev LineAt : Contract 𝓤
   LineAt = tripleOf 𝓤 H A line.signature (line.spec 𝓤 H A mem run)
 
-module _ {M : Type 1} (𝓤 : URA M) (H : Heap 𝓤) (A : Atoms 𝓤) (W : Given 𝓤 H A) (mem : Memory → SProp 𝓤) (run : Routine → Fun 𝓤) (κ : Lft) (q : Share) (d : Reader) (ok : d .cursor < length (now (d .manifest))) where
+module _ {M : Type 1} (𝓤 : URA M) (H : Heap 𝓤) (A : Atoms 𝓤) (W : Given 𝓤 H A) (mem : Memory → SProp 𝓤) (run : Routine → Fun 𝓤) (κ : Lft) (q : Share) (d : Reader) (ok : d .cursor ≤ length (now (d .manifest))) where
   abbrev mach : Val
   mach = T′.lowered d
 
@@ -79,7 +79,7 @@ module _ {M : Type 1} (𝓤 : URA M) (H : Heap 𝓤) (A : Atoms 𝓤) (W : Given
 
   -- what the callee says of its result
   abbrev Found : LineBounds → Type 0
-  Found r = LineSpan (now (d .manifest)) (d .cursor) r
+  Found r = LineHere (now (d .manifest)) (d .cursor) r
 
   abbrev Post : Val → SProp 𝓤
   Post = walkOf 𝓤 H A next.ended stayed (next.clauses 𝓤 H A mem run) .post (((κ, tt), (q, tt), tt, (d, tt), (mach ∷ [], tt)), tt)

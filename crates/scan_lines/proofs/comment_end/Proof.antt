@@ -24,7 +24,7 @@ shared-slice-read-if1 c = search needs
 
 returns : tie.Need-returns Inv-loop μ-loop
 unfolding EndAt endsLine
-returns c = line-ends comment (c .before .before .before .loop .inv) refl (c .before .before .loop-test .taken) (c .if1 .taken)
+returns c = (refl, line-ends comment (c .before .before .before .loop .inv) refl (c .before .before .loop-test .taken) (c .if1 .taken))
 
 add-i : tie.Need-add-i Inv-loop μ-loop
 add-i c = search needs

@@ -19,13 +19,13 @@ comment-end-requires : tie.Need-comment-end-requires
 comment-end-requires c κs = search needs
 
 returns-2 : tie.Need-returns-2
-returns-2 c = line-of-comment (c .before .before .before .before .spaces .ensures) (c .before .before .before .if1 .left) _ (c .before .if2 .taken) (c .comment-end .ensures)
+returns-2 c = line-of-comment (c .before .before .before .before .spaces .ensures) (c .before .before .before .if1 .left) (c .before .if2 .taken) _ (c .comment-end .ensures)
 
 body-end-requires : tie.Need-body-end-requires
 body-end-requires c κs = search needs
 
 returns-3 : tie.Need-returns-3
-returns-3 c = line-of-body (c .before .before .before .before .spaces .ensures) (c .before .before .before .if1 .left) _ (c .before .if2 .left) (c .body-end .ensures)
+returns-3 c = line-of-body (c .before .before .before .before .spaces .ensures) (c .before .before .before .if1 .left) (c .before .if2 .left) _ (c .body-end .ensures)
 
 pub line-end-spec : {M : Type 1} → statement M
 line-end-spec =

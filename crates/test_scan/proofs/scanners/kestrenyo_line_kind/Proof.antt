@@ -4,6 +4,9 @@ use Rattle.test_scan.proofs.Numbers.{numberOfKind, kind}
 use Rattle.test_scan.proofs.scanners.kestrenyo_line_kind.Statement.{statement}
 use Rattle.test_scan.proofs.scanners.kestrenyo_line_kind.Tie as tie
 
+table-requires : tie.Need-table-requires
+table-requires c κs = search needs
+
 line-kind-requires : tie.Need-line-kind-requires
 line-kind-requires c κs = search needs
 
@@ -39,6 +42,7 @@ pub kestrenyo-line-kind-spec : {M : Type 1} → statement M
 kestrenyo-line-kind-spec =
     tie.close
     (tie.spec
+    table-requires
     line-kind-requires
     enum-told
     enum-told-2
