@@ -1,17 +1,24 @@
-// The two asks for C and Rust: numbers and slices alone. Neither asks anything of its caller, and each says what document 01 says in two numbers.
+// The three asks for C and Rust: numbers and slices alone. None asks anything of its caller, and each says what document 01 says in two numbers.
 ghost use mathlib.Core.Path.{_≡_};
+ghost use lib.ListN.{length};
 ghost use Rattle.spec.specs.PlanAsk.{inputsOf};
 ghost use Rattle.spec.specs.Demands.{PlanDemands, TextDemands};
+ghost use Rattle.answers.specs.Numbers.{said};
+ghost use Rattle.text_batch.specs.TextsAsk.{textsAsk};
+ghost use Rattle.text_batch.specs.TextsPromise.{textsSays, TextsMeets};
 ghost use Rattle.kestrenyo.specs.Tells.{Tells, TellsNumbers};
 ghost use Rattle.kestrenyo.specs.Wants.{wantedOf};
 use answers::Numbers;
 use answers::of_plan;
+use answers::of_refusal;
 use answers::of_text;
 use asks::plan;
 use asks::text;
+use asks::texts;
 use spec::Wanted;
+use text_batch::TextsAnswer;
 
-// A refusal's number and its place; or 0 and the count that a plan or a text gives.
+// A refusal's number and its place; or 0 and the count that an answer gives.
 #[repr(C)]
 pub struct Said {
     pub number: usize,
@@ -61,4 +68,31 @@ pub extern "C" fn kestrenyo_text(
     ensures { λ r. ⌜ Tells (λ said. TextDemands (now (manifest .entry)) step (wantedOf wanted) (now (buffer .entry)) said (now (buffer .exit))) r ⌝ }
 {
     in_two(of_text(text(manifest, step, wanted_of(wanted), buffer)))
+}
+
+fn of_texts(a: TextsAnswer) -> Numbers
+    ensures { λ x. ⌜ said x ≡ textsSays a ⌝ }
+{
+    match a {
+        TextsAnswer::Written(n) => Numbers {
+            number: 0,
+            text: false,
+            value: n,
+        },
+        TextsAnswer::Refused(r) => of_refusal(r),
+    }
+}
+
+// The texts ask, of commands where `wanted` is 0 and else of descriptions: 0 and the number of texts written, or a refusal's number and place.
+#[no_mangle]
+pub extern "C" fn kestrenyo_texts(
+    manifest: &[u8],
+    steps: &[u32],
+    wanted: usize,
+    bytes: &mut [u8],
+    ends: &mut [u32],
+) -> Said
+    ensures { λ r. ⌜ Tells (λ said. TextsMeets (textsAsk (now (manifest .entry)) (now (steps .entry)) (wantedOf wanted) (length (now (bytes .entry))) (length (now (ends .entry)))) (now (bytes .entry)) (now (ends .entry)) said (now (bytes .exit)) (now (ends .exit))) r ⌝ }
+{
+    in_two(of_texts(texts(manifest, steps, wanted_of(wanted), bytes, ends)))
 }
