@@ -59,7 +59,7 @@ fn texts() {
     }
 }
 
-/// The commands of all steps: by one ask of either planner, and by one ask against an ask for each.
+/// The commands of all steps: by one ask of either planner, and by an ask for each against one ask.
 fn many_texts() {
     const ROOM: usize = 64 << 10;
     let steps: Vec<u32> = (0..limits::STEPS as u32).collect();
@@ -83,8 +83,8 @@ fn many_texts() {
                 })
             },
         );
-        let name = format!("  against 512 text asks: {}", shape.name);
-        row_of(&name, ["one ask", "512 asks"], one, each);
+        let name = format!("  512 text asks against one for all: {}", shape.name);
+        row_of(&name, ["512 asks", "one ask"], each, one);
     }
 }
 
