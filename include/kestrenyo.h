@@ -10,8 +10,8 @@
  *
  * Threads: calls share nothing, so any number of threads may call at a time, each with buffers of its own.
  *
- * Pointers: each points to as many bytes or numbers as the length after it says, and may be NULL where that is 0. The lent
- * buffer overlaps no input.
+ * Pointers: each points to as many bytes or numbers as the length after it says, and may be NULL where that is 0. A lent
+ * buffer overlaps no input and no other buffer.
  */
 #ifndef KESTRENYO_H
 #define KESTRENYO_H
@@ -35,8 +35,8 @@ extern "C" {
 #define KESTRENYO_DESCRIPTION 1
 
 /*
- * What a call says. number 0: value is the count of steps listed, or of bytes written. Any other number is a refusal, and
- * value its place:
+ * What a call says. number 0: value is the count of steps listed, of bytes written, or of texts written. Any other number is
+ * a refusal, and value its place:
  *
  *    1  the lent buffer is below KESTRENYO_LIST numbers or KESTRENYO_TEXT bytes (place 0)
  *    2  the manifest has over 49,152 bytes (place 0)
@@ -90,6 +90,26 @@ struct kestrenyo_said kestrenyo_plan(const uint8_t *manifest, size_t manifest_le
  */
 struct kestrenyo_said kestrenyo_text(const uint8_t *manifest, size_t manifest_len, size_t step, size_t wanted,
                                      uint8_t *buffer, size_t buffer_len);
+
+/*
+ * The texts of many steps, each as kestrenyo_text gives it, by one reading of the manifest. Refusals 1 to 10 and 16 to 18.
+ *
+ * steps: any numbers, any count of them, in any order, one of them several times if wanted. They are gone through in this
+ * order. The first whose text is refused makes its refusal that of the call. The first whose text does not fit into what is
+ * left of bytes, or whose end has no place in ends, ends the call: the texts before it are the answer, and no step behind it
+ * is looked at. So value is the number of texts written, 1 at least where there is a step and a place in ends, and a further
+ * call for the steps from there on gives the next ones.
+ *
+ * bytes: KESTRENYO_TEXT bytes at least, else 1. After an answer it starts with the texts, end to end, and all beyond is zero.
+ * Of a buffer of over 2^32 - 1 bytes no more than that is used.
+ *
+ * ends: any length. After an answer it starts with where each text ends in bytes, counted from the start of bytes, and all
+ * beyond is zero.
+ *
+ * After a refusal all of both is zero, but 1 touches nothing.
+ */
+struct kestrenyo_said kestrenyo_texts(const uint8_t *manifest, size_t manifest_len, const uint32_t *steps, size_t steps_len,
+                                      size_t wanted, uint8_t *bytes, size_t bytes_len, uint32_t *ends, size_t ends_len);
 
 #ifdef __cplusplus
 }

@@ -1,7 +1,7 @@
 //! Asks that are meant to be slow: what a manifest of 49,152 bytes can make a reader or a planner
 //! do most often.
 
-use second::{card, limits, shapes, Ask, Lent, Wanted};
+use second::{card, limits, shapes, Ask, Lent, Question, Wanted};
 
 /// A slow ask and what makes it so.
 pub struct Slow {
@@ -34,6 +34,14 @@ fn with_card(name: &'static str, manifest: Vec<u8>, card: Vec<u8>, targets: Vec<
 
 fn text(name: &'static str, manifest: Vec<u8>) -> Slow {
     Slow { name, ask: Ask::text(manifest, 0, Wanted::Command) }
+}
+
+/// The commands of 512 steps in one ask, with room for all of them.
+fn texts_of_all(name: &'static str, manifest: Vec<u8>) -> Slow {
+    let steps: Vec<u32> = (0..limits::STEPS as u32).collect();
+    let (buf_len, ends_len) = (limits::STEPS * limits::TEXT, limits::STEPS);
+    let question = Question::Texts { steps, wanted: Wanted::Command, buf_len, ends_len };
+    Slow { name, ask: Ask { lent: Lent::manifest(manifest), question } }
 }
 
 /// As many of these as fit between the two.
@@ -242,10 +250,19 @@ fn texts() -> Vec<Slow> {
         format!("rule r\n  command = {command}\nbuild a: r{inputs}\n").into_bytes()
     };
     let behind_many = |command: &str| [many.as_bytes(), &of(command, "")].concat();
+    let more: String = (1..limits::STEPS).map(|step| format!("build {step}: r\n")).collect();
+    let of_all = |command: &str| [&behind_many(command)[..], more.as_bytes()].concat();
+    let long = format!("v = {}\n", "x".repeat(limits::VALUE));
     vec![
         text("a text of 1,024 unset names, 1,000 bindings", behind_many(&unset)),
         text("a text of texts of texts of unset names", behind_many(&nested)),
         text("a text of 680 times 1,000 files (17)", of(&"$in".repeat(680), &format!(" {all}"))),
         text("the first text of a fan of 512", shapes::fan(512).manifest),
+        texts_of_all("512 texts of 1,024 unset names, 1,000 bindings", of_all(&unset)),
+        texts_of_all("512 texts of texts of texts of unset names", of_all(&nested)),
+        texts_of_all(
+            "512 texts of 8,192 bytes",
+            [long.as_bytes(), &of_all("$v$v$v$v")[many.len()..]].concat(),
+        ),
     ]
 }

@@ -1,5 +1,5 @@
-//! The two asks whole, from lent bytes to the filled buffer: the proved planner's answers judged by
-//! the second planner's.
+//! The three asks whole, from lent bytes to the filled buffers: the proved planner's answers judged
+//! by the second planner's.
 
 use kestrenyo::lent::{self, Said};
 use second::generate::{self, damage};
@@ -10,6 +10,7 @@ use second::{limits, manifest, naive, targets, Answer, Ask, Lent, Question, Refu
 use std::collections::BTreeMap;
 use std::error::Error;
 use std::fmt::{self, Debug, Display, Formatter};
+use std::ops::Range;
 
 /// Asks by the kind of their answer.
 pub type Counts = BTreeMap<Kind, u64>;
@@ -30,34 +31,37 @@ impl Filled for u32 {
     const ZERO: u32 = 0;
 }
 
-/// A buffer that is full before an ask, with some room behind what is lent of it.
+/// A buffer that is full before an ask, with some room on both sides of what is lent of it.
 #[derive(Debug, Clone)]
 pub struct Buffer<T> {
     pub all: Vec<T>,
-    lent: usize,
+    lent: Range<usize>,
 }
 
 impl<T: Filled> Buffer<T> {
-    const BEHIND: usize = 16;
+    const BESIDE: usize = 16;
 
     pub fn new(lent: usize) -> Self {
-        Buffer { all: vec![T::BEFORE; lent + Self::BEHIND], lent }
+        let all = vec![T::BEFORE; Self::BESIDE + lent + Self::BESIDE];
+        Buffer { all, lent: Self::BESIDE..Self::BESIDE + lent }
     }
 
     pub fn lent(&mut self) -> &mut [T] {
-        &mut self.all[..self.lent]
+        &mut self.all[self.lent.clone()]
     }
 
     /// Holds these and zeros beyond, and what was not lent is as before.
     pub fn holds(&self, wanted: &[T]) -> Result<(), Difference> {
-        let (lent, behind) = self.all.split_at(self.lent);
+        let (to_end, behind) = self.all.split_at(self.lent.end);
+        let (front, lent) = to_end.split_at(self.lent.start);
         let (shown, beyond) = lent.split_at(wanted.len().min(lent.len()));
         told(shown == wanted, || {
             let [shown, wanted] = [shown, wanted].map(|numbers| format!("{numbers:?}"));
             Difference::Shown { shown, wanted }
         })?;
         told(beyond.iter().all(|&x| x == T::ZERO), || Difference::NotZeroBeyond)?;
-        told(behind.iter().all(|&x| x == T::BEFORE), || Difference::WrittenBehind)
+        let mut beside = front.iter().chain(behind);
+        told(beside.all(|&x| x == T::BEFORE), || Difference::WrittenBeside)
     }
 
     /// Is as it was before the ask.
@@ -88,8 +92,8 @@ pub enum Difference {
     },
     /// The lent buffer is not zero beyond the answer.
     NotZeroBeyond,
-    /// What lies behind the lent buffer was written.
-    WrittenBehind,
+    /// What lies beside the lent buffer was written.
+    WrittenBeside,
     /// The buffer was touched under 1.
     Touched,
     /// A circle is to be told, and this is no 14 or one of too many steps.
@@ -111,7 +115,7 @@ impl Display for Difference {
                 write!(f, "the buffer has {shown} and not {wanted}")
             }
             Difference::NotZeroBeyond => f.write_str("the buffer is not zero beyond the answer"),
-            Difference::WrittenBehind => f.write_str("something was written behind the buffer"),
+            Difference::WrittenBeside => f.write_str("something was written beside the buffer"),
             Difference::Touched => f.write_str("the buffer was touched"),
             Difference::NoCircle(said) => write!(f, "said {} of a circle", Numbers(*said)),
             Difference::UntrueCircle(steps) => write!(f, "{steps:?} is no circle of needed steps"),
@@ -152,11 +156,12 @@ fn says(said: Said, answer: &Answer) -> Result<(), Difference> {
     told(said == right, || Difference::Said { said, right })
 }
 
-/// The proved planner's answer: what it said, and the buffer that it was lent.
+/// The proved planner's answer: what it said, and the buffers that it was lent.
 #[derive(Debug, Clone)]
 pub enum Ours {
     Plan(Said, Buffer<u32>),
     Text(Said, Buffer<u8>),
+    Texts(Said, Buffer<u8>, Buffer<u32>),
 }
 
 pub fn ours(ask: &Ask) -> Ours {
@@ -169,6 +174,12 @@ pub fn ours(ask: &Ask) -> Ours {
         Question::Text { step, wanted, buf_len } => {
             let mut buffer = Buffer::new(buf_len);
             Ours::Text(lent::text(manifest, step, asked(wanted), buffer.lent()), buffer)
+        }
+        Question::Texts { ref steps, wanted, buf_len, ends_len } => {
+            let (mut bytes, mut ends) = (Buffer::new(buf_len), Buffer::new(ends_len));
+            let wanted = asked(wanted);
+            let said = lent::texts(manifest, steps, wanted, bytes.lent(), ends.lent());
+            Ours::Texts(said, bytes, ends)
         }
     }
 }
@@ -202,13 +213,32 @@ pub fn judge(ask: &Ask, ours: &Ours, theirs: &Answer) -> Result<(), Difference> 
             says(*said, theirs)?;
             buffer.after(*refusal)
         }
+        (Ours::Texts(said, bytes, ends), Answer::Texts(texts)) => {
+            says(*said, theirs)?;
+            bytes.holds(&texts.concat())?;
+            ends.holds(&ends_of(texts))
+        }
+        (Ours::Texts(said, bytes, ends), Answer::Refused(refusal)) => {
+            says(*said, theirs)?;
+            bytes.after(*refusal)?;
+            ends.after(*refusal)
+        }
         _ => Err(Difference::OtherAsk),
     }
 }
 
+/// Where each of these texts ends when they stand end to end.
+fn ends_of(texts: &[Vec<u8>]) -> Vec<u32> {
+    let end = |end: &mut usize, text: &Vec<u8>| {
+        *end += text.len();
+        Some(*end as u32)
+    };
+    texts.iter().scan(0, end).collect()
+}
+
 fn circle(ask: &Ask, said: Said, list: &Buffer<u32>) -> Result<(), Difference> {
     told(said.number == 14 && said.value <= limits::LIST, || Difference::NoCircle(said))?;
-    let shown = &list.all[..said.value];
+    let shown = &list.all[list.lent.clone()][..said.value];
     told(is_true(ask, shown), || Difference::UntrueCircle(shown.to_vec()))?;
     list.holds(shown)
 }
@@ -231,23 +261,25 @@ pub fn compare(ask: &Ask) -> Result<Kind, Difference> {
     judge(ask, &ours(ask), &theirs).map(|()| Kind::of(&theirs))
 }
 
-/// At most so many texts are asked of one list.
+/// At most so many texts are asked of one list, each by an ask of its own.
 const TEXTS: usize = 24;
 
 /// The asks of a seed: a random one of any size or a small one; after a list the texts of its
-/// steps, after a text the other text of the step and a plan of the manifest.
+/// steps, in one ask and each by itself, after a text the other text of the step, after texts the
+/// same by themselves, and after these a plan of the manifest.
 pub fn asks(seed: u64) -> Vec<Ask> {
     let first =
         if seed.is_multiple_of(2) { generate::ask(seed) } else { generate::small_ask(seed) };
     let rng = &mut Rng::new(!seed);
     let manifest = first.lent.manifest.clone();
     let mut asks = vec![first];
-    match asks[0].question {
+    match asks[0].question.clone() {
         Question::Plan { .. } => {
-            if let Answer::List(mut steps) = asks[0].answer() {
-                while steps.len() > TEXTS {
-                    steps.swap_remove(rng.below(steps.len()));
+            if let Answer::List(steps) = asks[0].answer() {
+                if !steps.is_empty() {
+                    asks.extend(WANTED.map(|wanted| Ask::texts(&manifest[..], &steps, wanted)));
                 }
+                let mut steps = some_of(rng, steps);
                 steps.push(damage::step(rng, &manifest) as u32);
                 asks.extend(steps.iter().flat_map(|&step| texts(&manifest, step as usize)));
             }
@@ -256,13 +288,30 @@ pub fn asks(seed: u64) -> Vec<Ask> {
             asks.extend(texts(&manifest, step));
             asks.push(Ask::plan(generate::plan_lent(rng, manifest)));
         }
+        Question::Texts { mut steps, .. } => {
+            asks.extend(WANTED.map(|wanted| Ask::texts(&manifest[..], &steps, wanted)));
+            steps.dedup();
+            let steps = some_of(rng, steps);
+            asks.extend(steps.iter().flat_map(|&step| texts(&manifest, step as usize)));
+            asks.push(Ask::plan(generate::plan_lent(rng, manifest)));
+        }
     }
     asks
 }
 
+const WANTED: [Wanted; 2] = [Wanted::Command, Wanted::Description];
+
 /// Both texts of a step.
 fn texts(manifest: &[u8], step: usize) -> [Ask; 2] {
-    [Wanted::Command, Wanted::Description].map(|wanted| Ask::text(manifest, step, wanted))
+    WANTED.map(|wanted| Ask::text(manifest, step, wanted))
+}
+
+/// [`TEXTS`] of these at most.
+fn some_of(rng: &mut Rng, mut steps: Vec<u32>) -> Vec<u32> {
+    while steps.len() > TEXTS {
+        steps.swap_remove(rng.below(steps.len()));
+    }
+    steps
 }
 
 /// Runs so many asks, from the seed on; counts them, or stops at the first on which the planners

@@ -1,4 +1,4 @@
-//! The proved crates beside the second planner, as static libraries: `kestrenyo` with the two asks,
+//! The proved crates beside the second planner, as static libraries: `kestrenyo` with the three asks,
 //! `test_scan` (modules `scan`, `card`, `targets`, `names`) and `test_manifest` (`manifest`). Nothing
 //! checks these declarations against the Rattle sources, so they are few; slices pass as a pointer
 //! and a length.

@@ -48,10 +48,15 @@ pub fn rounds<A, B>(
 
 /// Prints a row: ours, the second planner's, and the ratios of the medians and of the minima.
 pub fn row(name: &str, ours: Times, theirs: Times) {
+    row_of(name, ["ours", "second"], ours, theirs);
+}
+
+/// The same of any two, by their names.
+pub fn row_of(name: &str, [one, other]: [&str; 2], ours: Times, theirs: Times) {
     let micros = |d: Duration| d.as_nanos() as f64 / 1_000.0;
     let ratio = |a: Duration, b: Duration| a.as_secs_f64() / b.as_secs_f64();
     println!(
-        "{name:62} ours {:9.2} / {:9.2} us   second {:9.2} / {:9.2} us   ratio {:6.2} / {:6.2}",
+        "{name:62} {one} {:9.2} / {:9.2} us   {other} {:9.2} / {:9.2} us   ratio {:6.2} / {:6.2}",
         micros(ours.median),
         micros(ours.least),
         micros(theirs.median),

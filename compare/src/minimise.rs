@@ -1,5 +1,5 @@
-//! Makes an ask smaller as long as something holds of it: lines, card records and target names are
-//! dropped, then bytes.
+//! Makes an ask smaller as long as something holds of it: steps of a list, lines, card records and
+//! target names are dropped, then bytes.
 
 use second::{card, limits, Ask, Question};
 
@@ -9,6 +9,7 @@ pub fn minimise(mut ask: Ask, holds: impl Fn(&Ask) -> bool) -> Ask {
     loop {
         let before = ask.clone();
         ask = question(ask, &holds);
+        ask = by_steps(ask, &holds);
         ask = by_lines(ask, |ask| &mut ask.lent.manifest, &holds);
         ask = by_lines(ask, |ask| &mut ask.lent.targets, &holds);
         ask = by_records(ask, |ask| &mut ask.lent.card, &holds);
@@ -18,11 +19,20 @@ pub fn minimise(mut ask: Ask, holds: impl Fn(&Ask) -> bool) -> Ask {
     }
 }
 
-/// The least buffer that will do, and the lowest step.
+/// The least buffers that will do, and the lowest step.
 fn question(ask: Ask, holds: &impl Fn(&Ask) -> bool) -> Ask {
     let with = |question| Ask { question, ..ask.clone() };
-    let tries = match ask.question {
+    let tries = match ask.question.clone() {
         Question::Plan { .. } => vec![Question::PLAN],
+        Question::Texts { steps, wanted, buf_len, ends_len } => {
+            let lent = |buf_len, ends_len| {
+                let steps = steps.clone();
+                Question::Texts { steps, wanted, buf_len, ends_len }
+            };
+            let shorter =
+                (0..ends_len.min(steps.len() + 1)).map(|ends_len| lent(buf_len, ends_len));
+            [lent(limits::TEXT, ends_len)].into_iter().chain(shorter).collect()
+        }
         Question::Text { step, wanted, buf_len } => {
             let least = Question::Text { step, wanted, buf_len: limits::TEXT };
             let lower = (0..step).map(|step| Question::Text { step, wanted, buf_len });
@@ -31,6 +41,18 @@ fn question(ask: Ask, holds: &impl Fn(&Ask) -> bool) -> Ask {
     };
     let smaller = tries.into_iter().map(with).find(|smaller| holds(smaller));
     smaller.unwrap_or(ask)
+}
+
+/// Drops steps of a texts ask.
+fn by_steps(ask: Ask, holds: &impl Fn(&Ask) -> bool) -> Ask {
+    let Question::Texts { steps, wanted, buf_len, ends_len } = ask.question.clone() else {
+        return ask;
+    };
+    let with = |steps: &[u32]| {
+        let question = Question::Texts { steps: steps.to_vec(), wanted, buf_len, ends_len };
+        Ask { question, ..ask.clone() }
+    };
+    with(&dropped(steps, |steps| holds(&with(steps))))
 }
 
 /// A part of an ask that is lent.

@@ -1,12 +1,14 @@
-//! Both asks, whole, against the second planner's. `ASKS` in the environment runs another number of
+//! The asks, whole, against the second planner's. `ASKS` in the environment runs another number of
 //! asks, from seed `FROM` on; `cargo run --release --bin differ SEED COUNT` runs millions.
 
 use compare::adversary;
-use compare::asks::{asks, compare, judge, ours, run, Ours};
+use compare::asks::{asks, compare, judge, ours, run, Buffer, Filled, Ours};
 use compare::minimise::minimise;
 use compare::settings::setting;
+use kestrenyo::lent::Said;
 use second::kind::Kind;
-use second::{Answer, Ask, Lent};
+use second::{limits, Answer, Ask, Lent, Question};
+use std::ops::Not;
 
 const ASKS: u64 = 200_000;
 
@@ -35,28 +37,54 @@ fn differences_are_noticed() {
         let ask = some(kind).next().unwrap_or_else(|| panic!("no ask for {kind}"));
         let (right, theirs) = (ours(&ask), ask.answer());
         assert_eq!(judge(&ask, &right, &theirs), Ok(()));
-        let changes: [fn(&mut Ours); 4] = [
-            |ours| match ours {
-                Ours::Plan(said, _) | Ours::Text(said, _) => said.number += 1,
-            },
-            |ours| match ours {
-                Ours::Plan(said, _) | Ours::Text(said, _) => said.value += 1,
-            },
-            |ours| match ours {
-                Ours::Plan(_, list) => *list.all.last_mut().expect("room behind") += 1,
-                Ours::Text(_, buffer) => *buffer.all.last_mut().expect("room behind") += 1,
-            },
-            |ours| match ours {
-                Ours::Plan(said, list) => list.all[said.value.min(500)] += 1,
-                Ours::Text(_, buffer) => buffer.all[0] += 1,
-            },
-        ];
-        for (number, change) in changes.into_iter().enumerate() {
-            let mut wrong = right.clone();
-            change(&mut wrong);
-            assert!(judge(&ask, &wrong, &theirs).is_err(), "change {number} of {kind}: {ask}");
+        for wrong in changed(&right) {
+            assert!(judge(&ask, &wrong, &theirs).is_err(), "{kind}: {ask} {wrong:?}");
         }
     }
+}
+
+/// The answer with one thing changed: its number, its value, and in each buffer what is lent, or
+/// what lies before or behind that.
+fn changed(right: &Ours) -> Vec<Ours> {
+    let said = |change: fn(&mut Said)| {
+        let mut wrong = right.clone();
+        match &mut wrong {
+            Ours::Plan(said, _) | Ours::Text(said, _) | Ours::Texts(said, _, _) => change(said),
+        }
+        wrong
+    };
+    let mut all = vec![said(|said| said.number += 1), said(|said| said.value += 1)];
+    match right {
+        Ours::Plan(said, list) => {
+            all.extend(edited(list, said.value).map(|list| Ours::Plan(*said, list)));
+        }
+        Ours::Text(said, buffer) => {
+            all.extend(edited(buffer, 0).map(|buffer| Ours::Text(*said, buffer)));
+        }
+        Ours::Texts(said, bytes, ends) => {
+            let of_bytes = edited(bytes, said.value);
+            all.extend(of_bytes.map(|bytes| Ours::Texts(*said, bytes, ends.clone())));
+            let of_ends = edited(ends, said.value);
+            all.extend(of_ends.map(|ends| Ours::Texts(*said, bytes.clone(), ends)));
+        }
+    }
+    all
+}
+
+/// The buffer with another value at a place of what is lent, before it and behind it.
+fn edited<T: Filled + Not<Output = T>>(
+    buffer: &Buffer<T>,
+    place: usize,
+) -> impl Iterator<Item = Buffer<T>> {
+    let lent = buffer.clone().lent().len();
+    let front = (buffer.all.len() - lent) / 2;
+    let at = [front + place.min(lent.saturating_sub(1)), front - 1, buffer.all.len() - 1];
+    let edit = |at: usize| {
+        let mut wrong = buffer.clone();
+        wrong.all[at] = !wrong.all[at];
+        wrong
+    };
+    at.map(edit).into_iter()
 }
 
 /// A circle that is none is noticed, whatever its length.
@@ -67,11 +95,11 @@ fn circles_are_true_ones() {
         let theirs = ask.answer();
         for place in 0..said.value {
             let mut wrong = list.clone();
-            wrong.all[place] = 511;
+            wrong.lent()[place] = 511;
             assert!(judge(&ask, &Ours::Plan(said, wrong), &theirs).is_err(), "{ask}");
         }
         let (mut longer, mut more) = (said, list.clone());
-        more.all[said.value] = more.all[0];
+        more.lent()[said.value] = more.lent()[0];
         longer.value += 1;
         assert!(judge(&ask, &Ours::Plan(longer, more), &theirs).is_err(), "{ask}");
     }
@@ -99,4 +127,19 @@ fn asks_are_minimised() {
     assert!(is_list(&least) && least.lent.manifest.len() < 40, "{least}");
     let Lent { targets, card, .. } = least.lent;
     assert!(targets.is_empty() && card.len() <= 40, "{} {}", targets.len(), card.len());
+}
+
+/// So does a texts ask, whose list and buffers get shorter too.
+#[test]
+fn texts_asks_are_minimised() {
+    let has_two = |ask: &Ask| matches!(ask.answer(), Answer::Texts(texts) if texts.len() > 1);
+    let is_long = |ask: &Ask| {
+        let Question::Texts { steps, buf_len, ends_len, .. } = &ask.question else { return false };
+        steps.len() > 4 && *buf_len > limits::TEXT && *ends_len > 2
+    };
+    let ask = some(Kind::Texts).find(|ask| has_two(ask) && is_long(ask)).expect("texts");
+    let least = minimise(ask, has_two);
+    assert!(has_two(&least) && least.lent.manifest.len() < 40, "{least}");
+    let Question::Texts { steps, buf_len, ends_len, .. } = least.question else { panic!("texts") };
+    assert_eq!((steps, buf_len, ends_len), (vec![0, 0], limits::TEXT, 2));
 }

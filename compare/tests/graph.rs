@@ -70,7 +70,7 @@ fn compare(seed: u64, most_steps: usize) -> &'static str {
         Answer::List(_) => "other list",
         Answer::Refused(refusal) if refusal.number == 13 => "13",
         Answer::Refused(_) => "15",
-        Answer::Text(_) => unreachable!("a plan was asked for"),
+        Answer::Text(_) | Answer::Texts(_) => unreachable!("a plan was asked for"),
     }
 }
 

@@ -51,6 +51,16 @@ static size_t write_card(uint8_t *card, const struct file *files, size_t count)
     return total;
 }
 
+/* Prints the texts that an ask wrote, which end at these places; `before` of all `count` are printed already. */
+static void print(const uint8_t *bytes, const uint32_t *ends, size_t written, size_t before, size_t count)
+{
+    size_t from = 0;
+    for (size_t i = 0; i < written; i++) {
+        printf("[%zu/%zu] %.*s\n", before + i + 1, count, (int)(ends[i] - from), (const char *)bytes + from);
+        from = ends[i];
+    }
+}
+
 static int refused(struct kestrenyo_said said)
 {
     printf("refused %zu at %zu\n", said.number, said.value);
@@ -64,17 +74,21 @@ int main(void)
     const size_t length = sizeof MANIFEST - 1;
     uint8_t card[256];
     uint32_t list[KESTRENYO_LIST];
-    uint8_t text[KESTRENYO_TEXT];
+    uint8_t bytes[KESTRENYO_TEXT];
+    uint32_t ends[KESTRENYO_LIST];
 
     size_t card_length = write_card(card, files, sizeof files / sizeof *files);
     struct kestrenyo_said plan = kestrenyo_plan(manifest, length, card, card_length, NULL, 0, list, KESTRENYO_LIST);
     if (plan.number != 0)
         return refused(plan);
-    for (size_t i = 0; i < plan.value; i++) {
-        struct kestrenyo_said said = kestrenyo_text(manifest, length, list[i], KESTRENYO_COMMAND, text, KESTRENYO_TEXT);
+    /* a call writes as many texts as there is room for, one at least; the next call goes on behind them */
+    for (size_t done = 0; done < plan.value;) {
+        struct kestrenyo_said said = kestrenyo_texts(manifest, length, list + done, plan.value - done, KESTRENYO_COMMAND,
+                                                     bytes, KESTRENYO_TEXT, ends, KESTRENYO_LIST);
         if (said.number != 0)
             return refused(said);
-        printf("[%zu/%zu] %.*s\n", i + 1, plan.value, (int)said.value, (const char *)text);
+        print(bytes, ends, said.value, done, plan.value);
+        done += said.value;
     }
     return 0;
 }

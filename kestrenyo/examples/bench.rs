@@ -1,7 +1,7 @@
 //! Plans the bench example of document 01 and prints what the program prints:
 //! `cargo run --example bench`.
 
-use kestrenyo::{card, plan, text, Wanted};
+use kestrenyo::{card, plan, texts, Wanted};
 use std::error::Error;
 
 const MANIFEST: &[u8] = b"cflags = -O1
@@ -17,9 +17,8 @@ default axis
 fn main() -> Result<(), Box<dyn Error>> {
     let card = card(&[("a.c", 5), ("b.c", 5), ("t.h", 9), ("a.o", 7)])?;
     let steps = plan(MANIFEST, &card, b"")?;
-    for (place, &step) in steps.iter().enumerate() {
-        let command = text(MANIFEST, step as usize, Wanted::Command)?;
-        println!("[{}/{}] {}", place + 1, steps.len(), String::from_utf8_lossy(&command));
+    for (place, command) in (1..).zip(texts(MANIFEST, &steps, Wanted::Command)) {
+        println!("[{place}/{}] {}", steps.len(), String::from_utf8_lossy(&command?));
     }
     Ok(())
 }

@@ -1,5 +1,5 @@
 //! The asks on buffers that the caller lends: nothing is allocated. Nothing checks these
-//! declarations against the library's sources (`crates/kestrenyo`), so they are two; a slice passes
+//! declarations against the library's sources (`crates/kestrenyo`), so they are three; a slice passes
 //! as a pointer and a length.
 
 /// What an ask says: 0 and the count of what was written, or a refusal's number and its place.
@@ -8,7 +8,7 @@
 pub struct Said {
     /// 0 for an answer, else document 01's number of the refusal.
     pub number: usize,
-    /// The count of steps or bytes written, or the refusal's place.
+    /// The count of steps, bytes or texts written, or the refusal's place.
     pub value: usize,
 }
 
@@ -40,6 +40,27 @@ extern "C" {
         buffer: *mut u8,
         buffer_len: usize,
     ) -> Said;
+    fn kestrenyo_texts(
+        manifest: *const u8,
+        manifest_len: usize,
+        steps: *const u32,
+        steps_len: usize,
+        wanted: usize,
+        bytes: *mut u8,
+        bytes_len: usize,
+        ends: *mut u32,
+        ends_len: usize,
+    ) -> Said;
+}
+
+impl Wanted {
+    /// The library's number for what is wanted.
+    fn number(self) -> usize {
+        match self {
+            Wanted::Command => 0,
+            Wanted::Description => 1,
+        }
+    }
 }
 
 /// The plan ask. The steps to run stand at the start of `list`, which has [`LIST`](crate::LIST)
@@ -64,19 +85,45 @@ pub fn plan(manifest: &[u8], card: &[u8], targets: &[u8], list: &mut [u32]) -> S
 /// The text ask. The text stands at the start of `buffer`, which has [`TEXT`](crate::TEXT) bytes
 /// at least, and all beyond it is zero. After a refusal all of it is zero, but 1 touches nothing.
 pub fn text(manifest: &[u8], step: usize, wanted: Wanted, buffer: &mut [u8]) -> Said {
-    let wanted = match wanted {
-        Wanted::Command => 0,
-        Wanted::Description => 1,
-    };
     // SAFETY: the function asks nothing of its arguments, reads the slice and writes the buffer.
     unsafe {
         kestrenyo_text(
             manifest.as_ptr(),
             manifest.len(),
             step,
-            wanted,
+            wanted.number(),
             buffer.as_mut_ptr(),
             buffer.len(),
+        )
+    }
+}
+
+/// The texts ask. The texts of as many leading steps as there is room for stand end to end at the
+/// start of `bytes`, which has [`TEXT`](crate::TEXT) bytes at least, and where each one ends at the
+/// start of `ends`, which may have any length; all beyond is zero. The value is their number.
+///
+/// The first step whose text is refused makes it the refusal of them all, unless a text before it
+/// had no room: the steps behind that one are not looked at. After a refusal all of both buffers is
+/// zero, but 1 touches nothing. Of a buffer of over 2^32 - 1 bytes no more than that is used.
+pub fn texts(
+    manifest: &[u8],
+    steps: &[u32],
+    wanted: Wanted,
+    bytes: &mut [u8],
+    ends: &mut [u32],
+) -> Said {
+    // SAFETY: the function asks nothing of its arguments, reads the slices and writes the buffers.
+    unsafe {
+        kestrenyo_texts(
+            manifest.as_ptr(),
+            manifest.len(),
+            steps.as_ptr(),
+            steps.len(),
+            wanted.number(),
+            bytes.as_mut_ptr(),
+            bytes.len(),
+            ends.as_mut_ptr(),
+            ends.len(),
         )
     }
 }

@@ -3,15 +3,21 @@
 //! says. It runs nothing itself.
 //!
 //! ```
-//! use kestrenyo::{card, plan, text, Wanted};
+//! use kestrenyo::{card, plan, text, texts, Wanted};
 //!
 //! let manifest = b"rule cc\n  command = cc -c $in -o $out\nbuild a.o: cc a.c\n";
 //! let times = card(&[("a.c", 9), ("a.o", 7)])?;
 //! let steps = plan(manifest, &times, b"")?;
 //! assert_eq!(steps, [0]);
 //! assert_eq!(text(manifest, 0, Wanted::Command)?, b"cc -c a.c -o a.o");
+//! for command in texts(manifest, &steps, Wanted::Command) {
+//!     println!("{}", String::from_utf8_lossy(&command?));
+//! }
 //! # Ok::<(), Box<dyn std::error::Error>>(())
 //! ```
+//!
+//! [`plan()`] lists the steps to run, [`text()`] gives the text of one step, and [`texts()`] those of
+//! many, without reading the manifest anew for each.
 //!
 //! Any input gets an answer: a list, a text, or a [`Refusal`] with its number and place. Nothing
 //! panics and nothing is read or written but what is lent.
@@ -28,10 +34,12 @@
 mod card;
 pub mod lent;
 mod refusal;
+mod texts;
 
 pub use card::{card, CardError};
 pub use lent::Wanted;
 pub use refusal::Refusal;
+pub use texts::{texts, Texts};
 
 /// The least list buffer, in numbers: as many as there may be steps.
 pub const LIST: usize = 512;

@@ -1,16 +1,19 @@
-//! Both asks, whole, of the proved planner against the second planner's, in one process: median and
-//! minimum of an ask, and the ratios of both. The buffers that an ask lends are made before.
+//! The asks, whole, of the proved planner against the second planner's, in one process: median and
+//! minimum of an ask, and the ratios of both; and many texts by one ask against as many text asks.
+//! The buffers that an ask lends are made before.
 
 use compare::adversary;
 use compare::asks::{asked, compare};
-use compare::measure::{both, row};
+use compare::measure::{both, row, row_of};
 use kestrenyo::lent;
+use second::kind::Kind;
 use second::{limits, shapes, Ask, Lent, Question, Wanted};
 
 fn main() {
     clearing();
     plans();
     texts();
+    many_texts();
     for slow in adversary::all() {
         measure(slow.name, &slow.ask);
     }
@@ -56,6 +59,35 @@ fn texts() {
     }
 }
 
+/// The commands of all steps: by one ask of either planner, and by an ask for each against one ask.
+fn many_texts() {
+    const ROOM: usize = 64 << 10;
+    let steps: Vec<u32> = (0..limits::STEPS as u32).collect();
+    for shape in shapes::all(limits::STEPS) {
+        let (manifest, ends_len) = (shape.manifest, steps.len());
+        let (steps, wanted) = (steps.clone(), Wanted::Command);
+        let question = Question::Texts { steps, wanted, buf_len: ROOM, ends_len };
+        let ask = Ask { lent: Lent::manifest(manifest.clone()), question };
+        let all = Kind::of(&ask.answer()) == Kind::Texts && ask.answer().numbers().1 == ends_len;
+        assert!(all, "{}: not all texts have room", shape.name);
+        measure(&format!("texts of 512 steps in one ask: {}", shape.name), &ask);
+
+        let (mut bytes, mut ends, mut buffer) = ([0; ROOM], vec![0; ends_len], [0; limits::TEXT]);
+        let Question::Texts { steps, .. } = &ask.question else { continue };
+        let command = kestrenyo::Wanted::Command;
+        let (one, each) = both(
+            || lent::texts(&manifest, steps, command, &mut bytes, &mut ends),
+            || {
+                steps.iter().for_each(|&step| {
+                    lent::text(&manifest, step as usize, command, &mut buffer);
+                })
+            },
+        );
+        let name = format!("  512 text asks against one for all: {}", shape.name);
+        row_of(&name, ["512 asks", "one ask"], each, one);
+    }
+}
+
 /// Both planners on an ask, after seeing that they agree on it.
 fn measure(name: &str, ask: &Ask) {
     let kind = compare(ask).unwrap_or_else(|difference| panic!("{name}: {difference}"));
@@ -68,6 +100,11 @@ fn measure(name: &str, ask: &Ask) {
         Question::Text { step, wanted, buf_len } => {
             let mut buffer = vec![0; buf_len];
             both(|| lent::text(manifest, step, asked(wanted), &mut buffer), || ask.answer())
+        }
+        Question::Texts { ref steps, wanted, buf_len, ends_len } => {
+            let (mut bytes, mut ends) = (vec![0; buf_len], vec![0; ends_len]);
+            let wanted = asked(wanted);
+            both(|| lent::texts(manifest, steps, wanted, &mut bytes, &mut ends), || ask.answer())
         }
     };
     row(&format!("{name}: {kind}"), ours, theirs);
