@@ -131,10 +131,10 @@ pub record PlansPast (i : Inputs) (rd : Reading) (lent : List ℕ) (said : Said)
   pub list : (said .number ≡ 0) ↔ (Ordered i rd × ((f : ℕ) → ¬ MissingIn i rd f))
   pub listed : said .number ≡ 0 → ListShown i rd lent said exit
 
--- Demand 3: past the checks ahead of circles, a circle is refused exactly when no order of the needed steps exists, and
--- a real one is shown; otherwise, and if no needed source is missing, the list holds every stale needed command step
--- once, each after all stale ones upstream, and it is the least such list by step number. "Demand 3 speaks of the plan
--- ask itself, from the lent bytes to the filled buffer".
+-- Demand 3: past the checks ahead of circles, a circle is refused exactly when no order of the needed steps exists,
+-- and a real one is shown; otherwise, and if no needed source is missing, the list holds every stale needed command
+-- step once, each after all stale ones upstream, and it is the least such list by step number. "Demand 3 speaks of the
+-- plan ask itself, from the lent bytes to the filled buffer".
 pub record Demand3 (i : Inputs) (lent : List ℕ) (said : Said) (exit : List ℕ) : Type 0 where
   pub ahead : ChecksAhead i (length lent) said
   pub past : (rd : Reading) → PastChecks i (length lent) rd → PlansPast i rd lent said exit
