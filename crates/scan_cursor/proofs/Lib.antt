@@ -1,2 +1,3 @@
 pub mod Spanning
 pub mod Passing
+pub mod Readers

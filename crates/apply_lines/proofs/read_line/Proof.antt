@@ -7,7 +7,7 @@ use Rattle.apply_lines.proofs.read_line.Statement.{statement}
 use Rattle.apply_lines.proofs.read_line.Tie as tie
 
 line-kind-requires : tie.Need-line-kind-requires
-line-kind-requires c κs = c .before .before .before .before .before .before .before .pre .cut .table
+line-kind-requires c κs = c .before .before .before .before .before .before .before .before .pre .cut .table
 
 enum-told : tie.Need-enum-told
 enum-told c = search needs

@@ -17,7 +17,6 @@ use prog.Memory.{Memory}
 use prog.Routine.{Routine}
 use prog.Wp.{Heap, Out, Env, afterSeq, afterBlock, afterTurn, Calls, Loops, Wp, atReturn, WpFn, Tables}
 use ghost.Atoms.{Atoms, sem}
-use contract.Lifetimes.{Lfts}
 use contract.Monad.{Fun, fact}
 use contract.Running.{givenOf, tables, tablesOf}
 use sound.Loop.{loop-rule}
@@ -25,12 +24,12 @@ use types.Kit.{Given, Item, ‵, raw, _⊛_, ⋆, some, later, anyQ, atRet, _$_,
 use types.Part.{whole, sub, look-in}
 use types.Run.{look, init, store, forget, stop, fld, from, load, of-opd, and-then, no-more, assigns, land, land-last, stays, leaves-loop, returns, enter, alloc1, alloc0, params1, pass1, pass0, free1, free0, exec}
 use sound.WpLaws.{FmC, fmOf, WpFn-mono}
-use denote.RattleType.{RattleType, owns}
+use denote.RattleType.{owns}
 use denote.Laws.{Is, shows}
 use denote.Plain.{uint-vals, uint-tells, uint-makes}
 use denote.Builtin.{u8, usize}
-use denote.Ref.{RefT, NamedLft, now}
-use denote.Signature.{plain, namedLft}
+use denote.Ref.{RefT, now}
+use denote.Signature.{plain}
 use denote.Slice.{sliceVal, ShrSlice, Room, slice-vals, shr-slice-tells, shr-slice-lawful, shr-slice-copy}
 use denote.Steps.{owned, peeks, heard, nothing, only}
 use denote.Struct.Laws as LL
@@ -46,7 +45,7 @@ use Rattle.scan_cursor.specs.Spans.{LineHere, NextLine}
 use Rattle.scan_cursor.specs.declared.LineBounds.{LineBounds}
 use Rattle.scan_cursor.specs.declared.Reader.{Reader}
 use Rattle.scan_cursor.proofs.Passing.{pass-begin, pass-next, pass-on, pass-less}
-use Rattle.scan_cursor.proofs.Reader as T
+use Rattle.scan_cursor.proofs.Readers.{row, Owns, value-is, typed, twice}
 use Rattle.scan_cursor.proofs.Reader.Laws as T′
 use Rattle.scan_cursor.proofs.LineBounds as S
 use Rattle.scan_cursor.proofs.LineBounds.Laws as S′
@@ -67,10 +66,6 @@ use Rattle.scan_cursor.proofs.line_from as line
 use Rattle.scan_cursor.proofs.line_from.Statement as stated
 use Rattle.scan_cursor.proofs.line_from.Code as code
 use Rattle.scan_cursor.proofs.line_from.Code.Mir as mirs
-
--- the struct's type, over the signature's lifetimes
-abbrev B : Lfts 1 → RattleType
-B κs = T.the-row (namedLft 1 0 tt κs)
 
 abbrev stayed : Stays (line.ended .signature .params) (line.ended .kept)
 stayed = (stay-none-slice (0 ∷ []) tt (plain (λ _. u8)) yes, (stay-none (λ _. usize) yes, tt))
@@ -131,23 +126,13 @@ module _ {M : Type 1} (𝓤 : URA M) (H : Heap 𝓤) (A : Atoms 𝓤) (W : Given
   abbrev at : Vals line.signature (κ, tt)
   at = (v ∷ [], (vint w64 n ∷ [], tt))
 
-  -- the struct's type as a local of a body has it
-  abbrev αᵉ : NamedLft
-  αᵉ = record { mir = erased; lft = κ }
-
-  abbrev α : NamedLft
-  α = namedLft 1 0 tt (κ, tt)
-
   abbrev Post : Val → SProp 𝓤
   Post = walkOf 𝓤 H A line.ended stayed (line.clauses 𝓤 H A mem run) .post (((κ, tt), (q, tt), tt, (s, (n, tt)), at), tt)
 
   abbrev Own : Fml
   Own = ShrSlice (named 0) κ u8 .own s (v ∷ [])
 
-  -- what a reader and a line own, at their machine values
-  abbrev OwnR : Reader → Val → Fml
-  OwnR p u = B (κ, tt) .own p (u ∷ [])
-
+  -- what a line owns, at its machine value
   abbrev OwnL : LineBounds → Val → Fml
   OwnL t u = S.the-row .own t (u ∷ [])
 
@@ -175,9 +160,9 @@ module _ {M : Type 1} (𝓤 : URA M) (H : Heap 𝓤) (A : Atoms 𝓤) (W : Given
   abbrev to-moved : Reader → Val → ℕ → Moved 𝓤 H A mem run .Ghost
   to-moved r u k = (((κ, tt), (q, tt), tt, (r, (k, tt)), (u ∷ [], (vint w64 k ∷ [], tt))), tt)
 
-  goes-moved : (r : Reader) (u : Val) (k : ℕ) → k < 2 ^ 64 → ent 𝓤 (⋆ 𝓤 H A (‵ (OwnR r u) ∷ Token ∷ [])) (Moved 𝓤 H A mem run .pre (to-moved r u k))
+  goes-moved : (r : Reader) (u : Val) (k : ℕ) → k < 2 ^ 64 → ent 𝓤 (⋆ 𝓤 H A (‵ (Owns κ r u) ∷ Token ∷ [])) (Moved 𝓤 H A mem run .pre (to-moved r u k))
   goes-moved r u k fits =
-      qed W (‵ (OwnR r u) ∷ Token ∷ []) ∵ nothing ! $ owned ! usize (Is usize) (uint-makes 𝓤 H A W w64) k _ (refl, fits) $ fjoin ! $ move ! (1 ∷ 0 ∷ []) $ fjoin ! $ move ! (1 ∷ 0 ∷ []) $ join ! $ frame ! $ done !
+      qed W (‵ (Owns κ r u) ∷ Token ∷ []) ∵ nothing ! $ owned ! usize (Is usize) (uint-makes 𝓤 H A W w64) k _ (refl, fits) $ fjoin ! $ move ! (1 ∷ 0 ∷ []) $ fjoin ! $ move ! (1 ∷ 0 ∷ []) $ join ! $ frame ! $ done !
 
   abbrev Reached : Reader → ℕ → Reader → Type 0
   Reached r k p = (p .manifest ≡ r .manifest) × (p .cursor ≡ k)
@@ -188,8 +173,8 @@ module _ {M : Type 1} (𝓤 : URA M) (H : Heap 𝓤) (A : Atoms 𝓤) (W : Given
   abbrev to-next : Reader → Val → Next 𝓤 H A mem run .Ghost
   to-next p u = (((κ, tt), (q, tt), tt, (p, tt), (u ∷ [], tt)), tt)
 
-  goes-next : (p : Reader) (u : Val) → p .cursor ≤ length (now (p .manifest)) → ent 𝓤 (⋆ 𝓤 H A (‵ (OwnR p u) ∷ Token ∷ [])) (Next 𝓤 H A mem run .pre (to-next p u))
-  goes-next p u in-it = qed W (‵ (OwnR p u) ∷ Token ∷ []) ∵ says ! in-it $ nothing ! $ move ! (1 ∷ 0 ∷ []) $ fjoin ! $ move ! (1 ∷ 0 ∷ []) $ frame ! $ done !
+  goes-next : (p : Reader) (u : Val) → p .cursor ≤ length (now (p .manifest)) → ent 𝓤 (⋆ 𝓤 H A (‵ (Owns κ p u) ∷ Token ∷ [])) (Next 𝓤 H A mem run .pre (to-next p u))
+  goes-next p u in-it = qed W (‵ (Owns κ p u) ∷ Token ∷ []) ∵ says ! in-it $ nothing ! $ move ! (1 ∷ 0 ∷ []) $ fjoin ! $ move ! (1 ∷ 0 ∷ []) $ frame ! $ done !
 
   abbrev Found : Reader → LineBounds → Type 0
   Found p t = LineHere (now (p .manifest)) (p .cursor) t
@@ -223,7 +208,7 @@ module _ {M : Type 1} (𝓤 : URA M) (H : Heap 𝓤) (A : Atoms 𝓤) (W : Given
 
       -- the reader p is in its local, and the line t at its place in another
       abbrev At : Reader → LineBounds → List (Item 𝓤)
-      At p t = ‵ (OwnL t (S′.lowered t)) ∷ Token ∷ ‵ (OwnR p (T′.lowered p)) ∷ ‵ Own ∷ ‵ (fat fullShare reader l₃ 0 (T′.lowered p)) ∷ ‵ (fat fullShare bounds l₄ 0 (S′.lowered t)) ∷ Frame
+      At p t = ‵ (OwnL t (S′.lowered t)) ∷ Token ∷ ‵ (Owns κ p (T′.lowered p)) ∷ ‵ Own ∷ ‵ (fat fullShare reader l₃ 0 (T′.lowered p)) ∷ ‵ (fat fullShare bounds l₄ 0 (S′.lowered t)) ∷ Frame
 
       abbrev Inv : ℕ → SProp 𝓤
       Inv k = ex 𝓤 (λ (x : Reader × LineBounds). guard 𝓤 (Going s n k (x .0) (x .1)) (⋆ 𝓤 H A (At (x .0) (x .1))))
@@ -245,18 +230,18 @@ module _ {M : Type 1} (𝓤 : URA M) (H : Heap 𝓤) (A : Atoms 𝓤) (W : Given
           assigns ! (of-opd ! (load ! (from ! (fld ! refl (stop !))) (look-in ! 5 (sub ! 3 refl (whole !))))) (from ! (stop !)) (init ! 6 refl (tt, tt)) $
           rewrite ! 6 (λ (b : Bool). ‵ (fat fullShare tyBool l₇ 0 (vbool b))) c refl $
           stays ! (load ! (from ! (stop !)) (look ! 6 refl)) $
-          move ! (2 ∷ []) $ peeks ! (B (κ, tt)) (Is (B (κ, tt))) (shows 𝓤 H A (B (κ, tt))) p (T′.lowered p ∷ []) (λ is.
-          assigns ! (of-opd ! (load ! (from ! (stop !)) (look ! 4 refl))) (from ! (stop !)) (init ! 7 refl (LL.lawful (T.the-type αᵉ) (T′.the-laws αᵉ) 𝓤 H A W .typed p _ is .0)) $
+          move ! (2 ∷ []) $ peeks ! (row (κ, tt)) (Is (row (κ, tt))) (shows 𝓤 H A (row (κ, tt))) p (T′.lowered p ∷ []) (λ is.
+          assigns ! (of-opd ! (load ! (from ! (stop !)) (look ! 4 refl))) (from ! (stop !)) (init ! 7 refl (typed 𝓤 H A W κ p erased _ is)) $
           move ! (0 ∷ 2 ∷ []) $ use2 W (raw (Moved 𝓤 H A mem run .pre (to-moved p (T′.lowered p) (t .next)))) (goes-moved p (T′.lowered p) (t .next) (lt-of-le-of-lt within (room .0))) $
           -- [what `moved` asks; what t owns; what m owns; _3; _4; _7; _8; …]
           calls-at ! fm (Moved 𝓤 H A mem run) known-moved (to-moved p (T′.lowered p) (t .next)) (and-then ! (load ! (from ! (stop !)) (look ! 6 refl)) (and-then ! (load ! (from ! (fld ! refl (stop !))) (look-in ! 4 (sub ! 4 refl (whole !)))) (no-more !))) (λ u.
-          use1 W (later (some (λ (r : Reader). (Token ⊛ ‵ (OwnR r u)) ⊛ raw (ensured 𝓤 H A moved.ended (moved.clauses 𝓤 H A mem run) (κ, tt) (p, (t .next, tt)) tt r)))) (id⊢ 𝓤 _) $ await ! tt $ pick ! (λ r.
+          use1 W (later (some (λ (r : Reader). (Token ⊛ ‵ (Owns κ r u)) ⊛ raw (ensured 𝓤 H A moved.ended (moved.clauses 𝓤 H A mem run) (κ, tt) (p, (t .next, tt)) tt r)))) (id⊢ 𝓤 _) $ await ! tt $ pick ! (λ r.
           split ! $ move ! (1 ∷ []) $ use1 W (raw (fact 𝓤 (Reached p (t .next) r))) (moved-said p (t .next) r) $ heard ! (Reached p (t .next) r) (λ e. split ! $ move ! (1 ∷ []) $
           -- [what r owns; the token; what t owns; what m owns; _3; _4; _7; _8; _9; …]
-          peeks ! (B (κ, tt)) (Is (B (κ, tt))) (shows 𝓤 H A (B (κ, tt))) r (u ∷ []) (λ is′.
-          land ! (from ! (stop !)) (store ! 4 refl (LL.lawful (T.the-type αᵉ) (T′.the-laws αᵉ) 𝓤 H A W .typed r _ is′ .0)) $
-          assigns ! (of-opd ! (load ! (from ! (stop !)) (look ! 4 refl))) (from ! (stop !)) (init ! 8 refl (LL.lawful (T.the-type αᵉ) (T′.the-laws αᵉ) 𝓤 H A W .typed r _ is′ .0)) $
-          use1 W (‵ (OwnR r u) ⊛ ‵ (OwnR r u)) (LL.copy (T.the-type α) (T′.the-copy α) 𝓤 H A W .twice r (u ∷ [])) $ split ! $
+          peeks ! (row (κ, tt)) (Is (row (κ, tt))) (shows 𝓤 H A (row (κ, tt))) r (u ∷ []) (λ is′.
+          land ! (from ! (stop !)) (store ! 4 refl (typed 𝓤 H A W κ r erased _ is′)) $
+          assigns ! (of-opd ! (load ! (from ! (stop !)) (look ! 4 refl))) (from ! (stop !)) (init ! 8 refl (typed 𝓤 H A W κ r erased _ is′)) $
+          use1 W (‵ (Owns κ r u) ⊛ ‵ (Owns κ r u)) (twice 𝓤 H A W κ r u) $ split ! $
           move ! (0 ∷ 2 ∷ []) $ use2 W (raw (Next 𝓤 H A mem run .pre (to-next r u))) (goes-next r u (asks s (r .manifest) (r .cursor) (t .next) (e .0 ∙ same) (e .1) within)) $
           -- [what `next_line` asks; what r owns; what t owns; what m owns; _3; _4; _7; _8; _9; …]
           calls-at-last ! fm (Next 𝓤 H A mem run) known-next (to-next r u) (and-then ! (load ! (from ! (stop !)) (look ! 8 refl)) (no-more !)) (λ w.
@@ -266,8 +251,8 @@ module _ {M : Type 1} (𝓤 : URA M) (H : Heap 𝓤) (A : Atoms 𝓤) (W : Given
           peeks ! S.the-row (Is S.the-row) (shows 𝓤 H A S.the-row) x (w ∷ []) (λ is″.
           land-last ! (from ! (stop !)) (store ! 6 refl (LL.lawful S.the-type S′.the-laws 𝓤 H A W .typed x _ is″ .0)) $
           move ! (3 ∷ []) $ drop ! $
-          rewrite ! 4 (λ (z : Val). ‵ (fat fullShare reader l₃ 0 z)) (ap only (LL.tells (T.the-type α) (T′.the-laws α) r _ is′)) refl $
-          rewrite ! 2 (λ (z : Val). ‵ (OwnR r z)) (ap only (LL.tells (T.the-type α) (T′.the-laws α) r _ is′)) refl $
+          rewrite ! 4 (λ (z : Val). ‵ (fat fullShare reader l₃ 0 z)) (value-is κ r _ is′) refl $
+          rewrite ! 2 (λ (z : Val). ‵ (Owns κ r z)) (value-is κ r _ is′) refl $
           rewrite ! 5 (λ (z : Val). ‵ (fat fullShare bounds l₄ 0 z)) (ap only (LL.tells S.the-type S′.the-laws x _ is″)) refl $
           rewrite ! 0 (λ (z : Val). ‵ (OwnL x z)) (ap only (LL.tells S.the-type S′.the-laws x _ is″)) refl $
           forget ! 6 refl $ forget ! 7 refl $ forget ! 8 refl $
@@ -323,12 +308,12 @@ module _ {M : Type 1} (𝓤 : URA M) (H : Heap 𝓤) (A : Atoms 𝓤) (W : Given
 
       -- the reader p is at the place given
       from-place : (p : Reader) (u : Val) → p .manifest ≡ s → p .cursor ≡ n
-          → ent 𝓤 (⋆ 𝓤 H A (‵ (OwnR p u) ∷ Token ∷ ‵ Own ∷ Locals (‵ (fat fullShare reader l₃ 0 u)) (‵ (froom reader l₅ 0)))) (Wp 𝓤 H C Λ En mirs.t-3 (atReturn 𝓤 H En Post))
+          → ent 𝓤 (⋆ 𝓤 H A (‵ (Owns κ p u) ∷ Token ∷ ‵ Own ∷ Locals (‵ (fat fullShare reader l₃ 0 u)) (‵ (froom reader l₅ 0)))) (Wp 𝓤 H C Λ En mirs.t-3 (atReturn 𝓤 H En Post))
       from-place p u same reached =
-          qed W (‵ (OwnR p u) ∷ Token ∷ ‵ Own ∷ Locals (‵ (fat fullShare reader l₃ 0 u)) (‵ (froom reader l₅ 0))) ∵ exec ! C Λ En mirs.t-3 (atRet En Post) $
-          peeks ! (B (κ, tt)) (Is (B (κ, tt))) (shows 𝓤 H A (B (κ, tt))) p (u ∷ []) (λ is.
-          assigns ! (of-opd ! (load ! (from ! (stop !)) (look ! 15 refl))) (from ! (stop !)) (init ! 9 refl (LL.lawful (T.the-type αᵉ) (T′.the-laws αᵉ) 𝓤 H A W .typed p _ is .0)) $
-          use1 W (‵ (OwnR p u) ⊛ ‵ (OwnR p u)) (LL.copy (T.the-type α) (T′.the-copy α) 𝓤 H A W .twice p (u ∷ [])) $ split ! $
+          qed W (‵ (Owns κ p u) ∷ Token ∷ ‵ Own ∷ Locals (‵ (fat fullShare reader l₃ 0 u)) (‵ (froom reader l₅ 0))) ∵ exec ! C Λ En mirs.t-3 (atRet En Post) $
+          peeks ! (row (κ, tt)) (Is (row (κ, tt))) (shows 𝓤 H A (row (κ, tt))) p (u ∷ []) (λ is.
+          assigns ! (of-opd ! (load ! (from ! (stop !)) (look ! 15 refl))) (from ! (stop !)) (init ! 9 refl (typed 𝓤 H A W κ p erased _ is)) $
+          use1 W (‵ (Owns κ p u) ⊛ ‵ (Owns κ p u)) (twice 𝓤 H A W κ p u) $ split ! $
           move ! (0 ∷ 2 ∷ []) $ use2 W (raw (Next 𝓤 H A mem run .pre (to-next p u))) (goes-next p u (asks s (p .manifest) (p .cursor) n same reached ok)) $
           -- [what `next_line` asks; what p owns; what m owns; _9; …]
           calls-at ! fm (Next 𝓤 H A mem run) known-next (to-next p u) (and-then ! (load ! (from ! (stop !)) (look ! 9 refl)) (no-more !)) (λ w.
@@ -337,8 +322,8 @@ module _ {M : Type 1} (𝓤 : URA M) (H : Heap 𝓤) (A : Atoms 𝓤) (W : Given
           -- [what t owns; the token; what p owns; what m owns; _9; …]
           peeks ! S.the-row (Is S.the-row) (shows 𝓤 H A S.the-row) t (w ∷ []) (λ is′.
           land ! (from ! (stop !)) (init ! 14 refl (LL.lawful S.the-type S′.the-laws 𝓤 H A W .typed t _ is′ .0)) $
-          rewrite ! 16 (λ (z : Val). ‵ (fat fullShare reader l₃ 0 z)) (ap only (LL.tells (T.the-type α) (T′.the-laws α) p _ is)) refl $
-          rewrite ! 2 (λ (z : Val). ‵ (OwnR p z)) (ap only (LL.tells (T.the-type α) (T′.the-laws α) p _ is)) refl $
+          rewrite ! 16 (λ (z : Val). ‵ (fat fullShare reader l₃ 0 z)) (value-is κ p _ is) refl $
+          rewrite ! 2 (λ (z : Val). ‵ (Owns κ p z)) (value-is κ p _ is) refl $
           rewrite ! 14 (λ (z : Val). ‵ (fat fullShare bounds l₄ 0 z)) (ap only (LL.tells S.the-type S′.the-laws t _ is′)) refl $
           rewrite ! 0 (λ (z : Val). ‵ (OwnL t z)) (ap only (LL.tells S.the-type S′.the-laws t _ is′)) refl $
           forget ! 10 refl $
@@ -351,18 +336,18 @@ module _ {M : Type 1} (𝓤 : URA M) (H : Heap 𝓤) (A : Atoms 𝓤) (W : Given
           qed W (raw (onEntry 𝓤 H A line.signature (κ, tt) (q, tt) (s, (n, tt)) at) ∷ Locals (‵ (froom reader l₃ 0)) (‵ (froom reader l₅ 0))) ∵ exec ! C Λ En mirs.t-1 (atRet En Post) $
           use1 W (raw (Start 𝓤 H A mem run .pre to-start) ⊛ ‵ Own) goes-start $ split ! $
           calls-at ! fm (Start 𝓤 H A mem run) known-start to-start (and-then ! (load ! (from ! (stop !)) (look ! 18 refl)) (no-more !)) (λ u.
-          use1 W (later (some (λ (r : Reader). (Token ⊛ ‵ (OwnR r u)) ⊛ raw (ensured 𝓤 H A start.ended (start.clauses 𝓤 H A mem run) (κ, tt) (s, tt) tt r)))) (id⊢ 𝓤 _) $ await ! tt $ pick ! (λ r.
+          use1 W (later (some (λ (r : Reader). (Token ⊛ ‵ (Owns κ r u)) ⊛ raw (ensured 𝓤 H A start.ended (start.clauses 𝓤 H A mem run) (κ, tt) (s, tt) tt r)))) (id⊢ 𝓤 _) $ await ! tt $ pick ! (λ r.
           split ! $ move ! (1 ∷ []) $ use1 W (raw (fact 𝓤 (Started r))) (start-said r) $ heard ! (Started r) (λ e. split ! $ move ! (1 ∷ []) $
           -- [what r owns; the token; what m owns; _9; …]
-          peeks ! (B (κ, tt)) (Is (B (κ, tt))) (shows 𝓤 H A (B (κ, tt))) r (u ∷ []) (λ is.
-          land ! (from ! (stop !)) (init ! 11 refl (LL.lawful (T.the-type αᵉ) (T′.the-laws αᵉ) 𝓤 H A W .typed r _ is .0)) $
+          peeks ! (row (κ, tt)) (Is (row (κ, tt))) (shows 𝓤 H A (row (κ, tt))) r (u ∷ []) (λ is.
+          land ! (from ! (stop !)) (init ! 11 refl (typed 𝓤 H A W κ r erased _ is)) $
           use2 W (raw (Moved 𝓤 H A mem run .pre (to-moved r u n))) (goes-moved r u n n-fits) $
           calls-at ! fm (Moved 𝓤 H A mem run) known-moved (to-moved r u n) (and-then ! (load ! (from ! (stop !)) (look ! 10 refl)) (and-then ! (load ! (from ! (stop !)) (look ! 16 refl)) (no-more !))) (λ u′.
-          use1 W (later (some (λ (p : Reader). (Token ⊛ ‵ (OwnR p u′)) ⊛ raw (ensured 𝓤 H A moved.ended (moved.clauses 𝓤 H A mem run) (κ, tt) (r, (n, tt)) tt p)))) (id⊢ 𝓤 _) $ await ! tt $ pick ! (λ p.
+          use1 W (later (some (λ (p : Reader). (Token ⊛ ‵ (Owns κ p u′)) ⊛ raw (ensured 𝓤 H A moved.ended (moved.clauses 𝓤 H A mem run) (κ, tt) (r, (n, tt)) tt p)))) (id⊢ 𝓤 _) $ await ! tt $ pick ! (λ p.
           split ! $ move ! (1 ∷ []) $ use1 W (raw (fact 𝓤 (Reached r n p))) (moved-said r n p) $ heard ! (Reached r n p) (λ e′. split ! $ move ! (1 ∷ []) $
           -- [what p owns; the token; what m owns; _9; …]
-          peeks ! (B (κ, tt)) (Is (B (κ, tt))) (shows 𝓤 H A (B (κ, tt))) p (u′ ∷ []) (λ is′.
-          land ! (from ! (stop !)) (init ! 15 refl (LL.lawful (T.the-type αᵉ) (T′.the-laws αᵉ) 𝓤 H A W .typed p _ is′ .0)) $
+          peeks ! (row (κ, tt)) (Is (row (κ, tt))) (shows 𝓤 H A (row (κ, tt))) p (u′ ∷ []) (λ is′.
+          land ! (from ! (stop !)) (init ! 15 refl (typed 𝓤 H A W κ p erased _ is′)) $
           forget ! 11 refl $ by ! (from-place p u′ (e′ .0 ∙ e .0) (e′ .1))))))))))
 
     walk : Is (ShrSlice (named 0) κ u8) s (v ∷ []) → ent 𝓤 (onEntry 𝓤 H A line.signature (κ, tt) (q, tt) (s, (n, tt)) at) (WpFn 𝓤 H C Λ code.function (v ∷ vint w64 n ∷ []) Post)
