@@ -1,11 +1,12 @@
 // The plan ask: the manifest is read into buffers of the ask's own, and the list is planned from them.
 ghost use Prim.Native.Nat.{_≤_};
 ghost use lib.ListN.{length};
+ghost use Rattle.lists.specs.Lent.{Spare, Leaves};
 ghost use Rattle.spec.specs.Limits.{leastList};
 ghost use Rattle.spec.specs.PlanAsk.{inputsOf};
 ghost use Rattle.spec.specs.Promises.{PlanPromise};
 ghost use Rattle.ask_plan.specs.Asked.{PlanAsked};
-ghost use Rattle.hold_reading.specs.Buffers.{buffers};
+ghost use Rattle.hold_reading.specs.Buffers.{buffers, SameRoom};
 use apply_manifest::ReadAnswer;
 use apply_manifest::read_manifest;
 use ask_plan_reading::plan_read;
@@ -19,7 +20,7 @@ use spec::PlanAnswer;
 use spec::limits::VALUE;
 use spec::limits::WRITTEN;
 
-// With the reader's buffers lent.
+// With the reader's buffers lent: they are working space.
 fn plan_manifest(
     t: &[u8; 256],
     manifest: &[u8],
@@ -34,7 +35,7 @@ fn plan_manifest(
     list: &mut [u32],
 ) -> PlanAnswer
     requires { ⌜ PlanAsked (now t) (buffers (now names) (now index) (now texts) (now bind) (now graph)) (now word) (now list) ⌝ }
-    ensures { λ r. ⌜ PlanPromise (inputsOf (now (manifest .entry)) (now (card .entry)) (now (targets .entry))) (now (list .entry)) r (now (list .exit)) ⌝ }
+    ensures { λ r. ⌜ Leaves (SameRoom (buffers (now (names .entry)) (now (index .entry)) (now (texts .entry)) (now (bind .entry)) (now (graph .entry))) (buffers (now (names .exit)) (now (index .exit)) (now (texts .exit)) (now (bind .exit)) (now (graph .exit))) × Spare (now (word .entry)) (now (word .exit))) (PlanPromise (inputsOf (now (manifest .entry)) (now (card .entry)) (now (targets .entry))) (now (list .entry)) r (now (list .exit))) ⌝ }
 {
     match read_manifest(t, manifest, names, index, texts, bind, graph, word) {
         ReadAnswer::Accepted(c) => plan_read(card, targets, names, index, graph, c, list),
