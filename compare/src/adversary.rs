@@ -14,6 +14,7 @@ pub fn all() -> Vec<Slow> {
     let mut all = lines();
     all.extend(bindings());
     all.extend(files());
+    all.extend(defaults());
     all.extend(outputs());
     all.extend(graphs());
     all.extend(texts());
@@ -93,9 +94,13 @@ fn bindings() -> Vec<Slow> {
     ]
 }
 
-/// Paths that the proved table of names keeps in one bucket.
+/// The bucket that the proved table of names keeps a path in.
+fn bucket(path: &[u8]) -> u32 {
+    path.iter().fold(0, |h, &b| (h * 403 + u32::from(b)) % 1_024)
+}
+
+/// Paths of one bucket.
 fn one_bucket() -> Vec<Vec<u8>> {
-    let bucket = |path: &[u8]| path.iter().fold(0, |h, &b| (h * 403 + u32::from(b)) % 1_024);
     strings(4).filter(|path| bucket(path) == 0).take(limits::FILES).collect()
 }
 
@@ -133,6 +138,25 @@ fn files() -> Vec<Slow> {
             card::write(&records),
             Vec::new(),
         ),
+    ]
+}
+
+/// One of 1,023 outputs of one bucket and one front, the one that is found last, named as default
+/// as often as there is room. It is over a limit, which is seen when each was looked up.
+fn defaults() -> Vec<Slow> {
+    let front = "x".repeat(52);
+    let tails = b"/,+@%!~^&*"
+        .iter()
+        .flat_map(|&first| strings(3).map(move |rest| [vec![first], rest].concat()));
+    let tails = tails.filter(|tail| bucket(&[front.as_bytes(), tail].concat()) == 0).take(1_023);
+    let tails: Vec<Vec<u8>> = tails.map(|tail| [b"$p".to_vec(), tail].concat()).collect();
+    let outputs = words("", tails.iter().map(Vec::as_slice), ": phony\n");
+    let first = String::from_utf8_lossy(&tails[0]);
+    let outputs = String::from_utf8_lossy(&outputs);
+    let manifest = filled(&format!("p={front}\nq={first}\nbuild{outputs}default"), " $q", "\n");
+    vec![
+        plan("one of 1,023 outputs of a bucket, 13,900 defaults", manifest.clone()),
+        text("  as a text ask", manifest),
     ]
 }
 

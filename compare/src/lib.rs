@@ -6,6 +6,7 @@
 pub mod adversary;
 pub mod asks;
 pub mod card;
+pub mod folders;
 pub mod manifest;
 pub mod measure;
 pub mod minimise;

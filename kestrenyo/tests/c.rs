@@ -10,7 +10,7 @@ fn the_bench_from_c() {
         .args(["-std=c99", "-Wall", "-Wextra", "-Wpedantic", "-Werror", "-O2"])
         .arg(format!("-I{here}/../include"))
         .arg(format!("{here}/examples/bench.c"))
-        .arg(format!("{here}/../target/staticlib/libkestrenyo.a"))
+        .arg(env!("KESTRENYO_LIBRARY"))
         .args(["-o", &program])
         .status()
         .expect("a C compiler");

@@ -1,7 +1,8 @@
 //! Runs the program on every case, in a folder with its `build.ninja` and `times.card` and with its
-//! targets on standard input, and compares what it writes. The command is: runs PROGRAM. What a
-//! case does not give (`prints`) is what the second planner's program writes. A file without bytes
-//! is once empty and once not there.
+//! targets on standard input, and compares what it writes, its exit status (1 for a refusal) and
+//! what standard error has. The command is: runs PROGRAM. What a case does not give (`prints`) is
+//! what the second planner's program writes. A file without bytes is once empty and once not there,
+//! of which standard error has a line.
 
 use second::cases::{files, folder, outputs, read, Case};
 use second::tool::{status, Error};
@@ -10,10 +11,15 @@ use std::io;
 use std::path::{Path, PathBuf};
 use std::process::{Command, ExitCode, Output};
 
+/// The files that the program reads by name.
+fn named(case: &Case) -> [(&'static str, &[u8]); 2] {
+    [("build.ninja", &case.lent.manifest), ("times.card", &case.lent.card)]
+}
+
 /// Runs the program in a new folder of the case's files, if wanted without those that are empty.
 fn run(program: &Path, room: &Path, case: &Case, without: bool) -> io::Result<Output> {
     fs::create_dir(room)?;
-    for (name, bytes) in [("build.ninja", &case.lent.manifest), ("times.card", &case.lent.card)] {
+    for (name, bytes) in named(case) {
         if !(without && bytes.is_empty()) {
             fs::write(room.join(name), bytes)?;
         }
@@ -23,9 +29,20 @@ fn run(program: &Path, room: &Path, case: &Case, without: bool) -> io::Result<Ou
     Command::new(program).current_dir(room).stdin(File::open(&targets)?).output()
 }
 
-/// What differs in one run; nothing if it writes what it has to.
-fn difference(case: &Case, ran: &Output) -> Option<String> {
-    let is_right = ran.status.success() && ran.stderr.is_empty();
+/// What standard error has to have: a line for each file that is not there.
+fn warnings(case: &Case, without: bool) -> String {
+    named(case)
+        .into_iter()
+        .filter(|(_, bytes)| without && bytes.is_empty())
+        .map(|(name, _)| format!("plan: {name} is read as empty: No such file or directory\n"))
+        .collect()
+}
+
+/// What differs in one run; nothing if it writes and ends as it has to.
+fn difference(case: &Case, without: bool, ran: &Output) -> Option<String> {
+    let status = i32::from(ran.stdout.starts_with(b"refused "));
+    let is_right =
+        ran.status.code() == Some(status) && ran.stderr == warnings(case, without).into_bytes();
     let allowed = outputs(case);
     if is_right && allowed.contains(&ran.stdout) {
         return None;
@@ -49,7 +66,7 @@ fn run_all(program: &Path, room: &Path) -> Result<bool, Error> {
         for without in if has_empty { &[false, true][..] } else { &[false] } {
             let ran = run(program, &room.join(runs.to_string()), case, *without);
             let ran = ran.map_err(|error| Error::Run(case.name.clone(), error))?;
-            if let Some(difference) = difference(case, &ran) {
+            if let Some(difference) = difference(case, *without, &ran) {
                 println!("{difference}");
                 differing += 1;
             }
