@@ -2,11 +2,12 @@
 ghost use Prim.Native.Nat.{_≤_};
 ghost use lib.ListN.{length};
 ghost use Rattle.spec.specs.Limits.{maxText};
-ghost use Rattle.hold_reading.specs.Buffers.{buffers};
+ghost use Rattle.lists.specs.Lent.{Spare, Leaves};
+ghost use Rattle.hold_reading.specs.Buffers.{buffers, SameRoom};
 ghost use Rattle.text_batch.specs.TextsPromise.{TextsPromise};
 ghost use Rattle.ask_texts.specs.Asked.{TextsAsked};
 use apply_manifest::ReadAnswer;
-use apply_manifest::read;
+use apply_manifest::read_manifest;
 use hold_bindings::ROWS;
 use hold_bindings::TEXTS;
 use hold_names::NUMBERS;
@@ -34,9 +35,9 @@ fn texts_in(
     ends: &mut [u32],
 ) -> TextsAnswer
     requires { ⌜ TextsAsked (now t) (buffers (now names) (now index) (now texts) (now bind) (now graph)) (now word) (now bytes) ⌝ }
-    ensures { λ r. ⌜ TextsPromise (now (manifest .entry)) (now (steps .entry)) wanted (now (bytes .entry)) (now (ends .entry)) r (now (bytes .exit)) (now (ends .exit)) ⌝ }
+    ensures { λ r. ⌜ Leaves (SameRoom (buffers (now (names .entry)) (now (index .entry)) (now (texts .entry)) (now (bind .entry)) (now (graph .entry))) (buffers (now (names .exit)) (now (index .exit)) (now (texts .exit)) (now (bind .exit)) (now (graph .exit))) × Spare (now (word .entry)) (now (word .exit))) (TextsPromise (now (manifest .entry)) (now (steps .entry)) wanted (now (bytes .entry)) (now (ends .entry)) r (now (bytes .exit)) (now (ends .exit))) ⌝ }
 {
-    match read(t, manifest, names, index, texts, bind, graph, word) {
+    match read_manifest(t, manifest, names, index, texts, bind, graph, word) {
         ReadAnswer::Accepted(c) => texts_of(
             t,
             names,

@@ -94,7 +94,7 @@ pub record IsWritten (o : TextOutcome) (exit : List ℕ) (n : ℕ) : Type 0 wher
   pub front : take n exit ≡ written
 
 pub is-written : (o : TextOutcome) (lent : List ℕ) {exit : List ℕ} {n : ℕ} → OfStep o → TextMeets o lent (textSays (Written n)) exit → IsWritten o exit n
-unfolding TextMeets textSays refusalSays filled
+unfolding TextMeets textSays refusalSays filled numberOfRefusal
 is-written (text t) lent {exit} {n} k p =
     let c : n ≡ length t = ap (λ (s : Said). s .value) (p .says) in
     record {
@@ -107,6 +107,6 @@ is-written (text t) lent {exit} {n} k p =
 is-written (noText r) lent k p = absurd (not-0 r (sym (ap (λ (s : Said). s .number) (p .says))))
 
 pub is-refused : (o : TextOutcome) (lent exit : List ℕ) {r : Refusal} → OfStep o → TextMeets o lent (textSays (Refused r)) exit → IsRefused o r
-unfolding TextMeets textSays refusalSays
+unfolding TextMeets textSays refusalSays numberOfRefusal
 is-refused (text t) lent exit {r = r} k p = absurd (not-0 r (ap (λ (s : Said). s .number) (p .says)))
 is-refused (noText q) lent exit k p = record { refusal = q; is = refl; says = p .says; known = k }

@@ -1,6 +1,7 @@
 // The texts of many steps from what a manifest was read into, one behind the other, and where each ends.
 ghost use mathlib.Core.Path.{_≡_};
 ghost use lib.ListN.{length};
+ghost use Rattle.lists.specs.Lent.{Spare, Leaves};
 ghost use Rattle.hold_reading.specs.Buffers.{buffers};
 ghost use Rattle.text_batch.specs.Batch.{PutAsk, Puts, WalkAsk, Walks, BatchAsk, TextsOf};
 ghost use Rattle.text_batch.specs.TextsAsk.{endable};
@@ -50,7 +51,7 @@ fn put_text(
     room: usize,
 ) -> Put
     requires { ⌜ PutAsk (now t) (buffers (now names) (now index) (now texts) (now bind) (now graph)) c (now one) (now bytes) end room ⌝ }
-    ensures { λ r. ⌜ Puts (buffers (now (names .entry)) (now (index .entry)) (now (texts .entry)) (now (bind .entry)) (now (graph .entry))) c step wanted end room (now (bytes .entry)) (now (bytes .exit)) r ⌝ }
+    ensures { λ r. ⌜ Leaves (Spare (now (one .entry)) (now (one .exit))) (Puts (buffers (now (names .entry)) (now (index .entry)) (now (texts .entry)) (now (bind .entry)) (now (graph .entry))) c step wanted end room (now (bytes .entry)) (now (bytes .exit)) r) ⌝ }
 {
     match text_of(t, names, index, texts, bind, graph, c, step, wanted, one) {
         TextAnswer::Written(n) => {
@@ -81,7 +82,7 @@ fn walk(
     room: usize,
 ) -> Walked
     requires { ⌜ WalkAsk (now t) (buffers (now names) (now index) (now texts) (now bind) (now graph)) c (now one) (now bytes) room ⌝ }
-    ensures { λ r. ⌜ Walks (buffers (now (names .entry)) (now (index .entry)) (now (texts .entry)) (now (bind .entry)) (now (graph .entry))) c (now (steps .entry)) wanted room (length (now (ends .entry))) (now (bytes .exit)) (now (ends .exit)) r ⌝ }
+    ensures { λ r. ⌜ Leaves (Spare (now (one .entry)) (now (one .exit))) (Walks (buffers (now (names .entry)) (now (index .entry)) (now (texts .entry)) (now (bind .entry)) (now (graph .entry))) c (now (steps .entry)) wanted room (length (now (ends .entry))) (now (bytes .exit)) (now (ends .exit)) r) ⌝ }
 {
     let mut end = 0;
     let mut i = 0;
@@ -147,7 +148,7 @@ fn texts_by(
     ends: &mut [u32],
 ) -> TextsAnswer
     requires { ⌜ TextAsk (now t) (buffers (now names) (now index) (now texts) (now bind) (now graph)) c (now one) ⌝ }
-    ensures { λ r. ⌜ TextsOf (buffers (now (names .entry)) (now (index .entry)) (now (texts .entry)) (now (bind .entry)) (now (graph .entry))) c (now (steps .entry)) wanted (now (bytes .entry)) (now (ends .entry)) (now (bytes .exit)) (now (ends .exit)) r ⌝ }
+    ensures { λ r. ⌜ Leaves (Spare (now (one .entry)) (now (one .exit))) (TextsOf (buffers (now (names .entry)) (now (index .entry)) (now (texts .entry)) (now (bind .entry)) (now (graph .entry))) c (now (steps .entry)) wanted (now (bytes .entry)) (now (ends .entry)) (now (bytes .exit)) (now (ends .exit)) r) ⌝ }
 {
     let room = usable(bytes.len());
     match walk(

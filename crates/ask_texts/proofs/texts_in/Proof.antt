@@ -11,8 +11,8 @@ use Rattle.slices.proofs.words.zero_from.Reads as words-zero-from-reads
 use Rattle.text_batch.proofs.texts_of.Reads as texts-of-reads
 
 -- src/lib.rt:39:11
-read-requires : tie.Need-read-requires
-read-requires c κs = search needs
+read-manifest-requires : tie.Need-read-manifest-requires
+read-manifest-requires c κs = search needs
 
 -- src/lib.rt:40:30
 enum-known-c : tie.Need-enum-known-c
@@ -20,7 +20,7 @@ enum-known-c c = search needs
 
 -- src/lib.rt:40:36
 texts-of-requires : tie.Need-texts-of-requires
-texts-of-requires c κs = askable (read-accepted _ _ (c .before .before .before .before .before .before .before .before .before .before .before .before .before .before .before .before .before .before .before .before .before .before .read .ensures) (c .before .before .before .before .before .before .before .before .c .given .1)) (c .before .before .before .before .before .before .before .before .before .before .before .before .before .before .before .before .before .before .before .before .before .before .before .before .before .before .before .before .before .before .before .before .before .before .before .before .before .before .before .pre .roomy .table)
+texts-of-requires c κs = askable (read-accepted _ _ (c .before .before .before .before .before .before .before .before .before .before .before .before .before .before .before .before .before .before .before .before .before .before .read-manifest .ensures .promise) (c .before .before .before .before .before .before .before .before .c .given .1)) (c .before .before .before .before .before .before .before .before .before .before .before .before .before .before .before .before .before .before .before .before .before .before .before .before .before .before .before .before .before .before .before .before .before .before .before .before .before .before .before .pre .roomy .table)
 
 -- src/lib.rt:53:29
 enum-known-r : tie.Need-enum-known-r
@@ -68,7 +68,7 @@ same-length-8 c = search needs
 
 -- src/lib.rt:22:1
 returns : tie.Need-returns
-returns c = written _ _ _ (c .before .before .before .before .before .before .before .before .before .before .before .before .before .before .before .before .before .before .before .before .before .before .before .before .before .before .before .before .before .before .before .before .before .before .before .before .before .before .before .before .before .before .before .before .pre .room) (read-accepted _ _ (c .before .before .before .before .before .before .before .before .before .before .before .before .before .before .before .before .before .before .before .before .before .before .before .before .before .before .before .read .ensures) (c .before .before .before .before .before .before .before .before .before .before .before .before .before .c .given .1)) (c .before .before .before .before .texts-of .ensures)
+returns c = record { space = (record { names = record { long = same-length c }; index = record { long = same-length-2 c }; texts = record { long = same-length-3 c }; bind = record { long = same-length-4 c }; graph = record { long = same-length-5 c } }, record { long = same-length-6 c }); promise = written _ _ _ (c .before .before .before .before .before .before .before .before .before .before .before .before .before .before .before .before .before .before .before .before .before .before .before .before .before .before .before .before .before .before .before .before .before .before .before .before .before .before .before .before .before .before .before .before .pre .room) (read-accepted _ _ (c .before .before .before .before .before .before .before .before .before .before .before .before .before .before .before .before .before .before .before .before .before .before .before .before .before .before .before .read-manifest .ensures .promise) (c .before .before .before .before .before .before .before .before .before .before .before .before .before .c .given .1)) (c .before .before .before .before .texts-of .ensures) }
 
 -- src/lib.rt:22:1
 same-length-9 : tie.Need-same-length-9
@@ -104,13 +104,13 @@ same-length-16 c = search needs
 
 -- src/lib.rt:22:1
 returns-2 : tie.Need-returns-2
-returns-2 c = unread _ _ _ (c .before .before .before .before .before .before .before .before .before .before .before .before .before .before .before .before .before .before .before .before .before .before .before .before .before .before .before .before .before .before .before .before .before .before .before .before .before .before .before .before .pre .room) _ _ (read-refused _ _ (c .before .before .before .before .before .before .before .before .before .before .before .before .before .before .before .before .before .before .before .before .before .before .before .read .ensures) (c .before .before .before .before .before .before .before .before .before .r .given .1)) (c .before .before .before .before .before .before .zero-from .ensures) (c .before .before .zero-from2 .ensures)
+returns-2 c = record { space = (record { names = record { long = same-length-9 c }; index = record { long = same-length-10 c }; texts = record { long = same-length-11 c }; bind = record { long = same-length-12 c }; graph = record { long = same-length-13 c } }, record { long = same-length-14 c }); promise = unread _ _ _ (c .before .before .before .before .before .before .before .before .before .before .before .before .before .before .before .before .before .before .before .before .before .before .before .before .before .before .before .before .before .before .before .before .before .before .before .before .before .before .before .before .pre .room) _ _ (read-refused _ _ (c .before .before .before .before .before .before .before .before .before .before .before .before .before .before .before .before .before .before .before .before .before .before .before .read-manifest .ensures .promise) (c .before .before .before .before .before .before .before .before .before .r .given .1)) (c .before .before .before .before .before .before .zero-from .ensures) (c .before .before .zero-from2 .ensures) }
 
 pub texts-in-spec : {M : Type 1} → statement M
 texts-in-spec =
     tie.close
     (tie.spec
-    read-requires
+    read-manifest-requires
     enum-known-c
     texts-of-requires
     enum-known-r

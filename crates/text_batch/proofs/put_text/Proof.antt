@@ -30,7 +30,7 @@ same-length c = search needs
 
 -- src/lib.rt:58:17
 returns : tie.Need-returns
-returns c = put-long (c .before .before .before .before .before .before .text-of .ensures) (c .before .before .n .given .1) (c .if1 .taken)
+returns c = record { space = search needs; promise = put-long (c .before .before .before .before .before .before .text-of .ensures) (c .before .before .n .given .1) (c .if1 .taken) }
 
 -- src/lib.rt:60:33
 slice-reshare-prefix-copy-at : tie.Need-slice-reshare-prefix-copy-at
@@ -62,7 +62,7 @@ same-length-3 c = search needs
 
 -- src/lib.rt:37:1
 returns-2 : tie.Need-returns-2
-returns-2 c = put-ends (c .before .before .before .before .before .before .before .before .before .before .before .text-of .ensures) (c .before .before .before .before .before .before .before .n .given .1) (c .before .before .before .before .before .before .before .before .before .before .before .before .before .before .before .before .before .before .before .before .pre .before) (c .before .before .before .before .before .before .before .before .before .before .before .before .before .before .before .before .before .before .before .before .pre .within) (c .before .before .before .before .before .if1 .left) (text-part (c .before .before .before .before .before .before .before .before .before .before .before .text-of .ensures) (c .before .before .before .before .before .before .before .n .given .1) (c .before .before .before .before .before .before .before .before .before .before .before .before .before .before .before .before .before .before .before .before .pre .asked) (omega (arith, c .before .before .before .before .before .before .before .before .before .before .before .before .before .before .before .before .before .before .before .before .pre .asked .room, c .before .before .before .before .before .before .before .before .before .before .before .text-of .kept))) (c .before .before .copy-at .ensures)
+returns-2 c = record { space = search needs; promise = put-ends (c .before .before .before .before .before .before .before .before .before .before .before .text-of .ensures) (c .before .before .before .before .before .before .before .n .given .1) (c .before .before .before .before .before .before .before .before .before .before .before .before .before .before .before .before .before .before .before .before .pre .before) (c .before .before .before .before .before .before .before .before .before .before .before .before .before .before .before .before .before .before .before .before .pre .within) (c .before .before .before .before .before .if1 .left) (text-part (c .before .before .before .before .before .before .before .before .before .before .before .text-of .ensures) (c .before .before .before .before .before .before .before .n .given .1) (c .before .before .before .before .before .before .before .before .before .before .before .before .before .before .before .before .before .before .before .before .pre .asked) (omega (arith, c .before .before .before .before .before .before .before .before .before .before .before .before .before .before .before .before .before .before .before .before .pre .asked .room, c .before .before .before .before .before .before .before .before .before .before .before .text-of .kept))) (c .before .before .copy-at .ensures) }
 
 -- src/lib.rt:37:1
 same-length-4 : tie.Need-same-length-4
@@ -70,7 +70,7 @@ same-length-4 c = search needs
 
 -- src/lib.rt:37:1
 returns-3 : tie.Need-returns-3
-returns-3 c = put-refused (c .before .before .before .before .before .text-of .ensures) (c .before .r .given .1)
+returns-3 c = record { space = search needs; promise = put-refused (c .before .before .before .before .before .text-of .ensures) (c .before .r .given .1) }
 
 pub put-text-spec : {M : Type 1} → statement M
 put-text-spec =

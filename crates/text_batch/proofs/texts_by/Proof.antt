@@ -56,7 +56,7 @@ same-length-3 c = search needs
 
 -- src/lib.rt:135:1
 returns : tie.Need-returns
-returns c = texts-written (rw (c .before .before .before .before .before .before .before .before .before .n .given .1) at (c .before .before .before .before .before .before .before .before .before .before .before .before .before .before .before .before .before .walk .ensures)) (c .before .before .before .before .before .before .before .before .before .before .before .before .before .before .before .before .before .before .before .before .before .usable .ensures) (omega (arith, c .before .before .before .before .before .before .before .before .before .before .before .before .before .before .before .before .before .walk .kept)) (omega (arith, c .before .before .before .before .before .before .before .before .before .before .before .before .before .before .before .before .before .walk .kept)) (c .before .before .before .before .before .before .zero-from .ensures) (c .before .before .zero-from2 .ensures)
+returns c = record { space = search needs; promise = texts-written (rw (c .before .before .before .before .before .before .before .before .before .n .given .1) at (c .before .before .before .before .before .before .before .before .before .before .before .before .before .before .before .before .before .walk .ensures .promise)) (c .before .before .before .before .before .before .before .before .before .before .before .before .before .before .before .before .before .before .before .before .before .usable .ensures) (omega (arith, c .before .before .before .before .before .before .before .before .before .before .before .before .before .before .before .before .before .walk .kept)) (omega (arith, c .before .before .before .before .before .before .before .before .before .before .before .before .before .before .before .before .before .walk .kept)) (c .before .before .before .before .before .before .zero-from .ensures) (c .before .before .zero-from2 .ensures) }
 
 -- src/lib.rt:135:1
 same-length-4 : tie.Need-same-length-4
@@ -72,7 +72,7 @@ same-length-6 c = search needs
 
 -- src/lib.rt:135:1
 returns-2 : tie.Need-returns-2
-returns-2 c = texts-refused (rw (c .before .before .before .before .before .before .before .before .before .r .given .1) at (c .before .before .before .before .before .before .before .before .before .before .before .before .before .before .before .before .before .walk .ensures)) (c .before .before .before .before .before .before .before .before .before .before .before .before .before .before .before .before .before .before .before .before .before .usable .ensures) (omega (arith, c .before .before .before .before .before .before .before .before .before .before .before .before .before .before .before .before .before .walk .kept)) (omega (arith, c .before .before .before .before .before .before .before .before .before .before .before .before .before .before .before .before .before .walk .kept)) (c .before .before .before .before .before .before .zero-from3 .ensures) (c .before .before .zero-from4 .ensures)
+returns-2 c = record { space = search needs; promise = texts-refused (rw (c .before .before .before .before .before .before .before .before .before .r .given .1) at (c .before .before .before .before .before .before .before .before .before .before .before .before .before .before .before .before .before .walk .ensures .promise)) (c .before .before .before .before .before .before .before .before .before .before .before .before .before .before .before .before .before .before .before .before .before .usable .ensures) (omega (arith, c .before .before .before .before .before .before .before .before .before .before .before .before .before .before .before .before .before .walk .kept)) (omega (arith, c .before .before .before .before .before .before .before .before .before .before .before .before .before .before .before .before .before .walk .kept)) (c .before .before .before .before .before .before .zero-from3 .ensures) (c .before .before .zero-from4 .ensures) }
 
 pub texts-by-spec : {M : Type 1} → statement M
 texts-by-spec =

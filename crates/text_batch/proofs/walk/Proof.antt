@@ -21,7 +21,7 @@ abbrev μ-loop : tie.MeasureT-loop
 
 -- the end of a turn's text
 low : (c : tie.Else1 Inv-loop μ-loop) → c .before .before .e .given .0 .0 ≤ c .before .before .before .before .before .before .before .before .before .before .before .before .before .before .before .before .before .before .before .before .before .before .before .args .room
-low c = end-within (c .before .before .before .before .before .before .before .before .before .before .before .before .before .before .before .before .before .before .before .before .before .before .before .pre) (rw (c .before .before .e .given .1) at (c .before .before .before .before .before .before .before .before .put-text .ensures))
+low c = end-within (c .before .before .before .before .before .before .before .before .before .before .before .before .before .before .before .before .before .before .before .before .before .before .before .pre) (rw (c .before .before .e .given .1) at (c .before .before .before .before .before .before .before .before .put-text .ensures .promise))
 
 -- src/lib.rt:88:5
 loop-holds : tie.Need-loop-holds Inv-loop μ-loop
@@ -53,7 +53,7 @@ same-length-3 c = search needs
 
 -- src/lib.rt:107:21
 returns : tie.Need-returns Inv-loop μ-loop
-returns c = walk-full (c .before .before .before .before .before .before .before .before .before .before .before .before .before .loop .inv .2) (c .before .before .before .before .before .before .before .before .before .before .before .before .loop-test .taken) (c .before .before .before .before .before .before .before .before .before .before .before .at .ensures) (rw (c .before .before .e .given .1) at (c .before .before .before .before .before .before .before .before .put-text .ensures)) (c .if1 .taken)
+returns c = record { space = search needs; promise = walk-full (c .before .before .before .before .before .before .before .before .before .before .before .before .before .loop .inv .2) (c .before .before .before .before .before .before .before .before .before .before .before .before .loop-test .taken) (c .before .before .before .before .before .before .before .before .before .before .before .at .ensures) (rw (c .before .before .e .given .1) at (c .before .before .before .before .before .before .before .before .put-text .ensures .promise)) (c .if1 .taken) }
 
 -- src/lib.rt:109:27
 cast-ends : tie.Need-cast-ends Inv-loop μ-loop
@@ -77,7 +77,7 @@ loop-less c = search needs
 
 -- src/lib.rt:88:5
 loop-again : tie.Need-loop-again Inv-loop μ-loop
-loop-again c = (omega (arith, c .before .before .before .before .before .before .before .before .before .before .before .before .before .loop .inv .0, c .before .before .before .before .before .before .before .before .put-text .kept), omega (arith, c .before .before .before .before .before .before .before .before .before .before .before .before .before .loop .inv .1, c .before .before .before .before .before .before .before .before .put-text .kept), walk-on (c .before .before .before .before .before .before .before .before .before .before .before .before .before .loop .inv .2) (c .before .before .before .before .before .before .before .before .before .before .before .before .loop-test .taken) (c .before .before .before .before .before .before .before .before .before .before .before .at .ensures) (rw (c .before .before .e .given .1) at (c .before .before .before .before .before .before .before .before .put-text .ensures)) (low c) (c .if1 .left))
+loop-again c = (omega (arith, c .before .before .before .before .before .before .before .before .before .before .before .before .before .loop .inv .0, c .before .before .before .before .before .before .before .before .put-text .kept), omega (arith, c .before .before .before .before .before .before .before .before .before .before .before .before .before .loop .inv .1, c .before .before .before .before .before .before .before .before .put-text .kept), walk-on (c .before .before .before .before .before .before .before .before .before .before .before .before .before .loop .inv .2) (c .before .before .before .before .before .before .before .before .before .before .before .before .loop-test .taken) (c .before .before .before .before .before .before .before .before .before .before .before .at .ensures) (rw (c .before .before .e .given .1) at (c .before .before .before .before .before .before .before .before .put-text .ensures .promise)) (low c) (c .if1 .left))
 
 -- src/lib.rt:114:17
 enum-told : tie.Need-enum-told Inv-loop μ-loop
@@ -97,7 +97,7 @@ same-length-6 c = search needs
 
 -- src/lib.rt:114:17
 returns-2 : tie.Need-returns-2 Inv-loop μ-loop
-returns-2 c = walk-long (c .before .before .before .before .before .before .before .before .before .before .before .loop .inv .2) (c .before .before .before .before .before .before .before .before .before .before .loop-test .taken) (c .before .before .before .before .before .before .before .before .before .at .ensures) (rw (c .enum-told .given .1) at (c .before .before .before .before .before .before .put-text .ensures))
+returns-2 c = record { space = search needs; promise = walk-long (c .before .before .before .before .before .before .before .before .before .before .before .loop .inv .2) (c .before .before .before .before .before .before .before .before .before .before .loop-test .taken) (c .before .before .before .before .before .before .before .before .before .at .ensures) (rw (c .enum-told .given .1) at (c .before .before .before .before .before .before .put-text .ensures .promise)) }
 
 -- src/lib.rt:116:26
 enum-known-r : tie.Need-enum-known-r Inv-loop μ-loop
@@ -117,7 +117,7 @@ same-length-9 c = search needs
 
 -- src/lib.rt:117:17
 returns-3 : tie.Need-returns-3 Inv-loop μ-loop
-returns-3 c = walk-refused (c .before .before .before .before .before .before .before .before .before .before .before .before .loop .inv .2) (c .before .before .before .before .before .before .before .before .before .before .before .loop-test .taken) (c .before .before .before .before .before .before .before .before .before .before .at .ensures) (rw (c .before .r .given .1) at (c .before .before .before .before .before .before .before .put-text .ensures))
+returns-3 c = record { space = search needs; promise = walk-refused (c .before .before .before .before .before .before .before .before .before .before .before .before .loop .inv .2) (c .before .before .before .before .before .before .before .before .before .before .before .loop-test .taken) (c .before .before .before .before .before .before .before .before .before .before .at .ensures) (rw (c .before .r .given .1) at (c .before .before .before .before .before .before .before .put-text .ensures .promise)) }
 
 -- src/lib.rt:68:1
 same-length-10 : tie.Need-same-length-10 Inv-loop μ-loop
@@ -133,7 +133,7 @@ same-length-12 c = search needs
 
 -- src/lib.rt:68:1
 returns-4 : tie.Need-returns-4 Inv-loop μ-loop
-returns-4 c = walk-end (c .before .loop .inv .2) (c .loop-test .left)
+returns-4 c = record { space = search needs; promise = walk-end (c .before .loop .inv .2) (c .loop-test .left) }
 
 pub walk-spec : {M : Type 1} → statement M
 walk-spec =
