@@ -12,7 +12,6 @@ use Rattle.lists.specs.Tests.{split}
 use Rattle.lists.specs.Fill.{zeros, zeroed, zeroed-all}
 use Rattle.spec.specs.declared.Refusal.{Refusal}
 use Rattle.spec.specs.declared.Wanted.{Wanted}
-use Rattle.spec.specs.Limits.{maxText}
 use Rattle.spec.specs.Answers.{numberOfRefusal}
 use Rattle.spec.specs.Basics.{concat}
 use Rattle.spec.specs.Promises.{filled, leftBy}
@@ -23,7 +22,7 @@ use Rattle.text_batch.specs.declared.Walked.the-variants.{Stopped, Refus
 use Rattle.text_batch.specs.declared.TextsAnswer.the-variants.{Written, Refused}
 use Rattle.text_batch.specs.TextsAsk.{TextsOutcome, maxEnd, endable, endsFrom}
 use Rattle.text_batch.specs.TextsPromise.{textsSays, TextsMeets}
-use Rattle.text_batch.specs.Batch.{WalkAsk, AreWritten, AreRefused, WalkIs, Walks, BatchAsk, TextsOf}
+use Rattle.text_batch.specs.Batch.{WalkAsk, AreWritten, AreRefused, WalkIs, Walks, TextsOf}
 
 -- "what lies beyond it is zero"
 zero-beyond : (before after exit s : List ℕ) (n : ℕ) → length after ≡ length before → n ≡ length s → take n after ≡ s → exit ≡ zeroed after n (length after) → exit ≡ filled s before
@@ -95,7 +94,3 @@ pub walk-asked : {t : List ℕ} {bs : Buffers} {c : Counts} {one : List ℕ} (by
 walk-asked bytes a e =
     let l = endable-low (length bytes) in
     record { asked = a; within = rw e (l .0); low = rw e (l .1) }
-
--- a buffer of our own has room for one text
-pub one-asked : {t : List ℕ} {bs : Buffers} {c : Counts} (one : List ℕ) → BatchAsk t bs c → length one ≡ maxText → TextAsk t bs c one
-one-asked one a e = record { table = a .table; room = omega (arith, e); log = a .log; reading = a .reading; holds = a .holds; sound = a .sound }

@@ -3,3 +3,4 @@ pub mod Putting
 pub mod Walking
 pub mod Answering
 pub mod Asked
+pub mod Promised

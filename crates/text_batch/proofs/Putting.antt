@@ -1,7 +1,7 @@
 -- One text behind others.
 use Prim.Native.Nat.{ℕ, _+_, _-_, _≤_, _<_}
 use native.Mathlib.Omega.{arith}
-use mathlib.Core.Path.{_≡_, refl, sym, _∙_, ap}
+use mathlib.Core.Path.{_≡_, refl, _∙_, ap}
 use mathlib.Core.List.{List, _++_}
 use lib.ListN.{length, take}
 use lib.Seq.{length-take-le, take-all, paste, take-paste}
@@ -18,7 +18,7 @@ use Rattle.hold_reading.specs.Held.{HoldsReading}
 use Rattle.hold_reading.specs.Buffers.{Buffers}
 use Rattle.text_step.specs.Asks.{TextAsk, TextOf}
 use Rattle.text_batch.specs.declared.Put.the-variants.{Ends, NoRoom, Refused as PutRefused}
-use Rattle.text_batch.specs.Batch.{PutAsk, PutIs, Puts}
+use Rattle.text_batch.specs.Batch.{PutIs, Puts}
 use Rattle.text_batch.proofs.Known.{of-step, IsWritten, is-written, is-refused}
 
 module _ {bs : Buffers} {c : Counts} {step : ℕ} {wanted : Wanted} {one exit : List ℕ} {a : TextAnswer} (p : TextOf bs c step wanted one exit a) where

@@ -5,7 +5,7 @@ use native.Mathlib.Omega.{arith}
 use mathlib.Core.Path.{_≡_, refl, sym, _∙_, ap}
 use mathlib.Core.Bool.{Bool, true, false, _&&_}
 use mathlib.Core.List.{List, [], _∷_, _++_, append-nil, append-assoc}
-use lib.Dec.{leb, ltb}
+use lib.Dec.{leb}
 use lib.ListN.{length, take, drop, getD, set, length-set, length-append, drop-of-length-le}
 use lib.Seq.{drop-cons, take-suc-set, take-take, take-at}
 use borrow.Author.Tests.{le-leb, lt-leb, lt-ltb}
@@ -18,10 +18,9 @@ use Rattle.hold_bindings.specs.Log.{Logged}
 use Rattle.hold_reading.specs.declared.Counts.{Counts}
 use Rattle.hold_reading.specs.Held.{HoldsReading}
 use Rattle.hold_reading.specs.Buffers.{Buffers}
-use Rattle.text_batch.specs.declared.Put.{Put}
 use Rattle.text_batch.specs.declared.Put.the-variants.{Ends, NoRoom, Refused as PutRefused}
 use Rattle.text_batch.specs.declared.Walked.the-variants.{Stopped, Refused as WalkRefused}
-use Rattle.text_batch.specs.TextsAsk.{TextsOutcome, texts, noTexts, inFront, onText, hasRoom, textsFrom, endsFrom}
+use Rattle.text_batch.specs.TextsAsk.{TextsOutcome, texts, noTexts, inFront, hasRoom, textsFrom, endsFrom}
 use Rattle.text_batch.specs.Batch.{PutAsk, IsPut, IsLong, IsRefused, PutIs, Puts, WalkAsk, AreWritten, AreRefused, WalkIs, Walks, askOf}
 
 -- ---- one step of the definition

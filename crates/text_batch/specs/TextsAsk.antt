@@ -36,7 +36,7 @@ unfolding inFront hasRoom
 textsFrom ask [] room places = texts []
 textsFrom ask (s ∷ ss) room places =
     onText (ask s) λ t.
-        ifB (hasRoom room places t) (λ _. inFront t (textsFrom ask ss (room - length t) (places - 1))) (λ _. texts [])
+    ifB (hasRoom room places t) (λ _. inFront t (textsFrom ask ss (room - length t) (places - 1))) (λ _. texts [])
 
 -- An end is a number of 32 bits, so that bytes of a longer buffer stay zero.
 abbrev pub maxEnd : ℕ
@@ -55,7 +55,7 @@ unfoldable pub textsAsk : List ℕ → List ℕ → Wanted → ℕ → ℕ → T
 unfolding textsRead wantedName readManifest endable
 textsAsk manifest steps wanted room places =
     ifB (ltb room maxText) (λ _. noTexts ShortBuffer) λ _.
-        textsRead steps (wantedName wanted) (endable room) places (readManifest manifest)
+    textsRead steps (wantedName wanted) (endable room) places (readManifest manifest)
 
 -- where each text ends, the first beginning at a place
 unfoldable pub endsFrom : ℕ → List (List ℕ) → List ℕ

@@ -1,108 +1,79 @@
+-- `ask_texts::texts_in` meets its contract.
 use Rattle.ask_texts.proofs.Written.{unread, askable, written}
 use Rattle.apply_manifest.proofs.Answers.{read-accepted, read-refused}
 use borrow.Author.Needs.{needs}
 use Rattle.ask_texts.proofs.texts_in.Statement.{statement}
 use Rattle.ask_texts.proofs.texts_in.Tie as tie
-use Rattle.ask_texts.proofs.texts_in.Reads as reads
-use Rattle.ask_texts.proofs.texts_in.Lts as lts
-use Rattle.apply_manifest.proofs.read.Reads as read-reads
-use Rattle.slices.proofs.bytes.zero_from.Reads as bytes-zero-from-reads
-use Rattle.slices.proofs.words.zero_from.Reads as words-zero-from-reads
-use Rattle.text_batch.proofs.texts_of.Reads as texts-of-reads
 
--- src/lib.rt:39:11
 read-manifest-requires : tie.Need-read-manifest-requires
 read-manifest-requires c κs = search needs
 
--- src/lib.rt:40:30
 enum-known-c : tie.Need-enum-known-c
 enum-known-c c = search needs
 
--- src/lib.rt:40:36
 texts-of-requires : tie.Need-texts-of-requires
 texts-of-requires c κs = askable (read-accepted _ _ (c .before .before .before .before .before .before .before .before .before .before .before .before .before .before .before .before .before .before .before .before .before .before .read-manifest .ensures .promise) (c .before .before .before .before .before .before .before .before .c .given .1)) (c .before .before .before .before .before .before .before .before .before .before .before .before .before .before .before .before .before .before .before .before .before .before .before .before .before .before .before .before .before .before .before .before .before .before .before .before .before .before .before .pre .roomy .table)
 
--- src/lib.rt:53:29
 enum-known-r : tie.Need-enum-known-r
 enum-known-r c = search needs
 
--- src/lib.rt:54:13
 zero-from-requires : tie.Need-zero-from-requires
 zero-from-requires c κs = search needs
 
--- src/lib.rt:55:13
 zero-from-requires-2 : tie.Need-zero-from-requires-2
 zero-from-requires-2 c κs = search needs
 
--- src/lib.rt:22:1
 same-length : tie.Need-same-length
 same-length c = search needs
 
--- src/lib.rt:22:1
 same-length-2 : tie.Need-same-length-2
 same-length-2 c = search needs
 
--- src/lib.rt:22:1
 same-length-3 : tie.Need-same-length-3
 same-length-3 c = search needs
 
--- src/lib.rt:22:1
 same-length-4 : tie.Need-same-length-4
 same-length-4 c = search needs
 
--- src/lib.rt:22:1
 same-length-5 : tie.Need-same-length-5
 same-length-5 c = search needs
 
--- src/lib.rt:22:1
 same-length-6 : tie.Need-same-length-6
 same-length-6 c = search needs
 
--- src/lib.rt:22:1
 same-length-7 : tie.Need-same-length-7
 same-length-7 c = search needs
 
--- src/lib.rt:22:1
 same-length-8 : tie.Need-same-length-8
 same-length-8 c = search needs
 
--- src/lib.rt:22:1
 returns : tie.Need-returns
 returns c = record { space = (record { names = record { long = same-length c }; index = record { long = same-length-2 c }; texts = record { long = same-length-3 c }; bind = record { long = same-length-4 c }; graph = record { long = same-length-5 c } }, record { long = same-length-6 c }); promise = written _ _ _ (c .before .before .before .before .before .before .before .before .before .before .before .before .before .before .before .before .before .before .before .before .before .before .before .before .before .before .before .before .before .before .before .before .before .before .before .before .before .before .before .before .before .before .before .before .pre .room) (read-accepted _ _ (c .before .before .before .before .before .before .before .before .before .before .before .before .before .before .before .before .before .before .before .before .before .before .before .before .before .before .before .read-manifest .ensures .promise) (c .before .before .before .before .before .before .before .before .before .before .before .before .before .c .given .1)) (c .before .before .before .before .texts-of .ensures) }
 
--- src/lib.rt:22:1
 same-length-9 : tie.Need-same-length-9
 same-length-9 c = search needs
 
--- src/lib.rt:22:1
 same-length-10 : tie.Need-same-length-10
 same-length-10 c = search needs
 
--- src/lib.rt:22:1
 same-length-11 : tie.Need-same-length-11
 same-length-11 c = search needs
 
--- src/lib.rt:22:1
 same-length-12 : tie.Need-same-length-12
 same-length-12 c = search needs
 
--- src/lib.rt:22:1
 same-length-13 : tie.Need-same-length-13
 same-length-13 c = search needs
 
--- src/lib.rt:22:1
 same-length-14 : tie.Need-same-length-14
 same-length-14 c = search needs
 
--- src/lib.rt:22:1
 same-length-15 : tie.Need-same-length-15
 same-length-15 c = search needs
 
--- src/lib.rt:22:1
 same-length-16 : tie.Need-same-length-16
 same-length-16 c = search needs
 
--- src/lib.rt:22:1
 returns-2 : tie.Need-returns-2
 returns-2 c = record { space = (record { names = record { long = same-length-9 c }; index = record { long = same-length-10 c }; texts = record { long = same-length-11 c }; bind = record { long = same-length-12 c }; graph = record { long = same-length-13 c } }, record { long = same-length-14 c }); promise = unread _ _ _ (c .before .before .before .before .before .before .before .before .before .before .before .before .before .before .before .before .before .before .before .before .before .before .before .before .before .before .before .before .before .before .before .before .before .before .before .before .before .before .before .before .pre .room) _ _ (read-refused _ _ (c .before .before .before .before .before .before .before .before .before .before .before .before .before .before .before .before .before .before .before .before .before .before .before .read-manifest .ensures .promise) (c .before .before .before .before .before .before .before .before .before .r .given .1)) (c .before .before .before .before .before .before .zero-from .ensures) (c .before .before .zero-from2 .ensures) }
 

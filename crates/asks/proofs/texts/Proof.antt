@@ -3,27 +3,19 @@ use Rattle.asks.proofs.Short.{short-texts}
 use borrow.Author.Needs.{needs}
 use Rattle.asks.proofs.texts.Statement.{statement}
 use Rattle.asks.proofs.texts.Tie as tie
-use Rattle.asks.proofs.texts.Reads as reads
-use Rattle.asks.proofs.texts.Lts as lts
-use Rattle.ask_texts.proofs.texts_buffered.Reads as texts-buffered-reads
 
--- src/lib.rt:47:9
 returns : tie.Need-returns
 returns c = short-texts (c .before .before .before .before .before .args .manifest .now) (c .before .before .before .before .before .args .steps .now) (c .before .before .before .before .before .args .wanted) (c .before .before .before .before .before .args .bytes .now) (c .before .before .before .before .before .args .ends .now) (c .if1 .taken)
 
--- src/lib.rt:49:5
 texts-buffered-requires : tie.Need-texts-buffered-requires
 texts-buffered-requires c κs = search needs
 
--- src/lib.rt:37:1
 same-length : tie.Need-same-length
 same-length c = search needs
 
--- src/lib.rt:37:1
 same-length-2 : tie.Need-same-length-2
 same-length-2 c = search needs
 
--- src/lib.rt:37:1
 returns-2 : tie.Need-returns-2
 returns-2 c = search needs
 

@@ -1,74 +1,54 @@
+-- `text_batch::put_text` meets its contract.
 use mathlib.Core.Path.{sym}
 use Rattle.text_batch.proofs.Putting.{text-part}
-use lib.ListN.{length}
-use Prim.Native.Nat.{_≤_}
 use native.Mathlib.Omega.{arith}
 use Rattle.text_batch.proofs.Putting.{text-short, put-long, put-ends, put-refused}
 use borrow.Author.Needs.{needs}
 use Rattle.text_batch.proofs.put_text.Statement.{statement}
 use Rattle.text_batch.proofs.put_text.Tie as tie
-use Rattle.text_batch.proofs.put_text.Reads as reads
-use Rattle.text_batch.proofs.put_text.Lts as lts
-use Rattle.slices.proofs.bytes.copy_at.Reads as copy-at-reads
-use Rattle.text_step.proofs.text_of.Reads as text-of-reads
 
--- src/lib.rt:55:11
 text-of-requires : tie.Need-text-of-requires
 text-of-requires c κs = search needs
 
--- src/lib.rt:56:29
 enum-known-n : tie.Need-enum-known-n
 enum-known-n c = search needs
 
--- src/lib.rt:57:16
 sub-if1 : tie.Need-sub-if1
 sub-if1 c = search needs
 
--- src/lib.rt:58:17
 same-length : tie.Need-same-length
 same-length c = search needs
 
--- src/lib.rt:58:17
 returns : tie.Need-returns
 returns c = record { space = search needs; promise = put-long (c .before .before .before .before .before .before .text-of .ensures) (c .before .before .n .given .1) (c .if1 .taken) }
 
--- src/lib.rt:60:33
 slice-reshare-prefix-copy-at : tie.Need-slice-reshare-prefix-copy-at
 slice-reshare-prefix-copy-at c = omega (arith, text-short (c .before .before .before .before .before .before .before .text-of .ensures) (c .before .before .before .n .given .1) (c .before .before .before .before .before .before .before .before .before .before .before .before .before .before .before .before .pre .asked), c .before .before .before .before .before .before .before .before .before .before .before .before .before .before .before .before .pre .asked .room, c .before .before .before .before .before .before .before .text-of .kept)
 
--- src/lib.rt:60:33
 slice-aggregate-copy-at : tie.Need-slice-aggregate-copy-at
 slice-aggregate-copy-at c = sym (text-part (c .before .before .before .before .before .before .before .before .text-of .ensures) (c .before .before .before .before .n .given .1) (c .before .before .before .before .before .before .before .before .before .before .before .before .before .before .before .before .before .pre .asked) (omega (arith, c .before .before .before .before .before .before .before .before .before .before .before .before .before .before .before .before .before .pre .asked .room, c .before .before .before .before .before .before .before .before .text-of .kept)))
 
--- src/lib.rt:60:13
 copy-at-requires : tie.Need-copy-at-requires
 copy-at-requires c κs = omega (arith, text-part (c .before .before .before .before .before .before .before .before .text-of .ensures) (c .before .before .before .before .n .given .1) (c .before .before .before .before .before .before .before .before .before .before .before .before .before .before .before .before .before .pre .asked) (omega (arith, c .before .before .before .before .before .before .before .before .before .before .before .before .before .before .before .before .before .pre .asked .room, c .before .before .before .before .before .before .before .before .text-of .kept)), c .before .before .before .before .before .before .before .before .before .before .before .before .before .before .before .before .before .pre .before, c .before .before .before .before .before .before .before .before .before .before .before .before .before .before .before .before .before .pre .within, c .before .before .if1 .left)
 
--- src/lib.rt:61:23
 add-t20 : tie.Need-add-t20
 add-t20 c = search needs
 
--- src/lib.rt:63:29
 enum-known-r : tie.Need-enum-known-r
 enum-known-r c = search needs
 
--- src/lib.rt:37:1
 same-length-2 : tie.Need-same-length-2
 same-length-2 c = search needs
 
--- src/lib.rt:37:1
 same-length-3 : tie.Need-same-length-3
 same-length-3 c = search needs
 
--- src/lib.rt:37:1
 returns-2 : tie.Need-returns-2
 returns-2 c = record { space = search needs; promise = put-ends (c .before .before .before .before .before .before .before .before .before .before .before .text-of .ensures) (c .before .before .before .before .before .before .before .n .given .1) (c .before .before .before .before .before .before .before .before .before .before .before .before .before .before .before .before .before .before .before .before .pre .before) (c .before .before .before .before .before .before .before .before .before .before .before .before .before .before .before .before .before .before .before .before .pre .within) (c .before .before .before .before .before .if1 .left) (text-part (c .before .before .before .before .before .before .before .before .before .before .before .text-of .ensures) (c .before .before .before .before .before .before .before .n .given .1) (c .before .before .before .before .before .before .before .before .before .before .before .before .before .before .before .before .before .before .before .before .pre .asked) (omega (arith, c .before .before .before .before .before .before .before .before .before .before .before .before .before .before .before .before .before .before .before .before .pre .asked .room, c .before .before .before .before .before .before .before .before .before .before .before .text-of .kept))) (c .before .before .copy-at .ensures) }
 
--- src/lib.rt:37:1
 same-length-4 : tie.Need-same-length-4
 same-length-4 c = search needs
 
--- src/lib.rt:37:1
 returns-3 : tie.Need-returns-3
 returns-3 c = record { space = search needs; promise = put-refused (c .before .before .before .before .before .text-of .ensures) (c .before .r .given .1) }
 

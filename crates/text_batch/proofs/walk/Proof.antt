@@ -1,3 +1,4 @@
+-- `text_batch::walk` meets its contract.
 use Rattle.hold_reading.specs.Buffers.{buffers}
 use lib.ListN.{length}
 use Prim.Native.Nat.{_-_, _≤_}
@@ -7,10 +8,6 @@ use Rattle.text_batch.proofs.Walking.{Walking, walk-begin, walk-end, wa
 use borrow.Author.Needs.{needs}
 use Rattle.text_batch.proofs.walk.Statement.{statement}
 use Rattle.text_batch.proofs.walk.Tie as tie
-use Rattle.text_batch.proofs.walk.Reads as reads
-use Rattle.text_batch.proofs.walk.Lts as lts
-use Rattle.slices.proofs.words.at.Reads as at-reads
-use Rattle.text_batch.proofs.put_text.Reads as put-text-reads
 
 abbrev Inv-loop : tie.InvT-loop
 Inv-loop t names index texts bind graph c steps wanted one₀ bytes₀ ends₀ room end₀ i₀ one bytes ends end i =
@@ -23,115 +20,87 @@ abbrev μ-loop : tie.MeasureT-loop
 low : (c : tie.Else1 Inv-loop μ-loop) → c .before .before .e .given .0 .0 ≤ c .before .before .before .before .before .before .before .before .before .before .before .before .before .before .before .before .before .before .before .before .before .before .before .args .room
 low c = end-within (c .before .before .before .before .before .before .before .before .before .before .before .before .before .before .before .before .before .before .before .before .before .before .before .pre) (rw (c .before .before .e .given .1) at (c .before .before .before .before .before .before .before .before .put-text .ensures .promise))
 
--- src/lib.rt:88:5
 loop-holds : tie.Need-loop-holds Inv-loop μ-loop
 loop-holds c = (refl, refl, walk-begin)
 
--- src/lib.rt:89:13
 at-requires : tie.Need-at-requires Inv-loop μ-loop
 at-requires c κs = search needs
 
--- src/lib.rt:90:15
 put-text-requires : tie.Need-put-text-requires Inv-loop μ-loop
 put-text-requires c κs = walk-asks (c .before .before .before .before .before .before .before .before .before .before .before .before .before .before .pre) (c .before .before .before .before .loop .inv .2) (c .before .before .before .before .loop .inv .0) (c .before .before .before .before .loop .inv .1)
 
--- src/lib.rt:105:23
 enum-known-e : tie.Need-enum-known-e Inv-loop μ-loop
 enum-known-e c = search needs
 
--- src/lib.rt:107:21
 same-length : tie.Need-same-length Inv-loop μ-loop
 same-length c = search needs
 
--- src/lib.rt:107:21
 same-length-2 : tie.Need-same-length-2 Inv-loop μ-loop
 same-length-2 c = search needs
 
--- src/lib.rt:107:21
 same-length-3 : tie.Need-same-length-3 Inv-loop μ-loop
 same-length-3 c = search needs
 
--- src/lib.rt:107:21
 returns : tie.Need-returns Inv-loop μ-loop
 returns c = record { space = search needs; promise = walk-full (c .before .before .before .before .before .before .before .before .before .before .before .before .before .loop .inv .2) (c .before .before .before .before .before .before .before .before .before .before .before .before .loop-test .taken) (c .before .before .before .before .before .before .before .before .before .before .before .at .ensures) (rw (c .before .before .e .given .1) at (c .before .before .before .before .before .before .before .before .put-text .ensures .promise)) (c .if1 .taken) }
 
--- src/lib.rt:109:27
 cast-ends : tie.Need-cast-ends Inv-loop μ-loop
 cast-ends c = omega (arith, low c, c .before .before .before .before .before .before .before .before .before .before .before .before .before .before .before .before .before .before .before .before .before .before .before .pre .low)
 
--- src/lib.rt:109:17
 mul-ends : tie.Need-mul-ends Inv-loop μ-loop
 mul-ends c = omega (arith, c .if1 .left, c .before .before .before .before .before .before .before .before .before .before .before .before .before .loop .inv .2 .long, c .before .before .before .before .before .before .before .before .before .before .before .before .before .before .before .before .before .before .before .before .before .before .before .good)
 
--- src/lib.rt:109:17
 slice-write-ends : tie.Need-slice-write-ends Inv-loop μ-loop
 slice-write-ends c = search needs
 
--- src/lib.rt:111:17
 add-i : tie.Need-add-i Inv-loop μ-loop
 add-i c = omega (arith, c .before .before .before .before .before .before .before .before .before .before .before .before .loop-test .taken, c .before .before .before .before .before .before .before .before .before .before .before .before .before .before .before .before .before .before .before .before .before .before .before .good)
 
--- src/lib.rt:88:5
 loop-less : tie.Need-loop-less Inv-loop μ-loop
 loop-less c = search needs
 
--- src/lib.rt:88:5
 loop-again : tie.Need-loop-again Inv-loop μ-loop
 loop-again c = (omega (arith, c .before .before .before .before .before .before .before .before .before .before .before .before .before .loop .inv .0, c .before .before .before .before .before .before .before .before .put-text .kept), omega (arith, c .before .before .before .before .before .before .before .before .before .before .before .before .before .loop .inv .1, c .before .before .before .before .before .before .before .before .put-text .kept), walk-on (c .before .before .before .before .before .before .before .before .before .before .before .before .before .loop .inv .2) (c .before .before .before .before .before .before .before .before .before .before .before .before .loop-test .taken) (c .before .before .before .before .before .before .before .before .before .before .before .at .ensures) (rw (c .before .before .e .given .1) at (c .before .before .before .before .before .before .before .before .put-text .ensures .promise)) (low c) (c .if1 .left))
 
--- src/lib.rt:114:17
 enum-told : tie.Need-enum-told Inv-loop μ-loop
 enum-told c = search needs
 
--- src/lib.rt:114:17
 same-length-4 : tie.Need-same-length-4 Inv-loop μ-loop
 same-length-4 c = search needs
 
--- src/lib.rt:114:17
 same-length-5 : tie.Need-same-length-5 Inv-loop μ-loop
 same-length-5 c = search needs
 
--- src/lib.rt:114:17
 same-length-6 : tie.Need-same-length-6 Inv-loop μ-loop
 same-length-6 c = search needs
 
--- src/lib.rt:114:17
 returns-2 : tie.Need-returns-2 Inv-loop μ-loop
 returns-2 c = record { space = search needs; promise = walk-long (c .before .before .before .before .before .before .before .before .before .before .before .loop .inv .2) (c .before .before .before .before .before .before .before .before .before .before .loop-test .taken) (c .before .before .before .before .before .before .before .before .before .at .ensures) (rw (c .enum-told .given .1) at (c .before .before .before .before .before .before .put-text .ensures .promise)) }
 
--- src/lib.rt:116:26
 enum-known-r : tie.Need-enum-known-r Inv-loop μ-loop
 enum-known-r c = search needs
 
--- src/lib.rt:117:17
 same-length-7 : tie.Need-same-length-7 Inv-loop μ-loop
 same-length-7 c = search needs
 
--- src/lib.rt:117:17
 same-length-8 : tie.Need-same-length-8 Inv-loop μ-loop
 same-length-8 c = search needs
 
--- src/lib.rt:117:17
 same-length-9 : tie.Need-same-length-9 Inv-loop μ-loop
 same-length-9 c = search needs
 
--- src/lib.rt:117:17
 returns-3 : tie.Need-returns-3 Inv-loop μ-loop
 returns-3 c = record { space = search needs; promise = walk-refused (c .before .before .before .before .before .before .before .before .before .before .before .before .loop .inv .2) (c .before .before .before .before .before .before .before .before .before .before .before .loop-test .taken) (c .before .before .before .before .before .before .before .before .before .before .at .ensures) (rw (c .before .r .given .1) at (c .before .before .before .before .before .before .before .put-text .ensures .promise)) }
 
--- src/lib.rt:68:1
 same-length-10 : tie.Need-same-length-10 Inv-loop μ-loop
 same-length-10 c = search needs
 
--- src/lib.rt:68:1
 same-length-11 : tie.Need-same-length-11 Inv-loop μ-loop
 same-length-11 c = search needs
 
--- src/lib.rt:68:1
 same-length-12 : tie.Need-same-length-12 Inv-loop μ-loop
 same-length-12 c = search needs
 
--- src/lib.rt:68:1
 returns-4 : tie.Need-returns-4 Inv-loop μ-loop
 returns-4 c = record { space = search needs; promise = walk-end (c .before .loop .inv .2) (c .loop-test .left) }
 
