@@ -1,10 +1,11 @@
 // The text ask: the manifest is read into buffers of the ask's own, and the step's text is written from them.
 ghost use Prim.Native.Nat.{_≤_};
 ghost use lib.ListN.{length};
+ghost use Rattle.lists.specs.Lent.{Spare, Leaves};
 ghost use Rattle.spec.specs.Limits.{maxText};
 ghost use Rattle.spec.specs.Promises.{TextPromise};
 ghost use Rattle.ask_text.specs.Asked.{TextAsked};
-ghost use Rattle.hold_reading.specs.Buffers.{buffers};
+ghost use Rattle.hold_reading.specs.Buffers.{buffers, SameRoom};
 use apply_manifest::ReadAnswer;
 use apply_manifest::read_manifest;
 use hold_bindings::ROWS;
@@ -19,12 +20,17 @@ use spec::limits::VALUE;
 use spec::limits::WRITTEN;
 use text_step::text_of;
 
-// With the reader's buffers lent.
+// What is asked for.
+struct Request {
+    step: usize,
+    wanted: Wanted,
+}
+
+// With the reader's buffers lent: they are working space.
 fn text_in(
     t: &[u8; 256],
     manifest: &[u8],
-    step: usize,
-    wanted: Wanted,
+    request: Request,
     names: &mut [u8],
     index: &mut [u32],
     texts: &mut [u8],
@@ -34,7 +40,7 @@ fn text_in(
     buffer: &mut [u8],
 ) -> TextAnswer
     requires { ⌜ TextAsked (now t) (buffers (now names) (now index) (now texts) (now bind) (now graph)) (now word) (now buffer) ⌝ }
-    ensures { λ r. ⌜ TextPromise (now (manifest .entry)) step wanted (now (buffer .entry)) r (now (buffer .exit)) ⌝ }
+    ensures { λ r. ⌜ Leaves (SameRoom (buffers (now (names .entry)) (now (index .entry)) (now (texts .entry)) (now (bind .entry)) (now (graph .entry))) (buffers (now (names .exit)) (now (index .exit)) (now (texts .exit)) (now (bind .exit)) (now (graph .exit))) × Spare (now (word .entry)) (now (word .exit))) (TextPromise (now (manifest .entry)) (request .step) (request .wanted) (now (buffer .entry)) r (now (buffer .exit))) ⌝ }
 {
     match read_manifest(t, manifest, names, index, texts, bind, graph, word) {
         ReadAnswer::Accepted(c) => text_of(
@@ -45,8 +51,8 @@ fn text_in(
             bind,
             graph,
             c,
-            step,
-            wanted,
+            request.step,
+            request.wanted,
             buffer,
         ),
         ReadAnswer::Refused(r) => {
@@ -68,11 +74,11 @@ pub fn text_buffered(manifest: &[u8], step: usize, wanted: Wanted, buffer: &mut 
     let mut bind = [0u32; ROWS];
     let mut graph = [0u32; COLUMNS_ROOM];
     let mut word = [0u8; VALUE];
+    let request = Request { step, wanted };
     text_in(
         &t,
         manifest,
-        step,
-        wanted,
+        request,
         &mut names,
         &mut index,
         &mut texts,

@@ -12,7 +12,7 @@ use Rattle.lists.specs.Text.{bytes}
 use Rattle.spec.specs.Answers.{Said}
 use Rattle.spec.specs.Promises.{filled, refused14}
 use Rattle.printing.specs.Lines.{decimal, worded, refusedText, refusedLine, spaced, circleLine, circleOutput, headOf}
-use Rattle.printing.specs.Writes.{Puts, PutsUpTo, Leaves}
+use Rattle.printing.specs.Writes.{Puts, PutsUpTo, LeavesOutput}
 use Rattle.printing.proofs.Digits.{decimal-of}
 
 pub put-law : (s d e : List ℕ) (at r : ℕ) → at + length s ≤ length d → e ≡ paste d at s (length s) → r ≡ at + length s → Puts s d at e r
@@ -40,7 +40,7 @@ unfolding worded
 worded-law n a b = record { puts = puts-then a (b .puts); short = omega (arith, a .end, b .short) }
 
 pub end-law : (d e : List ℕ) (at r : ℕ) → at < length d → e ≡ zeroed (set d at 10) (at + 1) (length (set d at 10)) → r ≡ at + 1
-    → Leaves (take at d ++ (10 ∷ [])) d r e
+    → LeavesOutput (take at d ++ (10 ∷ [])) d r e
 unfolding zeroed filled
 end-law d e at r h w n =
     let long : length (take at d ++ (10 ∷ [])) ≡ at + 1 = length-append (take at d) (10 ∷ []) ∙ ap (λ (k : ℕ). k + 1) (length-take-le at d (omega arith)) in
@@ -51,7 +51,7 @@ end-law d e at r h w n =
     }
 
 -- A text from the line's start, ended.
-pub ended-law : {s d e f : List ℕ} {m r : ℕ} → length e ≡ length d → Puts s d 0 e m → Leaves (take m e ++ (10 ∷ [])) e r f → Leaves (s ++ (10 ∷ [])) d r f
+pub ended-law : {s d e f : List ℕ} {m r : ℕ} → length e ≡ length d → Puts s d 0 e m → LeavesOutput (take m e ++ (10 ∷ [])) e r f → LeavesOutput (s ++ (10 ∷ [])) d r f
 unfolding filled
 ended-law {s} {d} {e} {f} {m} {r} k p l =
     let q : take m e ≡ s = p .front in
@@ -110,8 +110,8 @@ pub head-law : (k n : ℕ) {d e f g : List ℕ} {i j r : ℕ} → PutsUpTo 21 (w
 unfolding headOf
 head-law k n p q s = up-to-then (up-to-then p q) (up-to-length s)
 
-pub said-refused : (s : Said) {d e f : List ℕ} {m r : ℕ} → length e ≡ length d → PutsUpTo 52 (refusedText s) d 0 e m → Leaves (take m e ++ (10 ∷ [])) e r f
-    → Leaves (refusedLine s) d r f
+pub said-refused : (s : Said) {d e f : List ℕ} {m r : ℕ} → length e ≡ length d → PutsUpTo 52 (refusedText s) d 0 e m → LeavesOutput (take m e ++ (10 ∷ [])) e r f
+    → LeavesOutput (refusedLine s) d r f
 unfolding refusedLine
 said-refused s k p l = ended-law k (p .puts) l
 
@@ -120,13 +120,13 @@ regroup a n w l = simp append-assoc
 
 -- the refusal, a line end and the word, and the steps
 pub said-circle : (l : List ℕ) {d e f g h : List ℕ} {i j m r : ℕ} → length g ≡ length d → PutsUpTo 52 (refusedText (refused14 (length l))) d 0 e i
-    → Puts (10 ∷ bytes "circle") e i f j → PutsUpTo (21 * length l) (spaced l) f j g m → Leaves (take m g ++ (10 ∷ [])) g r h → Leaves (circleOutput l) d r h
+    → Puts (10 ∷ bytes "circle") e i f j → PutsUpTo (21 * length l) (spaced l) f j g m → LeavesOutput (take m g ++ (10 ∷ [])) g r h → LeavesOutput (circleOutput l) d r h
 unfolding circleOutput refusedLine circleLine
 said-circle l k p w q t =
     rw (regroup (refusedText (refused14 (length l))) (10 ∷ []) (bytes "circle") (spaced l)) at (ended-law k (puts-then (puts-then (p .puts) w) (q .puts)) t)
 
 -- What is left in the lent buffer lies within it.
-pub leaves-within : {out lent exit : List ℕ} {n : ℕ} → length exit ≡ length lent → Leaves out lent n exit → n ≤ length exit
+pub leaves-within : {out lent exit : List ℕ} {n : ℕ} → length exit ≡ length lent → LeavesOutput out lent n exit → n ≤ length exit
 unfolding filled
 leaves-within {out} {lent} {exit} {n} k l =
     let a : length exit ≡ length out + length (replicate {0} {A = ℕ} (length lent - length out) 0) =

@@ -21,6 +21,6 @@ pub record PutsUpTo (most : ℕ) (s entry : List ℕ) (at : ℕ) (exit : List �
   pub short : r ≤ at + most
 
 -- the lent buffer holds n bytes, which are `out`, and zeros beyond
-pub record Leaves (out lent : List ℕ) (n : ℕ) (exit : List ℕ) : Type 0 where
+pub record LeavesOutput (out lent : List ℕ) (n : ℕ) (exit : List ℕ) : Type 0 where
   pub count : n ≡ length out
   pub left : exit ≡ filled out lent

@@ -4,7 +4,7 @@ ghost use Prim.Native.Nat.{_+_, _*_, _≤_, _<_};
 ghost use lib.ListN.{length, take};
 ghost use Rattle.answers.specs.Numbers.{said};
 ghost use Rattle.printing.specs.Lines.{decimal, worded, noWork, refusedText, refusedLine, spaced, circleOutput, headOf};
-ghost use Rattle.printing.specs.Writes.{lineRoom, Puts, PutsUpTo, Leaves};
+ghost use Rattle.printing.specs.Writes.{lineRoom, Puts, PutsUpTo, LeavesOutput};
 use answers::Numbers;
 use slices::bytes::copy_at;
 use slices::bytes::zero_from;
@@ -46,7 +46,7 @@ fn put_worded(line: &mut [u8], from: usize, word: &[u8], n: usize) -> usize
 // Ends a line, and clears all that lies behind it.
 pub fn end_line(line: &mut [u8], from: usize) -> usize
     requires { ⌜ from < length (now line) ⌝ }
-    ensures { λ r. ⌜ Leaves (take from (now (line .entry)) ++ (10 ∷ [])) (now (line .entry)) r (now (line .exit)) ⌝ }
+    ensures { λ r. ⌜ LeavesOutput (take from (now (line .entry)) ++ (10 ∷ [])) (now (line .entry)) r (now (line .exit)) ⌝ }
 {
     line[from] = b'\n';
     zero_from(line, from + 1);
@@ -56,7 +56,7 @@ pub fn end_line(line: &mut [u8], from: usize) -> usize
 // "`no work` for an empty list"
 pub fn say_no_work(line: &mut [u8]) -> usize
     requires { ⌜ lineRoom ≤ length (now line) ⌝ }
-    ensures { λ r. ⌜ Leaves noWork (now (line .entry)) r (now (line .exit)) ⌝ }
+    ensures { λ r. ⌜ LeavesOutput noWork (now (line .entry)) r (now (line .exit)) ⌝ }
 {
     let behind = put(line, 0, b"no work");
     end_line(line, behind)
@@ -73,7 +73,7 @@ fn put_refused(line: &mut [u8], n: Numbers) -> usize
 // "`refused N at P` for a refusal"
 pub fn say_refused(line: &mut [u8], n: Numbers) -> usize
     requires { ⌜ lineRoom ≤ length (now line) ⌝ }
-    ensures { λ r. ⌜ Leaves (refusedLine (said n)) (now (line .entry)) r (now (line .exit)) ⌝ }
+    ensures { λ r. ⌜ LeavesOutput (refusedLine (said n)) (now (line .entry)) r (now (line .exit)) ⌝ }
 {
     let behind = put_refused(line, n);
     end_line(line, behind)
@@ -96,7 +96,7 @@ fn put_steps(line: &mut [u8], from: usize, steps: &[u32]) -> usize
 // "after a 14 a line such as `circle 0 1`"
 pub fn say_circle(line: &mut [u8], circle: &[u32]) -> usize
     requires { ⌜ (lineRoom ≤ length (now line)) × (length (now circle) ≤ 512) ⌝ }
-    ensures { λ r. ⌜ Leaves (circleOutput (now (circle .entry))) (now (line .entry)) r (now (line .exit)) ⌝ }
+    ensures { λ r. ⌜ LeavesOutput (circleOutput (now (circle .entry))) (now (line .entry)) r (now (line .exit)) ⌝ }
 {
     let refused = put_refused(
         line,

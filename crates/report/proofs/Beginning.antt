@@ -13,7 +13,7 @@ use Rattle.spec.specs.Promises.{filled, PlanMeets}
 use Rattle.answers.specs.declared.Numbers.{Numbers as Two}
 use Rattle.answers.specs.Numbers.{said}
 use Rattle.printing.specs.Lines.{noWork, refusedLine, circleOutput}
-use Rattle.printing.specs.Writes.{Leaves}
+use Rattle.printing.specs.Writes.{LeavesOutput}
 use Rattle.report.specs.declared.Begun.{Begun}
 use Rattle.report.specs.declared.Begun.the-variants.{Whole, Refusal, Steps}
 use Rattle.report.specs.Output.{Checks, fine, stopped, checkTexts, checkedOutput, listOutput, stepLines, Outputs}
@@ -21,17 +21,17 @@ use Rattle.report.specs.Begins.{whole, refusing, checkedOpening, listOpe
 use Rattle.report.proofs.Early.{not-0, not-14}
 use Rattle.report.proofs.Texts.{front-filled, fits-filled}
 
-pub opens-whole : {out d f : List ℕ} {n : ℕ} → Leaves out d n f → Opens (whole out) d (Whole n) f
+pub opens-whole : {out d f : List ℕ} {n : ℕ} → LeavesOutput out d n f → Opens (whole out) d (Whole n) f
 unfolding whole
 opens-whole l = record { begun = ap Whole (l .count); left = l .left }
 
-pub opens-refusal : {out d f : List ℕ} {n : ℕ} → Leaves out d n f → Opens (refusing out) d (Refusal n) f
+pub opens-refusal : {out d f : List ℕ} {n : ℕ} → LeavesOutput out d n f → Opens (refusing out) d (Refusal n) f
 unfolding refusing
 opens-refusal l = record { begun = ap Refusal (l .count); left = l .left }
 
 -- ---- a list
 
-pub list-none : (manifest steps : List ℕ) {d f : List ℕ} {n : ℕ} → length steps ≡ 0 → Leaves noWork d n f → Opens (listOpening manifest steps) d (Whole n) f
+pub list-none : (manifest steps : List ℕ) {d f : List ℕ} {n : ℕ} → length steps ≡ 0 → LeavesOutput noWork d n f → Opens (listOpening manifest steps) d (Whole n) f
 unfolding listOpening
 list-none manifest [] e l = opens-whole l
 list-none manifest (s ∷ steps) e l = absurd (omega arith)
@@ -50,7 +50,7 @@ list-fine manifest steps d e f h c k w =
     (record { begun = refl; left = w ∙ rw (drop-length e, k) (append-nil (replicate (length d - 0) 0)) })
 
 pub list-stopped : (manifest steps d e f : List ℕ) (s : Said) {n : ℕ} → (length steps ≡ 0 → ⊥) → stopped s ≡ checkTexts manifest steps → length e ≡ length d
-    → Leaves (refusedLine s) e n f → Opens (listOpening manifest steps) d (Refusal n) f
+    → LeavesOutput (refusedLine s) e n f → Opens (listOpening manifest steps) d (Refusal n) f
 unfolding checkedOpening filled
 list-stopped manifest steps d e f s {n} h c k l =
     let o : listOpening manifest steps ≡ refusing (refusedLine s) = list-some manifest steps h ∙ ap (checkedOpening (length steps)) (sym c) in
@@ -74,10 +74,10 @@ module _ (manifest : List ℕ) (s : Said) (list : List ℕ) where
   pub opens-list : {d f : List ℕ} {r : Begun} → s .number ≡ 0 → Opens (listOpening manifest (take (s .value) list)) d r f → Opens (planOpening manifest s list) d r f
   opens-list e p = rw (planned-list e) p
 
-  pub opens-circle : {d f : List ℕ} {n : ℕ} → s .number ≡ 14 → Leaves (circleOutput (take (s .value) list)) d n f → Opens (planOpening manifest s list) d (Refusal n) f
+  pub opens-circle : {d f : List ℕ} {n : ℕ} → s .number ≡ 14 → LeavesOutput (circleOutput (take (s .value) list)) d n f → Opens (planOpening manifest s list) d (Refusal n) f
   opens-circle e p = rw (planned-circle e) (opens-refusal p)
 
-  pub opens-refused : {d f : List ℕ} {n : ℕ} → (s .number ≡ 0 → ⊥) → (s .number ≡ 14 → ⊥) → Leaves (refusedLine s) d n f → Opens (planOpening manifest s list) d (Refusal n) f
+  pub opens-refused : {d f : List ℕ} {n : ℕ} → (s .number ≡ 0 → ⊥) → (s .number ≡ 14 → ⊥) → LeavesOutput (refusedLine s) d n f → Opens (planOpening manifest s list) d (Refusal n) f
   opens-refused a b p = rw (planned-refused a b) (opens-refusal p)
 
 -- ---- a list and a circle fit

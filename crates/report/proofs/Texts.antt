@@ -10,11 +10,12 @@ use Rattle.lists.specs.Parts.{part, length-part}
 use Rattle.answers.specs.declared.Numbers.{Numbers as Two}
 use Rattle.answers.specs.Numbers.{said}
 use Rattle.spec.specs.declared.Wanted.the-variants.{Command}
+use Rattle.spec.specs.Limits.{maxText}
 use Rattle.spec.specs.Answers.{numberOfRefusal, Said}
 use Rattle.spec.specs.TextAsk.{TextOutcome, text, noText, textAsk}
 use Rattle.spec.specs.Promises.{filled, TextMeets}
 use Rattle.printing.specs.Lines.{refusedLine, headOf, lineOf}
-use Rattle.printing.specs.Writes.{PutsUpTo, Leaves}
+use Rattle.printing.specs.Writes.{PutsUpTo, LeavesOutput}
 use Rattle.report.specs.Output.{command, outcomeSays, Checks, fine, stopped, afterText, checkTexts, stepLine}
 use Rattle.report.proofs.Early.{not-0}
 
@@ -37,7 +38,7 @@ meets-says (text t) lent exit s m = m .says
 meets-says (noText r) lent exit s m = m .says
 
 -- by a buffer of 8,192 bytes
-pub says-command : (manifest : List ℕ) (step : ℕ) (lent exit : List ℕ) (s : Said) → length lent ≡ 8192
+pub says-command : (manifest : List ℕ) (step : ℕ) (lent exit : List ℕ) (s : Said) → length lent ≡ maxText
     → TextMeets (textAsk manifest step Command (length lent)) lent s exit → s ≡ outcomeSays (command manifest step)
 unfolding command
 says-command manifest step lent exit s k m = rw k at (meets-says (textAsk manifest step Command (length lent)) lent exit s m)
@@ -116,10 +117,10 @@ front-law : (from v : ℕ) (a head t lent exit rest : List ℕ) → a ≡ head �
 front-law from v a head t lent exit rest ea ef ev ee = rw (ea, ef, ev, ee) (behind-head head t lent rest)
 
 -- The line is as long as it was when its part comes back.
-pub back-length : (from : ℕ) (line exit : List ℕ) → from + 8192 ≤ length line → length exit ≡ length (part line from (from + 8192))
-    → length (take from line ++ (exit ++ drop (from + 8192 - from) (drop from line))) ≡ length line
+pub back-length : (from : ℕ) (line exit : List ℕ) → from + maxText ≤ length line → length exit ≡ length (part line from (from + maxText))
+    → length (take from line ++ (exit ++ drop (from + maxText - from) (drop from line))) ≡ length line
 back-length from line exit h k =
-    let a : length exit ≡ from + 8192 - from = k ∙ length-part line from (from + 8192) h in
+    let a : length exit ≡ from + maxText - from = k ∙ length-part line from (from + maxText) h in
     simp (length-append, length-take, length-drop) (omega arith)
 
 refused-line : (place count : ℕ) (o : TextOutcome) (s : Said) → s ≡ outcomeSays o → (s .number ≡ 0 → ⊥) → refusedLine s ≡ stepLine place count o
@@ -128,15 +129,15 @@ refused-line place count (text t) s e z = absurd (z (ap (λ (x : Said). x .numbe
 refused-line place count (noText r) s e z = ap refusedLine e
 
 -- Only the length of the lent buffer counts.
-pub leaves-as : {out lent line f : List ℕ} {r : ℕ} → length line ≡ length lent → Leaves out line r f → Leaves out lent r f
+pub leaves-as : {out lent line f : List ℕ} {r : ℕ} → length line ≡ length lent → LeavesOutput out line r f → LeavesOutput out lent r f
 unfolding filled
 leaves-as {out} {lent} {line} {f} {r} k l = record { count = l .count; left = rw k at (l .left) }
 
 -- The text was asked for into the 8,192 bytes from place `from` on.
-module _ (manifest : List ℕ) (step from : ℕ) (line exit : List ℕ) (n : Two) (s : Said) (h : from + 8192 ≤ length line) (e : said n ≡ s)
-    (m : TextMeets (textAsk manifest step Command (length (part line from (from + 8192)))) (part line from (from + 8192)) s exit) where
-  room : length (part line from (from + 8192)) ≡ 8192
-  room = length-part line from (from + 8192) h ∙ (omega arith)
+module _ (manifest : List ℕ) (step from : ℕ) (line exit : List ℕ) (n : Two) (s : Said) (h : from + maxText ≤ length line) (e : said n ≡ s)
+    (m : TextMeets (textAsk manifest step Command (length (part line from (from + maxText)))) (part line from (from + maxText)) s exit) where
+  room : length (part line from (from + maxText)) ≡ maxText
+  room = length-part line from (from + maxText) h ∙ (omega arith)
 
   zero-number : n .number ≡ 0 → s .number ≡ 0
   zero-number z = sym (ap (λ (x : Said). x .number) e) ∙ z
@@ -144,31 +145,31 @@ module _ (manifest : List ℕ) (step from : ℕ) (line exit : List ℕ) (n : Two
   same-value : n .value ≡ s .value
   same-value = ap (λ (x : Said). x .value) e
 
-  found : n .number ≡ 0 → Text (command manifest step) (part line from (from + 8192)) s exit
+  found : n .number ≡ 0 → Text (command manifest step) (part line from (from + maxText)) s exit
   unfolding command
-  found z = text-of (textAsk manifest step Command 8192) (part line from (from + 8192)) exit s (zero-number z) (rw room at m)
+  found z = text-of (textAsk manifest step Command maxText) (part line from (from + maxText)) exit s (zero-number z) (rw room at m)
 
-  pub text-fits : n .number ≡ 0 → length exit ≡ length (part line from (from + 8192)) → n .value ≤ 8192
+  pub text-fits : n .number ≡ 0 → length exit ≡ length (part line from (from + maxText)) → n .value ≤ maxText
   text-fits z k =
       let t = found z in
-      omega (arith, same-value, t .counted, room, fits-filled (t .bytes) (part line from (from + 8192)) exit (t .shown) k)
+      omega (arith, same-value, t .counted, room, fits-filled (t .bytes) (part line from (from + maxText)) exit (t .shown) k)
 
   module _ (place count : ℕ) (lent rest : List ℕ) (p : PutsUpTo 44 (headOf place count) lent 0 line from) (k : length (take from line ++ (exit ++ rest)) ≡ length lent) where
     front : (z : n .number ≡ 0) → take (from + n .value) (take from line ++ (exit ++ rest)) ≡ headOf place count ++ found z .bytes
     front z =
         let t = found z in
-        front-law from (n .value) (take from line) (headOf place count) (t .bytes) (part line from (from + 8192)) exit rest (p .puts .front) (p .puts .end ∙ omega arith)
+        front-law from (n .value) (take from line) (headOf place count) (t .bytes) (part line from (from + maxText)) exit rest (p .puts .front) (p .puts .end ∙ omega arith)
         (same-value ∙ t .counted) (t .shown)
 
-    pub step-fine : {f : List ℕ} {r : ℕ} → n .number ≡ 0 → Leaves (take (from + n .value) (take from line ++ (exit ++ rest)) ++ (10 ∷ [])) (take from line ++ (exit ++ rest)) r f
-        → Leaves (stepLine place count (command manifest step)) lent r f
+    pub step-fine : {f : List ℕ} {r : ℕ} → n .number ≡ 0 → LeavesOutput (take (from + n .value) (take from line ++ (exit ++ rest)) ++ (10 ∷ [])) (take from line ++ (exit ++ rest)) r f
+        → LeavesOutput (stepLine place count (command manifest step)) lent r f
     unfolding stepLine lineOf filled
     step-fine z l =
         let t = found z in
         rw (t .outcome) (record { count = rw (front z) at (l .count); left = rw (front z, k) at (l .left) })
 
-  pub step-refused : (place count : ℕ) (lent line₂ f : List ℕ) {r : ℕ} → length line₂ ≡ length lent → (n .number ≡ 0 → ⊥) → Leaves (refusedLine (said n)) line₂ r f
-      → Leaves (stepLine place count (command manifest step)) lent r f
+  pub step-refused : (place count : ℕ) (lent line₂ f : List ℕ) {r : ℕ} → length line₂ ≡ length lent → (n .number ≡ 0 → ⊥) → LeavesOutput (refusedLine (said n)) line₂ r f
+      → LeavesOutput (stepLine place count (command manifest step)) lent r f
   step-refused place count lent line₂ f k z l =
-      let q : said n ≡ outcomeSays (command manifest step) = e ∙ says-command manifest step (part line from (from + 8192)) exit s room m in
+      let q : said n ≡ outcomeSays (command manifest step) = e ∙ says-command manifest step (part line from (from + maxText)) exit s room m in
       rw (refused-line place count (command manifest step) (said n) q z) at (leaves-as {lent = lent} k l)

@@ -2,9 +2,10 @@
 ghost use mathlib.Core.Path.{_≡_};
 ghost use Prim.Native.Nat.{_≤_};
 ghost use lib.ListN.{length};
+ghost use Rattle.lists.specs.Lent.{Spare, Leaves};
 ghost use Rattle.spec.specs.PlanAsk.{inputsOf};
 ghost use Rattle.answers.specs.Numbers.{said};
-ghost use Rattle.printing.specs.Writes.{lineRoom, Leaves};
+ghost use Rattle.printing.specs.Writes.{lineRoom, LeavesOutput};
 ghost use Rattle.report.specs.Output.{command, outcomeSays, checkTexts, stepLine};
 ghost use Rattle.report.specs.Begins.{checkedSays, listOpening, planOpening, Opens, Rooms, Planned, Begins};
 use answers::Numbers;
@@ -39,7 +40,7 @@ pub enum Begun {
 // What the text ask says of a step's command; the line is working space.
 fn check_text(manifest: &[u8], step: usize, line: &mut [u8]) -> Numbers
     requires { ⌜ lineRoom ≤ length (now line) ⌝ }
-    ensures { λ r. ⌜ said r ≡ outcomeSays (command (now (manifest .entry)) step) ⌝ }
+    ensures { λ r. ⌜ Leaves (Spare (now (line .entry)) (now (line .exit))) (said r ≡ outcomeSays (command (now (manifest .entry)) step)) ⌝ }
 {
     of_text(text(manifest, step, Wanted::Command, &mut line[..TEXT]))
 }
@@ -47,7 +48,7 @@ fn check_text(manifest: &[u8], step: usize, line: &mut [u8]) -> Numbers
 // "Texts are all checked, in list order"
 fn check_texts(manifest: &[u8], steps: &[u32], line: &mut [u8]) -> Checked
     requires { ⌜ lineRoom ≤ length (now line) ⌝ }
-    ensures { λ r. ⌜ checkedSays r ≡ checkTexts (now (manifest .entry)) (now (steps .entry)) ⌝ }
+    ensures { λ r. ⌜ Leaves (Spare (now (line .entry)) (now (line .exit))) (checkedSays r ≡ checkTexts (now (manifest .entry)) (now (steps .entry))) ⌝ }
 {
     let mut i = 0;
     while i < steps.len() {
@@ -110,7 +111,7 @@ pub fn begin(
 // "a line for each listed step, with its place in the list, the list's length and its `command` text"
 pub fn step_line(manifest: &[u8], step: usize, place: usize, count: usize, line: &mut [u8]) -> usize
     requires { ⌜ lineRoom ≤ length (now line) ⌝ }
-    ensures { λ r. ⌜ Leaves (stepLine place count (command (now (manifest .entry)) step)) (now (line .entry)) r (now (line .exit)) ⌝ }
+    ensures { λ r. ⌜ LeavesOutput (stepLine place count (command (now (manifest .entry)) step)) (now (line .entry)) r (now (line .exit)) ⌝ }
 {
     let from = put_head(line, place, count);
     let to = from + TEXT;

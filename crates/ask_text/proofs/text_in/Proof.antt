@@ -42,7 +42,7 @@ same-length-7 : tie.Need-same-length-7
 same-length-7 c = search needs
 
 returns : tie.Need-returns
-returns c = written _ _ (c .before .before .before .before .before .before .before .before .before .before .before .before .before .before .before .before .before .before .before .before .before .before .before .before .before .before .before .before .before .before .before .before .before .before .before .before .before .before .before .pre .room) (read-accepted _ _ (c .before .before .before .before .before .before .before .before .before .before .before .before .before .before .before .before .before .before .before .before .before .before .before .before .read-manifest .ensures .promise) (c .before .before .before .before .before .before .before .before .before .before .c .given .1)) (c .before .before .text-of .ensures)
+returns c = record { space = (record { names = record { long = same-length c }; index = record { long = same-length-2 c }; texts = record { long = same-length-3 c }; bind = record { long = same-length-4 c }; graph = record { long = same-length-5 c } }, record { long = same-length-6 c }); promise = written _ _ (c .before .before .before .before .before .before .before .before .before .before .before .before .before .before .before .before .before .before .before .before .before .before .before .before .before .before .before .before .before .before .before .before .before .before .before .before .before .before .before .pre .room) (read-accepted _ _ (c .before .before .before .before .before .before .before .before .before .before .before .before .before .before .before .before .before .before .before .before .before .before .before .before .read-manifest .ensures .promise) (c .before .before .before .before .before .before .before .before .before .before .c .given .1)) (c .before .before .text-of .ensures) }
 
 same-length-8 : tie.Need-same-length-8
 same-length-8 c = search needs
@@ -66,7 +66,7 @@ same-length-14 : tie.Need-same-length-14
 same-length-14 c = search needs
 
 returns-2 : tie.Need-returns-2
-returns-2 c = unread _ _ (c .before .before .before .before .before .before .before .before .before .before .before .before .before .before .before .before .before .before .before .before .before .before .before .before .before .before .before .before .before .before .before .before .before .before .pre .room) _ _ (read-refused _ _ (c .before .before .before .before .before .before .before .before .before .before .before .before .before .before .before .before .before .before .before .read-manifest .ensures .promise) (c .before .before .before .before .before .r .given .1)) (c .before .before .zero-from .ensures)
+returns-2 c = record { space = (record { names = record { long = same-length-8 c }; index = record { long = same-length-9 c }; texts = record { long = same-length-10 c }; bind = record { long = same-length-11 c }; graph = record { long = same-length-12 c } }, record { long = same-length-13 c }); promise = unread _ _ (c .before .before .before .before .before .before .before .before .before .before .before .before .before .before .before .before .before .before .before .before .before .before .before .before .before .before .before .before .before .before .before .before .before .before .pre .room) _ _ (read-refused _ _ (c .before .before .before .before .before .before .before .before .before .before .before .before .before .before .before .before .before .before .before .read-manifest .ensures .promise) (c .before .before .before .before .before .r .given .1)) (c .before .before .zero-from .ensures) }
 
 pub text-in-spec : {M : Type 1} → statement M
 text-in-spec =

@@ -35,13 +35,13 @@ same-length-2 : tie.Need-same-length-2
 same-length-2 c = search needs
 
 returns-2 : tie.Need-returns-2
-returns-2 c = list-fine (now (c .before .before .before .before .before .before .before .before .before .before .before .before .before .before .args .manifest)) (now (c .before .before .before .before .before .before .before .before .before .before .before .before .before .before .args .steps)) (now (c .before .before .before .before .before .before .before .before .before .before .before .before .before .before .args .line)) (c .before .before .before .before .before .before .before .before .check-texts .last .1 .1 .0) (c .before .before .zero-from .last .0) (c .before .before .before .before .before .before .before .before .before .before .if1 .left) (ap checkedSays (sym (c .before .before .before .before .enum-told .given .1)) ∙ c .before .before .before .before .before .before .before .before .check-texts .ensures) (c .before .before .before .before .before .before .before .before .check-texts .kept .1 .1 .0) (c .before .before .zero-from .ensures)
+returns-2 c = list-fine (now (c .before .before .before .before .before .before .before .before .before .before .before .before .before .before .args .manifest)) (now (c .before .before .before .before .before .before .before .before .before .before .before .before .before .before .args .steps)) (now (c .before .before .before .before .before .before .before .before .before .before .before .before .before .before .args .line)) (c .before .before .before .before .before .before .before .before .check-texts .last .1 .1 .0) (c .before .before .zero-from .last .0) (c .before .before .before .before .before .before .before .before .before .before .if1 .left) (ap checkedSays (sym (c .before .before .before .before .enum-told .given .1)) ∙ c .before .before .before .before .before .before .before .before .check-texts .ensures .promise) (c .before .before .before .before .before .before .before .before .check-texts .kept .1 .1 .0) (c .before .before .zero-from .ensures)
 
 same-length-3 : tie.Need-same-length-3
 same-length-3 c = search needs
 
 returns-3 : tie.Need-returns-3
-returns-3 c = list-stopped (now (c .before .before .before .before .before .before .before .before .before .before .before .before .before .before .before .args .manifest)) (now (c .before .before .before .before .before .before .before .before .before .before .before .before .before .before .before .args .steps)) (now (c .before .before .before .before .before .before .before .before .before .before .before .before .before .before .before .args .line)) (c .before .before .before .before .before .before .before .before .before .check-texts .last .1 .1 .0) (c .before .before .say-refused .last .0) _ (c .before .before .before .before .before .before .before .before .before .before .before .if1 .left) (ap checkedSays (sym (c .before .before .before .before .before .n .given .1)) ∙ c .before .before .before .before .before .before .before .before .before .check-texts .ensures) (c .before .before .before .before .before .before .before .before .before .check-texts .kept .1 .1 .0) (c .before .before .say-refused .ensures)
+returns-3 c = list-stopped (now (c .before .before .before .before .before .before .before .before .before .before .before .before .before .before .before .args .manifest)) (now (c .before .before .before .before .before .before .before .before .before .before .before .before .before .before .before .args .steps)) (now (c .before .before .before .before .before .before .before .before .before .before .before .before .before .before .before .args .line)) (c .before .before .before .before .before .before .before .before .before .check-texts .last .1 .1 .0) (c .before .before .say-refused .last .0) _ (c .before .before .before .before .before .before .before .before .before .before .before .if1 .left) (ap checkedSays (sym (c .before .before .before .before .before .n .given .1)) ∙ c .before .before .before .before .before .before .before .before .before .check-texts .ensures .promise) (c .before .before .before .before .before .before .before .before .before .check-texts .kept .1 .1 .0) (c .before .before .say-refused .ensures)
 
 pub begin-list-spec : {M : Type 1} → statement M
 begin-list-spec =

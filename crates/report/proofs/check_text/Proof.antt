@@ -4,6 +4,7 @@ use mathlib.Core.Path.{sym, _∙_}
 use native.Mathlib.Omega.{arith}
 use denote.Ref.{now}
 use lib.Seq.{length-take-le}
+use Rattle.spec.specs.Limits.{maxText}
 use Rattle.report.proofs.Texts.{says-command}
 use borrow.Author.Needs.{needs}
 use Rattle.report.proofs.check_text.Statement.{statement}
@@ -13,7 +14,7 @@ slice-relend-prefix-text : tie.Need-slice-relend-prefix-text
 slice-relend-prefix-text c = search needs
 
 slice-aggregate-text : tie.Need-slice-aggregate-text
-slice-aggregate-text c = sym (length-take-le 8192 (now (c .before .before .before .args .line)) (omega (arith, c .before .before .before .pre)))
+slice-aggregate-text c = sym (length-take-le maxText (now (c .before .before .before .args .line)) (omega (arith, c .before .before .before .pre)))
 
 text-requires : tie.Need-text-requires
 text-requires c κs = tt
@@ -25,7 +26,7 @@ same-length : tie.Need-same-length
 same-length c = search needs
 
 returns : tie.Need-returns
-returns c = c .of-text .ensures ∙ says-command (now (c .before .before .before .before .before .before .before .args .manifest)) (c .before .before .before .before .before .before .before .args .step) (take 8192 (now (c .before .before .before .before .before .before .before .args .line))) (c .before .before .before .text .last .1 .1 .1 .0) _ (length-take-le 8192 (now (c .before .before .before .before .before .before .before .args .line)) (omega (arith, c .before .before .before .before .before .before .before .pre))) (c .before .before .before .text .ensures .promise)
+returns c = record { space = record { long = same-length c }; promise = c .of-text .ensures ∙ says-command (now (c .before .before .before .before .before .before .before .args .manifest)) (c .before .before .before .before .before .before .before .args .step) (take maxText (now (c .before .before .before .before .before .before .before .args .line))) (c .before .before .before .text .last .1 .1 .1 .0) _ (length-take-le maxText (now (c .before .before .before .before .before .before .before .args .line)) (omega (arith, c .before .before .before .before .before .before .before .pre))) (c .before .before .before .text .ensures .promise) }
 
 pub check-text-spec : {M : Type 1} → statement M
 check-text-spec =

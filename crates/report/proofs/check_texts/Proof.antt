@@ -27,7 +27,7 @@ same-length : tie.Need-same-length Inv-loop μ-loop
 same-length c = c .before .before .before .before .check-text .kept .1 .1 .0 ∙ c .before .before .before .before .before .before .before .before .loop .inv .kept
 
 returns : tie.Need-returns Inv-loop μ-loop
-returns c = checking-stops (c .before .before .before .before .before .before .at .result) (c .before .before .before .before .before .before .before .loop-test .taken) (c .before .before .before .before .before .before .at .ensures) (c .before .before .before .before .check-text .ensures) (c .before .before .before .before .before .before .before .before .loop .inv) (c .if1 .taken)
+returns c = record { space = record { long = same-length c }; promise = checking-stops (c .before .before .before .before .before .before .at .result) (c .before .before .before .before .before .before .before .loop-test .taken) (c .before .before .before .before .before .before .at .ensures) (c .before .before .before .before .check-text .ensures .promise) (c .before .before .before .before .before .before .before .before .loop .inv) (c .if1 .taken) }
 
 add-i : tie.Need-add-i Inv-loop μ-loop
 add-i c = search needs
@@ -36,13 +36,13 @@ loop-less : tie.Need-loop-less Inv-loop μ-loop
 loop-less c = search needs
 
 loop-again : tie.Need-loop-again Inv-loop μ-loop
-loop-again c = checking-on (c .before .before .before .before .before .before .at .result) (c .before .before .before .before .before .before .before .loop-test .taken) (c .before .before .before .before .before .before .at .ensures) (c .before .before .before .before .check-text .ensures) (c .before .before .before .before .before .before .before .before .loop .inv) _ (c .before .before .before .before .check-text .kept .1 .1 .0) (c .if1 .left)
+loop-again c = checking-on (c .before .before .before .before .before .before .at .result) (c .before .before .before .before .before .before .before .loop-test .taken) (c .before .before .before .before .before .before .at .ensures) (c .before .before .before .before .check-text .ensures .promise) (c .before .before .before .before .before .before .before .before .loop .inv) _ (c .before .before .before .before .check-text .kept .1 .1 .0) (c .if1 .left)
 
 same-length-2 : tie.Need-same-length-2 Inv-loop μ-loop
 same-length-2 c = c .before .loop .inv .kept
 
 returns-2 : tie.Need-returns-2 Inv-loop μ-loop
-returns-2 c = checking-end (c .loop-test .left) (c .before .loop .inv)
+returns-2 c = record { space = record { long = same-length-2 c }; promise = checking-end (c .loop-test .left) (c .before .loop .inv) }
 
 pub check-texts-spec : {M : Type 1} → statement M
 check-texts-spec =
