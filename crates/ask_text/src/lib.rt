@@ -42,6 +42,8 @@ fn text_in(
     requires { ⌜ TextAsked (now t) (buffers (now names) (now index) (now texts) (now bind) (now graph)) (now word) (now buffer) ⌝ }
     ensures { λ r. ⌜ Leaves (SameRoom (buffers (now (names .entry)) (now (index .entry)) (now (texts .entry)) (now (bind .entry)) (now (graph .entry))) (buffers (now (names .exit)) (now (index .exit)) (now (texts .exit)) (now (bind .exit)) (now (graph .exit))) × Spare (now (word .entry)) (now (word .exit))) (TextPromise (now (manifest .entry)) (request .step) (request .wanted) (now (buffer .entry)) r (now (buffer .exit))) ⌝ }
 {
+    let step = request.step;
+    let wanted = request.wanted;
     match read_manifest(t, manifest, names, index, texts, bind, graph, word) {
         ReadAnswer::Accepted(c) => text_of(
             t,
@@ -51,8 +53,8 @@ fn text_in(
             bind,
             graph,
             c,
-            request.step,
-            request.wanted,
+            step,
+            wanted,
             buffer,
         ),
         ReadAnswer::Refused(r) => {
