@@ -19,9 +19,9 @@ use Rattle.hold_reading.specs.Held.{HoldsReading}
 use Rattle.apply_path_checks.specs.declared.PathKind.the-variants.{Input, Output}
 use Rattle.apply_path_checks.specs.Checks.{wrongPath, PathAsks, AnyWrong}
 use Rattle.apply_path_checks.proofs.Wrong.{any-input, any-output}
-use Rattle.apply_equal_outputs.specs.Kept.{Kept}
+use Rattle.apply_equal_outputs.specs.Kept.{ColumnsKept}
 use Rattle.apply_equal_outputs.specs.Sorted.{RoomAsks, Twice}
-use Rattle.apply_bad_paths.specs.Asks.{LineAsks, InputsChecked, Checked}
+use Rattle.apply_bad_paths.specs.Asks.{BuildLineAsks, InputsChecked, Checked}
 use Rattle.hold_reading.specs.Buffers.{Buffers}
 
 -- ---- the inputs
@@ -70,7 +70,7 @@ bad-parts outs ps rd =
     ∙ or-moved (any isEmpty outs) (any isEmpty ps) (any (λ p. isMade p rd) outs) (twice outs)
     ∙ ap (λ (x : Bool). x || (any isEmpty ps || twice outs)) (any-output rd outs)
 
-pub kept-same : (graph : List ℕ) → Kept graph graph
+pub kept-same : (graph : List ℕ) → ColumnsKept graph graph
 kept-same graph = record { long = refl; columns = refl }
 
 module _ {l : List ℕ} {bs : Buffers} {c : Counts} {p : BuildPlaces} {r : Bool} (a : AnyWrong Output l bs c (p .outs) r) where
@@ -102,14 +102,14 @@ module _ {l : List ℕ} {bs : Buffers} {c : Counts} {p : BuildPlaces} {r : Bool}
 
 -- ---- what the calls ask
 
-module _ {t l : List ℕ} {bs : Buffers} {word : List ℕ} {c : Counts} {p : BuildPlaces} (a : LineAsks t l bs word c p) {word′ : List ℕ} (e : length word′ ≡ length word) where
-  pub line-asks : LineAsks t l bs word′ c p
+module _ {t l : List ℕ} {bs : Buffers} {word : List ℕ} {c : Counts} {p : BuildPlaces} (a : BuildLineAsks t l bs word c p) {word′ : List ℕ} (e : length word′ ≡ length word) where
+  pub line-asks : BuildLineAsks t l bs word′ c p
   line-asks = record { table = a .table; short = a .short; line = a .line; stands = a .stands; room = omega (arith, a .room); scratch = a .scratch; whole = a .whole }
 
   pub list-asks : {at : ℕ} → at ≤ length l → PathAsks t l bs word′ c at
   list-asks h = record { table = a .table; short = a .short; within = h; room = omega (arith, a .room); whole = a .whole }
 
-pub room-asks : {t l : List ℕ} {bs : Buffers} {word : List ℕ} {c : Counts} {p : BuildPlaces} → LineAsks t l bs word c p → RoomAsks t l (bs .texts) (bs .bind) (bs .graph) c (p .outs)
+pub room-asks : {t l : List ℕ} {bs : Buffers} {word : List ℕ} {c : Counts} {p : BuildPlaces} → BuildLineAsks t l bs word c p → RoomAsks t l (bs .texts) (bs .bind) (bs .graph) c (p .outs)
 room-asks a =
     record {
       list =

@@ -17,17 +17,17 @@ use Rattle.hold_bindings.specs.Log.{Logged}
 use Rattle.hold_reading.specs.Held.{HoldsReading}
 use Rattle.hold_reading.specs.Adds.{Whole}
 use Rattle.hold_reading.specs.declared.Counts.{Counts}
-use Rattle.apply_equal_outputs.specs.Kept.{columnsEnd, Kept}
+use Rattle.apply_equal_outputs.specs.Kept.{tableStart, ColumnsKept}
 use Rattle.hold_reading.specs.Buffers.{Buffers}
 
 -- all that is held for a build line, with room for an entry for each of its outputs
-pub record LineAsks (t l : List ℕ) (bs : Buffers) (word : List ℕ) (c : Counts) (p : BuildPlaces) : Type 0 where
+pub record BuildLineAsks (t l : List ℕ) (bs : Buffers) (word : List ℕ) (c : Counts) (p : BuildPlaces) : Type 0 where
   pub table : t ≡ classes
   pub short : length l ≤ maxManifest
   pub line : BuildLine
   pub stands : Stands l p line
   pub room : maxValue ≤ length word
-  pub scratch : columnsEnd + maxManifest ≤ length (bs .graph)
+  pub scratch : tableStart + maxManifest ≤ length (bs .graph)
   pub whole : Whole bs c
 
 -- whether an input of any kind is an empty path
@@ -36,6 +36,6 @@ pub record InputsChecked (l : List ℕ) (bs : Buffers) (c : Counts) (p : BuildPl
 
 -- "empty path, output made twice (also within one step)" (8)
 pub record Checked (l : List ℕ) (bs : Buffers) (c : Counts) (p : BuildPlaces) (graph′ : List ℕ) (r : Bool) : Type 0 where
-  pub kept : Kept (bs .graph) graph′
+  pub kept : ColumnsKept (bs .graph) graph′
   pub answer : (b : BuildLine) → Stands l p b → (log : List Logged) (rd : Reading) → HoldsReading log bs c rd
       → r ≡ badPaths (expandedLine rd b .outs) (inputsOfLine (expandedLine rd b)) rd

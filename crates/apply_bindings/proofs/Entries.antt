@@ -12,28 +12,28 @@ use Rattle.spec.specs.Limits.{maxFiles, maxName, maxBindings, maxMentions, maxV
 use Rattle.spec.specs.Reading.{Reading}
 use Rattle.spec.specs.Statements.{countBinding, longerThan, overCounts, overBinding}
 use Rattle.hold_bindings.specs.Log.{Logged}
-use Rattle.hold_bindings.specs.Held.{maxOwner, Room, HasRoom}
+use Rattle.hold_bindings.specs.Held.{maxOwner, EntryRoom, HasRoom}
 use Rattle.hold_reading.specs.declared.Counts.{Counts}
-use Rattle.hold_reading.specs.Held.{Bound}
+use Rattle.hold_reading.specs.Held.{HoldsBound}
 use Rattle.hold_reading.proofs.Grow.{bound-room}
-use Rattle.apply_bindings.specs.Limits.{overCounted, Fits, Ready}
+use Rattle.apply_bindings.specs.Limits.{bindingOver, EntryFits, EntryReady}
 
-pub fits-room : {log : List Logged} {texts bind : List ℕ} {c : Counts} {rd : Reading} {e : Logged} → Bound log texts bind c rd → Fits c e → Room log texts bind (c .entries) e
+pub fits-room : {log : List Logged} {texts bind : List ℕ} {c : Counts} {rd : Reading} {e : Logged} → HoldsBound log texts bind c rd → EntryFits c e → EntryRoom log texts bind (c .entries) e
 fits-room {e = e} b f = bound-room b e (omega (arith, b .entries-counted, b .few-rules, f .few)) (f .low) (f .owner) (f .name)
 
-pub ready-room : {texts bind : List ℕ} {c : Counts} {e : Logged} → Ready texts bind c e → HasRoom texts bind (c .entries) e
+pub ready-room : {texts bind : List ℕ} {c : Counts} {e : Logged} → EntryReady texts bind c e → HasRoom texts bind (c .entries) e
 ready-room r = record { log = r .log; room = fits-room (r .bound) (r .fits) }
 
 -- The test by the counts is the rules' test.
-pub over-counted : {log : List Logged} {texts bind : List ℕ} {c : Counts} {rd : Reading} → Bound log texts bind c rd → length (rd .files) ≤ maxFiles → rd .mentions ≤ maxMentions
-    → (n v : List ℕ) → overBinding n v (countBinding (length v) rd) ≡ overCounted (length n) (length v) c
-unfolding overBinding longerThan overCounts countBinding overCounted
+pub over-counted : {log : List Logged} {texts bind : List ℕ} {c : Counts} {rd : Reading} → HoldsBound log texts bind c rd → length (rd .files) ≤ maxFiles → rd .mentions ≤ maxMentions
+    → (n v : List ℕ) → overBinding n v (countBinding (length v) rd) ≡ bindingOver (length n) (length v) c
+unfolding overBinding longerThan overCounts countBinding bindingOver
 over-counted {rd = rd} b f m n v =
     rw (le-ltb maxFiles (length (rd .files)) f, le-ltb maxMentions (rd .mentions) m, b .bindings-counted, b .written-counted, or-false (ltb maxBindings (rd .bindings + 1)))
 
 -- A line that is within them has room.
-pub within : (n v : List ℕ) (o : ℕ) {c : Counts} → overCounted (length n) (length v) c ≡ false → o ≤ maxOwner → Fits c (record { owner = o; name = n; value = v })
-unfolding overCounted
+pub within : (n v : List ℕ) (o : ℕ) {c : Counts} → bindingOver (length n) (length v) c ≡ false → o ≤ maxOwner → EntryFits c (record { owner = o; name = n; value = v })
+unfolding bindingOver
 within n v o {c} h p =
     let a = ltb maxName (length n) in
     let b = ltb maxValue (length v) in
@@ -48,8 +48,8 @@ within n v o {c} h p =
       owner = p;
     }
 
-pub value-short : (n v : ℕ) (c : Counts) → overCounted n v c ≡ false → v ≤ maxValue
-unfolding overCounted
+pub value-short : (n v : ℕ) (c : Counts) → bindingOver n v c ≡ false → v ≤ maxValue
+unfolding bindingOver
 value-short n v c h =
     let a = ltb maxName n in
     let b = ltb maxValue v in

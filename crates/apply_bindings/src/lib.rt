@@ -3,7 +3,7 @@ ghost use mathlib.Core.Path.{_≡_};
 ghost use Prim.Native.Nat.{_≤_};
 ghost use Rattle.spec.specs.Limits.{maxBindings, maxWritten};
 ghost use Rattle.hold_bindings.specs.Log.{logged};
-ghost use Rattle.apply_bindings.specs.Limits.{overCounted, Ready, Put};
+ghost use Rattle.apply_bindings.specs.Limits.{bindingOver, EntryReady, Put};
 use hold_bindings::push;
 use hold_reading::Counts;
 use spec::limits::BINDINGS;
@@ -14,7 +14,7 @@ use spec::limits::WRITTEN;
 // Whether a line is over a limit, whose name and value have so many bytes.
 pub fn binding_over(name: usize, value: usize, c: Counts) -> bool
     requires { ⌜ (c .bindings ≤ maxBindings) × (c .written ≤ maxWritten) ⌝ }
-    ensures { λ r. ⌜ r ≡ overCounted name value c ⌝ }
+    ensures { λ r. ⌜ r ≡ bindingOver name value c ⌝ }
 {
     if NAME < name {
         return true;
@@ -37,7 +37,7 @@ pub fn push_binding(
     name: &[u8],
     value: &[u8],
 ) -> Counts
-    requires { ⌜ Ready (now texts) (now bind) c (logged owner (now name) (now value)) ⌝ }
+    requires { ⌜ EntryReady (now texts) (now bind) c (logged owner (now name) (now value)) ⌝ }
     ensures { λ r. ⌜ Put (now (texts .entry)) (now (bind .entry)) c (logged owner (now (name .entry)) (now (value .entry))) (now (texts .exit)) (now (bind .exit)) r ⌝ }
 {
     let entries = c.entries;

@@ -16,17 +16,17 @@ use Rattle.hold_bindings.specs.Log.{Logged}
 use Rattle.hold_reading.specs.declared.Counts.{Counts}
 use Rattle.hold_reading.specs.declared.LineAnswer.{LineAnswer}
 use Rattle.hold_reading.specs.declared.LineAnswer.the-variants.{Refused}
-use Rattle.hold_reading.specs.Held.{Bound, HoldsReading, refuses}
+use Rattle.hold_reading.specs.Held.{HoldsBound, HoldsReading, refuses}
 use Rattle.hold_reading.specs.Adds.{AddsFiles}
-use Rattle.apply_equal_outputs.specs.Kept.{Kept}
+use Rattle.apply_equal_outputs.specs.Kept.{ColumnsKept}
 use Rattle.apply_bad_paths.specs.Asks.{Checked}
 use Rattle.apply_equal_outputs.proofs.Behind.{held-kept, whole-kept}
-use Rattle.apply_steps.specs.Asks.{StepAsks, Writes}
+use Rattle.apply_steps.specs.Asks.{StepAsks, WritesStep}
 use Rattle.apply_builds.specs.Asks.{BuildAsks}
 use Rattle.hold_reading.specs.Buffers.{Buffers, withGraph}
 
 module _ {l : List ℕ} {bs : Buffers} {c : Counts} {p : BuildPlaces} (start : ℕ) {r : Bool}
-    (d : (log : List Logged) (rd : Reading) → Bound log (bs .texts) (bs .bind) c rd → r ≡ declared (part l (p .rule) (p .ins)) rd) where
+    (d : (log : List Logged) (rd : Reading) → HoldsBound log (bs .texts) (bs .bind) c rd → r ≡ declared (part l (p .rule) (p .ins)) rd) where
   rule-known : {b : BuildLine} → Stands l p b → {log : List Logged} {rd : Reading} → HoldsReading log bs c rd → declared (expandedLine rd b .rule) rd ≡ r
   unfolding expandedLine
   rule-known {b} w {log} {rd} h = rw (w .rule) (sym (d log rd (h .bound)))
@@ -42,7 +42,7 @@ module _ {l : List ℕ} {bs : Buffers} {c : Counts} {p : BuildPlaces} (start : �
     unfolding addStep
     line-bad f {b} w = record { agrees = λ log rd h. rw (rule-known w h ∙ e, sym (k .answer b w log rd h) ∙ f) refuses }
 
-    pub line-written : s ≡ false → {names′ index′ graph′ : List ℕ} {x : LineAnswer} → Writes l (withGraph bs graph₁) c start p names′ index′ graph′ x
+    pub line-written : s ≡ false → {names′ index′ graph′ : List ℕ} {x : LineAnswer} → WritesStep l (withGraph bs graph₁) c start p names′ index′ graph′ x
         → {b : BuildLine} → Stands l p b → AddsFiles bs c (λ rd. addStep start (expandedLine rd b) rd) names′ index′ graph′ x
     line-written f y {b} w =
         record {
@@ -52,7 +52,7 @@ module _ {l : List ℕ} {bs : Buffers} {c : Counts} {p : BuildPlaces} (start : �
 -- ---- what the parts ask
 
 module _ {t l : List ℕ} {bs : Buffers} {word : List ℕ} {c : Counts} {p : BuildPlaces} (a : BuildAsks t l bs word c p) where
-  pub step-asks : {graph₁ word′ : List ℕ} → Kept (bs .graph) graph₁ → length word′ ≡ length word → StepAsks t l (withGraph bs graph₁) word′ c p
+  pub step-asks : {graph₁ word′ : List ℕ} → ColumnsKept (bs .graph) graph₁ → length word′ ≡ length word → StepAsks t l (withGraph bs graph₁) word′ c p
   step-asks k w =
       record {
         table = a .table;

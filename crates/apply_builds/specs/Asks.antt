@@ -10,7 +10,7 @@ use Rattle.cut_forms.specs.Statements.{Stands}
 use Rattle.cut_forms.specs.declared.BuildPlaces.{BuildPlaces}
 use Rattle.hold_reading.specs.Adds.{Whole}
 use Rattle.hold_reading.specs.declared.Counts.{Counts}
-use Rattle.apply_equal_outputs.specs.Kept.{columnsEnd}
+use Rattle.apply_equal_outputs.specs.Kept.{tableStart}
 use Rattle.hold_reading.specs.Buffers.{Buffers}
 
 -- The word buffer has room for any path within its limit, and behind the columns of the graph is room for the table of its outputs.
@@ -20,6 +20,6 @@ pub record BuildAsks (t l : List ℕ) (bs : Buffers) (word : List ℕ) (c : Coun
   pub line : BuildLine
   pub stands : Stands l p line
   pub room : maxValue ≤ length word
-  pub scratch : columnsEnd + maxManifest ≤ length (bs .graph)
+  pub scratch : tableStart + maxManifest ≤ length (bs .graph)
   pub names-room : maxWritten ≤ length (bs .names)
   pub whole : Whole bs c

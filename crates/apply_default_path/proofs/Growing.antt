@@ -11,7 +11,7 @@ use Rattle.spec.specs.Reading.{Reading}
 use Rattle.arena.proofs.Laws.{lies-column, lies-push}
 use Rattle.hold_bindings.specs.Log.{Logged}
 use Rattle.hold_reading.specs.declared.Counts.{Counts}
-use Rattle.hold_reading.specs.Held.{capacities, Bound, Graphed, HoldsReading}
+use Rattle.hold_reading.specs.Held.{capacities, HoldsBound, Graphed, HoldsReading}
 use Rattle.apply_files.proofs.Limits.{Within}
 use Rattle.apply_default_path.specs.Defaults.{defaulted, countedDefault}
 use Rattle.hold_reading.specs.Buffers.{Buffers, withGraph}
@@ -22,7 +22,7 @@ default-room {graph = graph} {rd = rd} g l =
     omega (arith, lies-column capacities graph (g .mentions ∷ g .ends ∷ g .phony ∷ g .made ∷ g .ruleOf ∷ rd .defaults ∷ []) 5 (g .lies) (omega arith) .within, g .few-mentions)
 
 module _ {log : List Logged} {bs : Buffers} {c : Counts} {rd : Reading} (h : HoldsReading log bs c rd) (n k : ℕ) (w : Within n c) (b : k < length (rd .files)) where
-  bound-more : Bound log (bs .texts) (bs .bind) (countedDefault n c) (defaulted k n rd)
+  bound-more : HoldsBound log (bs .texts) (bs .bind) (countedDefault n c) (defaulted k n rd)
   unfolding defaulted
   bound-more =
       let d = h .bound in

@@ -12,24 +12,24 @@ use Rattle.hold_names.specs.Table.{FindsName}
 use Rattle.hold_names.proofs.Laws.{find-at, find-missing}
 use Rattle.hold_bindings.specs.Log.{Logged}
 use Rattle.hold_bindings.specs.Held.{HoldsBindings}
-use Rattle.expand_parts.specs.Runs.{expanded}
+use Rattle.expand_parts.specs.Runs.{expandedBy}
 use Rattle.expand_dollars.specs.Written.{Written}
 use Rattle.expand_dollars.proofs.Callers.{written-long, written-whole}
 use Rattle.hold_reading.specs.declared.Counts.{Counts}
 use Rattle.apply_path_checks.specs.Checks.{pathOf}
 use Rattle.apply_path_checks.proofs.Wrong.{path-held}
 use Rattle.apply_path_checks.proofs.Makers.{made-among}
-use Rattle.apply_files.specs.Path.{overCounted}
+use Rattle.apply_files.specs.Path.{pathOver}
 use Rattle.apply_files.proofs.Limits.{path-within}
 use Rattle.apply_default_path.specs.declared.AddedDefault.the-variants.{Added, Over}
-use Rattle.apply_default_path.specs.Defaults.{countedDefault, Puts, Named·is, Names}
+use Rattle.apply_default_path.specs.Defaults.{countedDefault, PutsDefault, Named·is, NamesDefault}
 use Rattle.apply_default_path.proofs.Growing.{default-held}
 use Rattle.hold_reading.specs.Buffers.{Buffers}
 
 -- ---- `put_default`
 
 module _ {names index graph : List ℕ} {c : Counts} {path : List ℕ} {r : FoundName} (f : FindsName names index (c .files) path r) where
-  pub put-found : {k : ℕ} → r ≡ At k → overCounted (length path) c ≡ false → Puts names index graph c path (set graph (8192 + c .defaults) k) (countedDefault (length path) c)
+  pub put-found : {k : ℕ} → r ≡ At k → pathOver (length path) c ≡ false → PutsDefault names index graph c path (set graph (8192 + c .defaults) k) (countedDefault (length path) c)
   put-found {k} e o =
       record {
         held = λ texts bind log rd h m.
@@ -38,14 +38,14 @@ module _ {names index graph : List ℕ} {c : Counts} {path : List ℕ} {r : Foun
       }
 
   -- An output has a name.
-  pub put-missing : r ≡ Missing → {graph′ : List ℕ} {d : Counts} → Puts names index graph c path graph′ d
+  pub put-missing : r ≡ Missing → {graph′ : List ℕ} {d : Counts} → PutsDefault names index graph c path graph′ d
   put-missing e = record { held = λ texts bind log rd h m. differ (made-among h path m) (find-missing f (h .named) e) }
 
 -- ---- `add_default`
 
 module _ (raw : List ℕ) {bs : Buffers} {word word′ : List ℕ} {c : Counts} {n : ℕ}
-    (x : (log : List Logged) → HoldsBindings log (bs .texts) (bs .bind) (c .entries) → Written word (expanded log raw) word′ n) where
-  pub default-over : overCounted n c ≡ true → Names bs c raw (bs .graph) Over
+    (x : (log : List Logged) → HoldsBindings log (bs .texts) (bs .bind) (c .entries) → Written word (expandedBy log raw) word′ n) where
+  pub default-over : pathOver n c ≡ true → NamesDefault bs c raw (bs .graph) Over
   unfolding Named·is
   default-over o =
       record {
@@ -53,8 +53,8 @@ module _ (raw : List ℕ) {bs : Buffers} {word word′ : List ℕ} {c : Counts} 
             rw (path-held (h .bound) raw, ← x log (h .bound .held) .count) o;
       }
 
-  pub default-added : n ≤ length word′ → overCounted n c ≡ false → {graph′ : List ℕ} {d : Counts} → Puts (bs .names) (bs .index) (bs .graph) c (take n word′) graph′ d
-      → Names bs c raw graph′ (Added d)
+  pub default-added : n ≤ length word′ → pathOver n c ≡ false → {graph′ : List ℕ} {d : Counts} → PutsDefault (bs .names) (bs .index) (bs .graph) c (take n word′) graph′ d
+      → NamesDefault bs c raw graph′ (Added d)
   unfolding Named·is
   default-added l o p =
       record {

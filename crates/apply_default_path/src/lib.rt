@@ -1,7 +1,7 @@
 // One path of a default line: its limits, and the output's number behind the defaults.
 ghost use Rattle.lists.specs.Lent.{Spare, Leaves};
 ghost use Rattle.apply_path_checks.specs.Checks.{RawAsks};
-ghost use Rattle.apply_default_path.specs.Defaults.{PutAsks, Puts, Names};
+ghost use Rattle.apply_default_path.specs.Defaults.{PutAsks, PutsDefault, NamesDefault};
 ghost use Rattle.hold_reading.specs.Buffers.{buffers};
 use apply_files::path_over;
 use arena::put;
@@ -20,7 +20,7 @@ pub enum AddedDefault {
 // Writes the number of an output's path behind the defaults.
 fn put_default(names: &[u8], index: &[u32], graph: &mut [u32], c: Counts, path: &[u8]) -> Counts
     requires { ⌜ PutAsks (now names) (now index) (now graph) c (now path) ⌝ }
-    ensures { λ r. ⌜ Puts (now (names .entry)) (now (index .entry)) (now (graph .entry)) c (now (path .entry)) (now (graph .exit)) r ⌝ }
+    ensures { λ r. ⌜ PutsDefault (now (names .entry)) (now (index .entry)) (now (graph .entry)) c (now (path .entry)) (now (graph .exit)) r ⌝ }
 {
     match find_name(names, index, c.files, path) {
         FoundName::At(k) => {
@@ -49,7 +49,7 @@ pub fn add_default(
     c: Counts,
 ) -> AddedDefault
     requires { ⌜ RawAsks (now t) (now raw) (buffers (now names) (now index) (now texts) (now bind) (now graph)) (now word) c ⌝ }
-    ensures { λ r. ⌜ Leaves ((Spare (now (graph .entry)) (now (graph .exit))) × (Spare (now (word .entry)) (now (word .exit)))) (Names (buffers (now (names .entry)) (now (index .entry)) (now (texts .entry)) (now (bind .entry)) (now (graph .entry))) c (now (raw .entry)) (now (graph .exit)) r) ⌝ }
+    ensures { λ r. ⌜ Leaves ((Spare (now (graph .entry)) (now (graph .exit))) × (Spare (now (word .entry)) (now (word .exit)))) (NamesDefault (buffers (now (names .entry)) (now (index .entry)) (now (texts .entry)) (now (bind .entry)) (now (graph .entry))) c (now (raw .entry)) (now (graph .exit)) r) ⌝ }
 {
     let n = expand(t, raw, texts, bind, c.entries, word);
     if path_over(n, c) {

@@ -24,7 +24,7 @@ use Rattle.apply_path_checks.specs.Checks.{pathOf, wrongPath, AnyWrong}
 use Rattle.apply_path_checks.proofs.Wrong.{expanded-cons, default-made}
 use Rattle.apply_default_path.specs.declared.AddedDefault.{AddedDefault}
 use Rattle.apply_default_path.specs.declared.AddedDefault.the-variants.{Added, Over}
-use Rattle.apply_default_path.specs.Defaults.{defaulted, Named·is, Names}
+use Rattle.apply_default_path.specs.Defaults.{defaulted, Named·is, NamesDefault}
 use Rattle.apply_defaults.specs.Sound.{soundDefaults}
 use Rattle.apply_defaults.proofs.Outcomes.{sound-over, sound-on, sound-end}
 use Rattle.hold_reading.specs.Buffers.{Buffers, withGraph}
@@ -70,7 +70,7 @@ module _ {l : List ℕ} {bs : Buffers} {c : Counts} {start at : ℕ} {graph : Li
       let r = s (h .log) (h .reading) (h .holds) in
       record { log = h .log; reading = r .reading; holds = r .holds }
 
-  module _ {from to : ℕ} (n : PathNext l i from to) {graph′ : List ℕ} {r : AddedDefault} (m : Names (withGraph bs graph) d (part l from to) graph′ r) where
+  module _ {from to : ℕ} (n : PathNext l i from to) {graph′ : List ℕ} {r : AddedDefault} (m : NamesDefault (withGraph bs graph) d (part l from to) graph′ r) where
     -- the path of this turn, and those behind it
     turn : (ps : List (List ℕ)) → PathsAt l at ps
         → (us : List (List ℕ)) × PathsAt l to us × ((log : List Logged) (rd : Reading) → HoldsReading log bs c rd → Reached log (withGraph bs graph) d start rd ps (part l from to ∷ us))

@@ -20,7 +20,7 @@ use Rattle.hold_reading.specs.declared.Counts.{Counts}
 use Rattle.hold_reading.specs.Held.{HoldsReading}
 use Rattle.apply_path_checks.proofs.Makers.{made-among}
 use Rattle.apply_files.specs.Lines.{overLine}
-use Rattle.apply_files.specs.Path.{overCounted}
+use Rattle.apply_files.specs.Path.{pathOver}
 use Rattle.apply_files.proofs.Limits.{counted-over}
 use Rattle.apply_default_path.specs.Defaults.{defaulted}
 use Rattle.apply_defaults.specs.Sound.{soundDefaults}
@@ -33,7 +33,7 @@ refused-over start ps rd e = rw e
 -- ---- one path more
 
 module _ {log : List Logged} {bs : Buffers} {c : Counts} {rd : Reading} (h : HoldsReading log bs c rd) (start : ℕ) (p : List ℕ) (qs : List (List ℕ)) where
-  pub sound-over : overCounted (length p) c ≡ true → soundDefaults start (p ∷ qs) rd ≡ refused (OverLimit start)
+  pub sound-over : pathOver (length p) c ≡ true → soundDefaults start (p ∷ qs) rd ≡ refused (OverLimit start)
   unfolding overLine
   sound-over o = refused-over start (p ∷ qs) rd (counted-over c rd (h .graphed .mentions-counted) (h .bound .written-counted) p o qs)
 
@@ -55,8 +55,8 @@ module _ {log : List Logged} {bs : Buffers} {c : Counts} {rd : Reading} (h : Hol
         let b : rd .written + (length p + sum (map (λ (q : List ℕ). length q) qs)) ≡ rd .written + length p + sum (map (λ (q : List ℕ). length q) qs) = omega arith in
         rw (again, a, b, number-mention p (rd .files) qs (made-among h p m), append-assoc (rd .defaults) (numberOf p (rd .files) ∷ []) (numbersOf (mention (rd .files) qs) qs))
 
-    pub sound-on : overCounted (length p) c ≡ false → soundDefaults start (p ∷ qs) rd ≡ soundDefaults start qs (defaulted (numberOf p (rd .files)) (length p) rd)
-    unfolding soundDefaults overCounted overPaths longerThan any
+    pub sound-on : pathOver (length p) c ≡ false → soundDefaults start (p ∷ qs) rd ≡ soundDefaults start qs (defaulted (numberOf p (rd .files)) (length p) rd)
+    unfolding soundDefaults pathOver overPaths longerThan any
     sound-on o = rw (or-left (ltb maxPath (length p)) _ o, counts-on, defaults-on)
 
 -- ---- no more path

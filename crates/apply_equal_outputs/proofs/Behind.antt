@@ -7,10 +7,10 @@ use Rattle.hold_bindings.specs.Log.{Logged}
 use Rattle.hold_reading.specs.declared.Counts.{Counts}
 use Rattle.hold_reading.specs.Held.{capacities, Graphed, HoldsReading}
 use Rattle.hold_reading.specs.Adds.{Whole}
-use Rattle.apply_equal_outputs.specs.Kept.{Kept}
+use Rattle.apply_equal_outputs.specs.Kept.{ColumnsKept}
 use Rattle.hold_reading.specs.Buffers.{Buffers, withGraph}
 
-graphed-kept : {log : List Logged} {graph graph′ : List ℕ} {c : Counts} {rd : Reading} → Kept graph graph′ → Graphed log graph c rd → Graphed log graph′ c rd
+graphed-kept : {log : List Logged} {graph graph′ : List ℕ} {c : Counts} {rd : Reading} → ColumnsKept graph graph′ → Graphed log graph c rd → Graphed log graph′ c rd
 graphed-kept {graph = graph} {graph′ = graph′} {rd = rd} k g =
     record {
       mentions = g .mentions;
@@ -30,9 +30,9 @@ graphed-kept {graph = graph} {graph′ = graph′} {rd = rd} k g =
       defaults-low = g .defaults-low;
     }
 
-pub held-kept : {log : List Logged} {bs : Buffers} {graph′ : List ℕ} {c : Counts} {rd : Reading} → Kept (bs .graph) graph′ → HoldsReading log bs c rd
+pub held-kept : {log : List Logged} {bs : Buffers} {graph′ : List ℕ} {c : Counts} {rd : Reading} → ColumnsKept (bs .graph) graph′ → HoldsReading log bs c rd
     → HoldsReading log (withGraph bs graph′) c rd
 held-kept k h = record { named = h .named; bound = h .bound; graphed = graphed-kept k (h .graphed); short = h .short }
 
-pub whole-kept : {bs : Buffers} {graph′ : List ℕ} {c : Counts} → Kept (bs .graph) graph′ → Whole bs c → Whole (withGraph bs graph′) c
+pub whole-kept : {bs : Buffers} {graph′ : List ℕ} {c : Counts} → ColumnsKept (bs .graph) graph′ → Whole bs c → Whole (withGraph bs graph′) c
 whole-kept k w = record { log = w .log; reading = w .reading; holds = held-kept k (w .holds) }

@@ -1,4 +1,4 @@
--- Rising lists: halving finds where one more belongs, and put in there it leaves the list rising.
+-- RisingPaths lists: halving finds where one more belongs, and put in there it leaves the list rising.
 use Prim.Native.Nat.{ℕ, zero, suc, _+_, _<_}
 use mathlib.Core.Bool.{Bool, true, false, _||_}
 use mathlib.Core.List.{List, [], _∷_, _++_}
@@ -13,15 +13,15 @@ use Rattle.lists.specs.Members.{any, any-append}
 use Rattle.spec.specs.Basics.{among}
 use Rattle.arena.specs.Inserted.{inserted}
 use Rattle.arena.proofs.Inserting.{pairs-inserted}
-use Rattle.apply_equal_outputs.specs.Sorted.{Rising, Between}
+use Rattle.apply_equal_outputs.specs.Sorted.{RisingPaths, PathBetween}
 
 -- ---- where x belongs
 
-pub between-all : (ps : List (List ℕ)) (x : List ℕ) → Between ps x 0 (length ps)
+pub between-all : (ps : List (List ℕ)) (x : List ℕ) → PathBetween ps x 0 (length ps)
 between-all ps x = record { within = omega arith; before = λ i a. absurd (not-suc-le-zero a); after = λ i a b. absurd (omega arith) }
 
-module _ {ps : List (List ℕ)} {x : List ℕ} {low high : ℕ} (b : Between ps x low high) (r : Rising ps) {mid : ℕ} (below : mid < high) where
-  pub between-lower : lessBytes x (getD ps mid []) ≡ true → Between ps x low mid
+module _ {ps : List (List ℕ)} {x : List ℕ} {low high : ℕ} (b : PathBetween ps x low high) (r : RisingPaths ps) {mid : ℕ} (below : mid < high) where
+  pub between-lower : lessBytes x (getD ps mid []) ≡ true → PathBetween ps x low mid
   between-lower e =
       record {
         within = omega (arith, b .within);
@@ -32,7 +32,7 @@ module _ {ps : List (List ℕ)} {x : List ℕ} {low high : ℕ} (b : Between ps 
         ];
       }
 
-  pub between-higher : lessBytes (getD ps mid []) x ≡ true → Between ps x (mid + 1) high
+  pub between-higher : lessBytes (getD ps mid []) x ≡ true → PathBetween ps x (mid + 1) high
   between-higher e =
       record {
         within = b .within;
@@ -67,7 +67,7 @@ unfolding among any
 among-none x [] f = refl
 among-none x (p ∷ ps) f = or-false (eqBytes x p) (among x ps) (ne-eqBytes x p (f 0 (omega arith))) (among-none x ps (λ i a. f (suc i) (omega arith)))
 
-pub free-among : {ps : List (List ℕ)} {x : List ℕ} {p : ℕ} → Between ps x p p → among x ps ≡ false
+pub free-among : {ps : List (List ℕ)} {x : List ℕ} {p : ℕ} → PathBetween ps x p p → among x ps ≡ false
 free-among {ps} {x} {p} b =
     among-none x ps (λ i a q. elim (decLt i p) [ yes h ↦ less-ne (b .before i h) (sym q) | no h ↦ less-ne (b .after i (omega arith) a) q ])
 
@@ -84,6 +84,6 @@ among-inserted q ps p x =
 
 -- ---- the list with x put in
 
-pub inserted-rising : {ps : List (List ℕ)} {x : List ℕ} {p : ℕ} → Rising ps → Between ps x p p → Rising (inserted ps p x)
+pub inserted-rising : {ps : List (List ℕ)} {x : List ℕ} {p : ℕ} → RisingPaths ps → PathBetween ps x p p → RisingPaths (inserted ps p x)
 inserted-rising {ps} {x} {p} r b =
     record { less = pairs-inserted ps p x [] (b .within) (λ s t. lessBytes s t ≡ true) (r .less) (b .before) (b .after) }

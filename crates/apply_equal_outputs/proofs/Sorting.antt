@@ -22,13 +22,13 @@ use Rattle.arena.specs.Inserted.{inserted, Shifted}
 use Rattle.arena.proofs.Inserting.{each-inserted}
 use Rattle.hold_bindings.specs.Log.{Logged}
 use Rattle.hold_bindings.specs.Held.{HoldsBindings}
-use Rattle.expand_parts.specs.Runs.{expanded as expandedBy, Ready}
-use Rattle.hold_reading.specs.Held.{Bound}
+use Rattle.expand_parts.specs.Runs.{expandedBy, ExpandReady}
+use Rattle.hold_reading.specs.Held.{HoldsBound}
 use Rattle.hold_reading.specs.declared.Counts.{Counts}
 use Rattle.apply_equal_outputs.specs.declared.TablePlace.the-variants.{Taken, Free}
 use Rattle.apply_path_checks.specs.Checks.{pathOf}
-use Rattle.apply_equal_outputs.specs.Kept.{columnsEnd}
-use Rattle.apply_equal_outputs.specs.Sorted.{Between, entryOf, rawOf, Lies, pathsOf, Sorted, PlaceAsks, Ordered, Belongs, PlaceIn, Added, TwiceAsks, Compared, Twice}
+use Rattle.apply_equal_outputs.specs.Kept.{tableStart}
+use Rattle.apply_equal_outputs.specs.Sorted.{PathBetween, entryOf, rawOf, OutputLies, pathsOf, OutputsSorted, PlaceAsks, PathOrdered, Belongs, PlaceIn, Added, TwiceAsks, ComparesOutputs, Twice}
 use Rattle.apply_path_checks.proofs.Wrong.{path-held, expanded-cons, expanded-none}
 use Rattle.apply_equal_outputs.proofs.Rising.{between-all, between-lower, between-higher, among-at, free-among, among-inserted, inserted-rising}
 use Rattle.apply_equal_outputs.proofs.Repeats.{repeats, repeats-begin, repeats-found, repeats-on, repeats-end}
@@ -46,7 +46,7 @@ entry-raw : (l : List ℕ) (from to : ℕ) → to < 65536 → rawOf l (entryOf f
 unfolding rawOf
 entry-raw l from to h = rw (entry-from from to h, entry-to from to h)
 
-entry-lies : {t l texts bind : List ℕ} {count from to : ℕ} → PlaceAsks t l texts bind count from to → Lies l (entryOf from to)
+entry-lies : {t l texts bind : List ℕ} {count from to : ℕ} → PlaceAsks t l texts bind count from to → OutputLies l (entryOf from to)
 entry-lies {l = l} {from = from} {to = to} p =
     let h : to < 65536 = omega (arith, p .within, p .short) in
     record {
@@ -96,7 +96,7 @@ path-asks a n =
       ready = ready-path (a .table) (a .short) (record { log = a .log; held = a .bound .held }) n;
     }
 
-pub entry-ready : {t l texts bind : List ℕ} {count from to v : ℕ} → PlaceAsks t l texts bind count from to → Lies l v → Ready t (part l (v / 65536) (v % 65536)) texts bind count 0
+pub entry-ready : {t l texts bind : List ℕ} {count from to v : ℕ} → PlaceAsks t l texts bind count from to → OutputLies l v → ExpandReady t (part l (v / 65536) (v % 65536)) texts bind count 0
 unfolding rawOf
 entry-ready p h =
     record {
@@ -110,7 +110,7 @@ entry-ready p h =
 -- what `order` says of the path and that of an entry v
 pub order-held : {l texts bind : List ℕ} {c : Counts} {from to : ℕ} {table : List ℕ} {k v : ℕ} {r : Order} → v ≡ getD table k 0
     → ((log : List Logged) → HoldsBindings log texts bind (c .entries) → r ≡ orderBytes (expandedBy log (part l from to)) (expandedBy log (part l (v / 65536) (v % 65536))))
-    → Ordered l texts bind c from to table k r
+    → PathOrdered l texts bind c from to table k r
 unfolding rawOf
 order-held {l} {from = from} {to = to} {v = v} q e =
     record { answer = λ log rd h. rw (← q, path-held h (part l from to), path-held h (part l (v / 65536) (v % 65536))) (e log (h .held)) }
@@ -120,7 +120,7 @@ order-held {l} {from = from} {to = to} {v = v} q e =
 pub record Halving (l texts bind : List ℕ) (c : Counts) (from to : ℕ) (table : List ℕ) (low high : ℕ) : Type 0 where
   pub ordered : low ≤ high
   pub within : high ≤ length table
-  pub between : (log : List Logged) (rd : Reading) → Bound log texts bind c rd → Between (pathsOf rd l table) (pathOf rd (part l from to)) low high
+  pub between : (log : List Logged) (rd : Reading) → HoldsBound log texts bind c rd → PathBetween (pathsOf rd l table) (pathOf rd (part l from to)) low high
 
 pub half-begin : (l texts bind : List ℕ) (c : Counts) (from to : ℕ) (table : List ℕ) → Halving l texts bind c from to table 0 (length table)
 half-begin l texts bind c from to table =
@@ -131,9 +131,9 @@ half-begin l texts bind c from to table =
     }
 
 module _ {l texts bind : List ℕ} {c : Counts} {from to : ℕ} {table : List ℕ} {low high : ℕ} (x : Halving l texts bind c from to table low high) where
-  module _ (s : Sorted l texts bind c table) {mid : ℕ} (above : low ≤ mid) (below : mid < high) {r : Order} (o : Ordered l texts bind c from to table mid r) where
+  module _ (s : OutputsSorted l texts bind c table) {mid : ℕ} (above : low ≤ mid) (below : mid < high) {r : Order} (o : PathOrdered l texts bind c from to table mid r) where
     -- the order of the path and that of the entry in the middle
-    compared : (log : List Logged) (rd : Reading) → Bound log texts bind c rd → {q : Order} → r ≡ q → orderBytes (pathOf rd (part l from to)) (getD (pathsOf rd l table) mid []) ≡ q
+    compared : (log : List Logged) (rd : Reading) → HoldsBound log texts bind c rd → {q : Order} → r ≡ q → orderBytes (pathOf rd (part l from to)) (getD (pathsOf rd l table) mid []) ≡ q
     compared log rd b e = rw (path-in rd l table mid (omega (arith, x .within))) (sym (o .answer log rd b) ∙ e)
 
     pub half-lower : r ≡ Less → Halving l texts bind c from to table low mid
@@ -173,7 +173,7 @@ module _ {l texts bind : List ℕ} {c : Counts} {from to : ℕ} {table : List �
 -- ---- a path that is put in
 
 module _ {l texts bind : List ℕ} {c : Counts} {from to : ℕ} {table : List ℕ} {n : ℕ} where
-  pub path-taken : ((log : List Logged) (rd : Reading) → Bound log texts bind c rd → among (pathOf rd (part l from to)) (pathsOf rd l (take n table)) ≡ true)
+  pub path-taken : ((log : List Logged) (rd : Reading) → HoldsBound log texts bind c rd → among (pathOf rd (part l from to)) (pathsOf rd l (take n table)) ≡ true)
       → Added l texts bind c from to table n table true
   path-taken h =
       record {
@@ -183,7 +183,7 @@ module _ {l texts bind : List ℕ} {c : Counts} {from to : ℕ} {table : List �
       }
 
   module _ {p : ℕ} (h : Belongs l texts bind c from to (take n table) p) where
-    pub path-added : {t : List ℕ} → PlaceAsks t l texts bind (c .entries) from to → Sorted l texts bind c (take n table) → {table′ : List ℕ} → Shifted table n p (entryOf from to) table′
+    pub path-added : {t : List ℕ} → PlaceAsks t l texts bind (c .entries) from to → OutputsSorted l texts bind c (take n table) → {table′ : List ℕ} → Shifted table n p (entryOf from to) table′
         → Added l texts bind c from to table n table′ false
     path-added a s {table′} x =
         record {
@@ -192,7 +192,7 @@ module _ {l texts bind : List ℕ} {c : Counts} {from to : ℕ} {table : List �
           grown = λ _.
               record {
                 sorted = record {
-                  lies = rw (x .entries) (each-inserted (take n table) p (entryOf from to) 0 (h .within) (Lies l) (entry-lies a) (s .lies));
+                  lies = rw (x .entries) (each-inserted (take n table) p (entryOf from to) 0 (h .within) (OutputLies l) (entry-lies a) (s .lies));
                   risen = λ log rd b. rw (now-in rd) (inserted-rising (s .risen log rd b) (h .between log rd b));
                 };
                 members = λ log rd b q. rw (now-in rd) (among-inserted q (pathsOf rd l (take n table)) p (pathOf rd (part l from to)));
@@ -211,9 +211,9 @@ pub record Scanning (l texts bind : List ℕ) (c : Counts) (start : ℕ) (table�
   pub long : length table ≡ length table₀
   pub within : i ≤ length l
   pub ahead : start + n ≤ i
-  pub sorted : Sorted l texts bind c (take n table)
+  pub sorted : OutputsSorted l texts bind c (take n table)
   pub rest : (ps : List (List ℕ)) → PathsAt l start ps
-      → (qs : List (List ℕ)) × PathsAt l i qs × ((log : List Logged) (rd : Reading) → Bound log texts bind c rd → twice (expanded rd ps) ≡ repeats (pathsOf rd l (take n table)) (expanded rd qs))
+      → (qs : List (List ℕ)) × PathsAt l i qs × ((log : List Logged) (rd : Reading) → HoldsBound log texts bind c rd → twice (expanded rd ps) ≡ repeats (pathsOf rd l (take n table)) (expanded rd qs))
 
 none-in : (rd : Reading) (l : List ℕ) → pathsOf rd l [] ≡ []
 unfolding pathsOf
@@ -238,7 +238,7 @@ module _ {l texts bind : List ℕ} {c : Counts} {start : ℕ} {table₀ table : 
     scan-room s r = omega (arith, x .long, x .ahead, p .forward, p .longer, p .within)
 
     -- what stands at this turn
-    turn : (ps : List (List ℕ)) → PathsAt l start ps → (us : List (List ℕ)) × PathsAt l to us × ((log : List Logged) (rd : Reading) → Bound log texts bind c rd
+    turn : (ps : List (List ℕ)) → PathsAt l start ps → (us : List (List ℕ)) × PathsAt l to us × ((log : List Logged) (rd : Reading) → HoldsBound log texts bind c rd
         → twice (expanded rd ps) ≡ repeats (pathsOf rd l (take n table)) (pathOf rd (part l from to) ∷ expanded rd us))
     turn ps w =
         let (qs, v, s) = x .rest ps w in
@@ -246,7 +246,7 @@ module _ {l texts bind : List ℕ} {c : Counts} {start : ℕ} {table₀ table : 
         (us, u, λ log rd b. s log rd b ∙ ap (λ (r : List (List ℕ)). repeats (pathsOf rd l (take n table)) (expanded rd r)) q ∙ rw (expanded-cons rd (part l from to) us))
 
     module _ {table′ : List ℕ} {r : Bool} (a : Added l texts bind c from to table n table′ r) where
-      pub scan-found : r ≡ true → Compared l texts bind c start table₀ table′ true
+      pub scan-found : r ≡ true → ComparesOutputs l texts bind c start table₀ table′ true
       scan-found e =
           record {
             long = a .long ∙ x .long;
@@ -272,7 +272,7 @@ module _ {l texts bind : List ℕ} {c : Counts} {start : ℕ} {table₀ table : 
                 );
           }
 
-  pub scan-end : ((ps : List (List ℕ)) → PathsAt l i ps → ps ≡ []) → Compared l texts bind c start table₀ table false
+  pub scan-end : ((ps : List (List ℕ)) → PathsAt l i ps → ps ≡ []) → ComparesOutputs l texts bind c start table₀ table false
   scan-end f =
       record {
         long = x .long;
@@ -284,14 +284,14 @@ module _ {l texts bind : List ℕ} {c : Counts} {start : ℕ} {table₀ table : 
 -- ---- the table behind the columns of the graph
 
 -- The graph g, whose part behind the columns was lent and comes back as m.
-pub lent-back : (g : List ℕ) → columnsEnd ≤ length g → {l texts bind : List ℕ} {c : Counts} {start : ℕ} {m : List ℕ} {r : Bool} → Compared l texts bind c start (part g columnsEnd (length g)) m r
-    → Twice l texts bind g c start (take columnsEnd g ++ (m ++ drop (length g - columnsEnd) (drop columnsEnd g))) r
+pub lent-back : (g : List ℕ) → tableStart ≤ length g → {l texts bind : List ℕ} {c : Counts} {start : ℕ} {m : List ℕ} {r : Bool} → ComparesOutputs l texts bind c start (part g tableStart (length g)) m r
+    → Twice l texts bind g c start (take tableStart g ++ (m ++ drop (length g - tableStart) (drop tableStart g))) r
 lent-back g h {m = m} x =
-    let z : length m ≡ length g - columnsEnd = x .long ∙ simp (length-take, length-drop) (omega arith) in
+    let z : length m ≡ length g - tableStart = x .long ∙ simp (length-take, length-drop) (omega arith) in
     record {
       kept = record {
         long = simp (length-append, length-take, length-drop) (omega arith);
-        columns = take-at (take columnsEnd g) (m ++ drop (length g - columnsEnd) (drop columnsEnd g)) columnsEnd (length-take-le columnsEnd g h);
+        columns = take-at (take tableStart g) (m ++ drop (length g - tableStart) (drop tableStart g)) tableStart (length-take-le tableStart g h);
       };
       answer = x .answer;
     }

@@ -6,10 +6,10 @@ use lib.ListN.{length, take}
 use Rattle.hold_reading.specs.Held as held
 
 -- where the columns of the graph end, and the room for a table of outputs begins
-abbrev pub columnsEnd : ℕ
-columnsEnd = held.columnsEnd
+abbrev pub tableStart : ℕ
+tableStart = held.columnsEnd
 
 -- the columns of the graph stay
-pub record Kept (graph graph′ : List ℕ) : Type 0 where
+pub record ColumnsKept (graph graph′ : List ℕ) : Type 0 where
   pub long : length graph′ ≡ length graph
-  pub columns : take columnsEnd graph′ ≡ take columnsEnd graph
+  pub columns : take tableStart graph′ ≡ take tableStart graph

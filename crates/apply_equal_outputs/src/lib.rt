@@ -1,5 +1,5 @@
 // Two equal outputs in a line. The outputs so far stand in a table that is sorted by what they expand to, so each is compared with few others.
-ghost use Rattle.apply_equal_outputs.specs.Sorted.{EntryAsks, Ordered, SortedAsks, PlaceIn, AddAsks, Added, TableAsks, Compared, RoomAsks, Twice};
+ghost use Rattle.apply_equal_outputs.specs.Sorted.{EntryAsks, PathOrdered, SortedAsks, PlaceIn, AddAsks, Added, TableAsks, ComparesOutputs, RoomAsks, Twice};
 use arena::insert;
 use cut_forms::ListPath;
 use cut_forms::paths::next_listed;
@@ -28,7 +28,7 @@ fn order_at(
     k: usize,
 ) -> Order
     requires { ⌜ EntryAsks (now t) (now l) (now texts) (now bind) (c .entries) from to (now table) k ⌝ }
-    ensures { λ r. ⌜ Ordered (now (l .entry)) (now (texts .entry)) (now (bind .entry)) c from to (now (table .entry)) k r ⌝ }
+    ensures { λ r. ⌜ PathOrdered (now (l .entry)) (now (texts .entry)) (now (bind .entry)) c from to (now (table .entry)) k r ⌝ }
 {
     let v = at(table, k);
     let a = v / 65536;
@@ -104,7 +104,7 @@ fn has_equal(
     table: &mut [u32],
 ) -> bool
     requires { ⌜ TableAsks (now t) (now l) (now texts) (now bind) c start (now table) ⌝ }
-    ensures { λ r. ⌜ Compared (now (l .entry)) (now (texts .entry)) (now (bind .entry)) c start (now (table .entry)) (now (table .exit)) r ⌝ }
+    ensures { λ r. ⌜ ComparesOutputs (now (l .entry)) (now (texts .entry)) (now (bind .entry)) c start (now (table .entry)) (now (table .exit)) r ⌝ }
 {
     let mut n = 0;
     let mut i = start;

@@ -17,9 +17,9 @@ use Rattle.hold_names.proofs.Numbers.{mention-none, mention-old, mention-new}
 use Rattle.hold_names.proofs.Laws as named
 use Rattle.hold_names.proofs.Laws.{after-old, after-new, after-full}
 use Rattle.hold_reading.specs.declared.Counts.{Counts}
-use Rattle.hold_reading.specs.Held.{Bound}
+use Rattle.hold_reading.specs.Held.{HoldsBound}
 use Rattle.apply_files.specs.declared.Mentioned.the-variants.{On, Over}
-use Rattle.apply_files.specs.Lines.{Line, Columns, Writing, madeWith, withPath, withPaths, AddedPaths, on, over}
+use Rattle.apply_files.specs.Lines.{LineHeld, Columns, Writing, madeWith, withMention, withPaths, AddedPaths, on, over}
 use Rattle.apply_files.specs.Path.{countedPath, Again, First}
 use Rattle.apply_files.proofs.Columns.{push-mention, push-made}
 use Rattle.apply_files.proofs.Limits.{Within, line-files, path-short}
@@ -56,8 +56,8 @@ made-new p files made h =
 
 -- ---- what is held then
 
-module _ {bs : Buffers} {c : Counts} {h : Line} (w : Writing bs c h) (p : List ℕ) (l : Within (length p) c) where
-  bound-path : (files : ℕ) → Bound (h .log) (bs .texts) (bs .bind) (countedPath files (length p) c) (mentioned (p ∷ []) (h .reading))
+module _ {bs : Buffers} {c : Counts} {h : LineHeld} (w : Writing bs c h) (p : List ℕ) (l : Within (length p) c) where
+  bound-path : (files : ℕ) → HoldsBound (h .log) (bs .texts) (bs .bind) (countedPath files (length p) c) (mentioned (p ∷ []) (h .reading))
   unfolding mentioned sum
   bound-path files =
       let b = w .bound in
@@ -82,8 +82,8 @@ module _ {bs : Buffers} {c : Counts} {h : Line} (w : Writing bs c h) (p : List �
   path-held : {names′ index′ graph′ : List ℕ} {files k : ℕ} → named.Mentioned (h .reading .files) p k names′ index′ files
       → Columns graph′ (h .mentions ++ (k ∷ [])) (h .ends) (h .phony) (madeWith p (h .reading .files) (h .made)) (h .ruleOf) (h .reading .defaults)
       → length (madeWith p (h .reading .files) (h .made)) ≡ files
-      → Writing (withFiles bs names′ index′ graph′) (countedPath files (length p) c) (withPath p h)
-  unfolding withPath mentioned
+      → Writing (withFiles bs names′ index′ graph′) (countedPath files (length p) c) (withMention p h)
+  unfolding withMention mentioned
   path-held {files = files} m q f =
       record {
         named = m .holds;
@@ -103,7 +103,7 @@ module _ {bs : Buffers} {c : Counts} {h : Line} (w : Writing bs c h) (p : List �
 -- ---- by the answer
 
 module _ {names index graph path names′ index′ : List ℕ} {c : Counts} {r : Added} (a : AddsName names index (c .files) path names′ index′ r) (l : Within (length path) c)
-    {texts bind : List ℕ} {h : Line} (w : Writing (buffers names index texts bind graph) c h) where
+    {texts bind : List ℕ} {h : LineHeld} (w : Writing (buffers names index texts bind graph) c h) where
   pub path-old : {k : ℕ} {graph′ : List ℕ} {d : Counts} → r ≡ Old k → Again graph c k (length path) graph′ d → AddedPaths (buffers names′ index′ texts bind graph′) h (path ∷ []) (On d)
   unfolding withPaths
   path-old {k} e g =

@@ -17,8 +17,8 @@ use Rattle.spec.specs.Reading.{Reading, mention}
 use Rattle.spec.specs.Statements.{mentioned, longerThan, overPaths, overCounts}
 use Rattle.hold_names.proofs.Numbers.{mention-none, mention-old, mention-new, mention-append}
 use Rattle.hold_reading.specs.declared.Counts.{Counts}
-use Rattle.apply_files.specs.Lines.{Line, Writing, overLine}
-use Rattle.apply_files.specs.Path.{overCounted}
+use Rattle.apply_files.specs.Lines.{LineHeld, Writing, overLine}
+use Rattle.apply_files.specs.Path.{pathOver}
 use Rattle.hold_reading.specs.Buffers.{Buffers}
 
 pub or-on : (a b : Bool) → b ≡ true → a || b ≡ true
@@ -129,9 +129,9 @@ mentioned-none rd =
 
 -- ---- by the counts of one path
 
-pub counted-over : (c : Counts) (rd : Reading) → c .mentions ≡ rd .mentions → c .written ≡ rd .written → (p : List ℕ) → overCounted (length p) c ≡ true → (more : List (List ℕ))
+pub counted-over : (c : Counts) (rd : Reading) → c .mentions ≡ rd .mentions → c .written ≡ rd .written → (p : List ℕ) → pathOver (length p) c ≡ true → (more : List (List ℕ))
     → overLine (p ∷ more) rd ≡ true
-unfolding overCounted
+unfolding pathOver
 counted-over c rd m n p e =
     let b = ltb maxMentions (c .mentions + 1) in
     let d = ltb maxWritten (c .written + length p) in
@@ -143,7 +143,7 @@ counted-over c rd m n p e =
       ]
     ]
 
-pub path-over : {bs : Buffers} {c : Counts} {h : Line} → Writing bs c h → (p : List ℕ) → overCounted (length p) c ≡ true
+pub path-over : {bs : Buffers} {c : Counts} {h : LineHeld} → Writing bs c h → (p : List ℕ) → pathOver (length p) c ≡ true
     → (more : List (List ℕ)) → overLine (p ∷ more) (h .reading) ≡ true
 path-over {c = c} {h = h} w p e = counted-over c (h .reading) (w .mentions-counted) (w .bound .written-counted) p e
 
@@ -157,8 +157,8 @@ pub path-short : (p : List ℕ) {c : Counts} → Within (length p) c → overPat
 unfolding overPaths any longerThan
 path-short p w = rw (le-ltb maxPath (length p) (w .short))
 
-pub path-within : (n : ℕ) (c : Counts) → overCounted n c ≡ false → Within n c
-unfolding overCounted
+pub path-within : (n : ℕ) (c : Counts) → pathOver n c ≡ false → Within n c
+unfolding pathOver
 path-within n c h =
     let a = ltb maxPath n in
     let b = ltb maxMentions (c .mentions + 1) in

@@ -13,13 +13,13 @@ use Rattle.arena.specs.Columns.{Lies}
 use Rattle.hold_names.specs.Table.{HoldsNames}
 use Rattle.hold_bindings.specs.Log.{Logged}
 use Rattle.hold_reading.specs.declared.Counts.{Counts}
-use Rattle.hold_reading.specs.Held.{Bound, capacities}
+use Rattle.hold_reading.specs.Held.{HoldsBound, capacities}
 use Rattle.apply_files.specs.declared.Mentioned.{Mentioned}
 use Rattle.apply_files.specs.declared.Mentioned.the-variants.{On, Over}
 use Rattle.hold_reading.specs.Buffers.{Buffers}
 
 -- what is held: the log, the reading, and the columns of the graph but the defaults
-pub record Line : Type 0 where
+pub record LineHeld : Type 0 where
   pub log : List Logged
   pub reading : Reading
   pub mentions : List ℕ
@@ -32,9 +32,9 @@ pub record Line : Type 0 where
 pub record Columns (graph mentions ends phony made ruleOf defaults : List ℕ) : Type 0 where
   pub lies : Lies capacities graph (mentions ∷ ends ∷ phony ∷ made ∷ ruleOf ∷ defaults ∷ [])
 
-pub record Writing (bs : Buffers) (c : Counts) (h : Line) : Type 0 where
+pub record Writing (bs : Buffers) (c : Counts) (h : LineHeld) : Type 0 where
   pub named : HoldsNames (bs .names) (bs .index) (c .files) (h .reading .files)
-  pub bound : Bound (h .log) (bs .texts) (bs .bind) c (h .reading)
+  pub bound : HoldsBound (h .log) (bs .texts) (bs .bind) c (h .reading)
   pub columns : Columns (bs .graph) (h .mentions) (h .ends) (h .phony) (h .made) (h .ruleOf) (h .reading .defaults)
   pub filed : length (h .made) ≡ length (h .reading .files)
   pub paths-counted : c .paths ≡ length (h .mentions)
@@ -50,8 +50,8 @@ unfoldable pub madeWith : List ℕ → List (List ℕ) → List ℕ → List ℕ
 madeWith p files made = ifB (among p files) (λ _. made) (λ _. made ++ (0 ∷ []))
 
 -- one path more
-unfoldable pub withPath : List ℕ → Line → Line
-withPath p h =
+unfoldable pub withMention : List ℕ → LineHeld → LineHeld
+withMention p h =
     record {
       log = h .log;
       reading = mentioned (p ∷ []) (h .reading);
@@ -62,15 +62,15 @@ withPath p h =
       ruleOf = h .ruleOf;
     }
 
-unfoldable pub withPaths : List (List ℕ) → Line → Line
+unfoldable pub withPaths : List (List ℕ) → LineHeld → LineHeld
 withPaths [] h = h
-withPaths (p ∷ ps) h = withPaths ps (withPath p h)
+withPaths (p ∷ ps) h = withPaths ps (withMention p h)
 
 -- are these mentions over a limit: paths over 255 bytes, or files, mentions and bytes in all
 unfoldable pub overLine : List (List ℕ) → Reading → Bool
 overLine ps rd = overPaths ps || overCounts (mentioned ps rd)
 
 -- The paths are mentioned, or the line is over a limit, whatever it mentions after them.
-pub data AddedPaths (bs : Buffers) (h : Line) (ps : List (List ℕ)) : Mentioned → Type 0 where
+pub data AddedPaths (bs : Buffers) (h : LineHeld) (ps : List (List ℕ)) : Mentioned → Type 0 where
   on : {c : Counts} → Writing bs c (withPaths ps h) → overPaths ps ≡ false → AddedPaths bs h ps (On c)
   over : ((more : List (List ℕ)) → overLine (ps ++ more) (h .reading) ≡ true) → AddedPaths bs h ps Over

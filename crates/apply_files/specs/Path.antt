@@ -9,12 +9,12 @@ use Rattle.spec.specs.Limits.{maxMentions, maxPath, maxWritten}
 use Rattle.hold_reading.specs.declared.Counts.{Counts}
 use Rattle.hold_reading.specs.Held.{madeStart}
 use Rattle.apply_files.specs.declared.Mentioned.{Mentioned}
-use Rattle.apply_files.specs.Lines.{Line, Writing, AddedPaths}
+use Rattle.apply_files.specs.Lines.{LineHeld, Writing, AddedPaths}
 use Rattle.hold_reading.specs.Buffers.{buffers}
 
 -- is a path of n bytes over a limit by the counts; files are not counted here
-unfoldable pub overCounted : ℕ → Counts → Bool
-overCounted n c = ltb maxPath n || (ltb maxMentions (c .mentions + 1) || ltb maxWritten (c .written + n))
+unfoldable pub pathOver : ℕ → Counts → Bool
+pathOver n c = ltb maxPath n || (ltb maxMentions (c .mentions + 1) || ltb maxWritten (c .written + n))
 
 -- the counts with a mention more of n bytes, and so many files
 abbrev pub countedPath : ℕ → ℕ → Counts → Counts
@@ -42,13 +42,13 @@ pub record First (graph : List ℕ) (c : Counts) (k n : ℕ) (graph′ : List �
   pub counted : r ≡ countedPath (c .files + 1) n c
 
 -- a path that is within the limits but for the count of files
-pub record Fits (path names index graph : List ℕ) (c : Counts) : Type 0 where
+pub record PathFits (path names index graph : List ℕ) (c : Counts) : Type 0 where
   pub texts : List ℕ
   pub bind : List ℕ
   pub names-long : maxWritten ≤ length names
-  pub within : overCounted (length path) c ≡ false
-  pub line : Line
+  pub within : pathOver (length path) c ≡ false
+  pub line : LineHeld
   pub writing : Writing (buffers names index texts bind graph) c line
 
 pub record AddsPath (path names index graph : List ℕ) (c : Counts) (names′ index′ graph′ : List ℕ) (r : Mentioned) : Type 0 where
-  pub adds : (texts bind : List ℕ) (h : Line) → Writing (buffers names index texts bind graph) c h → AddedPaths (buffers names′ index′ texts bind graph′) h (path ∷ []) r
+  pub adds : (texts bind : List ℕ) (h : LineHeld) → Writing (buffers names index texts bind graph) c h → AddedPaths (buffers names′ index′ texts bind graph′) h (path ∷ []) r

@@ -5,7 +5,7 @@ ghost use lib.ListN.{length};
 ghost use Rattle.lists.specs.Lent.{Spare, Leaves};
 ghost use Rattle.spec.specs.Limits.{maxMentions, maxWritten, maxFiles};
 ghost use Rattle.hold_reading.specs.Held.{columnsEnd};
-ghost use Rattle.apply_files.specs.Path.{overCounted, Again, First, Fits, AddsPath};
+ghost use Rattle.apply_files.specs.Path.{pathOver, Again, First, PathFits, AddsPath};
 use arena::put;
 use hold_names::Added;
 use hold_names::add;
@@ -25,7 +25,7 @@ pub enum Mentioned {
 // Whether a path of n bytes is over a limit.
 pub fn path_over(n: usize, c: Counts) -> bool
     requires { ⌜ (c .mentions ≤ maxMentions) × (c .written ≤ maxWritten) ⌝ }
-    ensures { λ r. ⌜ r ≡ overCounted n c ⌝ }
+    ensures { λ r. ⌜ r ≡ pathOver n c ⌝ }
 {
     if PATH < n {
         return true;
@@ -77,7 +77,7 @@ pub fn add_path(
     graph: &mut [u32],
     c: Counts,
 ) -> Mentioned
-    requires { ⌜ Fits (now path) (now names) (now index) (now graph) c ⌝ }
+    requires { ⌜ PathFits (now path) (now names) (now index) (now graph) c ⌝ }
     ensures { λ r. ⌜ Leaves ((Spare (now (names .entry)) (now (names .exit))) × (Spare (now (index .entry)) (now (index .exit))) × (Spare (now (graph .entry)) (now (graph .exit)))) (AddsPath (now (path .entry)) (now (names .entry)) (now (index .entry)) (now (graph .entry)) c (now (names .exit)) (now (index .exit)) (now (graph .exit)) r) ⌝ }
 {
     let files = c.files;

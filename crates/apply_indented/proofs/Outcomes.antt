@@ -20,11 +20,11 @@ use Rattle.hold_reading.specs.declared.Open.{Open}
 use Rattle.hold_reading.specs.declared.Open.the-variants.{Nothing, Rule, Step}
 use Rattle.hold_reading.specs.declared.LineAnswer.{LineAnswer}
 use Rattle.hold_reading.specs.declared.LineAnswer.the-variants.{Refused}
-use Rattle.hold_reading.specs.Held.{Opens, nothing, aRule, aStep}
+use Rattle.hold_reading.specs.Held.{OpensBlock, nothing, aRule, aStep}
 use Rattle.hold_reading.specs.Binds.{Meets}
 use Rattle.hold_reading.proofs.Lift.{refused-by}
-use Rattle.apply_variables.specs.Asks.{Asks as ValueAsks}
-use Rattle.apply_indented.specs.Asks.{KeyAsks, Asks}
+use Rattle.apply_variables.specs.Asks.{BindingAsks as ValueAsks}
+use Rattle.apply_indented.specs.Asks.{KeyAsks, IndentedAsks}
 
 -- ---- a line that is cut
 
@@ -42,7 +42,7 @@ module _ (l : Line) {from to at : ℕ} (s : SoundBinding l (cutIndented (l .text
         → Meets texts bind c o (readIndented l) texts′ bind′ r
     line-applied m = record { agrees = λ log rd b w. rw (line-is rd b, sym v) (m .agrees log rd b w) }
 
-    pub value-asks : {t texts bind word : List ℕ} {c : Counts} {o : Open} → Asks t (l .start) (l .text) texts bind word c o
+    pub value-asks : {t texts bind word : List ℕ} {c : Counts} {o : Open} → IndentedAsks t (l .start) (l .text) texts bind word c o
         → ValueAsks t raw texts bind word c o
     value-asks a =
         record {
@@ -56,11 +56,11 @@ module _ (l : Line) {from to at : ℕ} (s : SoundBinding l (cutIndented (l .text
 -- ---- a line that is refused
 
 module _ (l : Line) {r : Refusal} (w : Wrong l (cutIndented (l .text)) r) {log : List Logged} (rd : Reading) where
-  key-wrong : {b : Block} {head k : ℕ} → Opens log b (Rule head k) → readIndented l rd b ≡ refused r
+  key-wrong : {b : Block} {head k : ℕ} → OpensBlock log b (Rule head k) → readIndented l rd b ≡ refused r
   unfolding readIndented
   key-wrong (aRule o) = w _
 
-  setting-wrong : {b : Block} → Opens log b Step → readIndented l rd b ≡ refused r
+  setting-wrong : {b : Block} → OpensBlock log b Step → readIndented l rd b ≡ refused r
   unfolding readIndented
   setting-wrong aStep = w _
 
@@ -73,7 +73,7 @@ module _ {texts bind : List ℕ} {c : Counts} {texts′ bind′ : List ℕ} (l :
 
 -- ---- no block
 
-outside : (l : Line) {log : List Logged} (rd : Reading) {b : Block} → Opens log b Nothing → readIndented l rd b ≡ refused (BadLine (l .start))
+outside : (l : Line) {log : List Logged} (rd : Reading) {b : Block} → OpensBlock log b Nothing → readIndented l rd b ≡ refused (BadLine (l .start))
 unfolding readIndented
 outside l rd nothing = refl
 
@@ -82,6 +82,6 @@ no-block l = record { agrees = λ log rd b h. refused-by (outside l rd (h .opens
 
 -- ---- what a line of a rule's block asks
 
-pub key-asks : {t : List ℕ} {start : ℕ} {l texts bind word : List ℕ} {c : Counts} {o p : Open} → o ≡ p → Asks t start l texts bind word c o
+pub key-asks : {t : List ℕ} {start : ℕ} {l texts bind word : List ℕ} {c : Counts} {o p : Open} → o ≡ p → IndentedAsks t start l texts bind word c o
     → KeyAsks t start l texts bind c p
 key-asks e a = rw (← e) (record { cut = a .cut; sound = a .sound })

@@ -12,7 +12,7 @@ pub record KeyAsks (t : List ℕ) (start : ℕ) (l texts bind : List ℕ) (c : C
   pub cut : CutAsks t start l
   pub sound : SoundBlock texts bind c o
 
-pub record Asks (t : List ℕ) (start : ℕ) (l texts bind word : List ℕ) (c : Counts) (o : Open) : Type 0 where
+pub record IndentedAsks (t : List ℕ) (start : ℕ) (l texts bind word : List ℕ) (c : Counts) (o : Open) : Type 0 where
   pub cut : CutAsks t start l
   pub room : maxValue ≤ length word
   pub sound : SoundBlock texts bind c o

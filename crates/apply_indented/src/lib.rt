@@ -3,7 +3,7 @@ ghost use Rattle.lists.specs.Lent.{Spare, Leaves};
 ghost use Rattle.spec.specs.Manifest.{readIndented};
 ghost use Rattle.scan_cursor.specs.Spans.{lineOf};
 ghost use Rattle.hold_reading.specs.Binds.{Meets};
-ghost use Rattle.apply_indented.specs.Asks.{KeyAsks, Asks};
+ghost use Rattle.apply_indented.specs.Asks.{KeyAsks, IndentedAsks};
 use apply_rules::add_key;
 use apply_variables::add_to_block;
 use cut_refusals::BlockLine;
@@ -49,7 +49,7 @@ fn read_setting(
     word: &mut [u8],
     c: Counts,
 ) -> LineAnswer
-    requires { ⌜ Asks (now t) start (now l) (now texts) (now bind) (now word) c Open.Step ⌝ }
+    requires { ⌜ IndentedAsks (now t) start (now l) (now texts) (now bind) (now word) c Open.Step ⌝ }
     ensures { λ r. ⌜ Leaves ((Spare (now (texts .entry)) (now (texts .exit))) × (Spare (now (bind .entry)) (now (bind .exit))) × (Spare (now (word .entry)) (now (word .exit)))) (Meets (now (texts .entry)) (now (bind .entry)) c Open.Step (readIndented (lineOf start (now (l .entry)) ended)) (now (texts .exit)) (now (bind .exit)) r) ⌝ }
 {
     match cut_block_line(t, start, l, ended) {
@@ -73,7 +73,7 @@ pub fn read_indented(
     c: Counts,
     block: Open,
 ) -> LineAnswer
-    requires { ⌜ Asks (now t) start (now l) (now texts) (now bind) (now word) c block ⌝ }
+    requires { ⌜ IndentedAsks (now t) start (now l) (now texts) (now bind) (now word) c block ⌝ }
     ensures { λ r. ⌜ Leaves ((Spare (now (texts .entry)) (now (texts .exit))) × (Spare (now (bind .entry)) (now (bind .exit))) × (Spare (now (word .entry)) (now (word .exit)))) (Meets (now (texts .entry)) (now (bind .entry)) c block (readIndented (lineOf start (now (l .entry)) ended)) (now (texts .exit)) (now (bind .exit)) r) ⌝ }
 {
     match block {

@@ -15,7 +15,7 @@ use Rattle.hold_reading.specs.declared.LineAnswer.{LineAnswer}
 use Rattle.hold_reading.specs.declared.LineAnswer.the-variants.{Goes}
 use Rattle.hold_reading.specs.Held.{goes}
 use Rattle.hold_reading.specs.Binds.{Meets}
-use Rattle.apply_indented.specs.Asks.{Asks}
+use Rattle.apply_indented.specs.Asks.{IndentedAsks}
 use Rattle.apply_statements.specs.Asks.{LineAsks, LineMeets}
 use Rattle.apply_statements.proofs.Outcomes.{binding-met, line-as, between-sound}
 use Rattle.hold_reading.specs.Buffers.{Buffers, withBindings}
@@ -42,5 +42,5 @@ module _ (l : Line) {k : LineKind} (a : k ≡ kindOf (l .text)) {bs : Buffers} {
   statement-read e m = let w = is-statement (l .text) (sym e ∙ a) in line-as (λ rd b. rw (w .0, w .1, w .2)) m
 
 pub indented-asks : {t : List ℕ} {start : ℕ} {l : List ℕ} {bs : Buffers} {word : List ℕ} {c : Counts} {o : Open}
-    → LineAsks t start l bs word c o → Asks t start l (bs .texts) (bs .bind) word c o
+    → LineAsks t start l bs word c o → IndentedAsks t start l (bs .texts) (bs .bind) word c o
 indented-asks a = record { cut = a .cut; room = omega (arith, a .room .word-room); sound = between-sound (a .between) }

@@ -26,7 +26,7 @@ use Rattle.hold_reading.specs.Held.{nothing, Agrees, refuses}
 use Rattle.hold_reading.specs.Binds.{SoundBlock, Meets}
 use Rattle.hold_reading.proofs.Lift.{met, sound}
 use Rattle.hold_reading.proofs.Agreement.{noCounts, start-held, agreed-on, agreed-refused}
-use Rattle.apply_statements.specs.Asks.{Between, LineAsks, LineMeets}
+use Rattle.apply_statements.specs.Asks.{BetweenLines, LineAsks, LineMeets}
 use Rattle.apply_manifest.specs.Manifests.{TopAsk, LinesRead}
 use Rattle.hold_reading.specs.Buffers.{Buffers}
 
@@ -58,7 +58,7 @@ from-next n rd b = rw (n .lines) (sym (past-comments (n .passed) _ rd b (n .comm
 pub record Turning (m : List ℕ) (bs : Buffers) (c : Counts) (o : Open) (s : LineBounds) : Type 0 where
   pub within : s .start ≤ length m
   pub here : LineHere m (s .start) s
-  pub between : Between bs c o
+  pub between : BetweenLines bs c o
   pub left : readLines (linesFrom (s .start) (drop (s .start) m)) (between .reading) (between .block) ≡ readLines (linesOf m) nothingRead noBlock
 
 pub turn-begin : {t m : List ℕ} {bs : Buffers} {word : List ℕ} {s : LineBounds} → TopAsk t m bs word → NextLine m 0 s → Turning m bs noCounts Nothing s

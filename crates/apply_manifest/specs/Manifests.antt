@@ -15,7 +15,7 @@ use Rattle.hold_bindings.specs.Held.{maxTexts, maxRows}
 use Rattle.hold_reading.specs.declared.Counts.{Counts}
 use Rattle.hold_reading.specs.declared.LineAnswer.{LineAnswer}
 use Rattle.hold_reading.specs.Held.{HoldsReading, Agrees}
-use Rattle.apply_statements.specs.Asks.{Room}
+use Rattle.apply_statements.specs.Asks.{LinesRoom}
 use Rattle.apply_manifest.specs.declared.ReadAnswer.{ReadAnswer}
 use Rattle.apply_manifest.specs.declared.ReadAnswer.the-variants.{Accepted, Refused}
 use Rattle.hold_reading.specs.Buffers.{Buffers}
@@ -23,7 +23,7 @@ use Rattle.hold_reading.specs.Buffers.{Buffers}
 -- room in the buffers for any manifest, whatever they hold
 pub record Roomy (t : List ℕ) (bs : Buffers) (word : List ℕ) : Type 0 where
   pub table : t ≡ classes
-  pub room : Room (bs .names) (bs .graph) word
+  pub room : LinesRoom (bs .names) (bs .graph) word
   pub names-small : length (bs .names) < 2 ^ 32
   pub numbers-room : maxNumbers ≤ length (bs .index)
   pub texts-room : maxTexts ≤ length (bs .texts)

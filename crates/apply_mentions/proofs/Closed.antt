@@ -11,7 +11,7 @@ use Rattle.spec.specs.Basics.{among}
 use Rattle.spec.specs.Reading.{numberOf, numbersOf, mention}
 use Rattle.spec.specs.Statements.{mentioned}
 use Rattle.hold_names.proofs.Numbers.{among-here, among-there, number-below, number-mention, mention-none, mention-old, mention-new, mention-append, among-mention}
-use Rattle.apply_files.specs.Lines.{Line, madeWith, withPath, withPaths}
+use Rattle.apply_files.specs.Lines.{LineHeld, madeWith, withMention, withPaths}
 use Rattle.apply_files.proofs.Limits.{mentioned-append, mentioned-none}
 
 -- ---- what was mentioned is there
@@ -65,38 +65,38 @@ length-numbers files (p ∷ ps) = ap suc (length-numbers files ps)
 
 -- ---- the line
 
-pub paths-log : (ps : List (List ℕ)) (h : Line) → withPaths ps h .log ≡ h .log
-unfolding withPaths withPath
+pub paths-log : (ps : List (List ℕ)) (h : LineHeld) → withPaths ps h .log ≡ h .log
+unfolding withPaths withMention
 paths-log [] h = refl
-paths-log (p ∷ ps) h = paths-log ps (withPath p h)
+paths-log (p ∷ ps) h = paths-log ps (withMention p h)
 
-pub paths-ends : (ps : List (List ℕ)) (h : Line) → withPaths ps h .ends ≡ h .ends
-unfolding withPaths withPath
+pub paths-ends : (ps : List (List ℕ)) (h : LineHeld) → withPaths ps h .ends ≡ h .ends
+unfolding withPaths withMention
 paths-ends [] h = refl
-paths-ends (p ∷ ps) h = paths-ends ps (withPath p h)
+paths-ends (p ∷ ps) h = paths-ends ps (withMention p h)
 
-pub paths-phony : (ps : List (List ℕ)) (h : Line) → withPaths ps h .phony ≡ h .phony
-unfolding withPaths withPath
+pub paths-phony : (ps : List (List ℕ)) (h : LineHeld) → withPaths ps h .phony ≡ h .phony
+unfolding withPaths withMention
 paths-phony [] h = refl
-paths-phony (p ∷ ps) h = paths-phony ps (withPath p h)
+paths-phony (p ∷ ps) h = paths-phony ps (withMention p h)
 
-pub paths-ruled : (ps : List (List ℕ)) (h : Line) → withPaths ps h .ruleOf ≡ h .ruleOf
-unfolding withPaths withPath
+pub paths-ruled : (ps : List (List ℕ)) (h : LineHeld) → withPaths ps h .ruleOf ≡ h .ruleOf
+unfolding withPaths withMention
 paths-ruled [] h = refl
-paths-ruled (p ∷ ps) h = paths-ruled ps (withPath p h)
+paths-ruled (p ∷ ps) h = paths-ruled ps (withMention p h)
 
-pub paths-reading : (ps : List (List ℕ)) (h : Line) → withPaths ps h .reading ≡ mentioned ps (h .reading)
-unfolding withPaths withPath
+pub paths-reading : (ps : List (List ℕ)) (h : LineHeld) → withPaths ps h .reading ≡ mentioned ps (h .reading)
+unfolding withPaths withMention
 paths-reading [] h = sym (mentioned-none (h .reading))
-paths-reading (p ∷ ps) h = paths-reading ps (withPath p h) ∙ sym (mentioned-append (p ∷ []) ps (h .reading))
+paths-reading (p ∷ ps) h = paths-reading ps (withMention p h) ∙ sym (mentioned-append (p ∷ []) ps (h .reading))
 
-pub paths-mentions : (ps : List (List ℕ)) (h : Line) → withPaths ps h .mentions ≡ h .mentions ++ numbersOf (mention (h .reading .files) ps) ps
-unfolding withPaths withPath mentioned numbersOf
+pub paths-mentions : (ps : List (List ℕ)) (h : LineHeld) → withPaths ps h .mentions ≡ h .mentions ++ numbersOf (mention (h .reading .files) ps) ps
+unfolding withPaths withMention mentioned numbersOf
 paths-mentions [] h = sym (append-nil (h .mentions))
 paths-mentions (p ∷ ps) h =
     let f = mention (h .reading .files) (p ∷ []) in
     let n = numberOf p f in
-    paths-mentions ps (withPath p h)
+    paths-mentions ps (withMention p h)
     ∙ append-assoc (h .mentions) (n ∷ []) (numbersOf (mention f ps) ps)
     ∙ rw (mention-append (h .reading .files) (p ∷ []) ps, number-mention p f ps (among-own (h .reading .files) p))
 
@@ -112,7 +112,7 @@ unfolding madeWith
 made-with p files made f =
     split (among p files) (λ (e : among p files ≡ true). rw e) (λ (e : among p files ≡ false). rw e (made-more made f))
 
-pub paths-made : (ps : List (List ℕ)) (h : Line) (f : ℕ) → getD (withPaths ps h .made) f 0 ≡ getD (h .made) f 0
-unfolding withPaths withPath
+pub paths-made : (ps : List (List ℕ)) (h : LineHeld) (f : ℕ) → getD (withPaths ps h .made) f 0 ≡ getD (h .made) f 0
+unfolding withPaths withMention
 paths-made [] h f = refl
-paths-made (p ∷ ps) h f = paths-made ps (withPath p h) f ∙ made-with p (h .reading .files) (h .made) f
+paths-made (p ∷ ps) h f = paths-made ps (withMention p h) f ∙ made-with p (h .reading .files) (h .made) f

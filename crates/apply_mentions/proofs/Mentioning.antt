@@ -18,23 +18,23 @@ use Rattle.hold_reading.specs.declared.Counts.{Counts}
 use Rattle.apply_files.specs.declared.Mentioned.{Mentioned}
 use Rattle.apply_files.specs.declared.Mentioned.the-variants.{Over}
 use Rattle.apply_files.specs.Lines.{over}
-use Rattle.apply_files.specs.Path.{overCounted, Fits, AddsPath}
-use Rattle.apply_mentions.specs.Asks.{Asks, Mentions}
+use Rattle.apply_files.specs.Path.{pathOver, PathFits, AddsPath}
+use Rattle.apply_mentions.specs.Asks.{MentionAsks, Mentions}
 use Rattle.apply_files.proofs.Limits.{path-over, path-within}
 use Rattle.hold_reading.specs.Buffers.{Buffers}
 
-module _ {t raw : List ℕ} {bs : Buffers} {word : List ℕ} {c : Counts} (a : Asks t raw bs word c) {word′ : List ℕ} {k : ℕ}
-    (x : (log : List Logged) → HoldsBindings log (bs .texts) (bs .bind) (c .entries) → Written word (runs.expanded log raw) word′ k) where
-  pub mention-over : {names′ index′ graph′ : List ℕ} → overCounted k c ≡ true → Mentions raw bs c names′ index′ graph′ Over
+module _ {t raw : List ℕ} {bs : Buffers} {word : List ℕ} {c : Counts} (a : MentionAsks t raw bs word c) {word′ : List ℕ} {k : ℕ}
+    (x : (log : List Logged) → HoldsBindings log (bs .texts) (bs .bind) (c .entries) → Written word (runs.expandedBy log raw) word′ k) where
+  pub mention-over : {names′ index′ graph′ : List ℕ} → pathOver k c ≡ true → Mentions raw bs c names′ index′ graph′ Over
   unfolding expanded
   mention-over h =
       record {
         marks = λ l w.
-            let e : expand (fileVar (l .reading .vars)) raw ≡ runs.expanded (l .log) raw = expanded-vars (l .log) (l .reading .vars) raw (w .bound .vars) in
-            rw e (over (path-over w (runs.expanded (l .log) raw) (rw (← (x (l .log) (w .bound .held) .count)) h)));
+            let e : expand (fileVar (l .reading .vars)) raw ≡ runs.expandedBy (l .log) raw = expanded-vars (l .log) (l .reading .vars) raw (w .bound .vars) in
+            rw e (over (path-over w (runs.expandedBy (l .log) raw) (rw (← (x (l .log) (w .bound .held) .count)) h)));
       }
 
-  module _ (h : overCounted k c ≡ false) where
+  module _ (h : pathOver k c ≡ false) where
     pub path-fits : k ≤ length word
     path-fits = omega (arith, path-within k c h .short, a .room .word-long)
 
@@ -43,7 +43,7 @@ module _ {t raw : List ℕ} {bs : Buffers} {word : List ℕ} {c : Counts} (a : A
         let w = x (a .line .log) (a .writing .bound .held) in
         ap length (written-whole w path-fits) ∙ sym (w .count)
 
-    pub mention-fits : Fits (take k word′) (bs .names) (bs .index) (bs .graph) c
+    pub mention-fits : PathFits (take k word′) (bs .names) (bs .index) (bs .graph) c
     mention-fits =
         record {
           texts = (bs .texts);
@@ -60,6 +60,6 @@ module _ {t raw : List ℕ} {bs : Buffers} {word : List ℕ} {c : Counts} (a : A
     mention-marked m =
         record {
           marks = λ l w.
-              let e : expand (fileVar (l .reading .vars)) raw ≡ runs.expanded (l .log) raw = expanded-vars (l .log) (l .reading .vars) raw (w .bound .vars) in
+              let e : expand (fileVar (l .reading .vars)) raw ≡ runs.expandedBy (l .log) raw = expanded-vars (l .log) (l .reading .vars) raw (w .bound .vars) in
               rw (e ∙ sym (written-whole (x (l .log) (w .bound .held)) path-fits)) (m .adds (bs .texts) (bs .bind) l w);
         }

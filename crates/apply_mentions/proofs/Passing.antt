@@ -15,14 +15,14 @@ use Rattle.cut_forms.proofs.Walks.{walk-on}
 use Rattle.hold_reading.specs.declared.Counts.{Counts}
 use Rattle.apply_files.specs.declared.Mentioned.{Mentioned}
 use Rattle.apply_files.specs.declared.Mentioned.the-variants.{On, Over}
-use Rattle.apply_files.specs.Lines.{Line, Writing, withPath, withPaths, overLine, AddedPaths, on, over}
-use Rattle.apply_mentions.specs.Asks.{Room, Asks, Mentions, ListAsks, MentionsAll}
+use Rattle.apply_files.specs.Lines.{LineHeld, Writing, withMention, withPaths, overLine, AddedPaths, on, over}
+use Rattle.apply_mentions.specs.Asks.{MentionRoom, MentionAsks, Mentions, MentionListAsks, MentionsAll}
 use Rattle.apply_files.proofs.Limits.{line-later, short-append, short-none}
 use Rattle.hold_reading.specs.Buffers.{Buffers, withFiles}
 
 -- ---- answers
 
-module _ {bs : Buffers} {h : Line} {ps : List (List ℕ)} where
+module _ {bs : Buffers} {h : LineHeld} {ps : List (List ℕ)} where
   pub marks-on : {c : Counts} → AddedPaths bs h ps (On c) → Writing bs c (withPaths ps h)
   marks-on (on w s) = w
 
@@ -33,9 +33,9 @@ module _ {bs : Buffers} {h : Line} {ps : List (List ℕ)} where
   marks-over (over f) = f
 
 -- one path, then the others
-module _ {bs : Buffers} (p : List ℕ) (ps : List (List ℕ)) (h : Line) where
-  pub marks-cons : {r : Mentioned} → overPaths (p ∷ []) ≡ false → AddedPaths bs (withPath p h) ps r → AddedPaths bs h (p ∷ ps) r
-  unfolding withPaths withPath
+module _ {bs : Buffers} (p : List ℕ) (ps : List (List ℕ)) (h : LineHeld) where
+  pub marks-cons : {r : Mentioned} → overPaths (p ∷ []) ≡ false → AddedPaths bs (withMention p h) ps r → AddedPaths bs h (p ∷ ps) r
+  unfolding withPaths withMention
   marks-cons q (on w s) = on w (short-append (p ∷ []) ps q s)
   marks-cons q (over f) = over (λ more. line-later (p ∷ []) (ps ++ more) (h .reading) (f more))
 
@@ -46,8 +46,8 @@ expanded-same a b e raw = rw e
 -- ---- the loop
 
 -- of a line that was held, and its list
-pub record Going (l : List ℕ) (h : Line) (raw : List (List ℕ)) (bs : Buffers) (i : ℕ) (d : Counts) : Type 0 where
-  pub line : Line
+pub record Going (l : List ℕ) (h : LineHeld) (raw : List (List ℕ)) (bs : Buffers) (i : ℕ) (d : Counts) : Type 0 where
+  pub line : LineHeld
   pub rest : List (List ℕ)
   pub stands : PathsAt l i rest
   pub writing : Writing bs d line
@@ -56,14 +56,14 @@ pub record Going (l : List ℕ) (h : Line) (raw : List (List ℕ)) (bs : Buffers
       → AddedPaths (withFiles bs names′ index′ graph′) h (expanded (h .reading) raw) r
 
 pub record Passing (t l : List ℕ) (at : ℕ) (bs₀ : Buffers) (word₀ : List ℕ) (c : Counts) (names index graph word : List ℕ) (i : ℕ) (d : Counts) : Type 0 where
-  pub asks : ListAsks t l bs₀ word₀ c at
+  pub asks : MentionListAsks t l bs₀ word₀ c at
   pub names-long : length names ≡ length (bs₀ .names)
   pub ends-long : length index ≡ length (bs₀ .index)
   pub graph-long : length graph ≡ length (bs₀ .graph)
   pub word-long : length word ≡ length word₀
-  pub going : (raw : List (List ℕ)) → PathsAt l at raw → (h : Line) → Writing bs₀ c h → Going l h raw (withFiles bs₀ names index graph) i d
+  pub going : (raw : List (List ℕ)) → PathsAt l at raw → (h : LineHeld) → Writing bs₀ c h → Going l h raw (withFiles bs₀ names index graph) i d
 
-pub pass-begin : {t l : List ℕ} {bs : Buffers} {word : List ℕ} {c : Counts} {at : ℕ} → ListAsks t l bs word c at
+pub pass-begin : {t l : List ℕ} {bs : Buffers} {word : List ℕ} {c : Counts} {at : ℕ} → MentionListAsks t l bs word c at
     → Passing t l at bs word c (bs .names) (bs .index) (bs .graph) word at c
 pass-begin a =
     record {
@@ -76,17 +76,17 @@ pass-begin a =
     }
 
 -- a path of the list that was held
-module _ {l : List ℕ} {h : Line} {raw : List (List ℕ)} {bs : Buffers} {i : ℕ} {d : Counts} (g : Going l h raw bs i d)
+module _ {l : List ℕ} {h : LineHeld} {raw : List (List ℕ)} {bs : Buffers} {i : ℕ} {d : Counts} (g : Going l h raw bs i d)
     {from to : ℕ} (n : PathNext l i from to) where
   going-on : {names′ index′ graph′ : List ℕ} {e : Counts} → Mentions (part l from to) bs d names′ index′ graph′ (On e)
       → Going l h raw (withFiles bs names′ index′ graph′) to e
-  unfolding expanded withPaths withPath mentioned
+  unfolding expanded withPaths withMention mentioned
   going-on m =
       let (qs, e, s) = walk-on n (g .stands) in
       let p = expand (fileVar (h .reading .vars)) (part l from to) in
       let k = rw (expanded-same (g .line .reading) (h .reading) (g .vars) (part l from to ∷ [])) at (m .marks (g .line) (g .writing)) in
       record {
-        line = withPath p (g .line);
+        line = withMention p (g .line);
         rest = qs;
         stands = s;
         writing = marks-on k;
@@ -110,7 +110,7 @@ module _ {t l : List ℕ} {at : ℕ} {bs₀ : Buffers} {word₀ : List ℕ} {c :
   pub pass-within : i ≤ length l
   pass-within = here .stands .within
 
-  pass-room : Room names word
+  pass-room : MentionRoom names word
   pass-room =
       let r = x .asks .room in
       record {
@@ -119,7 +119,7 @@ module _ {t l : List ℕ} {at : ℕ} {bs₀ : Buffers} {word₀ : List ℕ} {c :
       }
 
   module _ {from to : ℕ} (n : PathNext l i from to) where
-    pub pass-asks : Asks t (part l from to) (withFiles bs₀ names index graph) word d
+    pub pass-asks : MentionAsks t (part l from to) (withFiles bs₀ names index graph) word d
     pass-asks =
         record {
           table = x .asks .table;

@@ -1,6 +1,6 @@
 // Files mentioned by a line: each path is expanded and marked in the graph's columns.
 ghost use Rattle.lists.specs.Lent.{Spare, Leaves};
-ghost use Rattle.apply_mentions.specs.Asks.{Asks, Mentions, ListAsks, MentionsAll};
+ghost use Rattle.apply_mentions.specs.Asks.{MentionAsks, Mentions, MentionListAsks, MentionsAll};
 ghost use Rattle.hold_reading.specs.Buffers.{SameRoom, buffers};
 use apply_files::Mentioned;
 use apply_files::add_path;
@@ -22,7 +22,7 @@ pub fn mention(
     word: &mut [u8],
     c: Counts,
 ) -> Mentioned
-    requires { ⌜ Asks (now t) (now raw) (buffers (now names) (now index) (now texts) (now bind) (now graph)) (now word) c ⌝ }
+    requires { ⌜ MentionAsks (now t) (now raw) (buffers (now names) (now index) (now texts) (now bind) (now graph)) (now word) c ⌝ }
     ensures { λ r. ⌜ Leaves (SameRoom (buffers (now (names .entry)) (now (index .entry)) (now (texts .entry)) (now (bind .entry)) (now (graph .entry))) (buffers (now (names .exit)) (now (index .exit)) (now (texts .entry)) (now (bind .entry)) (now (graph .exit))) × (Spare (now (word .entry)) (now (word .exit)))) (Mentions (now (raw .entry)) (buffers (now (names .entry)) (now (index .entry)) (now (texts .entry)) (now (bind .entry)) (now (graph .entry))) c (now (names .exit)) (now (index .exit)) (now (graph .exit)) r) ⌝ }
 {
     let n = expand(t, raw, texts, bind, c.entries, word);
@@ -45,7 +45,7 @@ pub fn mention_all(
     word: &mut [u8],
     c: Counts,
 ) -> Mentioned
-    requires { ⌜ ListAsks (now t) (now l) (buffers (now names) (now index) (now texts) (now bind) (now graph)) (now word) c at ⌝ }
+    requires { ⌜ MentionListAsks (now t) (now l) (buffers (now names) (now index) (now texts) (now bind) (now graph)) (now word) c at ⌝ }
     ensures { λ r. ⌜ Leaves (SameRoom (buffers (now (names .entry)) (now (index .entry)) (now (texts .entry)) (now (bind .entry)) (now (graph .entry))) (buffers (now (names .exit)) (now (index .exit)) (now (texts .entry)) (now (bind .entry)) (now (graph .exit))) × (Spare (now (word .entry)) (now (word .exit)))) (MentionsAll (now (l .entry)) at (buffers (now (names .entry)) (now (index .entry)) (now (texts .entry)) (now (bind .entry)) (now (graph .entry))) c (now (names .exit)) (now (index .exit)) (now (graph .exit)) r) ⌝ }
 {
     let mut i = at;

@@ -23,7 +23,7 @@ use Rattle.hold_columns.specs.Columns.{madeBy, makerIn}
 use Rattle.hold_columns.proofs.Held.{held-makers}
 use Rattle.hold_bindings.specs.Log.{Logged}
 use Rattle.hold_bindings.specs.Held.{HoldsBindings}
-use Rattle.expand_parts.specs.Runs.{expanded}
+use Rattle.expand_parts.specs.Runs.{expandedBy}
 use Rattle.expand_dollars.specs.Written.{Written}
 use Rattle.expand_dollars.proofs.Callers.{written-long, written-whole}
 use Rattle.hold_reading.specs.declared.Counts.{Counts}
@@ -32,7 +32,7 @@ use Rattle.hold_reading.specs.Adds.{Whole}
 use Rattle.hold_reading.proofs.Short.{among-short}
 use Rattle.apply_path_checks.specs.declared.PathKind.{PathKind}
 use Rattle.apply_path_checks.specs.declared.PathKind.the-variants.{Input, Output, Default}
-use Rattle.apply_path_checks.specs.Checks.{pathOf, wrongPath, Filed, Files, Makes, MadeAsks, RawAsks}
+use Rattle.apply_path_checks.specs.Checks.{pathOf, wrongPath, Filed, FilesKnown, IsMade, MadeAsks, RawAsks}
 use Rattle.apply_path_checks.proofs.Wrong.{path-held}
 use Rattle.hold_reading.specs.Buffers.{Buffers, buffers}
 
@@ -110,16 +110,16 @@ long-unmade {rd = rd} h path b =
 pub filed : {log : List Logged} {bs : Buffers} {c : Counts} {rd : Reading} → HoldsReading log bs c rd → Filed log (bs .names) (bs .index) (bs .graph) c rd
 filed h = record { named = h .named; graphed = h .graphed }
 
-pub files-held : {bs : Buffers} {c : Counts} → Whole bs c → Files (bs .names) (bs .index) (bs .graph) c
+pub files-held : {bs : Buffers} {c : Counts} → Whole bs c → FilesKnown (bs .names) (bs .index) (bs .graph) c
 files-held w = record { log = w .log; reading = w .reading; filed = filed (w .holds) }
 
 -- ---- what the functions on one path answer
 
 module _ {names index graph word : List ℕ} {c : Counts} {n : ℕ} where
-  pub long-held : maxPath < n → Makes names index graph word c n false
+  pub long-held : maxPath < n → IsMade names index graph word c n false
   long-held l = record { answer = λ path e w texts bind log rd h. long-unmade h path (omega arith) }
 
-  pub made-held : n ≤ length word → {r : Bool} → ((log : List Logged) (rd : Reading) → Filed log names index graph c rd → r ≡ isMade (take n word) rd) → Makes names index graph word c n r
+  pub made-held : n ≤ length word → {r : Bool} → ((log : List Logged) (rd : Reading) → Filed log names index graph c rd → r ≡ isMade (take n word) rd) → IsMade names index graph word c n r
   made-held l e = record { answer = λ path d w texts bind log rd h. e log rd (filed h) ∙ ap (λ (p : List ℕ). isMade p rd) (w l) }
 
 no-byte : (s : List ℕ) → length s ≡ 0 → isEmpty s ≡ true
@@ -131,7 +131,7 @@ some-byte [] e = absurd (e refl)
 some-byte (b ∷ s) e = refl
 
 module _ (raw : List ℕ) {texts bind word word′ : List ℕ} {c : Counts} {n : ℕ}
-    (x : (log : List Logged) → HoldsBindings log texts bind (c .entries) → Written word (expanded log raw) word′ n) where
+    (x : (log : List Logged) → HoldsBindings log texts bind (c .entries) → Written word (expandedBy log raw) word′ n) where
   module _ {names index graph : List ℕ} where
     pub word-counted : Whole (buffers names index texts bind graph) c → n ≤ length word′ → length (take n word′) ≡ n
     word-counted w l = let k = x (w .log) (w .holds .bound .held) in ap length (written-whole k (rw (written-long k) at l)) ∙ sym (k .count)
@@ -149,7 +149,7 @@ module _ (raw : List ℕ) {texts bind word word′ : List ℕ} {c : Counts} {n :
       path-some : (n ≡ 0 → ⊥) → isEmpty (pathOf rd raw) ≡ false
       path-some e = some-byte (pathOf rd raw) (λ z. e (sym path-long ∙ z))
 
-      made-path : {r : Bool} → Makes names index graph word′ c n r → isMade (pathOf rd raw) rd ≡ r
+      made-path : {r : Bool} → IsMade names index graph word′ c n r → isMade (pathOf rd raw) rd ≡ r
       made-path m =
           let w = x log (h .bound .held) in
           sym (m .answer (pathOf rd raw) (sym path-long) (λ l. written-whole w (rw (written-long w) at l) ∙ sym (path-held (h .bound) raw)) texts bind log rd h)
@@ -165,7 +165,7 @@ module _ (raw : List ℕ) {texts bind word word′ : List ℕ} {c : Counts} {n :
       unfolding wrongPath
       input-right k log rd h = rw k (sym (path-some h e))
 
-      module _ {r : Bool} (m : Makes names index graph word′ c n r) where
+      module _ {r : Bool} (m : IsMade names index graph word′ c n r) where
         pub output-wrong : kind ≡ Output → (log : List Logged) (rd : Reading) → HoldsReading log (buffers names index texts bind graph) c rd → r ≡ wrongPath kind rd (pathOf rd raw)
         unfolding wrongPath
         output-wrong k log rd h = rw k (sym (rw (path-some h e) (made-path h m)))

@@ -16,7 +16,7 @@ use Rattle.hold_bindings.specs.Held.{SoundBindings}
 use Rattle.scan_raw.specs.Texts.{PathNext}
 use Rattle.cut_forms.specs.Paths.{PathsAt}
 use Rattle.cut_forms.proofs.Walks.{walk-on}
-use Rattle.expand_parts.specs.Runs.{Ready}
+use Rattle.expand_parts.specs.Runs.{ExpandReady}
 use Rattle.hold_reading.specs.declared.Counts.{Counts}
 use Rattle.hold_reading.specs.Held.{HoldsReading}
 use Rattle.hold_reading.specs.Adds.{Whole}
@@ -27,7 +27,7 @@ use Rattle.hold_reading.specs.Buffers.{Buffers}
 
 -- A path of a line is ready to be expanded.
 pub ready-path : {t l texts bind : List ℕ} {count i from to : ℕ} → t ≡ classes → length l ≤ maxManifest → SoundBindings texts bind count → PathNext l i from to
-    → Ready t (part l from to) texts bind count 0
+    → ExpandReady t (part l from to) texts bind count 0
 ready-path {l = l} {from = from} {to = to} e s h p =
     record {
       table = e;

@@ -13,13 +13,13 @@ use Rattle.hold_bindings.specs.Log.{Logged}
 use Rattle.expand_parts.specs.Runs as runs
 use Rattle.expand_parts.proofs.Expansions.{expanded-vars}
 use Rattle.hold_reading.specs.declared.Counts.{Counts}
-use Rattle.hold_reading.specs.Held.{Bound}
+use Rattle.hold_reading.specs.Held.{HoldsBound}
 use Rattle.apply_path_checks.specs.declared.PathKind.the-variants.{Input, Output, Default}
 use Rattle.apply_path_checks.specs.Checks.{pathOf, wrongPath}
 
 -- ---- paths as they are expanded
 
-pub path-held : {log : List Logged} {texts bind : List ℕ} {c : Counts} {rd : Reading} → Bound log texts bind c rd → (raw : List ℕ) → pathOf rd raw ≡ runs.expanded log raw
+pub path-held : {log : List Logged} {texts bind : List ℕ} {c : Counts} {rd : Reading} → HoldsBound log texts bind c rd → (raw : List ℕ) → pathOf rd raw ≡ runs.expandedBy log raw
 unfolding pathOf
 path-held {log} {rd = rd} b raw = expanded-vars log (rd .vars) raw (b .vars)
 

@@ -13,7 +13,7 @@ use Rattle.spec.specs.Statements.{expanded}
 use Rattle.scan_classes.specs.Table.{classes}
 use Rattle.cut_forms.specs.Paths.{PathsAt}
 use Rattle.hold_bindings.specs.Log.{Logged}
-use Rattle.expand_parts.specs.Runs.{Ready}
+use Rattle.expand_parts.specs.Runs.{ExpandReady}
 use Rattle.hold_names.specs.Table.{HoldsNames}
 use Rattle.hold_reading.specs.Held.{Graphed, HoldsReading}
 use Rattle.hold_reading.specs.Adds.{Whole}
@@ -41,7 +41,7 @@ pub record Filed (log : List Logged) (names index graph : List ℕ) (c : Counts)
   pub named : HoldsNames names index (c .files) (rd .files)
   pub graphed : Graphed log graph c rd
 
-pub record Files (names index graph : List ℕ) (c : Counts) : Type 0 where
+pub record FilesKnown (names index graph : List ℕ) (c : Counts) : Type 0 where
   pub log : List Logged
   pub reading : Reading
   pub filed : Filed log names index graph c reading
@@ -49,10 +49,10 @@ pub record Files (names index graph : List ℕ) (c : Counts) : Type 0 where
 -- The word buffer has room for any name that is held.
 pub record MadeAsks (names index graph word : List ℕ) (c : Counts) : Type 0 where
   pub room : maxValue ≤ length word
-  pub files : Files names index graph c
+  pub files : FilesKnown names index graph c
 
 -- whether a path of n bytes, which is in the word buffer if it fits there, is the output of an earlier step
-pub record Makes (names index graph word : List ℕ) (c : Counts) (n : ℕ) (r : Bool) : Type 0 where
+pub record IsMade (names index graph word : List ℕ) (c : Counts) (n : ℕ) (r : Bool) : Type 0 where
   pub answer : (path : List ℕ) → n ≡ length path → (n ≤ length word → take n word ≡ path) → (texts bind : List ℕ) (log : List Logged) (rd : Reading)
       → HoldsReading log (buffers names index texts bind graph) c rd → r ≡ isMade path rd
 
@@ -60,7 +60,7 @@ pub record Makes (names index graph word : List ℕ) (c : Counts) (n : ℕ) (r :
 
 -- a raw path, and all that is held
 pub record RawAsks (t raw : List ℕ) (bs : Buffers) (word : List ℕ) (c : Counts) : Type 0 where
-  pub ready : Ready t raw (bs .texts) (bs .bind) (c .entries) 0
+  pub ready : ExpandReady t raw (bs .texts) (bs .bind) (c .entries) 0
   pub room : maxValue ≤ length word
   pub whole : Whole bs c
 

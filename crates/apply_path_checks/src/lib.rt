@@ -5,7 +5,7 @@ ghost use Rattle.lists.specs.Lent.{Spare, Leaves};
 ghost use Rattle.spec.specs.Reading.{Reading, isMade};
 ghost use Rattle.hold_bindings.specs.Log.{Logged};
 ghost use Rattle.hold_reading.specs.Held.{HoldsReading};
-ghost use Rattle.apply_path_checks.specs.Checks.{pathOf, wrongPath, Filed, Files, MadeAsks, Makes, RawAsks, PathAsks, AnyWrong};
+ghost use Rattle.apply_path_checks.specs.Checks.{pathOf, wrongPath, Filed, FilesKnown, MadeAsks, IsMade, RawAsks, PathAsks, AnyWrong};
 ghost use Rattle.hold_reading.specs.Buffers.{buffers};
 use cut_forms::ListPath;
 use cut_forms::paths::next_listed;
@@ -32,7 +32,7 @@ pub struct PathList {
 
 // Whether a path is the output of an earlier step: its entry among the makers is not 0.
 fn is_output(names: &[u8], index: &[u32], graph: &[u32], c: Counts, path: &[u8]) -> bool
-    requires { ⌜ Files (now names) (now index) (now graph) c ⌝ }
+    requires { ⌜ FilesKnown (now names) (now index) (now graph) c ⌝ }
     ensures { λ r. ⌜ ((log : List Logged) (rd : Reading) → Filed log (now (names .entry)) (now (index .entry)) (now (graph .entry)) c rd → r ≡ isMade (now (path .entry)) rd) ⌝ }
 {
     match find_name(names, index, c.files, path) {
@@ -44,7 +44,7 @@ fn is_output(names: &[u8], index: &[u32], graph: &[u32], c: Counts, path: &[u8])
 // The same of a path of n bytes, which is in the word buffer if it fits there. One over the limit is no name that is held.
 fn is_made(names: &[u8], index: &[u32], graph: &[u32], c: Counts, word: &[u8], n: usize) -> bool
     requires { ⌜ MadeAsks (now names) (now index) (now graph) (now word) c ⌝ }
-    ensures { λ r. ⌜ Makes (now (names .entry)) (now (index .entry)) (now (graph .entry)) (now (word .entry)) c n r ⌝ }
+    ensures { λ r. ⌜ IsMade (now (names .entry)) (now (index .entry)) (now (graph .entry)) (now (word .entry)) c n r ⌝ }
 {
     if PATH < n {
         return false;

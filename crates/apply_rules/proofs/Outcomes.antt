@@ -15,24 +15,24 @@ use Rattle.spec.specs.Statements.{Block, refused, startRule, longerThan, ruleKe
 use Rattle.spec.specs.Manifest.{withRule, close}
 use Rattle.hold_bindings.specs.declared.FoundEntry.the-variants.{At}
 use Rattle.hold_bindings.specs.Log.{Logged, logged, ofRules, ofKeys, newestRule}
-use Rattle.hold_bindings.specs.Held.{HoldsBindings, Room, HasRoom}
+use Rattle.hold_bindings.specs.Held.{HoldsBindings, EntryRoom, HasRoom}
 use Rattle.hold_bindings.proofs.Lookups.{rule-begun, rule-kept}
 use Rattle.hold_reading.specs.declared.Counts.{Counts}
 use Rattle.hold_reading.specs.declared.Open.the-variants.{Nothing, Rule as OpenRule, Step as OpenStep}
 use Rattle.hold_reading.specs.declared.LineAnswer.the-variants.{Goes, Refused}
-use Rattle.hold_reading.specs.Held.{joined, Opens, nothing, aRule, aStep, Bound}
+use Rattle.hold_reading.specs.Held.{joined, OpensBlock, nothing, aRule, aStep, HoldsBound}
 use Rattle.hold_reading.specs.Binds.{SoundBlock, countedRule, Binds, goes, Meets}
 use Rattle.hold_reading.proofs.Grow.{newest-rule-below, bound-room, bound-rule, bound-key, beside-same, beside-rule, beside-key}
 use Rattle.hold_reading.proofs.Lift.{joined-none, none-bound, refused-by}
-use Rattle.apply_bindings.specs.Limits.{overCounted, Ready, Put}
+use Rattle.apply_bindings.specs.Limits.{bindingOver, EntryReady, Put}
 use Rattle.apply_bindings.proofs.Entries.{over-counted, within}
 use Rattle.hold_rules.specs.Tests.{OfRule, keyed, badKey}
 use Rattle.hold_rules.proofs.Lookups.{keyed-held, bad-held, key-short}
 
 -- ---- `rule NAME`
 
-rule-room : {log : List Logged} {texts bind : List ℕ} {c : Counts} {rd : Reading} → Bound log texts bind c rd → (n : List ℕ) → length n ≤ maxName → c .rules < maxRules
-    → Room log texts bind (c .entries) (logged ofRules n [])
+rule-room : {log : List Logged} {texts bind : List ℕ} {c : Counts} {rd : Reading} → HoldsBound log texts bind c rd → (n : List ℕ) → length n ≤ maxName → c .rules < maxRules
+    → EntryRoom log texts bind (c .entries) (logged ofRules n [])
 rule-room d n s l = bound-room d (logged ofRules n []) (omega (arith, d .entries-counted, d .few-bindings)) (omega (arith, d .few-written)) (omega arith) s
 
 pub start-room : {texts bind : List ℕ} {c : Counts} → SoundBlock texts bind c Nothing → (n : List ℕ) → length n ≤ maxName → c .rules < maxRules
@@ -41,7 +41,7 @@ start-room w n s l = record { log = w .log; room = rule-room (none-bound (w .kno
 
 -- t is the test of the name.
 module _ (start : ℕ) (n : List ℕ) {texts bind : List ℕ} {c : Counts} {t : Bool}
-    (e : (log : List Logged) (rd : Reading) → Bound log texts bind c rd → t ≡ declared n rd) where
+    (e : (log : List Logged) (rd : Reading) → HoldsBound log texts bind c rd → t ≡ declared n rd) where
   pub start-twice : {texts′ bind′ : List ℕ} → t ≡ true → Meets texts bind c Nothing (λ rd b. startRule start n rd) texts′ bind′ (Refused (BadRule start))
   unfolding startRule
   start-twice h = record { agrees = λ log rd b w. refused-by (rw (sym (e log rd (none-bound w)) ∙ h)) }
@@ -62,7 +62,7 @@ module _ (start : ℕ) (n : List ℕ) {texts bind : List ℕ} {c : Counts} {t : 
                 (rw (sym (e log rd d) ∙ h, le-ltb maxName (length n) s, le-leb maxRules (length (rd .rules)) (omega (arith, d .rules-counted))));
           }
 
-      pub start-goes : {texts′ bind′ : List ℕ} → c .rules < maxRules → ((log : List Logged) → Room log texts bind (c .entries) (logged ofRules n []) → HoldsBindings (logged ofRules n [] ∷ log) texts′ bind′ (c .entries + 1))
+      pub start-goes : {texts′ bind′ : List ℕ} → c .rules < maxRules → ((log : List Logged) → EntryRoom log texts bind (c .entries) (logged ofRules n []) → HoldsBindings (logged ofRules n [] ∷ log) texts′ bind′ (c .entries + 1))
           → Meets texts bind c Nothing (λ rd b. startRule start n rd) texts′ bind′ (Goes (countedRule c) (OpenRule start (c .entries)))
       unfolding joined startRule longerThan
       start-goes l p =
@@ -81,29 +81,29 @@ module _ (start : ℕ) (n : List ℕ) {texts bind : List ℕ} {c : Counts} {t : 
 
 -- the rule is declared at entry k, and its line starts at `head`
 module _ (start head k : ℕ) (n raw : List ℕ) {log : List Logged} {texts bind : List ℕ} {c : Counts} (rd : Reading) where
-  bad-test : (r : Rule) → newestRule log ≡ At k → Bound log texts bind c (withRule r rd) → not (ruleKey n) || hasKey n (r .keys) ≡ badKey k n log
+  bad-test : (r : Rule) → newestRule log ≡ At k → HoldsBound log texts bind c (withRule r rd) → not (ruleKey n) || hasKey n (r .keys) ≡ badKey k n log
   unfolding withRule
   bad-test r o d = bad-held log k r (rd .rules) o (d .rules) n
 
   -- A key that is not bad has a short name, so its limits are those of any binding.
-  over-test : (r : Rule) → Bound log texts bind c (withRule r rd) → length (rd .files) ≤ maxFiles → rd .mentions ≤ maxMentions → badKey k n log ≡ false
-      → longerThan maxValue raw || overCounts (countBinding (length raw) rd) ≡ overCounted (length n) (length raw) c
+  over-test : (r : Rule) → HoldsBound log texts bind c (withRule r rd) → length (rd .files) ≤ maxFiles → rd .mentions ≤ maxMentions → badKey k n log ≡ false
+      → longerThan maxValue raw || overCounts (countBinding (length raw) rd) ≡ bindingOver (length n) (length raw) c
   unfolding withRule badKey overBinding longerThan overCounts countBinding
   over-test r d f m h =
       let s : length n ≤ maxName = key-short n (not-false (ruleKey n) (or-left (not (ruleKey n)) (keyed k n log) h)) in
       rw (le-ltb maxName (length n) s) at (over-counted d f m n raw)
 
-  key-bad : {b : Block} → Opens log b (OpenRule head k) → Bound log texts bind c (joined rd b) → badKey k n log ≡ true → blockLine start b n raw rd ≡ refused (BadRule start)
+  key-bad : {b : Block} → OpensBlock log b (OpenRule head k) → HoldsBound log texts bind c (joined rd b) → badKey k n log ≡ true → blockLine start b n raw rd ≡ refused (BadRule start)
   unfolding joined blockLine addKey
   key-bad (aRule {r = r} o) d h = rw (bad-test r o d ∙ h)
 
-  key-over : {b : Block} → Opens log b (OpenRule head k) → Bound log texts bind c (joined rd b) → length (joined rd b .files) ≤ maxFiles → joined rd b .mentions ≤ maxMentions
-      → badKey k n log ≡ false → overCounted (length n) (length raw) c ≡ true → blockLine start b n raw rd ≡ refused (OverLimit start)
+  key-over : {b : Block} → OpensBlock log b (OpenRule head k) → HoldsBound log texts bind c (joined rd b) → length (joined rd b .files) ≤ maxFiles → joined rd b .mentions ≤ maxMentions
+      → badKey k n log ≡ false → bindingOver (length n) (length raw) c ≡ true → blockLine start b n raw rd ≡ refused (OverLimit start)
   unfolding joined withRule blockLine addKey
   key-over (aRule {r = r} o) d f m h q = rw (bad-test r o d ∙ h, over-test r d f m h ∙ q)
 
-  key-goes : {b : Block} → Opens log b (OpenRule head k) → Bound log texts bind c (joined rd b) → length (joined rd b .files) ≤ maxFiles → joined rd b .mentions ≤ maxMentions
-      → badKey k n log ≡ false → overCounted (length n) (length raw) c ≡ false → {texts′ bind′ : List ℕ} {c′ : Counts} → Put texts bind c (logged (ofKeys k) n raw) texts′ bind′ c′
+  key-goes : {b : Block} → OpensBlock log b (OpenRule head k) → HoldsBound log texts bind c (joined rd b) → length (joined rd b .files) ≤ maxFiles → joined rd b .mentions ≤ maxMentions
+      → badKey k n log ≡ false → bindingOver (length n) (length raw) c ≡ false → {texts′ bind′ : List ℕ} {c′ : Counts} → Put texts bind c (logged (ofKeys k) n raw) texts′ bind′ c′
       → Binds log c (joined rd b) texts′ bind′ (blockLine start b n raw rd) (Goes c′ (OpenRule head k))
   unfolding joined withRule blockLine addKey
   key-goes (aRule {r = r} o) d f m h q p =
@@ -123,7 +123,7 @@ module _ (start head k : ℕ) (n raw : List ℕ) {texts bind : List ℕ} {c : Co
       record { agrees = λ log rd b w. refused-by (key-bad start head k n raw rd (w .opens) (w .bound) (sym (e log (w .bound .held)) ∙ h)) }
 
   module _ (h : t ≡ false) where
-    pub keys-over : {texts′ bind′ : List ℕ} → overCounted (length n) (length raw) c ≡ true
+    pub keys-over : {texts′ bind′ : List ℕ} → bindingOver (length n) (length raw) c ≡ true
         → Meets texts bind c (OpenRule head k) (λ rd b. blockLine start b n raw rd) texts′ bind′ (Refused (OverLimit start))
     keys-over q =
         record {
@@ -132,7 +132,7 @@ module _ (start head k : ℕ) (n raw : List ℕ) {texts bind : List ℕ} {c : Co
               (key-over start head k n raw rd (w .opens) (w .bound) (w .few-files) (w .few-mentions) (sym (e log (w .bound .held)) ∙ h) q);
         }
 
-    pub keys-go : {texts′ bind′ : List ℕ} {c′ : Counts} → overCounted (length n) (length raw) c ≡ false → Put texts bind c (logged (ofKeys k) n raw) texts′ bind′ c′
+    pub keys-go : {texts′ bind′ : List ℕ} {c′ : Counts} → bindingOver (length n) (length raw) c ≡ false → Put texts bind c (logged (ofKeys k) n raw) texts′ bind′ c′
         → Meets texts bind c (OpenRule head k) (λ rd b. blockLine start b n raw rd) texts′ bind′ (Goes c′ (OpenRule head k))
     keys-go q p =
         record {
@@ -143,21 +143,21 @@ module _ (start head k : ℕ) (n raw : List ℕ) {texts bind : List ℕ} {c : Co
 -- ---- the end of a block
 
 module _ {log : List Logged} {texts bind : List ℕ} {c : Counts} (rd : Reading) where
-  close-rule : (head k : ℕ) {b : Block} → Opens log b (OpenRule head k) → Bound log texts bind c (joined rd b) → keyed k (bytes "command") log ≡ true
+  close-rule : (head k : ℕ) {b : Block} → OpensBlock log b (OpenRule head k) → HoldsBound log texts bind c (joined rd b) → keyed k (bytes "command") log ≡ true
       → Binds log c (joined rd b) texts bind (close rd b) (Goes c Nothing)
   unfolding joined withRule close
   close-rule head k (aRule {r = r} o) d h = rw (keyed-held log k r (rd .rules) o (d .rules) (bytes "command") ∙ h) (goes [] d nothing beside-same)
 
-  no-command : (head k : ℕ) {b : Block} → Opens log b (OpenRule head k) → Bound log texts bind c (joined rd b) → keyed k (bytes "command") log ≡ false
+  no-command : (head k : ℕ) {b : Block} → OpensBlock log b (OpenRule head k) → HoldsBound log texts bind c (joined rd b) → keyed k (bytes "command") log ≡ false
       → close rd b ≡ refused (BadRule head)
   unfolding joined withRule close
   no-command head k (aRule {r = r} o) d h = rw (keyed-held log k r (rd .rules) o (d .rules) (bytes "command") ∙ h)
 
-  close-none : {b : Block} → Opens log b Nothing → Bound log texts bind c (joined rd b) → Binds log c (joined rd b) texts bind (close rd b) (Goes c Nothing)
+  close-none : {b : Block} → OpensBlock log b Nothing → HoldsBound log texts bind c (joined rd b) → Binds log c (joined rd b) texts bind (close rd b) (Goes c Nothing)
   unfolding joined close
   close-none nothing d = goes [] d nothing beside-same
 
-  close-step : {b : Block} → Opens log b OpenStep → Bound log texts bind c (joined rd b) → Binds log c (joined rd b) texts bind (close rd b) (Goes c Nothing)
+  close-step : {b : Block} → OpensBlock log b OpenStep → HoldsBound log texts bind c (joined rd b) → Binds log c (joined rd b) texts bind (close rd b) (Goes c Nothing)
   unfolding joined close
   close-step aStep d = goes [] d nothing beside-same
 
@@ -178,7 +178,7 @@ module _ {texts bind : List ℕ} {c : Counts} where
 
 -- ---- what the lookups ask
 
-open-below : {log : List Logged} {b : Block} {head k : ℕ} → Opens log b (OpenRule head k) → k < length log
+open-below : {log : List Logged} {b : Block} {head k : ℕ} → OpensBlock log b (OpenRule head k) → k < length log
 open-below {log} {k = k} (aRule o) = newest-rule-below log k o
 
 pub of-rule : {texts bind : List ℕ} {c : Counts} {head k : ℕ} → SoundBlock texts bind c (OpenRule head k) → OfRule texts bind (c .entries) k
@@ -188,8 +188,8 @@ of-rule s =
       below = omega (arith, open-below (s .known .opens), s .known .bound .held .rows .counted);
     }
 
-pub key-ready : {texts bind : List ℕ} {c : Counts} {head k : ℕ} → SoundBlock texts bind c (OpenRule head k) → (n raw : List ℕ) → overCounted (length n) (length raw) c ≡ false
-    → Ready texts bind c (logged (ofKeys k) n raw)
+pub key-ready : {texts bind : List ℕ} {c : Counts} {head k : ℕ} → SoundBlock texts bind c (OpenRule head k) → (n raw : List ℕ) → bindingOver (length n) (length raw) c ≡ false
+    → EntryReady texts bind c (logged (ofKeys k) n raw)
 key-ready {k = k} s n raw q =
     let p = of-rule s in
     record {

@@ -27,15 +27,15 @@ use Rattle.hold_reading.specs.declared.Open.{Open}
 use Rattle.hold_reading.specs.declared.Open.the-variants.{Nothing}
 use Rattle.hold_reading.specs.declared.LineAnswer.{LineAnswer}
 use Rattle.hold_reading.specs.declared.LineAnswer.the-variants.{Goes, Refused}
-use Rattle.hold_reading.specs.Held.{joined, Opens, nothing, HoldsReading, refuses}
+use Rattle.hold_reading.specs.Held.{joined, OpensBlock, nothing, HoldsReading, refuses}
 use Rattle.hold_reading.specs.Binds.{SoundBlock, Meets}
 use Rattle.hold_reading.specs.Adds.{Whole, AddsFiles}
 use Rattle.hold_reading.proofs.Lift.{met, sound, joined-none}
 use Rattle.hold_reading.proofs.Agreement.{agreed-on, agreed-refused}
-use Rattle.apply_variables.specs.Asks.{Asks as ValueAsks}
+use Rattle.apply_variables.specs.Asks.{BindingAsks as ValueAsks}
 use Rattle.apply_builds.specs.Asks.{BuildAsks}
 use Rattle.apply_defaults.specs.Asks.{DefaultAsks}
-use Rattle.apply_statements.specs.Asks.{Between, LineAsks, LineMeets}
+use Rattle.apply_statements.specs.Asks.{BetweenLines, LineAsks, LineMeets}
 use Rattle.hold_reading.specs.Buffers.{Buffers, withFiles, withBindings}
 
 -- ---- lines that bind, and lines that mention files
@@ -59,10 +59,10 @@ module _ {bs : Buffers} {c : Counts} where
 
   -- ---- what is held when no block is open
 
-  pub between-sound : {o : Open} → Between bs c o → SoundBlock (bs .texts) (bs .bind) c o
+  pub between-sound : {o : Open} → BetweenLines bs c o → SoundBlock (bs .texts) (bs .bind) c o
   between-sound w = sound (w .reading) (w .holds) (w .opens)
 
-  pub between-whole : Between bs c Nothing → Whole bs c
+  pub between-whole : BetweenLines bs c Nothing → Whole bs c
   between-whole w = record { log = w .log; reading = w .reading; holds = rw (joined-none (w .reading) (w .opens)) at (w .holds) }
 
 -- ---- a form
@@ -160,7 +160,7 @@ close-none rd (ruleBlock k r) {rd′} {b′} e =
 close-none rd (buildBlock s) e = cc
 
 module _ {bs : Buffers} {c d : Counts} {o o′ : Open} (m : Meets (bs .texts) (bs .bind) c o close (bs .texts) (bs .bind) (Goes d o′)) where
-  closed : {log : List Logged} (rd : Reading) (b : Block) → HoldsReading log bs c (joined rd b) → Opens log b o → Closed bs d (close rd b)
+  closed : {log : List Logged} (rd : Reading) (b : Block) → HoldsReading log bs c (joined rd b) → OpensBlock log b o → Closed bs d (close rd b)
   closed rd b h p =
       let g = agreed-on (met rd h p m) in
       let n : g .block ≡ noBlock = close-none rd b (g .outcome) in

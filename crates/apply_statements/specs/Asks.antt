@@ -10,31 +10,31 @@ use Rattle.cut_refusals.specs.Cuts.{CutAsks}
 use Rattle.hold_reading.specs.declared.Counts.{Counts}
 use Rattle.hold_reading.specs.declared.Open.{Open}
 use Rattle.hold_reading.specs.declared.LineAnswer.{LineAnswer}
-use Rattle.hold_reading.specs.Held.{joined, Opens, HoldsReading, Agrees}
-use Rattle.apply_equal_outputs.specs.Kept.{columnsEnd}
+use Rattle.hold_reading.specs.Held.{joined, OpensBlock, HoldsReading, Agrees}
+use Rattle.apply_equal_outputs.specs.Kept.{tableStart}
 use Rattle.hold_reading.specs.Buffers.{Buffers}
 
 -- room that no line uses up: for all names, for one word, and behind the columns of the graph
-pub record Room (names graph word : List ℕ) : Type 0 where
+pub record LinesRoom (names graph word : List ℕ) : Type 0 where
   pub names-room : maxWritten ≤ length names
-  pub scratch : columnsEnd + maxManifest ≤ length graph
+  pub scratch : tableStart + maxManifest ≤ length graph
   pub word-room : maxValue ≤ length word
 
 -- the buffers hold some reading and its open block
-pub record Between (bs : Buffers) (c : Counts) (o : Open) : Type 0 where
+pub record BetweenLines (bs : Buffers) (c : Counts) (o : Open) : Type 0 where
   pub log : List Logged
   pub reading : Reading
   pub block : Block
   pub holds : HoldsReading log bs c (joined reading block)
-  pub opens : Opens log block o
+  pub opens : OpensBlock log block o
 
 pub record LineAsks (t : List ℕ) (start : ℕ) (l : List ℕ) (bs : Buffers) (word : List ℕ) (c : Counts) (o : Open) : Type 0 where
   pub cut : CutAsks t start l
-  pub room : Room (bs .names) (bs .graph) word
-  pub between : Between bs c o
+  pub room : LinesRoom (bs .names) (bs .graph) word
+  pub between : BetweenLines bs c o
 
 -- The line's answer agrees with its outcome, whatever reading and block were held.
 pub record LineMeets (bs : Buffers) (c : Counts) (o : Open) (line : Reading → Block → Outcome)
     (bs′ : Buffers) (r : LineAnswer) : Type 0 where
-  pub agrees : (log : List Logged) (rd : Reading) (b : Block) → HoldsReading log bs c (joined rd b) → Opens log b o
+  pub agrees : (log : List Logged) (rd : Reading) (b : Block) → HoldsReading log bs c (joined rd b) → OpensBlock log b o
       → Agrees bs′ (line rd b) r

@@ -8,10 +8,10 @@ use Rattle.lists.specs.Parts.{part, part-cons, part-none}
 use Rattle.spec.specs.Limits.{maxFiles}
 use Rattle.hold_columns.specs.Columns.{outsEnd, endPlace}
 use Rattle.hold_reading.specs.Held.{endIn, phonyStart, madeStart, ruleStart}
-use Rattle.apply_files.specs.Lines.{Line, Columns}
+use Rattle.apply_files.specs.Lines.{LineHeld, Columns}
 use Rattle.apply_files.proofs.Columns.{graph-long, mentions-fit, made-fit, set-made, read-mention, read-end, push-phony, push-rule}
 use Rattle.hold_reading.specs.declared.Counts.{Counts}
-use Rattle.apply_step_columns.specs.StepColumns.{setAll, Laid, Part, MakeAsks, Makes, Ready, PutStepAsks, newestEnd, phonyBit, withRule, countedStep, PutsStep}
+use Rattle.apply_step_columns.specs.StepColumns.{setAll, Laid, Part, MakeAsks, MarksMade, StepReady, PutStepAsks, newestEnd, phonyBit, withStepRule, countedStep, PutsStep}
 
 pub length-set-all : (v : ℕ) (fs made : List ℕ) → length (setAll v fs made) ≡ length made
 unfolding setAll
@@ -21,7 +21,7 @@ length-set-all v (f ∷ fs) made = length-set-all v fs (set made f v) ∙ length
 -- ---- the loop
 
 -- of a line that was held: its makers now, and what is left
-pub record Left (graph : List ℕ) (i to v : ℕ) (from : ℕ) (h : Line) : Type 0 where
+pub record Left (graph : List ℕ) (i to v : ℕ) (from : ℕ) (h : LineHeld) : Type 0 where
   pub made : List ℕ
   pub columns : Columns graph (h .mentions) (h .ends) (h .phony) made (h .ruleOf) (h .reading .defaults)
   pub long : length made ≡ length (h .made)
@@ -32,7 +32,7 @@ pub record Making (graph₀ : List ℕ) (from to v : ℕ) (graph : List ℕ) (i 
   pub long : length graph ≡ length graph₀
   pub begun : from ≤ i
   pub within : i ≤ to
-  pub lines : (h : Line) → Laid graph₀ h → Part from to h → Left graph i to v from h
+  pub lines : (h : LineHeld) → Laid graph₀ h → Part from to h → Left graph i to v from h
 
 pub make-begin : {graph : List ℕ} {from to v : ℕ} → MakeAsks graph from to v → Making graph from to v graph from
 make-begin a =
@@ -52,10 +52,10 @@ module _ {graph₀ : List ℕ} {from to v : ℕ} {graph : List ℕ} {i : ℕ} (x
   make-in b = omega (arith, x .asks .some .within, graph-long (here .columns), mentions-fit (here .columns))
 
   module _ (b : i < to) {f : ℕ} (e : f ≡ getD graph i 0) where
-    is-mention : (h : Line) → Laid graph₀ h → Part from to h → f ≡ getD (h .mentions) i 0
+    is-mention : (h : LineHeld) → Laid graph₀ h → Part from to h → f ≡ getD (h .mentions) i 0
     is-mention h l p = e ∙ read-mention (x .lines h l p .columns) i (omega (arith, p .within))
 
-    file-low : (h : Line) → Laid graph₀ h → Part from to h → f < length (h .made)
+    file-low : (h : LineHeld) → Laid graph₀ h → Part from to h → f < length (h .made)
     file-low h l p = rw (is-mention h l p) (p .low i (omega (arith, p .within)))
 
     pub make-low : f < maxFiles
@@ -82,7 +82,7 @@ module _ {graph₀ : List ℕ} {from to v : ℕ} {graph : List ℕ} {i : ℕ} (x
               };
         }
 
-  pub make-end : to ≤ i → Makes graph₀ from to v graph
+  pub make-end : to ≤ i → MarksMade graph₀ from to v graph
   unfolding setAll
   make-end b =
       record {
@@ -99,14 +99,14 @@ phony-low (suc n) = omega arith
 
 module _ {graph : List ℕ} {from : ℕ} {c : Counts} {to : ℕ} (e : to ≡ endIn graph (c .steps) outsEnd) where
   -- where the outputs end is the same for all lines held
-  put-end : (h : Line) → Laid graph h → Ready from c h → to ≡ newestEnd c h
+  put-end : (h : LineHeld) → Laid graph h → StepReady from c h → to ≡ newestEnd c h
   put-end h l r = e ∙ read-end l (endPlace (c .steps) outsEnd) (r .ended)
 
   pub put-make : {n : ℕ} → PutStepAsks graph from n c → MakeAsks graph from to (c .steps + 1)
   put-make a =
       record { line = a .line; laid = a .laid; some = rw (put-end (a .line) (a .laid) (a .ready)) (a .ready .outs); small = omega (arith, a .ready .few) }
 
-  module _ {n : ℕ} {graph₁ : List ℕ} (m : Makes graph from to (c .steps + 1) graph₁) {b : ℕ} (q : b ≡ phonyBit n) where
+  module _ {n : ℕ} {graph₁ : List ℕ} (m : MarksMade graph from to (c .steps + 1) graph₁) {b : ℕ} (q : b ≡ phonyBit n) where
     -- the places are low, for the stores
     pub put-first : PutStepAsks graph from n c → (phonyStart + c .steps < length graph₁) × (b < 4294967296)
     put-first a =
@@ -120,7 +120,7 @@ module _ {graph : List ℕ} {from : ℕ} {c : Counts} {to : ℕ} (e : to ≡ end
           (omega (arith, graph-long k, a .ready .few, ap length g ∙ length-set graph₁ (phonyStart + c .steps) b), omega (arith, a .small))
 
       pub put-done : {graph′ : List ℕ} → graph′ ≡ set graph₂ (ruleStart + c .steps) n → PutsStep graph from n c graph′ (countedStep c)
-      unfolding withRule
+      unfolding withStepRule
       put-done f =
           record {
             laid = λ h l r.

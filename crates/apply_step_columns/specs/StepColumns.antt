@@ -13,7 +13,7 @@ use Rattle.hold_bindings.specs.Log.{Logged, ofRules, newest}
 use Rattle.hold_bindings.specs.Held.{maxEntries}
 use Rattle.hold_columns.specs.Columns.{outsEnd, endPlace, endAt}
 use Rattle.hold_reading.specs.declared.Counts.{Counts}
-use Rattle.apply_files.specs.Lines.{Line, Columns}
+use Rattle.apply_files.specs.Lines.{LineHeld, Columns}
 
 -- ------------------------------------------------------------------ the rule's number
 
@@ -33,10 +33,10 @@ setAll v [] made = made
 setAll v (f ∷ fs) made = setAll v fs (set made f v)
 
 -- the columns of a line lie in the graph
-abbrev pub Laid : List ℕ → Line → Type 0
+abbrev pub Laid : List ℕ → LineHeld → Type 0
 Laid graph h = Columns graph (h .mentions) (h .ends) (h .phony) (h .made) (h .ruleOf) (h .reading .defaults)
 
-abbrev pub withMade : ℕ → List ℕ → Line → Line
+abbrev pub withMade : ℕ → List ℕ → LineHeld → LineHeld
 withMade v fs h =
     record {
       log = h .log;
@@ -49,28 +49,28 @@ withMade v fs h =
     }
 
 -- a part of the mentions is of files that are there
-pub record Part (from to : ℕ) (h : Line) : Type 0 where
+pub record Part (from to : ℕ) (h : LineHeld) : Type 0 where
   pub ordered : from ≤ to
   pub within : to ≤ length (h .mentions)
   pub low : (i : ℕ) → i < length (h .mentions) → getD (h .mentions) i 0 < length (h .made)
 
 pub record MakeAsks (graph : List ℕ) (from to v : ℕ) : Type 0 where
-  pub line : Line
+  pub line : LineHeld
   pub laid : Laid graph line
   pub some : Part from to line
   pub small : v < 2 ^ 32
 
-pub record Makes (graph : List ℕ) (from to v : ℕ) (graph′ : List ℕ) : Type 0 where
-  pub laid : (h : Line) → Laid graph h → Part from to h → Laid graph′ (withMade v (part (h .mentions) from to) h)
+pub record MarksMade (graph : List ℕ) (from to v : ℕ) (graph′ : List ℕ) : Type 0 where
+  pub laid : (h : LineHeld) → Laid graph h → Part from to h → Laid graph′ (withMade v (part (h .mentions) from to) h)
 
 -- ------------------------------------------------------------------ the step
 
 -- where the outputs of the newest step end
-abbrev pub newestEnd : Counts → Line → ℕ
+abbrev pub newestEnd : Counts → LineHeld → ℕ
 newestEnd c h = endAt (h .ends) (c .steps) outsEnd
 
 -- the line has its ends, its outputs start at `from`, and there is room for its step
-pub record Ready (from : ℕ) (c : Counts) (h : Line) : Type 0 where
+pub record StepReady (from : ℕ) (c : Counts) (h : LineHeld) : Type 0 where
   pub ended : endPlace (c .steps) outsEnd < length (h .ends)
   pub outs : Part from (newestEnd c h) h
   pub phony : length (h .phony) ≡ c .steps
@@ -78,9 +78,9 @@ pub record Ready (from : ℕ) (c : Counts) (h : Line) : Type 0 where
   pub few : c .steps < maxSteps
 
 pub record PutStepAsks (graph : List ℕ) (from n : ℕ) (c : Counts) : Type 0 where
-  pub line : Line
+  pub line : LineHeld
   pub laid : Laid graph line
-  pub ready : Ready from c line
+  pub ready : StepReady from c line
   pub small : n ≤ maxEntries
 
 -- phony or not, as a number, by the rule's number
@@ -88,9 +88,9 @@ abbrev pub phonyBit : ℕ → ℕ
 phonyBit zero = 1
 phonyBit (suc n) = 0
 
-unfoldable pub withRule : ℕ → ℕ → Counts → Line → Line
+unfoldable pub withStepRule : ℕ → ℕ → Counts → LineHeld → LineHeld
 unfolding setAll
-withRule from n c h =
+withStepRule from n c h =
     record {
       log = h .log;
       reading = h .reading;
@@ -116,5 +116,5 @@ countedStep c =
     }
 
 pub record PutsStep (graph : List ℕ) (from n : ℕ) (c : Counts) (graph′ : List ℕ) (r : Counts) : Type 0 where
-  pub laid : (h : Line) → Laid graph h → Ready from c h → Laid graph′ (withRule from n c h)
+  pub laid : (h : LineHeld) → Laid graph h → StepReady from c h → Laid graph′ (withStepRule from n c h)
   pub counted : r ≡ countedStep c

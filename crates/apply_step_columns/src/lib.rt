@@ -3,7 +3,7 @@ ghost use mathlib.Core.Path.{_≡_};
 ghost use mathlib.Core.List.{List};
 ghost use Rattle.hold_bindings.specs.Log.{Logged};
 ghost use Rattle.hold_bindings.specs.Held.{HoldsBindings, SoundBindings};
-ghost use Rattle.apply_step_columns.specs.StepColumns.{ruleNumber, phonyBit, MakeAsks, Makes, PutStepAsks, PutsStep};
+ghost use Rattle.apply_step_columns.specs.StepColumns.{ruleNumber, phonyBit, MakeAsks, MarksMade, PutStepAsks, PutsStep};
 use arena::put;
 use byteorder::equal;
 use hold_bindings::FoundEntry;
@@ -33,7 +33,7 @@ pub fn rule_number(name: &[u8], texts: &[u8], bind: &[u32], count: usize) -> usi
 // The files from one place of the mentions to another are made by v.
 fn make(graph: &mut [u32], from: usize, to: usize, v: usize)
     requires { ⌜ MakeAsks (now graph) from to v ⌝ }
-    ensures { λ _. ⌜ Makes (now (graph .entry)) from to v (now (graph .exit)) ⌝ }
+    ensures { λ _. ⌜ MarksMade (now (graph .entry)) from to v (now (graph .exit)) ⌝ }
 {
     let mut i = from;
     while i < to {

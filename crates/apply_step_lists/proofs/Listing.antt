@@ -1,4 +1,4 @@
--- Lists of a line, one after another: what they come to, and one law for each answer.
+-- MentionsList of a line, one after another: what they come to, and one law for each answer.
 use Prim.Native.Nat.{ℕ, _+_, _<_}
 use mathlib.Core.Bool.{true, false}
 use mathlib.Core.List.{List, [], _∷_, _++_, append-assoc, append-nil}
@@ -14,14 +14,14 @@ use Rattle.apply_files.specs.declared.Mentioned.{Mentioned}
 use Rattle.apply_files.specs.declared.Mentioned.the-variants.{On, Over}
 use Rattle.hold_columns.specs.Columns.{outsEnd, implicitEnd, endPlace}
 use Rattle.hold_reading.specs.Held.{maxEnds, endsStart}
-use Rattle.apply_files.specs.Lines.{Line, Writing, withPaths, overLine}
+use Rattle.apply_files.specs.Lines.{LineHeld, Writing, withPaths, overLine}
 use Rattle.apply_mentions.specs.Asks as mentions
-use Rattle.apply_mentions.specs.Asks.{Room, MentionsAll}
+use Rattle.apply_mentions.specs.Asks.{MentionRoom, MentionsAll}
 use Rattle.apply_files.proofs.Columns.{push-end}
 use Rattle.apply_files.proofs.Limits.{line-later, short-append, mentioned-append, mentioned-none}
 use Rattle.apply_mentions.proofs.Passing.{marks-on, marks-short, marks-over, expanded-same}
 use Rattle.apply_mentions.proofs.Closed.{paths-reading, paths-ends}
-use Rattle.apply_step_lists.specs.Lists.{withEnd, withLists, Listed, on, over, ListAsks, Lists, TwoAsks, Two, FourAsks, Four}
+use Rattle.apply_step_lists.specs.Lists.{withEnd, withLists, ListsMentioned, on, over, StepListAsks, MentionsList, TwoAsks, Two, FourAsks, Four}
 use Rattle.hold_reading.specs.Buffers.{Buffers, withFiles, withGraph}
 
 -- ---- what lists come to
@@ -31,12 +31,12 @@ unfolding concat
 concat-append [] b = refl
 concat-append (x ∷ a) b = ap (λ (r : List (List ℕ)). x ++ r) (concat-append a b) ∙ sym (append-assoc x (concat a) (concat b))
 
-lists-append : (a b : List (List (List ℕ))) (h : Line) → withLists (a ++ b) h ≡ withLists b (withLists a h)
+lists-append : (a b : List (List (List ℕ))) (h : LineHeld) → withLists (a ++ b) h ≡ withLists b (withLists a h)
 unfolding withLists
 lists-append [] b h = refl
 lists-append (x ∷ a) b h = lists-append a b (withEnd (withPaths x h))
 
-pub lists-reading : (pss : List (List (List ℕ))) (h : Line) → withLists pss h .reading ≡ mentioned (concat pss) (h .reading)
+pub lists-reading : (pss : List (List (List ℕ))) (h : LineHeld) → withLists pss h .reading ≡ mentioned (concat pss) (h .reading)
 unfolding withLists withEnd concat
 lists-reading [] h = sym (mentioned-none (h .reading))
 lists-reading (ps ∷ pss) h =
@@ -44,7 +44,7 @@ lists-reading (ps ∷ pss) h =
     ∙ ap (mentioned (concat pss)) (paths-reading ps h)
     ∙ sym (mentioned-append ps (concat pss) (h .reading))
 
-pub lists-ended : (pss : List (List (List ℕ))) (h : Line) → length (withLists pss h .ends) ≡ length (h .ends) + length pss
+pub lists-ended : (pss : List (List (List ℕ))) (h : LineHeld) → length (withLists pss h .ends) ≡ length (h .ends) + length pss
 unfolding withLists withEnd
 lists-ended [] h = omega arith
 lists-ended (ps ∷ pss) h =
@@ -52,25 +52,25 @@ lists-ended (ps ∷ pss) h =
     omega (arith, k, length-append (withPaths ps h .ends) (length (withPaths ps h .mentions) ∷ []), ap length (paths-ends ps h))
 
 -- the file's variables stay
-pub lists-vars : (pss : List (List (List ℕ))) (h : Line) → withLists pss h .reading .vars ≡ h .reading .vars
+pub lists-vars : (pss : List (List (List ℕ))) (h : LineHeld) → withLists pss h .reading .vars ≡ h .reading .vars
 unfolding mentioned
 lists-vars pss h = ap (λ (rd : Reading). rd .vars) (lists-reading pss h)
 
 -- ---- answers
 
-module _ {bs : Buffers} {h : Line} {pss : List (List (List ℕ))} where
-  pub listed-on : {c : Counts} → Listed bs h pss (On c) → Writing bs c (withLists pss h)
+module _ {bs : Buffers} {h : LineHeld} {pss : List (List (List ℕ))} where
+  pub listed-on : {c : Counts} → ListsMentioned bs h pss (On c) → Writing bs c (withLists pss h)
   listed-on (on w s) = w
 
-  pub listed-short : {c : Counts} → Listed bs h pss (On c) → overPaths (concat pss) ≡ false
+  pub listed-short : {c : Counts} → ListsMentioned bs h pss (On c) → overPaths (concat pss) ≡ false
   listed-short (on w s) = s
 
-  pub listed-over : Listed bs h pss Over → (more : List (List ℕ)) → overLine (concat pss ++ more) (h .reading) ≡ true
+  pub listed-over : ListsMentioned bs h pss Over → (more : List (List ℕ)) → overLine (concat pss ++ more) (h .reading) ≡ true
   listed-over (over f) = f
 
-module _ {bs : Buffers} (h : Line) (a b : List (List (List ℕ))) where
+module _ {bs : Buffers} (h : LineHeld) (a b : List (List (List ℕ))) where
   -- some lists, then others
-  listed-then : {r : Mentioned} → overPaths (concat a) ≡ false → Listed bs (withLists a h) b r → Listed bs h (a ++ b) r
+  listed-then : {r : Mentioned} → overPaths (concat a) ≡ false → ListsMentioned bs (withLists a h) b r → ListsMentioned bs h (a ++ b) r
   listed-then q (on {c = c} w s) = on {c = c} (rw (lists-append a b h) w) (rw (concat-append a b) (short-append (concat a) (concat b) q s))
   listed-then q (over f) =
       over
@@ -78,13 +78,13 @@ module _ {bs : Buffers} (h : Line) (a b : List (List (List ℕ))) where
       rw (concat-append a b, append-assoc (concat a) (concat b) more)
       (line-later (concat a) (concat b ++ more) (h .reading) (rw (← (lists-reading a h)) (f more))))
 
-  listed-stop : Listed bs h a Over → Listed bs h (a ++ b) Over
+  listed-stop : ListsMentioned bs h a Over → ListsMentioned bs h (a ++ b) Over
   listed-stop x =
       over (λ more. rw (concat-append a b, append-assoc (concat a) (concat b) more) (listed-over x (concat b ++ more)))
 
 -- ---- one list
 
-module _ {bs : Buffers} {graph′ : List ℕ} {c : Counts} {h : Line} (w : Writing bs c h) where
+module _ {bs : Buffers} {graph′ : List ℕ} {c : Counts} {h : LineHeld} (w : Writing bs c h) where
   ended-on : {e : ℕ} → length (h .ends) ≡ e → e < maxEnds → graph′ ≡ set (bs .graph) (endsStart + e) (c .paths) → Writing (withGraph bs graph′) c (withEnd h)
   unfolding withEnd
   ended-on q b g =
@@ -106,7 +106,7 @@ concat-one ps = append-nil ps
 
 module _ {l : List ℕ} {at : ℕ} {bs : Buffers} {c : Counts} {names′ index′ graph₁ : List ℕ} where
   pub one-on : {d : Counts} → MentionsAll l at bs c names′ index′ graph₁ (On d) → {e : ℕ} {graph′ : List ℕ} → e < maxEnds
-      → graph′ ≡ set graph₁ (endsStart + e) (d .paths) → Lists l at e bs c names′ index′ graph′ (On d)
+      → graph′ ≡ set graph₁ (endsStart + e) (d .paths) → MentionsList l at e bs c names′ index′ graph′ (On d)
   unfolding withLists
   one-on m b g =
       record {
@@ -116,26 +116,26 @@ module _ {l : List ℕ} {at : ℕ} {bs : Buffers} {c : Counts} {names′ index�
             on (ended-on (marks-on k) (ap length (paths-ends ps h) ∙ q) b g) (rw (concat-one ps) (marks-short k));
       }
 
-  pub one-over : MentionsAll l at bs c names′ index′ graph₁ Over → {e : ℕ} → Lists l at e bs c names′ index′ graph₁ Over
+  pub one-over : MentionsAll l at bs c names′ index′ graph₁ Over → {e : ℕ} → MentionsList l at e bs c names′ index′ graph₁ Over
   one-over m =
       record { listed = λ raw s h w q. over (λ more. rw (concat-one (expanded (h .reading) raw)) (marks-over (m .marks raw s h w) more)) }
 
 -- what is held of the line then, for the store
-pub one-held : {t l : List ℕ} {bs : Buffers} {word : List ℕ} {c : Counts} {at : ℕ} (a : mentions.ListAsks t l bs word c at)
+pub one-held : {t l : List ℕ} {bs : Buffers} {word : List ℕ} {c : Counts} {at : ℕ} (a : mentions.MentionListAsks t l bs word c at)
     → {names′ index′ graph′ : List ℕ} {d : Counts} → MentionsAll l at bs c names′ index′ graph′ (On d)
     → Writing (withFiles bs names′ index′ graph′) d (withPaths (expanded (a .line .reading) (a .raw)) (a .line))
 one-held a m = marks-on (m .marks (a .raw) (a .stands) (a .line) (a .writing))
 
 -- ---- room is kept
 
-pub room-kept : {names word names′ word′ : List ℕ} → Room names word → length names′ ≡ length names → length word′ ≡ length word → Room names′ word′
+pub room-kept : {names word names′ word′ : List ℕ} → MentionRoom names word → length names′ ≡ length names → length word′ ≡ length word → MentionRoom names′ word′
 room-kept r a b = record { names-long = omega (arith, r .names-long, a); word-long = omega (arith, r .word-long, b) }
 
 -- ---- two lists
 
 module _ {l : List ℕ} {at next e : ℕ} {bs : Buffers} {c : Counts} {names₁ index₁ graph₁ : List ℕ} where
-  pub two-on : {d : Counts} {names′ index′ graph′ : List ℕ} {r : Mentioned} → Lists l at e bs c names₁ index₁ graph₁ (On d)
-      → Lists l next (e + 1) (withFiles bs names₁ index₁ graph₁) d names′ index′ graph′ r → Two l at next e bs c names′ index′ graph′ r
+  pub two-on : {d : Counts} {names′ index′ graph′ : List ℕ} {r : Mentioned} → MentionsList l at e bs c names₁ index₁ graph₁ (On d)
+      → MentionsList l next (e + 1) (withFiles bs names₁ index₁ graph₁) d names′ index′ graph′ r → Two l at next e bs c names′ index′ graph′ r
   two-on x y =
       record {
         listed = λ first second s₁ s₂ h w q.
@@ -146,7 +146,7 @@ module _ {l : List ℕ} {at next e : ℕ} {bs : Buffers} {c : Counts} {names₁ 
             listed-then h a (expanded (h .reading) second ∷ []) (listed-short k) (rw z at m);
       }
 
-  pub two-over : Lists l at e bs c names₁ index₁ graph₁ Over → Two l at next e bs c names₁ index₁ graph₁ Over
+  pub two-over : MentionsList l at e bs c names₁ index₁ graph₁ Over → Two l at next e bs c names₁ index₁ graph₁ Over
   two-over x =
       record {
         listed = λ first second s₁ s₂ h w q.
@@ -154,7 +154,7 @@ module _ {l : List ℕ} {at next e : ℕ} {bs : Buffers} {c : Counts} {names₁ 
       }
 
 module _ {t l : List ℕ} {bs : Buffers} {word : List ℕ} {c : Counts} {at next e : ℕ} (a : TwoAsks t l bs word c at next e) where
-  pub two-first : ListAsks t l bs word c at e
+  pub two-first : StepListAsks t l bs word c at e
   two-first =
       record {
         asks = record { table = a .table; short = a .short; raw = a .first; stands = a .first-stands; room = a .room; line = a .line; writing = a .writing };
@@ -163,7 +163,7 @@ module _ {t l : List ℕ} {bs : Buffers} {word : List ℕ} {c : Counts} {at next
       }
 
   pub two-second : {names′ index′ graph′ word′ : List ℕ} {d : Counts} → length names′ ≡ length (bs .names) → length word′ ≡ length word
-      → Lists l at e bs c names′ index′ graph′ (On d) → ListAsks t l (withFiles bs names′ index′ graph′) word′ d next (e + 1)
+      → MentionsList l at e bs c names′ index′ graph′ (On d) → StepListAsks t l (withFiles bs names′ index′ graph′) word′ d next (e + 1)
   two-second p q x =
       let pss = expanded (a .line .reading) (a .first) ∷ [] in
       record {

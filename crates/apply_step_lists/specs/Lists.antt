@@ -17,13 +17,13 @@ use Rattle.hold_reading.specs.declared.Counts.{Counts}
 use Rattle.hold_reading.specs.Held.{maxEnds}
 use Rattle.apply_files.specs.declared.Mentioned.{Mentioned}
 use Rattle.apply_files.specs.declared.Mentioned.the-variants.{On, Over}
-use Rattle.apply_files.specs.Lines.{Line, Writing, withPaths, overLine}
+use Rattle.apply_files.specs.Lines.{LineHeld, Writing, withPaths, overLine}
 use Rattle.apply_mentions.specs.Asks as mentions
-use Rattle.apply_mentions.specs.Asks.{Room}
+use Rattle.apply_mentions.specs.Asks.{MentionRoom}
 use Rattle.hold_reading.specs.Buffers.{Buffers, withFiles}
 
 -- an end more, where the mentions end
-unfoldable pub withEnd : Line → Line
+unfoldable pub withEnd : LineHeld → LineHeld
 withEnd h =
     record {
       log = h .log;
@@ -35,25 +35,25 @@ withEnd h =
       ruleOf = h .ruleOf;
     }
 
-unfoldable pub withLists : List (List (List ℕ)) → Line → Line
+unfoldable pub withLists : List (List (List ℕ)) → LineHeld → LineHeld
 withLists [] h = h
 withLists (ps ∷ pss) h = withLists pss (withEnd (withPaths ps h))
 
 -- The lists are mentioned, or the line is over a limit, whatever it mentions after them.
-pub data Listed (bs : Buffers) (h : Line) (pss : List (List (List ℕ))) : Mentioned → Type 0 where
-  on : {c : Counts} → Writing bs c (withLists pss h) → overPaths (concat pss) ≡ false → Listed bs h pss (On c)
-  over : ((more : List (List ℕ)) → overLine (concat pss ++ more) (h .reading) ≡ true) → Listed bs h pss Over
+pub data ListsMentioned (bs : Buffers) (h : LineHeld) (pss : List (List (List ℕ))) : Mentioned → Type 0 where
+  on : {c : Counts} → Writing bs c (withLists pss h) → overPaths (concat pss) ≡ false → ListsMentioned bs h pss (On c)
+  over : ((more : List (List ℕ)) → overLine (concat pss ++ more) (h .reading) ≡ true) → ListsMentioned bs h pss Over
 
 -- ------------------------------------------------------------------ one list, whose end is number e of all
 
-pub record ListAsks (t l : List ℕ) (bs : Buffers) (word : List ℕ) (c : Counts) (at e : ℕ) : Type 0 where
-  pub asks : mentions.ListAsks t l bs word c at
+pub record StepListAsks (t l : List ℕ) (bs : Buffers) (word : List ℕ) (c : Counts) (at e : ℕ) : Type 0 where
+  pub asks : mentions.MentionListAsks t l bs word c at
   pub ended : length (asks .line .ends) ≡ e
   pub low : e < maxEnds
 
-pub record Lists (l : List ℕ) (at e : ℕ) (bs : Buffers) (c : Counts) (names′ index′ graph′ : List ℕ) (r : Mentioned) : Type 0 where
-  pub listed : (raw : List (List ℕ)) → PathsAt l at raw → (h : Line) → Writing bs c h → length (h .ends) ≡ e
-      → Listed (withFiles bs names′ index′ graph′) h (expanded (h .reading) raw ∷ []) r
+pub record MentionsList (l : List ℕ) (at e : ℕ) (bs : Buffers) (c : Counts) (names′ index′ graph′ : List ℕ) (r : Mentioned) : Type 0 where
+  pub listed : (raw : List (List ℕ)) → PathsAt l at raw → (h : LineHeld) → Writing bs c h → length (h .ends) ≡ e
+      → ListsMentioned (withFiles bs names′ index′ graph′) h (expanded (h .reading) raw ∷ []) r
 
 -- ------------------------------------------------------------------ two lists
 
@@ -64,15 +64,15 @@ pub record TwoAsks (t l : List ℕ) (bs : Buffers) (word : List ℕ) (c : Counts
   pub second : List (List ℕ)
   pub first-stands : PathsAt l at first
   pub second-stands : PathsAt l next second
-  pub room : Room (bs .names) word
-  pub line : Line
+  pub room : MentionRoom (bs .names) word
+  pub line : LineHeld
   pub writing : Writing bs c line
   pub ended : length (line .ends) ≡ e
   pub low : e + 1 < maxEnds
 
 pub record Two (l : List ℕ) (at next e : ℕ) (bs : Buffers) (c : Counts) (names′ index′ graph′ : List ℕ) (r : Mentioned) : Type 0 where
-  pub listed : (first second : List (List ℕ)) → PathsAt l at first → PathsAt l next second → (h : Line) → Writing bs c h → length (h .ends) ≡ e
-      → Listed (withFiles bs names′ index′ graph′) h (expanded (h .reading) first ∷ expanded (h .reading) second ∷ []) r
+  pub listed : (first second : List (List ℕ)) → PathsAt l at first → PathsAt l next second → (h : LineHeld) → Writing bs c h → length (h .ends) ≡ e
+      → ListsMentioned (withFiles bs names′ index′ graph′) h (expanded (h .reading) first ∷ expanded (h .reading) second ∷ []) r
 
 -- ------------------------------------------------------------------ the four of a line
 
@@ -84,12 +84,12 @@ pub record FourAsks (t l : List ℕ) (bs : Buffers) (word : List ℕ) (c : Count
   pub short : length l ≤ maxManifest
   pub raw : BuildLine
   pub stands : Stands l p raw
-  pub room : Room (bs .names) word
-  pub line : Line
+  pub room : MentionRoom (bs .names) word
+  pub line : LineHeld
   pub writing : Writing bs c line
   pub ended : length (line .ends) ≡ endPlace (c .steps) outsEnd
   pub few : c .steps < maxSteps
 
 pub record Four (l : List ℕ) (bs : Buffers) (c : Counts) (p : BuildPlaces) (names′ index′ graph′ : List ℕ) (r : Mentioned) : Type 0 where
-  pub listed : (b : BuildLine) → Stands l p b → (h : Line) → Writing bs c h → length (h .ends) ≡ endPlace (c .steps) outsEnd
-      → Listed (withFiles bs names′ index′ graph′) h (expanded (h .reading) (b .outs) ∷ expanded (h .reading) (b .ins) ∷ expanded (h .reading) (b .implicit) ∷ expanded (h .reading) (b .orderOnly) ∷ []) r
+  pub listed : (b : BuildLine) → Stands l p b → (h : LineHeld) → Writing bs c h → length (h .ends) ≡ endPlace (c .steps) outsEnd
+      → ListsMentioned (withFiles bs names′ index′ graph′) h (expanded (h .reading) (b .outs) ∷ expanded (h .reading) (b .ins) ∷ expanded (h .reading) (b .implicit) ∷ expanded (h .reading) (b .orderOnly) ∷ []) r

@@ -1,6 +1,6 @@
 // The lists of a build line are mentioned, each with its end behind it.
 ghost use Rattle.lists.specs.Lent.{Spare, Leaves};
-ghost use Rattle.apply_step_lists.specs.Lists.{ListAsks, Lists, TwoAsks, Two, FourAsks, Four};
+ghost use Rattle.apply_step_lists.specs.Lists.{StepListAsks, MentionsList, TwoAsks, Two, FourAsks, Four};
 ghost use Rattle.hold_reading.specs.Buffers.{SameRoom, buffers};
 use apply_files::Mentioned;
 use apply_mentions::mention_all;
@@ -38,8 +38,8 @@ fn one(
     word: &mut [u8],
     c: Counts,
 ) -> Mentioned
-    requires { ⌜ ListAsks (now t) (now l) (buffers (now names) (now index) (now texts) (now bind) (now graph)) (now word) c (list .start) (list .end) ⌝ }
-    ensures { λ r. ⌜ Leaves (SameRoom (buffers (now (names .entry)) (now (index .entry)) (now (texts .entry)) (now (bind .entry)) (now (graph .entry))) (buffers (now (names .exit)) (now (index .exit)) (now (texts .entry)) (now (bind .entry)) (now (graph .exit))) × (Spare (now (word .entry)) (now (word .exit)))) (Lists (now (l .entry)) (list .start) (list .end) (buffers (now (names .entry)) (now (index .entry)) (now (texts .entry)) (now (bind .entry)) (now (graph .entry))) c (now (names .exit)) (now (index .exit)) (now (graph .exit)) r) ⌝ }
+    requires { ⌜ StepListAsks (now t) (now l) (buffers (now names) (now index) (now texts) (now bind) (now graph)) (now word) c (list .start) (list .end) ⌝ }
+    ensures { λ r. ⌜ Leaves (SameRoom (buffers (now (names .entry)) (now (index .entry)) (now (texts .entry)) (now (bind .entry)) (now (graph .entry))) (buffers (now (names .exit)) (now (index .exit)) (now (texts .entry)) (now (bind .entry)) (now (graph .exit))) × (Spare (now (word .entry)) (now (word .exit)))) (MentionsList (now (l .entry)) (list .start) (list .end) (buffers (now (names .entry)) (now (index .entry)) (now (texts .entry)) (now (bind .entry)) (now (graph .entry))) c (now (names .exit)) (now (index .exit)) (now (graph .exit)) r) ⌝ }
 {
     match mention_all(t, l, list.start, names, index, texts, bind, graph, word, c) {
         Mentioned::On(d) => {

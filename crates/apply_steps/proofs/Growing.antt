@@ -14,7 +14,7 @@ use Rattle.lists.specs.Members.{has}
 use Rattle.spec.specs.Basics.{concat}
 use Rattle.spec.specs.Reading.{Step}
 use Rattle.spec.specs.Graph.{inputs, makers, makersFrom}
-use Rattle.hold_columns.specs.Columns.{mentionsOf, endsFrom, madeBy, makerIn, HoldsColumns}
+use Rattle.hold_columns.specs.Columns.{mentionsOf, stepEndsFrom, madeBy, makerIn, HoldsColumns}
 use Rattle.hold_columns.proofs.Held.{held-makers}
 use Rattle.apply_step_columns.specs.StepColumns.{setAll}
 
@@ -31,8 +31,8 @@ unfolding mentionsOf inputs
 length-mentions x = simp length-append (omega arith)
 
 pub ends-more : (k : ℕ) (steps : List Step) (s : Step) (n : ℕ) → n ≡ k + length (concat (map mentionsOf steps))
-    → endsFrom k (steps ++ (s ∷ [])) ≡ endsFrom k steps ++ endsFrom n (s ∷ [])
-unfolding endsFrom concat
+    → stepEndsFrom k (steps ++ (s ∷ [])) ≡ stepEndsFrom k steps ++ stepEndsFrom n (s ∷ [])
+unfolding stepEndsFrom concat
 ends-more k [] s n e = let z : n ≡ k = omega arith in rw z
 ends-more k (x ∷ l) s n e =
     let a = k + length (x .outs) in

@@ -16,18 +16,18 @@ use Rattle.spec.specs.Reading.{Step, Reading, isPhony, numbersOf}
 use Rattle.spec.specs.Statements.{mentioned, inputsOfLine, badPaths, overPaths}
 use Rattle.spec.specs.Manifest.{withStep}
 use Rattle.spec.specs.Graph.{noStep, stepAt}
-use Rattle.hold_bindings.specs.Log.{Logged, ofStep, boundBy}
+use Rattle.hold_bindings.specs.Log.{Logged, ofBlock, boundBy}
 use Rattle.hold_bindings.proofs.Lookups.{no-lines, owned-more}
 use Rattle.hold_columns.specs.Columns as columns
-use Rattle.hold_columns.specs.Columns.{bit, mentionsOf, endsFrom}
+use Rattle.hold_columns.specs.Columns.{bit, mentionsOf, stepEndsFrom}
 use Rattle.hold_reading.specs.declared.Counts.{Counts}
-use Rattle.hold_reading.specs.Held.{Bound, Ruled, Graphed, HoldsReading}
+use Rattle.hold_reading.specs.Held.{HoldsBound, Ruled, Graphed, HoldsReading}
 use Rattle.hold_reading.proofs.Short.{mention-short}
 use Rattle.apply_files.specs.Lines.{Writing}
 use Rattle.apply_files.proofs.Limits.{mention-more}
 use Rattle.apply_mentions.proofs.Closed.{numbers-low, length-numbers}
 use Rattle.apply_step_lists.specs.Lists.{listsOf}
-use Rattle.apply_step_columns.specs.StepColumns.{setAll, Laid, newestEnd, phonyBit, withRule, countedStep}
+use Rattle.apply_step_columns.specs.StepColumns.{setAll, Laid, newestEnd, phonyBit, withStepRule, countedStep}
 use Rattle.apply_steps.proofs.Closed.{endsAfter}
 use Rattle.apply_step_columns.proofs.Making.{length-set-all}
 use Rattle.apply_step_columns.proofs.Numbered.{ruled-bit}
@@ -47,8 +47,8 @@ module _ {A : Type 0} (f : Step → A) (steps : List Step) (s : Step) where
 
 -- ---- the table of bindings
 
-module _ {log : List Logged} {texts bind : List ℕ} {d : Counts} {rd : Reading} (b : Bound log texts bind d rd) (s : Step) where
-  step-blocks : s .block ≡ [] → (i : ℕ) → i < length (rd .steps ++ (s ∷ [])) → stepAt (rd .steps ++ (s ∷ [])) i .block ≡ boundBy (ofStep i) log
+module _ {log : List Logged} {texts bind : List ℕ} {d : Counts} {rd : Reading} (b : HoldsBound log texts bind d rd) (s : Step) where
+  step-blocks : s .block ≡ [] → (i : ℕ) → i < length (rd .steps ++ (s ∷ [])) → stepAt (rd .steps ++ (s ∷ [])) i .block ≡ boundBy (ofBlock i) log
   step-blocks e i h =
       elim (decLt i (length (rd .steps))) [
         | yes l ↦ at-old (λ (x : Step). x .block) (rd .steps) s i l ∙ b .blocks i l
@@ -57,7 +57,7 @@ module _ {log : List Logged} {texts bind : List ℕ} {d : Counts} {rd : Reading}
             rw z (at-new (λ (x : Step). x .block) (rd .steps) s ∙ e ∙ sym (no-lines (length (rd .steps)) log (length (rd .steps)) (b .owned) (omega arith))))
       ]
 
-  bound-step : s .block ≡ [] → d .steps < maxSteps → Bound log texts bind (countedStep d) (withStep s rd)
+  bound-step : s .block ≡ [] → d .steps < maxSteps → HoldsBound log texts bind (countedStep d) (withStep s rd)
   unfolding withStep
   bound-step e few =
       let n = length-append (rd .steps) (s ∷ []) in
@@ -109,11 +109,11 @@ module _ {log : List Logged} {bs : Buffers} {c : Counts} {rd : Reading} (w : Hol
       ∙ ap (λ (l : List ℕ). concat (map mentionsOf (rd .steps)) ++ l) (sym (step-mentions b rd))
       ∙ sym (mentions-more (rd .steps) step)
 
-  step-ended : ends ≡ endsFrom 0 (rd .steps ++ (step ∷ []))
+  step-ended : ends ≡ stepEndsFrom 0 (rd .steps ++ (step ∷ []))
   step-ended =
       let k = length (g .mentions) in
       ap (λ (l : List ℕ). l ++ endsAfter k (listsOf b)) (g .tables .ended)
-      ∙ ap (λ (l : List ℕ). endsFrom 0 (rd .steps) ++ l) (sym (step-ends b rd k))
+      ∙ ap (λ (l : List ℕ). stepEndsFrom 0 (rd .steps) ++ l) (sym (step-ends b rd k))
       ∙ sym (ends-more 0 (rd .steps) step k (omega (arith, ap length (g .tables .mentioned))))
 
   step-phonies : g .phony ++ (phonyBit n ∷ []) ≡ map (λ (s : Step). bit (isPhony (s .rule))) (rd .steps ++ (step ∷ []))
@@ -160,9 +160,9 @@ module _ {log : List Logged} {bs : Buffers} {c : Counts} {rd : Reading} (w : Hol
             rw (z, at-new (λ (s : Step). s .rule) (rd .steps) step, ← (g .ruled-all), getD-append-seam (g .ruleOf) n [] 0) r)
       ]
 
-  module _ {graph′ : List ℕ} (l : Laid graph′ (withRule (c .paths) n d (lineAfter b (lineOf w) made))) where
+  module _ {graph′ : List ℕ} (l : Laid graph′ (withStepRule (c .paths) n d (lineAfter b (lineOf w) made))) where
     step-graphed : Graphed log graph′ (countedStep d) (withStep step (mentioned (pathsOf b) rd))
-    unfolding withStep mentioned withRule
+    unfolding withStep mentioned withStepRule
     step-graphed =
         record {
           mentions = mentions;

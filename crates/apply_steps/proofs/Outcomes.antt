@@ -22,8 +22,8 @@ use Rattle.hold_reading.specs.declared.Open.the-variants.{Step as OpenStep}
 use Rattle.hold_reading.specs.declared.LineAnswer.the-variants.{Goes, Refused}
 use Rattle.hold_reading.specs.Held.{joined, aStep, Ruled, HoldsReading, goes, refuses}
 use Rattle.apply_files.specs.declared.Mentioned.the-variants.{On, Over}
-use Rattle.apply_files.specs.Lines.{Line, Writing, overLine}
-use Rattle.apply_steps.specs.Asks.{StepAsks, Clear, Writes}
+use Rattle.apply_files.specs.Lines.{LineHeld, Writing, overLine}
+use Rattle.apply_steps.specs.Asks.{StepAsks, ClearLine, WritesStep}
 use Rattle.apply_step_lists.specs.Lists.{withLists, listsOf, FourAsks, Four}
 use Rattle.apply_step_columns.specs.StepColumns.{ruleNumber, PutStepAsks, PutsStep}
 use Rattle.apply_step_lists.proofs.Listing.{listed-on, listed-short, listed-over}
@@ -37,7 +37,7 @@ use Rattle.hold_reading.specs.Buffers.{Buffers, withFiles}
 
 -- ---- the rules' answer
 
-module _ (start : ℕ) (b : BuildLine) (rd : Reading) (k : Clear b rd) where
+module _ (start : ℕ) (b : BuildLine) (rd : Reading) (k : ClearLine b rd) where
   step-over : overLine (pathsOf b) rd ≡ true → addStep start b rd ≡ refused (OverLimit start)
   unfolding addStep overLine
   step-over h = rw (k .known, k .sound, h)
@@ -53,7 +53,7 @@ module _ (start : ℕ) (b : BuildLine) (rd : Reading) (k : Clear b rd) where
   step-goes p q h = rw (k .known, k .sound, p, q, lt-leb maxSteps (length (rd .steps)) h)
 
 -- What is held is within the limits.
-not-over : {bs : Buffers} {c : Counts} {h : Line} → Writing bs c h → overCounts (h .reading) ≡ false
+not-over : {bs : Buffers} {c : Counts} {h : LineHeld} → Writing bs c h → overCounts (h .reading) ≡ false
 unfolding overCounts
 not-over {h = h} w =
     rw (
@@ -90,7 +90,7 @@ module _ {log : List Logged} {bs : Buffers} {c : Counts} {rd : Reading} (w : Hol
         → Writing (withFiles bs names′ index′ graph′) d (lineAfter (expandedLine rd b) (lineOf w) (withLists (listsOf (expandedLine rd b)) (lineOf w) .made))
     unfolding expandedLine
     four-held {d} f =
-        subst (λ (h : Line). Writing (withFiles bs names′ index′ graph′) d h) (lists-line (expandedLine rd b) (lineOf w)) (listed-on (f .listed b s (lineOf w) begins ends-begun))
+        subst (λ (h : LineHeld). Writing (withFiles bs names′ index′ graph′) d h) (lists-line (expandedLine rd b) (lineOf w)) (listed-on (f .listed b s (lineOf w) begins ends-begun))
 
     four-short : {d : Counts} → Four l bs c p names′ index′ graph′ (On d) → overPaths (pathsOf (expandedLine rd b)) ≡ false
     unfolding expandedLine
@@ -105,19 +105,19 @@ module _ {log : List Logged} {bs : Buffers} {c : Counts} {rd : Reading} (w : Hol
 -- ---- `write_step`
 
 module _ (start : ℕ) {l : List ℕ} {bs : Buffers} {c : Counts} {p : BuildPlaces} {names′ index′ graph′ : List ℕ} where
-  pub write-many : maxSteps ≤ c .steps → Writes l bs c start p names′ index′ graph′ (Refused (OverLimit start))
+  pub write-many : maxSteps ≤ c .steps → WritesStep l bs c start p names′ index′ graph′ (Refused (OverLimit start))
   write-many h =
       record {
         agrees = λ b s log rd w k. rw (step-many start (expandedLine rd b) rd k (omega (arith, w .bound .steps-counted))) refuses;
       }
 
-  pub write-over : Four l bs c p names′ index′ graph′ Over → Writes l bs c start p names′ index′ graph′ (Refused (OverLimit start))
+  pub write-over : Four l bs c p names′ index′ graph′ Over → WritesStep l bs c start p names′ index′ graph′ (Refused (OverLimit start))
   write-over f =
       record { agrees = λ b s log rd w k. rw (step-over start (expandedLine rd b) rd k (four-past w s f)) refuses }
 
   pub write-goes : c .steps < maxSteps → {graph₁ : List ℕ} {d : Counts} → Four l bs c p names′ index′ graph₁ (On d) → {n : ℕ}
       → ((log : List Logged) → bindings.HoldsBindings log (bs .texts) (bs .bind) (d .entries) → n ≡ ruleNumber (part l (p .rule) (p .ins)) log) → {e : Counts} → PutsStep graph₁ (c .paths) n d graph′ e
-      → Writes l bs c start p names′ index′ graph′ (Goes e OpenStep)
+      → WritesStep l bs c start p names′ index′ graph′ (Goes e OpenStep)
   unfolding joined expandedLine
   write-goes few {d = d} f {n} r j =
       record {

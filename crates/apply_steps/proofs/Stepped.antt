@@ -14,15 +14,15 @@ use Rattle.spec.specs.Reading.{Step, Reading, numbersOf, mention}
 use Rattle.spec.specs.Statements.{mentioned, inputsOfLine}
 use Rattle.spec.specs.Graph.{inputs}
 use Rattle.hold_bindings.specs.Log.{Logged}
-use Rattle.hold_columns.specs.Columns.{mentionsOf, outsEnd, endPlace, endsFrom}
+use Rattle.hold_columns.specs.Columns.{mentionsOf, outsEnd, endPlace, stepEndsFrom}
 use Rattle.hold_columns.proofs.Held.{held-steps}
 use Rattle.hold_reading.specs.declared.Counts.{Counts}
 use Rattle.hold_reading.specs.Held.{Graphed, HoldsReading}
-use Rattle.apply_files.specs.Lines.{Line, Writing}
+use Rattle.apply_files.specs.Lines.{LineHeld, Writing}
 use Rattle.apply_files.proofs.Limits.{mention-more}
 use Rattle.apply_mentions.proofs.Closed.{Among, among-all, numbers-append, numbers-low, length-numbers}
 use Rattle.apply_step_lists.specs.Lists.{withLists, listsOf}
-use Rattle.apply_step_columns.specs.StepColumns.{Ready, newestEnd}
+use Rattle.apply_step_columns.specs.StepColumns.{StepReady, newestEnd}
 use Rattle.apply_step_lists.proofs.Listing.{lists-reading}
 use Rattle.apply_steps.proofs.Closed.{lists-log, lists-phony, lists-ruled, lists-mentions, lists-ends, endsAfter, concat-lists}
 use Rattle.hold_columns.proofs.Places.{part-mid, length-ends}
@@ -30,7 +30,7 @@ use Rattle.hold_reading.specs.Buffers.{Buffers, withFiles}
 
 -- ---- the line that is held, before its first path and after its last
 
-abbrev pub lineOf : {log : List Logged} {bs : Buffers} {c : Counts} {rd : Reading} → HoldsReading log bs c rd → Line
+abbrev pub lineOf : {log : List Logged} {bs : Buffers} {c : Counts} {rd : Reading} → HoldsReading log bs c rd → LineHeld
 lineOf {log} {rd = rd} h =
     let g = h .graphed in
     record { log = log; reading = rd; mentions = g .mentions; ends = g .ends; phony = g .phony; made = g .made; ruleOf = g .ruleOf }
@@ -54,7 +54,7 @@ stepFor b rd =
       block = [];
     }
 
-abbrev pub lineAfter : BuildLine → Line → List ℕ → Line
+abbrev pub lineAfter : BuildLine → LineHeld → List ℕ → LineHeld
 lineAfter b h made =
     record {
       log = h .log;
@@ -66,11 +66,11 @@ lineAfter b h made =
       ruleOf = h .ruleOf;
     }
 
-same-line : (h : Line) {log : List Logged} {rd : Reading} {m e p r : List ℕ} → h .log ≡ log → h .reading ≡ rd → h .mentions ≡ m → h .ends ≡ e → h .phony ≡ p → h .ruleOf ≡ r
+same-line : (h : LineHeld) {log : List Logged} {rd : Reading} {m e p r : List ℕ} → h .log ≡ log → h .reading ≡ rd → h .mentions ≡ m → h .ends ≡ e → h .phony ≡ p → h .ruleOf ≡ r
     → h ≡ record { log = log; reading = rd; mentions = m; ends = e; phony = p; made = h .made; ruleOf = r }
 same-line h a b c d f g = rw (← a, ← b, ← c, ← d, ← f, ← g)
 
-pub lists-line : (b : BuildLine) (h : Line) → withLists (listsOf b) h ≡ lineAfter b h (withLists (listsOf b) h .made)
+pub lists-line : (b : BuildLine) (h : LineHeld) → withLists (listsOf b) h ≡ lineAfter b h (withLists (listsOf b) h .made)
 lists-line b h =
     let l = listsOf b in
     let z = concat-lists b in
@@ -90,8 +90,8 @@ module _ (b : BuildLine) (rd : Reading) where
       let f = filesWith b rd in
       rw (numbers-append f (b .outs) (inputsOfLine b), numbers-append f (b .ins) (b .implicit ++ b .orderOnly), numbers-append f (b .implicit) (b .orderOnly))
 
-  pub step-ends : (k : ℕ) → endsFrom k (stepFor b rd ∷ []) ≡ endsAfter k (listsOf b)
-  unfolding endsFrom
+  pub step-ends : (k : ℕ) → stepEndsFrom k (stepFor b rd ∷ []) ≡ endsAfter k (listsOf b)
+  unfolding stepEndsFrom
   step-ends k =
       let f = filesWith b rd in
       rw (length-numbers f (b .outs), length-numbers f (b .ins), length-numbers f (b .implicit), length-numbers f (b .orderOnly))
@@ -143,7 +143,7 @@ module _ {log : List Logged} {bs : Buffers} {c : Counts} {rd : Reading} (w : Hol
       ]
 
   -- what the step's columns ask
-  pub step-ready : Ready (c .paths) d (lineAfter b (lineOf w) made)
+  pub step-ready : StepReady (c .paths) d (lineAfter b (lineOf w) made)
   step-ready =
       record {
         ended = omega (arith, ends-before, length-append (g .ends) (endsAfter (length (g .mentions)) (listsOf b)));

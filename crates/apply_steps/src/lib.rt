@@ -1,6 +1,6 @@
 // A build line is written: its files are mentioned, and its step is put into the graph's columns.
 ghost use Rattle.lists.specs.Lent.{Spare, Leaves};
-ghost use Rattle.apply_steps.specs.Asks.{StepAsks, Writes};
+ghost use Rattle.apply_steps.specs.Asks.{StepAsks, WritesStep};
 ghost use Rattle.hold_reading.specs.Buffers.{SameRoom, buffers};
 use apply_files::Mentioned;
 use apply_step_columns::put_step;
@@ -34,7 +34,7 @@ pub fn write_step(
     c: Counts,
 ) -> LineAnswer
     requires { ⌜ StepAsks (now t) (now l) (buffers (now names) (now index) (now texts) (now bind) (now graph)) (now word) c (s .places) ⌝ }
-    ensures { λ r. ⌜ Leaves (SameRoom (buffers (now (names .entry)) (now (index .entry)) (now (texts .entry)) (now (bind .entry)) (now (graph .entry))) (buffers (now (names .exit)) (now (index .exit)) (now (texts .entry)) (now (bind .entry)) (now (graph .exit))) × (Spare (now (word .entry)) (now (word .exit)))) (Writes (now (l .entry)) (buffers (now (names .entry)) (now (index .entry)) (now (texts .entry)) (now (bind .entry)) (now (graph .entry))) c (s .start) (s .places) (now (names .exit)) (now (index .exit)) (now (graph .exit)) r) ⌝ }
+    ensures { λ r. ⌜ Leaves (SameRoom (buffers (now (names .entry)) (now (index .entry)) (now (texts .entry)) (now (bind .entry)) (now (graph .entry))) (buffers (now (names .exit)) (now (index .exit)) (now (texts .entry)) (now (bind .entry)) (now (graph .exit))) × (Spare (now (word .entry)) (now (word .exit)))) (WritesStep (now (l .entry)) (buffers (now (names .entry)) (now (index .entry)) (now (texts .entry)) (now (bind .entry)) (now (graph .entry))) c (s .start) (s .places) (now (names .exit)) (now (index .exit)) (now (graph .exit)) r) ⌝ }
 {
     let p = s.places;
     if STEPS <= c.steps {

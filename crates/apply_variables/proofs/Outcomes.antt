@@ -11,30 +11,30 @@ use Rattle.spec.specs.Dollars.{expand}
 use Rattle.spec.specs.Reading.{Step, Reading, fileVar}
 use Rattle.spec.specs.Statements.{Block, refused, addVar, addToBlock, blockLine, wrongVersion, countBinding, overBinding, overCounts, longerThan}
 use Rattle.spec.specs.Manifest.{withStep}
-use Rattle.hold_bindings.specs.Log.{Logged, logged, ofFile, ofStep}
+use Rattle.hold_bindings.specs.Log.{Logged, logged, ofFile, ofBlock}
 use Rattle.hold_bindings.specs.Held.{HoldsBindings}
-use Rattle.expand_parts.specs.Runs.{expanded}
+use Rattle.expand_parts.specs.Runs.{expandedBy}
 use Rattle.expand_dollars.specs.Written.{Written}
 use Rattle.hold_reading.specs.declared.Counts.{Counts}
 use Rattle.hold_reading.specs.declared.Open.the-variants.{Nothing, Step as OpenStep}
 use Rattle.hold_reading.specs.declared.LineAnswer.{LineAnswer}
 use Rattle.hold_reading.specs.declared.LineAnswer.the-variants.{Goes, Refused}
-use Rattle.hold_reading.specs.Held.{joined, Opens, nothing, aStep, Bound}
+use Rattle.hold_reading.specs.Held.{joined, OpensBlock, nothing, aStep, HoldsBound}
 use Rattle.hold_reading.specs.Binds.{Known, SoundBlock, Binds, goes, Meets}
 use Rattle.hold_reading.proofs.Grow.{bound-var, bound-line, beside-var, beside-line}
 use Rattle.hold_reading.proofs.Lift.{joined-none, none-bound, refused-by}
-use Rattle.apply_bindings.specs.Limits.{overCounted, Ready, Put}
+use Rattle.apply_bindings.specs.Limits.{bindingOver, EntryReady, Put}
 use Rattle.apply_bindings.proofs.Entries.{over-counted, within}
 use Rattle.apply_variables.proofs.Values.{value-held, written-word}
 
 -- ---- a variable
 
 none-over : {log : List Logged} {texts bind : List ℕ} {c : Counts} {rd : Reading} {b : Block} → Known log texts bind c rd b Nothing → (n v : List ℕ)
-    → overBinding n v (countBinding (length v) rd) ≡ overCounted (length n) (length v) c
+    → overBinding n v (countBinding (length v) rd) ≡ bindingOver (length n) (length v) c
 none-over {rd = rd} w n v =
     over-counted (none-bound w) (rw (joined-none rd (w .opens)) at (w .few-files)) (rw (joined-none rd (w .opens)) at (w .few-mentions)) n v
 
-module _ (start : ℕ) (n v : List ℕ) {texts bind : List ℕ} {c : Counts} (h : overCounted (length n) (length v) c ≡ false) where
+module _ (start : ℕ) (n v : List ℕ) {texts bind : List ℕ} {c : Counts} (h : bindingOver (length n) (length v) c ≡ false) where
   pub var-wrong : {texts′ bind′ : List ℕ} → wrongVersion n v ≡ true → Meets texts bind c Nothing (λ rd b. addVar start n v rd) texts′ bind′ (Refused (BadVersion start))
   unfolding addVar
   var-wrong q = record { agrees = λ log rd b w. refused-by (rw (none-over w n v ∙ h, q)) }
@@ -51,21 +51,21 @@ module _ (start : ℕ) (n v : List ℕ) {texts bind : List ℕ} {c : Counts} (h 
             (goes (logged ofFile n v ∷ []) (bound-var d n v (p .held log rd d) (f .few) (f .low)) nothing (beside-var rd n v));
       }
 
-  pub var-ready : SoundBlock texts bind c Nothing → Ready texts bind c (logged ofFile n v)
+  pub var-ready : SoundBlock texts bind c Nothing → EntryReady texts bind c (logged ofFile n v)
   var-ready s =
       record { log = s .log; reading = s .reading; bound = none-bound (s .known); fits = within n v ofFile h (omega arith) }
 
 -- the value of a raw one, as the word buffer has it
 module _ (start : ℕ) (n raw : List ℕ) {texts bind word word′ : List ℕ} {c : Counts} {k : ℕ}
-    (x : (log : List Logged) → HoldsBindings log texts bind (c .entries) → Written word (expanded log raw) word′ k) where
-  pub var-over : {texts′ bind′ : List ℕ} → overCounted (length n) k c ≡ true
+    (x : (log : List Logged) → HoldsBindings log texts bind (c .entries) → Written word (expandedBy log raw) word′ k) where
+  pub var-over : {texts′ bind′ : List ℕ} → bindingOver (length n) k c ≡ true
       → Meets texts bind c Nothing (λ rd b. addVar start n (expand (fileVar (rd .vars)) raw) rd) texts′ bind′ (Refused (OverLimit start))
   unfolding addVar
   var-over h =
       record {
         agrees = λ log rd b w.
-            let e : expand (fileVar (rd .vars)) raw ≡ expanded log raw = value-held rd b (w .bound) raw in
-            refused-by (rw (e, none-over w n (expanded log raw), ← (x log (w .bound .held) .count), h));
+            let e : expand (fileVar (rd .vars)) raw ≡ expandedBy log raw = value-held rd b (w .bound) raw in
+            refused-by (rw (e, none-over w n (expandedBy log raw), ← (x log (w .bound .held) .count), h));
       }
 
   pub var-valued : {texts′ bind′ : List ℕ} {r : LineAnswer} → k ≤ length word → Meets texts bind c Nothing (λ rd b. addVar start n (take k word′) rd) texts′ bind′ r
@@ -79,44 +79,44 @@ module _ (start : ℕ) (n raw : List ℕ) {texts bind word word′ : List ℕ} {
 -- ---- a line of a build block
 
 module _ (start : ℕ) (n raw : List ℕ) {log : List Logged} {texts bind : List ℕ} {c : Counts} (rd : Reading) (v : List ℕ) where
-  line-test : (s : Step) → Bound log texts bind c (withStep s rd) → length (rd .files) ≤ maxFiles → rd .mentions ≤ maxMentions
-      → overBinding n v (countBinding (length v) rd) ≡ overCounted (length n) (length v) c
+  line-test : (s : Step) → HoldsBound log texts bind c (withStep s rd) → length (rd .files) ≤ maxFiles → rd .mentions ≤ maxMentions
+      → overBinding n v (countBinding (length v) rd) ≡ bindingOver (length n) (length v) c
   unfolding withStep overBinding longerThan overCounts countBinding
   line-test s d f m = over-counted d f m n v
 
-  line-refused : {b : Block} → Opens log b OpenStep → Bound log texts bind c (joined rd b) → length (joined rd b .files) ≤ maxFiles → joined rd b .mentions ≤ maxMentions
-      → expand (fileVar (rd .vars)) raw ≡ v → overCounted (length n) (length v) c ≡ true → blockLine start b n raw rd ≡ refused (OverLimit start)
+  line-refused : {b : Block} → OpensBlock log b OpenStep → HoldsBound log texts bind c (joined rd b) → length (joined rd b .files) ≤ maxFiles → joined rd b .mentions ≤ maxMentions
+      → expand (fileVar (rd .vars)) raw ≡ v → bindingOver (length n) (length v) c ≡ true → blockLine start b n raw rd ≡ refused (OverLimit start)
   unfolding joined withStep blockLine addToBlock
   line-refused (aStep {s = s}) d f m e h = rw (e, line-test s d f m ∙ h)
 
-  line-bound : {b : Block} → Opens log b OpenStep → Bound log texts bind c (joined rd b) → length (joined rd b .files) ≤ maxFiles → joined rd b .mentions ≤ maxMentions
-      → expand (fileVar (rd .vars)) raw ≡ v → overCounted (length n) (length v) c ≡ false → {texts′ bind′ : List ℕ} {c′ : Counts}
+  line-bound : {b : Block} → OpensBlock log b OpenStep → HoldsBound log texts bind c (joined rd b) → length (joined rd b .files) ≤ maxFiles → joined rd b .mentions ≤ maxMentions
+      → expand (fileVar (rd .vars)) raw ≡ v → bindingOver (length n) (length v) c ≡ false → {texts′ bind′ : List ℕ} {c′ : Counts}
       → Put texts bind c (logged (3 + 2 * (c .steps - 1)) n v) texts′ bind′ c′ → Binds log c (joined rd b) texts′ bind′ (blockLine start b n raw rd) (Goes c′ OpenStep)
   unfolding joined withStep blockLine addToBlock
   line-bound (aStep {s = s}) d f m e h {texts′} {bind′} p =
       let z : c .steps - 1 ≡ length (rd .steps) = omega (arith, d .steps-counted, length-append (rd .steps) (s ∷ [])) in
-      let g : HoldsBindings (logged (ofStep (length (rd .steps))) n v ∷ log) texts′ bind′ (c .entries + 1) =
-      subst (λ (j : ℕ). HoldsBindings (logged (ofStep j) n v ∷ log) texts′ bind′ (c .entries + 1)) z (p .held log (withStep s rd) d) in
-      let r = within n v (ofStep (c .steps - 1)) h (omega (arith, d .few-steps)) in
+      let g : HoldsBindings (logged (ofBlock (length (rd .steps))) n v ∷ log) texts′ bind′ (c .entries + 1) =
+      subst (λ (j : ℕ). HoldsBindings (logged (ofBlock j) n v ∷ log) texts′ bind′ (c .entries + 1)) z (p .held log (withStep s rd) d) in
+      let r = within n v (ofBlock (c .steps - 1)) h (omega (arith, d .few-steps)) in
       rw (e, line-test s d f m ∙ h, p .counted)
-      (goes (logged (ofStep (length (rd .steps))) n v ∷ [])
+      (goes (logged (ofBlock (length (rd .steps))) n v ∷ [])
       (bound-line rd s d n v g (r .few) (r .low))
       aStep
       (beside-line rd n v s))
 
 module _ (start : ℕ) (n raw : List ℕ) {texts bind word word′ : List ℕ} {c : Counts} {k : ℕ}
-    (x : (log : List Logged) → HoldsBindings log texts bind (c .entries) → Written word (expanded log raw) word′ k) where
-  pub line-over : {texts′ bind′ : List ℕ} → overCounted (length n) k c ≡ true
+    (x : (log : List Logged) → HoldsBindings log texts bind (c .entries) → Written word (expandedBy log raw) word′ k) where
+  pub line-over : {texts′ bind′ : List ℕ} → bindingOver (length n) k c ≡ true
       → Meets texts bind c OpenStep (λ rd b. blockLine start b n raw rd) texts′ bind′ (Refused (OverLimit start))
   line-over h =
       record {
         agrees = λ log rd b w.
             refused-by
-            (line-refused start n raw rd (expanded log raw) (w .opens) (w .bound) (w .few-files) (w .few-mentions) (value-held rd b (w .bound) raw)
+            (line-refused start n raw rd (expandedBy log raw) (w .opens) (w .bound) (w .few-files) (w .few-mentions) (value-held rd b (w .bound) raw)
             (rw (← (x log (w .bound .held) .count)) h));
       }
 
-  pub line-goes : {texts′ bind′ : List ℕ} {c′ : Counts} → k ≤ length word → overCounted (length n) (length (take k word′)) c ≡ false
+  pub line-goes : {texts′ bind′ : List ℕ} {c′ : Counts} → k ≤ length word → bindingOver (length n) (length (take k word′)) c ≡ false
       → Put texts bind c (logged (3 + 2 * (c .steps - 1)) n (take k word′)) texts′ bind′ c′
       → Meets texts bind c OpenStep (λ rd b. blockLine start b n raw rd) texts′ bind′ (Goes c′ OpenStep)
   line-goes l h p =
@@ -131,7 +131,7 @@ module _ (start : ℕ) (n raw : List ℕ) {texts bind word word′ : List ℕ} {
 
 -- ---- what the entry asks
 
-step-open : {log : List Logged} {texts bind : List ℕ} {c : Counts} (rd : Reading) {b : Block} → Opens log b OpenStep → Bound log texts bind c (joined rd b) → 1 ≤ c .steps
+step-open : {log : List Logged} {texts bind : List ℕ} {c : Counts} (rd : Reading) {b : Block} → OpensBlock log b OpenStep → HoldsBound log texts bind c (joined rd b) → 1 ≤ c .steps
 unfolding joined withStep
 step-open rd (aStep {s = s}) d = omega (arith, d .steps-counted, length-append (rd .steps) (s ∷ []))
 
@@ -139,11 +139,11 @@ module _ {texts bind : List ℕ} {c : Counts} (s : SoundBlock texts bind c OpenS
   pub step-begun : 1 ≤ c .steps
   step-begun = step-open (s .reading) (s .known .opens) (s .known .bound)
 
-  pub line-ready : (n v : List ℕ) → overCounted (length n) (length v) c ≡ false → Ready texts bind c (logged (3 + 2 * (c .steps - 1)) n v)
+  pub line-ready : (n v : List ℕ) → bindingOver (length n) (length v) c ≡ false → EntryReady texts bind c (logged (3 + 2 * (c .steps - 1)) n v)
   line-ready n v h =
       record {
         log = s .log;
         reading = joined (s .reading) (s .block);
         bound = s .known .bound;
-        fits = within n v (ofStep (c .steps - 1)) h (omega (arith, s .known .bound .few-steps));
+        fits = within n v (ofBlock (c .steps - 1)) h (omega (arith, s .known .bound .few-steps));
       }

@@ -11,9 +11,9 @@ use Rattle.scan_classes.specs.Table.{classes}
 use Rattle.hold_reading.specs.declared.Counts.{Counts}
 use Rattle.hold_reading.specs.declared.Open.{Open}
 use Rattle.hold_reading.specs.Binds.{SoundBlock}
-use Rattle.apply_bindings.specs.Limits.{overCounted}
+use Rattle.apply_bindings.specs.Limits.{bindingOver}
 
-pub record Asks (t raw texts bind word : List ℕ) (c : Counts) (o : Open) : Type 0 where
+pub record BindingAsks (t raw texts bind word : List ℕ) (c : Counts) (o : Open) : Type 0 where
   pub table : t ≡ classes
   pub short : length raw ≤ maxManifest
   pub dollars : badDollar raw ≡ none
@@ -21,6 +21,6 @@ pub record Asks (t raw texts bind word : List ℕ) (c : Counts) (o : Open) : Typ
   pub sound : SoundBlock texts bind c o
 
 -- the table, with room for a line of this name and value
-pub record Roomy (texts bind : List ℕ) (c : Counts) (o : Open) (n v : List ℕ) : Type 0 where
+pub record RoomForBinding (texts bind : List ℕ) (c : Counts) (o : Open) (n v : List ℕ) : Type 0 where
   pub sound : SoundBlock texts bind c o
-  pub within : overCounted (length n) (length v) c ≡ false
+  pub within : bindingOver (length n) (length v) c ≡ false

@@ -5,7 +5,7 @@ ghost use Rattle.spec.specs.Dollars.{expand};
 ghost use Rattle.spec.specs.Reading.{fileVar};
 ghost use Rattle.spec.specs.Statements.{addVar, wrongVersion, blockLine};
 ghost use Rattle.hold_reading.specs.Binds.{Meets};
-ghost use Rattle.apply_variables.specs.Asks.{Asks, Roomy};
+ghost use Rattle.apply_variables.specs.Asks.{BindingAsks, RoomForBinding};
 use apply_bindings::binding_over;
 use apply_bindings::push_binding;
 use byteorder::equal;
@@ -35,7 +35,7 @@ fn set_var(
     bind: &mut [u32],
     c: Counts,
 ) -> LineAnswer
-    requires { ⌜ Roomy (now texts) (now bind) c Open.Nothing (now name) (now value) ⌝ }
+    requires { ⌜ RoomForBinding (now texts) (now bind) c Open.Nothing (now name) (now value) ⌝ }
     ensures { λ r. ⌜ Leaves ((Spare (now (texts .entry)) (now (texts .exit))) × (Spare (now (bind .entry)) (now (bind .exit)))) (Meets (now (texts .entry)) (now (bind .entry)) c Open.Nothing (λ rd b. addVar start (now (name .entry)) (now (value .entry)) rd) (now (texts .exit)) (now (bind .exit)) r) ⌝ }
 {
     if is_wrong_version(name, value) {
@@ -56,7 +56,7 @@ pub fn add_var(
     word: &mut [u8],
     c: Counts,
 ) -> LineAnswer
-    requires { ⌜ Asks (now t) (now raw) (now texts) (now bind) (now word) c Open.Nothing ⌝ }
+    requires { ⌜ BindingAsks (now t) (now raw) (now texts) (now bind) (now word) c Open.Nothing ⌝ }
     ensures { λ r. ⌜ Leaves ((Spare (now (texts .entry)) (now (texts .exit))) × (Spare (now (bind .entry)) (now (bind .exit))) × (Spare (now (word .entry)) (now (word .exit)))) (Meets (now (texts .entry)) (now (bind .entry)) c Open.Nothing (λ rd b. addVar start (now (name .entry)) (expand (fileVar (rd .vars)) (now (raw .entry))) rd) (now (texts .exit)) (now (bind .exit)) r) ⌝ }
 {
     let n = expand(t, raw, texts, bind, c.entries, word);
@@ -77,7 +77,7 @@ pub fn add_to_block(
     word: &mut [u8],
     c: Counts,
 ) -> LineAnswer
-    requires { ⌜ Asks (now t) (now raw) (now texts) (now bind) (now word) c Open.Step ⌝ }
+    requires { ⌜ BindingAsks (now t) (now raw) (now texts) (now bind) (now word) c Open.Step ⌝ }
     ensures { λ r. ⌜ Leaves ((Spare (now (texts .entry)) (now (texts .exit))) × (Spare (now (bind .entry)) (now (bind .exit))) × (Spare (now (word .entry)) (now (word .exit)))) (Meets (now (texts .entry)) (now (bind .entry)) c Open.Step (λ rd b. blockLine start b (now (name .entry)) (now (raw .entry)) rd) (now (texts .exit)) (now (bind .exit)) r) ⌝ }
 {
     let len = expand(t, raw, texts, bind, c.entries, word);

@@ -8,7 +8,7 @@ use native.Mathlib.Omega.{arith}
 use lib.ListN.{length, take, drop, getD, set, length-set, length-take}
 use lib.Seq.{take-all, take-suc, drop-cons, set-append-seam, append-snoc}
 use Rattle.spec.specs.Card.{soundCard, cardEntries, timeIn}
-use Rattle.hold_names.specs.Table.{HoldsNames, SoundNames, Names}
+use Rattle.hold_names.specs.Table.{HoldsNames, SoundNames, NamesFile}
 use Rattle.ask_file_times.specs.Times.{TimesAsked, timesOf, Timed}
 
 module _ (card : List ℕ) where
@@ -37,7 +37,7 @@ module _ {card names index : List ℕ} {count : ℕ} {start : List ℕ} where
   fill-begin a =
       record { sound = a .sound; named = a .named; room = a .room; same = refl; low = omega arith; begun = λ files h. refl }
 
-  pub fill-more : {f : ℕ} {times n : List ℕ} → Filling card names index count start f times → f < count → Names names index count f n
+  pub fill-more : {f : ℕ} {times n : List ℕ} → Filling card names index count start f times → f < count → NamesFile names index count f n
       → {t : ℕ} → t ≡ timeIn (cardEntries card) n → Filling card names index count start (f + 1) (set times f t)
   unfolding timesOf
   fill-more {f} {times} {n} w l a {t} e =

@@ -12,7 +12,7 @@ use Rattle.spec.specs.Graph.{before, needed}
 use Rattle.spec.specs.Answers.{planSays}
 use Rattle.spec.specs.PlanAsk.{Inputs, cardTime, rootsOf, planListed}
 use Rattle.spec.specs.Promises.{PlanMeets}
-use Rattle.hold_columns.specs.Columns.{beforeIn, HoldsColumns, SoundColumns, Sorted}
+use Rattle.hold_columns.specs.Columns.{beforeIn, HoldsColumns, SoundColumns, SortedSteps}
 use Rattle.graph_stale.specs.Judge.{timeAt}
 
 -- the columns hold the reading's steps, and the times are the card's
@@ -33,7 +33,7 @@ pub record StageAsked (mentions ends phony made times list : List ℕ) : Type 0 
 -- with steps, each after those before it
 pub record OrderAsked (mentions ends phony made times order list : List ℕ) : Type 0 where
   pub asked : StageAsked mentions ends phony made times list
-  pub sorted : Sorted (beforeIn mentions ends made) order
+  pub sorted : SortedSteps (beforeIn mentions ends made) order
   pub steps : (s : ℕ) → s < length order → getD order s 0 < length phony
 
 -- whatever ask and reading it is, this is the outcome where no check refuses

@@ -20,7 +20,7 @@ use Rattle.spec.specs.Answers.{numberOfRefusal, placeOfRefusal, planSays}
 use Rattle.spec.specs.PlanAsk.{Inputs, rootsOf, planOrdered}
 use Rattle.spec.specs.Promises.{PlanMeets, refused14}
 use Rattle.spec.proofs.Graph.{in-before, in-needed}
-use Rattle.hold_columns.specs.Columns.{makersIn, beforeIn, neededIn, Files}
+use Rattle.hold_columns.specs.Columns.{makersIn, beforeIn, neededIn, FilesMade}
 use Rattle.hold_columns.proofs.Makers.{makers-small}
 use Rattle.hold_columns.proofs.Held.{before-small, held-before, held-needed, held-steps}
 use Rattle.graph_order.specs.declared.Sorting.{Sorting}
@@ -28,7 +28,7 @@ use Rattle.graph_order.specs.declared.Sorting.the-variants.{Ordered as OrderedS
 use Rattle.graph_order.specs.Sort.{NeededAsked, NeededSorted, InOrder, InCircle}
 use Rattle.ask_plan_list.specs.Stages.{Staged, OrderOf}
 use Rattle.ask_plan_sources.specs.Sources.{SourcesAsked, PlansSources}
-use Rattle.ask_plan_order.specs.Order.{RootsAsked, SpaceAsked, PlansOrdered}
+use Rattle.ask_plan_order.specs.Order.{RootsAsked, OrderSpaceAsked, PlansOrdered}
 
 -- ---- what sorting tells, by its answer
 
@@ -80,7 +80,7 @@ module _ {mentions ends phony made times roots list : List ℕ} where
 
 -- ---- what the functions called ask
 
-pub ask-sort : {mentions ends phony made times roots order list : List ℕ} → SpaceAsked mentions ends phony made times roots order list → NeededAsked mentions ends made roots order list
+pub ask-sort : {mentions ends phony made times roots order list : List ℕ} → OrderSpaceAsked mentions ends phony made times roots order list → NeededAsked mentions ends made roots order list
 ask-sort q = record {
   sound = rw (q .long) (q .asked .asked .sound);
   files = rw (q .long) (record { low = q .asked .roots-low; makers = q .asked .asked .sound .makers });
@@ -88,7 +88,7 @@ ask-sort q = record {
 }
 
 module _ {mentions ends phony made times roots list : List ℕ} (q : RootsAsked mentions ends phony made times roots list) where
-  files : Files (length phony) roots made
+  files : FilesMade (length phony) roots made
   files = record { low = q .roots-low; makers = q .asked .sound .makers }
 
   closed : Closed (beforeIn mentions ends made) (In (neededIn mentions ends made (length phony) roots))

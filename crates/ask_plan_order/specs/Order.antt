@@ -9,14 +9,14 @@ use Rattle.spec.specs.Answers.{planSays}
 use Rattle.spec.specs.PlanAsk.{Inputs, rootsOf, planOrdered}
 use Rattle.spec.specs.Promises.{PlanMeets}
 use Rattle.ask_plan_list.specs.Stages.{Staged, StageAsked}
-use Rattle.ask_plan_sources.specs.Sources.{Numbers}
+use Rattle.ask_plan_sources.specs.Sources.{FilesBelow}
 
 pub record RootsAsked (mentions ends phony made times roots list : List ℕ) : Type 0 where
   pub asked : StageAsked mentions ends phony made times list
-  pub roots-low : Numbers roots made
+  pub roots-low : FilesBelow roots made
 
 -- with room for an order
-pub record SpaceAsked (mentions ends phony made times roots order list : List ℕ) : Type 0 where
+pub record OrderSpaceAsked (mentions ends phony made times roots order list : List ℕ) : Type 0 where
   pub asked : RootsAsked mentions ends phony made times roots list
   pub long : length order ≡ length phony
 

@@ -1,6 +1,6 @@
 // A stage of the plan ask: 14, then 15.
 ghost use Rattle.lists.specs.Lent.{Spare, Leaves};
-ghost use Rattle.ask_plan_order.specs.Order.{RootsAsked, SpaceAsked, PlansOrdered};
+ghost use Rattle.ask_plan_order.specs.Order.{RootsAsked, OrderSpaceAsked, PlansOrdered};
 use ask_plan_sources::plan_sources;
 use graph_order::Sorting;
 use graph_order::order_needed;
@@ -19,7 +19,7 @@ fn sort_then_plan(
     order: &mut [u32],
     list: &mut [u32],
 ) -> PlanAnswer
-    requires { ⌜ SpaceAsked (now mentions) (now ends) (now phony) (now made) (now times) (now roots) (now order) (now list) ⌝ }
+    requires { ⌜ OrderSpaceAsked (now mentions) (now ends) (now phony) (now made) (now times) (now roots) (now order) (now list) ⌝ }
     ensures { λ r. ⌜ Leaves (Spare (now (order .entry)) (now (order .exit))) (PlansOrdered (now (mentions .entry)) (now (ends .entry)) (now (phony .entry)) (now (made .entry)) (now (times .entry)) (now (roots .entry)) (now (list .entry)) r (now (list .exit))) ⌝ }
 {
     match order_needed(mentions, ends, made, roots, order, list) {

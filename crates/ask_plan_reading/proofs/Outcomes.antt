@@ -25,7 +25,7 @@ use Rattle.hold_names.specs.Table.{SoundNames}
 use Rattle.ask_file_times.specs.Times.{timesOf, Timed}
 use Rattle.ask_target_files.specs.declared.Numbered.{Numbered}
 use Rattle.ask_target_files.specs.declared.Numbered.the-variants.{All, Bad}
-use Rattle.ask_target_files.specs.Numbered.{numbersOf, Numbers, Says, NumbersTargets}
+use Rattle.ask_target_files.specs.Numbered.{targetNumbersOf, TargetsNumbered, Says, NumbersTargets}
 use Rattle.hold_reading.specs.declared.Counts.{Counts}
 use Rattle.hold_reading.specs.Held.{HoldsReading}
 use Rattle.ask_plan_reading.proofs.Laws.{CardTimes, card-time}
@@ -80,7 +80,7 @@ module _ {card targets names index graph : List ℕ} {c : Counts} (s : soundCard
     {numbers : List ℕ} {r : Numbered} {k : ℕ} (n : NumbersTargets targets names index (c .files) numbers r) (e : r ≡ All k)
     {before times : List ℕ} (t : Timed card names index (c .files) before times) where
   module _ {log : List Logged} {texts bind : List ℕ} {rd : Reading} (h : HoldsReading log (buffers names index texts bind graph) c rd) where
-    numbered : Numbers targets numbers (rd .files) k
+    numbered : TargetsNumbered targets numbers (rd .files) k
     numbered = subst (Says targets numbers (rd .files)) e (n .says (rd .files) (h .named))
 
     times-are : take (c .files) times ≡ timesOf card (rd .files)
@@ -96,7 +96,7 @@ module _ {card targets names index graph : List ℕ} {c : Counts} (s : soundCard
         (record { long = length-map (rd .files) (timeIn (cardEntries card)); timed = time-at (timeIn (cardEntries card)) (rd .files) })
 
     targets-are : take k numbers ≡ targetFiles targets rd
-    unfolding targetFiles numbersOf
+    unfolding targetFiles targetNumbersOf
     targets-are = numbered .numbers
 
   pub good-targets : {answer : PlanAnswer} {list exit : List ℕ} → PlansColumns graph c (take (c .files) times) (take k numbers) list answer exit

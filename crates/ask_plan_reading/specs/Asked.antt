@@ -30,7 +30,7 @@ pub record TargetsAsked (card names index graph : List ℕ) (c : Counts) (list :
   pub sound : soundCard card ≡ true
 
 -- with working space
-pub record SpaceAsked (card names index graph : List ℕ) (c : Counts) (times numbers list : List ℕ) : Type 0 where
+pub record TimesSpaceAsked (card names index graph : List ℕ) (c : Counts) (times numbers list : List ℕ) : Type 0 where
   pub asked : TargetsAsked card names index graph c list
   pub times-room : maxFiles ≤ length times
   pub numbers-room : maxTargets ≤ length numbers

@@ -1,6 +1,6 @@
 // Two stages of the plan ask, from what has been read of the manifest on: 11, then 12, then what the graph's columns give.
 ghost use Rattle.lists.specs.Lent.{Spare, Leaves};
-ghost use Rattle.ask_plan_reading.specs.Asked.{ReadAsked, TargetsAsked, SpaceAsked, PlansTargets, PlansRead};
+ghost use Rattle.ask_plan_reading.specs.Asked.{ReadAsked, TargetsAsked, TimesSpaceAsked, PlansTargets, PlansRead};
 use ask_file_times::fill_times;
 use ask_plan_columns::plan_columns;
 use ask_target_files::Numbered;
@@ -25,7 +25,7 @@ fn number_then_plan(
     numbers: &mut [u32],
     list: &mut [u32],
 ) -> PlanAnswer
-    requires { ⌜ SpaceAsked (now card) (now names) (now index) (now graph) c (now times) (now numbers) (now list) ⌝ }
+    requires { ⌜ TimesSpaceAsked (now card) (now names) (now index) (now graph) c (now times) (now numbers) (now list) ⌝ }
     ensures { λ r. ⌜ Leaves (Spare (now (times .entry)) (now (times .exit)) × Spare (now (numbers .entry)) (now (numbers .exit))) (PlansTargets (now (card .entry)) (now (targets .entry)) (now (names .entry)) (now (index .entry)) (now (graph .entry)) c (now (list .entry)) r (now (list .exit))) ⌝ }
 {
     let files = c.files;

@@ -24,7 +24,7 @@ use Rattle.hold_columns.proofs.Held.{held-steps}
 use Rattle.graph_roots.specs.Tops.{TopsFound}
 use Rattle.ask_plan_list.specs.Stages.{StageAsked}
 use Rattle.ask_plan_order.specs.Order.{RootsAsked, PlansOrdered}
-use Rattle.ask_plan_roots.specs.Roots.{PlansFrom, PlansTops, PlansRooted, TopsAsked, RootedAsked}
+use Rattle.ask_plan_roots.specs.Roots.{PlansFrom, PlansTops, PlansRooted, RootsSpaceAsked, RootedAsked}
 
 some-in : {A : Type 0} (l : List A) → 0 < length l → isEmpty l ≡ false
 some-in [] b = absurd (not-suc-le-zero b)
@@ -103,14 +103,14 @@ tops-found t p = record { plans = λ i rd s e. p .plans i rd s (t .found (rd .st
 
 -- working space that is all zero
 pub ask-tops : {mentions ends phony made times list : List ℕ} → StageAsked mentions ends phony made times list
-    → TopsAsked mentions ends phony made times (take (length made) (zeros maxFiles)) (take (length mentions) (zeros maxMentions)) list
+    → RootsSpaceAsked mentions ends phony made times (take (length made) (zeros maxFiles)) (take (length mentions) (zeros maxMentions)) list
 ask-tops {mentions} {made} q = record {
   asked = q;
   blank = take-blank (length made) maxFiles (q .sound .few-files);
   out-room = le-of-eq (length-blank (length mentions) maxMentions (q .sound .few-mentions));
 }
 
-pub ask-roots : {mentions ends phony made times marks out list after : List ℕ} {k : ℕ} → TopsAsked mentions ends phony made times marks out list → TopsFound mentions ends phony made after k
+pub ask-roots : {mentions ends phony made times marks out list after : List ℕ} {k : ℕ} → RootsSpaceAsked mentions ends phony made times marks out list → TopsFound mentions ends phony made after k
     → RootsAsked mentions ends phony made times (take k after) list
 ask-roots {after} {k} q t = record { asked = q .asked; roots-low = λ n b. t .low (getD (take k after) n 0) (in-at (take k after) n b) }
 

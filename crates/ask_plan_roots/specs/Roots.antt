@@ -11,7 +11,7 @@ use Rattle.spec.specs.Answers.{planSays}
 use Rattle.spec.specs.PlanAsk.{Inputs, targetFiles, rootsOf, planRooted}
 use Rattle.spec.specs.Promises.{PlanMeets}
 use Rattle.ask_plan_list.specs.Stages.{Staged, StageAsked}
-use Rattle.ask_plan_sources.specs.Sources.{Numbers}
+use Rattle.ask_plan_sources.specs.Sources.{FilesBelow}
 
 -- where the roots are known
 pub record PlansFrom (mentions ends phony made times roots list : List ℕ) (answer : PlanAnswer) (exit : List ℕ) : Type 0 where
@@ -29,12 +29,12 @@ pub record PlansRooted (mentions ends phony made times defaults targets list : L
       → PlanMeets (planRooted i rd) list (planSays answer) exit
 
 -- with working space for the roots
-pub record TopsAsked (mentions ends phony made times marks out list : List ℕ) : Type 0 where
+pub record RootsSpaceAsked (mentions ends phony made times marks out list : List ℕ) : Type 0 where
   pub asked : StageAsked mentions ends phony made times list
   pub blank : marks ≡ zeros (length made)
   pub out-room : length mentions ≤ length out
 
 pub record RootedAsked (mentions ends phony made times defaults targets list : List ℕ) : Type 0 where
   pub asked : StageAsked mentions ends phony made times list
-  pub defaults-low : Numbers defaults made
-  pub targets-low : Numbers targets made
+  pub defaults-low : FilesBelow defaults made
+  pub targets-low : FilesBelow targets made

@@ -2,7 +2,7 @@
 ghost use Rattle.lists.specs.Lent.{Spare, Leaves};
 ghost use Rattle.ask_plan_order.specs.Order.{RootsAsked};
 ghost use Rattle.ask_plan_list.specs.Stages.{StageAsked};
-ghost use Rattle.ask_plan_roots.specs.Roots.{PlansFrom, PlansTops, PlansRooted, TopsAsked, RootedAsked};
+ghost use Rattle.ask_plan_roots.specs.Roots.{PlansFrom, PlansTops, PlansRooted, RootsSpaceAsked, RootedAsked};
 use ask_plan_order::plan_ordered;
 use graph_roots::tops;
 use slices::words::zero_from;
@@ -45,7 +45,7 @@ fn plan_tops(
     out: &mut [u32],
     list: &mut [u32],
 ) -> PlanAnswer
-    requires { ⌜ TopsAsked (now mentions) (now ends) (now phony) (now made) (now times) (now marks) (now out) (now list) ⌝ }
+    requires { ⌜ RootsSpaceAsked (now mentions) (now ends) (now phony) (now made) (now times) (now marks) (now out) (now list) ⌝ }
     ensures { λ r. ⌜ Leaves (Spare (now (marks .entry)) (now (marks .exit)) × Spare (now (out .entry)) (now (out .exit))) (PlansTops (now (mentions .entry)) (now (ends .entry)) (now (phony .entry)) (now (made .entry)) (now (times .entry)) (now (list .entry)) r (now (list .exit))) ⌝ }
 {
     let k = tops(mentions, ends, phony, made, marks, out);

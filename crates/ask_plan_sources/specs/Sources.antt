@@ -11,12 +11,12 @@ use Rattle.spec.specs.Promises.{PlanMeets}
 use Rattle.ask_plan_list.specs.Stages.{Staged, OrderOf, OrderAsked}
 
 -- files by number
-abbrev pub Numbers : List ℕ → List ℕ → Type 0
-Numbers fs made = (i : ℕ) → i < length fs → getD fs i 0 < length made
+abbrev pub FilesBelow : List ℕ → List ℕ → Type 0
+FilesBelow fs made = (i : ℕ) → i < length fs → getD fs i 0 < length made
 
 pub record SourcesAsked (mentions ends phony made times roots order list : List ℕ) : Type 0 where
   pub asked : OrderAsked mentions ends phony made times order list
-  pub roots-low : Numbers roots made
+  pub roots-low : FilesBelow roots made
 
 pub record PlansSources (mentions ends phony made times roots order list : List ℕ) (answer : PlanAnswer) (exit : List ℕ) : Type 0 where
   pub plans : (i : Inputs) (rd : Reading) → Staged i rd mentions ends phony made times → roots ≡ rootsOf i rd → OrderOf i rd order

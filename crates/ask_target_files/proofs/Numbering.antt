@@ -22,7 +22,7 @@ use Rattle.scan_targets.specs.declared.NextTarget.the-variants.{End, Bad as Bad
 use Rattle.scan_targets.specs.Next.{nextIn}
 use Rattle.scan_targets.proofs.Walk.{namesFrom, Turn, Walking, walk-malformed, walk-begin, walk-end, walk-bad, walk-turn, walk-missing, walk-more}
 use Rattle.ask_target_files.specs.declared.Numbered.the-variants.{All, Bad}
-use Rattle.ask_target_files.specs.Numbered.{Asked, numbersOf, NumbersTargets}
+use Rattle.ask_target_files.specs.Numbered.{Asked, targetNumbersOf, NumbersTargets}
 
 -- the numbers of the names up to a place are there, whatever names are held
 pub record Walked (targets names index : List ℕ) (count : ℕ) (start : List ℕ) (from n : ℕ) (out : List ℕ) : Type 0 where
@@ -46,7 +46,7 @@ module _ {targets names index : List ℕ} {count : ℕ} where
 
   module _ {from n : ℕ} {start out : List ℕ} (w : Walked targets names index count start from n out) {r : NextTarget} (a : r ≡ nextIn (namesFrom targets from)) where
     pub ended : r ≡ End → NumbersTargets targets names index count out (All n)
-    unfolding numbersOf
+    unfolding targetNumbersOf
     ended e =
         record {
           says = λ files d.

@@ -17,20 +17,20 @@ pub record Asked (names index : List ℕ) (count : ℕ) (out : List ℕ) : Type 
   pub room : maxTargets ≤ length out
 
 -- the files of a target list by number
-unfoldable pub numbersOf : List (List ℕ) → List ℕ → List ℕ
+unfoldable pub targetNumbersOf : List (List ℕ) → List ℕ → List ℕ
 unfolding targetsOf numberOf
-numbersOf files targets = map (λ (t : Target). numberOf (t .name) files) (targetsOf targets)
+targetNumbersOf files targets = map (λ (t : Target). numberOf (t .name) files) (targetsOf targets)
 
 -- the list is good, and the buffer begins with its numbers
-pub record Numbers (targets out : List ℕ) (files : List (List ℕ)) (n : ℕ) : Type 0 where
+pub record TargetsNumbered (targets out : List ℕ) (files : List (List ℕ)) (n : ℕ) : Type 0 where
   pub good : badTarget files targets ≡ none
   pub within : n ≤ length out
-  pub counted : n ≡ length (numbersOf files targets)
-  pub numbers : take n out ≡ numbersOf files targets
+  pub counted : n ≡ length (targetNumbersOf files targets)
+  pub numbers : take n out ≡ targetNumbersOf files targets
   pub low : (i : ℕ) → i < n → getD out i 0 < length files
 
 abbrev pub Says : List ℕ → List ℕ → List (List ℕ) → Numbered → Type 0
-Says targets out files (All n) = Numbers targets out files n
+Says targets out files (All n) = TargetsNumbered targets out files n
 Says targets out files (Bad place) = badTarget files targets ≡ some place
 
 pub record NumbersTargets (targets names index : List ℕ) (count : ℕ) (out : List ℕ) (r : Numbered) : Type 0 where

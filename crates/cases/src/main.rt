@@ -1,7 +1,7 @@
 // Puts every case of the folder cases/ to both asks, from the packed file that `pack` of second/ writes, and compares the answers and
 // the whole of each lent buffer with what is expected.
 ghost use lib.ListN.{length};
-ghost use Rattle.test_packed.specs.Parts.{Behind};
+ghost use Rattle.test_packed.specs.Parts.{PartsBehind};
 use answers::of_plan;
 use answers::of_text;
 use asks::plan;
@@ -207,7 +207,7 @@ fn ask_parts(
     buf: &mut [u8],
     bytes: &mut [u8],
 ) -> Tally
-    requires { ⌜ Behind h (length (now input)) ⌝ }
+    requires { ⌜ PartsBehind h (length (now input)) ⌝ }
 {
     let a = h.name;
     let b = h.manifest;

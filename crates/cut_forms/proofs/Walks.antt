@@ -15,7 +15,7 @@ use Rattle.cut_forms.specs.declared.Fault.the-variants.{BadDollar}
 use Rattle.cut_forms.specs.declared.ListPath.{ListPath}
 use Rattle.cut_forms.specs.declared.ListPath.the-variants.{Path, Stop}
 use Rattle.cut_forms.specs.Faults.{Fails}
-use Rattle.cut_forms.specs.Paths.{PathsAt, NextAt, ListEnds}
+use Rattle.cut_forms.specs.Paths.{PathsAt, NextListed, ListEnds}
 use Rattle.cut_forms.proofs.Faults.{bad-dollar}
 
 -- ---- a list that is known, path by path
@@ -49,13 +49,13 @@ walk-bad a w = ap rawOf (sym (w .cut) ∙ a .is)
 
 -- ---- what `next_path` answers
 
-module _ (l : List ℕ) (i : ℕ) (r : ListPath) (n : NextAt l i r) where
+module _ (l : List ℕ) (i : ℕ) (r : ListPath) (n : NextListed l i r) where
   pub goes-on : {from to : ℕ} → r ≡ Path from to → PathNext l i from to
-  unfolding NextAt
+  unfolding NextListed
   goes-on e = rw e at n
 
   pub stops : r ≡ Stop → (ps : List (List ℕ)) → PathsAt l i ps → ps ≡ []
-  unfolding NextAt
+  unfolding NextListed
   stops e = rw e at n
 
 -- ---- a list that is being read

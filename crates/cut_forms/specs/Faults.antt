@@ -13,12 +13,12 @@ faultIn l NoForm = noForm
 faultIn l (BadDollar p) = leftAtDollar (length l - p)
 faultIn l NotYet = notYet
 
-unfoldable pub Within : List ℕ → Fault → Type 0
-Within l NoForm = Unit {0}
-Within l (BadDollar p) = p < length l
-Within l NotYet = Unit {0}
+unfoldable pub FaultWithin : List ℕ → Fault → Type 0
+FaultWithin l NoForm = Unit {0}
+FaultWithin l (BadDollar p) = p < length l
+FaultWithin l NotYet = Unit {0}
 
 -- The cut x of some bytes of the line l fails.
 pub record Fails {A : Type 0} (l : List ℕ) (x : Cut A) (f : Fault) : Type 0 where
-  pub within : Within l f
+  pub within : FaultWithin l f
   pub cut : x ≡ fails (faultIn l f)

@@ -20,9 +20,9 @@ pub record PathsAt (l : List ℕ) (at : ℕ) (ps : List (List ℕ)) : Type 0 whe
   pub cut : paths (drop at l) ≡ fits (record { raw = ps; rest = rest })
 
 -- The first path of the list that starts at place `at`, if it has one.
-unfoldable pub NextAt : List ℕ → ℕ → ListPath → Type 0
-NextAt l at (Path from to) = PathNext l at from to
-NextAt l at Stop = (ps : List (List ℕ)) → PathsAt l at ps → ps ≡ []
+unfoldable pub NextListed : List ℕ → ℕ → ListPath → Type 0
+NextListed l at (Path from to) = PathNext l at from to
+NextListed l at Stop = (ps : List (List ℕ)) → PathsAt l at ps → ps ≡ []
 
 -- The list that starts at place `at` ends at place e.
 pub record ListEnds (l : List ℕ) (at e : ℕ) (any : Bool) : Type 0 where

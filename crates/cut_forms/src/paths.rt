@@ -4,7 +4,7 @@ ghost use Prim.Native.Nat.{_≤_};
 ghost use lib.ListN.{length, drop};
 ghost use Rattle.spec.specs.Forms.{cutDefault};
 ghost use Rattle.scan_classes.specs.Table.{classes};
-ghost use Rattle.cut_forms.specs.Paths.{ListedAt, NextAt};
+ghost use Rattle.cut_forms.specs.Paths.{ListedAt, NextListed};
 ghost use Rattle.cut_forms.specs.Statements.{StatementAt};
 use crate::Fault;
 use crate::ListPath;
@@ -39,7 +39,7 @@ pub fn listed(t: &[u8; 256], l: &[u8], at: usize) -> Listed
 // The next path of a list that was found sound: for a later pass over it.
 pub fn next_listed(t: &[u8; 256], l: &[u8], at: usize) -> ListPath
     requires { ⌜ (now t ≡ classes) × (at ≤ length (now l)) ⌝ }
-    ensures { λ r. ⌜ NextAt (now (l .entry)) at r ⌝ }
+    ensures { λ r. ⌜ NextListed (now (l .entry)) at r ⌝ }
 {
     match texts::next_path(t, l, at) {
         NextPath::Path(from, to) => ListPath::Path(from, to),

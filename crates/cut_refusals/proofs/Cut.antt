@@ -15,7 +15,7 @@ use Rattle.spec.specs.Manifest.{faultOf, ifCut}
 use Rattle.scan_raw.proofs.Faults.{fault-place}
 use Rattle.cut_forms.specs.declared.Fault.{Fault}
 use Rattle.cut_forms.specs.declared.Fault.the-variants.{NoForm, BadDollar, NotYet}
-use Rattle.cut_forms.specs.Faults.{faultIn, Within, Fails}
+use Rattle.cut_forms.specs.Faults.{faultIn, FaultWithin, Fails}
 use Rattle.cut_forms.specs.declared.BuildPlaces.{BuildPlaces}
 use Rattle.cut_forms.specs.Statements.{RuleAt, BuildAt, DefaultAt, BindingAt}
 use Rattle.cut_refusals.specs.Cuts.{refusalOf, Near, Wrong, SoundBinding, FileLineAt, BlockLineAt}
@@ -28,14 +28,14 @@ use Rattle.cut_refusals.proofs.Dollars.{Sound}
 -- ---- a fault, and a line that is not ended
 
 pub fault-near : {A : Type 0} (start : ℕ) (l : List ℕ) {x : Cut A} (f : Fault) → start + length l ≤ maxPlace → Fails l x f → Near start f
-unfolding Within Near
+unfolding FaultWithin Near
 fault-near start l NoForm h e = tt
 fault-near start l (BadDollar p) h e = omega (arith, e .within)
 fault-near start l NotYet h e = tt
 
 module _ (l : Line) {x : Cut Form} where
   pub line-wrong : (f : Fault) → Fails (l .text) x f → Wrong l x (refusalOf (l .start) f)
-  unfolding refusalOf faultIn Within ifCut faultOf
+  unfolding refusalOf faultIn FaultWithin ifCut faultOf
   line-wrong NoForm e k = rw (e .cut)
   line-wrong (BadDollar p) e k = let z : p ≤ length (l .text) = omega (arith, e .within) in rw (e .cut) (ap refused (fault-place l p z))
   line-wrong NotYet e k = rw (e .cut)

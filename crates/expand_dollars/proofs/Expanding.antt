@@ -8,7 +8,7 @@ use Rattle.lists.specs.Parts.{part}
 use Rattle.hold_bindings.specs.Log.{Logged}
 use Rattle.hold_bindings.specs.Held.{maxTexts, HoldsBindings}
 use Rattle.expand_parts.specs.declared.Run.{Run}
-use Rattle.expand_parts.specs.Runs.{expanded, bytesOf, leftOf, Begins, Ready}
+use Rattle.expand_parts.specs.Runs.{expandedBy, bytesOf, leftOf, BeginsRun, ExpandReady}
 use Rattle.expand_parts.proofs.Expansions.{length-bytes, expanded-none}
 use Rattle.expand_dollars.specs.Written.{laidAt, Written}
 use Rattle.expand_parts.proofs.Begin.{ready-on}
@@ -21,12 +21,12 @@ pub record Done (s rest before word : List ℕ) (n : ℕ) : Type 0 where
   pub written : Written before part word n
 
 pub record Expanding (t raw texts bind : List ℕ) (count : ℕ) (before word : List ℕ) (i n : ℕ) : Type 0 where
-  pub ready : Ready t raw texts bind count i
+  pub ready : ExpandReady t raw texts bind count i
   pub bounded : n ≤ maxTexts * i
   pub long : length word ≡ length before
-  pub done : (log : List Logged) → HoldsBindings log texts bind count → Done (expanded log raw) (expanded log (drop i raw)) before word n
+  pub done : (log : List Logged) → HoldsBindings log texts bind count → Done (expandedBy log raw) (expandedBy log (drop i raw)) before word n
 
-pub expand-begin : {t raw texts bind : List ℕ} {count : ℕ} (word : List ℕ) → Ready t raw texts bind count 0 → Expanding t raw texts bind count word word 0 0
+pub expand-begin : {t raw texts bind : List ℕ} {count : ℕ} (word : List ℕ) → ExpandReady t raw texts bind count 0 → Expanding t raw texts bind count word word 0 0
 expand-begin word r =
     record {
       ready = r;
@@ -36,7 +36,7 @@ expand-begin word r =
     }
 
 module _ {t raw texts bind : List ℕ} {count : ℕ} {before word : List ℕ} {i n : ℕ} (x : Expanding t raw texts bind count before word i n) where
-  module _ {r : Run} (b : Begins raw texts bind count i r) where
+  module _ {r : Run} (b : BeginsRun raw texts bind count i r) where
     pub expand-on : {next : List ℕ} → next ≡ laidAt word n (bytesOf raw texts r) → Expanding t raw texts bind count before next (r .next) (n + (r .to - r .from))
     unfolding leftOf
     expand-on {next} e =
@@ -58,9 +58,9 @@ module _ {t raw texts bind : List ℕ} {count : ℕ} {before word : List ℕ} {i
               };
         }
 
-  pub expand-done : length raw ≤ i → (log : List Logged) → HoldsBindings log texts bind count → Written before (expanded log raw) word n
+  pub expand-done : length raw ≤ i → (log : List Logged) → HoldsBindings log texts bind count → Written before (expandedBy log raw) word n
   expand-done h log k =
       let d = x .done log k in
-      let e : d .part ≡ expanded log raw =
+      let e : d .part ≡ expandedBy log raw =
       sym (append-nil (d .part)) ∙ rw (drop-of-length-le raw {i = i} h, expanded-none log) at (d .whole) in
       rw (← e) (d .written)

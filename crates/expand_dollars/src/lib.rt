@@ -3,7 +3,7 @@ ghost use mathlib.Core.Path.{_≡_};
 ghost use mathlib.Core.List.{List};
 ghost use Rattle.hold_bindings.specs.Log.{Logged};
 ghost use Rattle.hold_bindings.specs.Held.{HoldsBindings};
-ghost use Rattle.expand_parts.specs.Runs.{expanded, bytesOf, Placed, Ready};
+ghost use Rattle.expand_parts.specs.Runs.{expandedBy, bytesOf, RunPlaced, ExpandReady};
 ghost use Rattle.expand_dollars.specs.Written.{laidAt, Written};
 use expand_parts::Run;
 use expand_parts::run_at;
@@ -26,7 +26,7 @@ fn put(word: &mut [u8], at: usize, s: &[u8])
 
 // Writes a run into the buffer from place `at` on, as far as it fits.
 fn put_run(word: &mut [u8], at: usize, raw: &[u8], texts: &[u8], r: Run)
-    requires { ⌜ Placed (now raw) (now texts) r ⌝ }
+    requires { ⌜ RunPlaced (now raw) (now texts) r ⌝ }
     ensures { λ _. ⌜ now (word .exit) ≡ laidAt (now (word .entry)) at (bytesOf (now (raw .entry)) (now (texts .entry)) r) ⌝ }
 {
     let from = r.from;
@@ -47,8 +47,8 @@ pub fn expand(
     count: usize,
     word: &mut [u8],
 ) -> usize
-    requires { ⌜ Ready (now t) (now raw) (now texts) (now bind) count 0 ⌝ }
-    ensures { λ r. ⌜ ((log : List Logged) → HoldsBindings log (now (texts .entry)) (now (bind .entry)) count → Written (now (word .entry)) (expanded log (now (raw .entry))) (now (word .exit)) r) ⌝ }
+    requires { ⌜ ExpandReady (now t) (now raw) (now texts) (now bind) count 0 ⌝ }
+    ensures { λ r. ⌜ ((log : List Logged) → HoldsBindings log (now (texts .entry)) (now (bind .entry)) count → Written (now (word .entry)) (expandedBy log (now (raw .entry))) (now (word .exit)) r) ⌝ }
 {
     let mut i = 0;
     let mut n = 0;

@@ -12,7 +12,7 @@ use Rattle.lists.specs.Order.{orderBytes, less-order, greater-order, order-less
 use Rattle.lists.specs.Tests.{differ}
 use Rattle.lists.specs.declared.Order as order
 use Rattle.expand_order.specs.declared.Ahead.the-variants.{Less, Greater, Both}
-use Rattle.expand_order.specs.Ahead.{Agree, Compared}
+use Rattle.expand_order.specs.Ahead.{Agree, FrontsCompared}
 
 order-behind : (p s t : List ℕ) → orderBytes (p ++ s) (p ++ t) ≡ orderBytes s t
 order-behind [] s t = refl
@@ -42,16 +42,16 @@ module _ (p q : List ℕ) {n : ℕ} (k : n ≡ min (length p) (length q)) {r : o
   level : length (take n p) ≡ length (take n q)
   level = length-take-le n p (omega arith) ∙ sym (length-take-le n q (omega arith))
 
-  pub fronts-less : r ≡ order.the-variants.Less → Compared p q Less
-  unfolding Compared
+  pub fronts-less : r ≡ order.the-variants.Less → FrontsCompared p q Less
+  unfolding FrontsCompared
   fronts-less h s t =
       rw (cut n p s, cut n q t) (less-order _ _ (less-more (take n p) (take n q) _ _ level (order-less _ _ (sym e ∙ h))))
 
-  pub fronts-greater : r ≡ order.the-variants.Greater → Compared p q Greater
-  unfolding Compared
+  pub fronts-greater : r ≡ order.the-variants.Greater → FrontsCompared p q Greater
+  unfolding FrontsCompared
   fronts-greater h s t =
       rw (cut n p s, cut n q t) (greater-order _ _ (less-more (take n q) (take n p) _ _ (sym level) (order-greater _ _ (sym e ∙ h))))
 
-  pub fronts-same : r ≡ order.the-variants.Equal → Compared p q (Both n)
-  unfolding Compared
+  pub fronts-same : r ≡ order.the-variants.Equal → FrontsCompared p q (Both n)
+  unfolding FrontsCompared
   fronts-same h = record { count = k; same = order-equal _ _ (sym e ∙ h) }

@@ -18,8 +18,8 @@ use Rattle.hold_bindings.specs.Held.{HoldsBindings}
 use Rattle.expand_parts.specs.declared.Run.{Run}
 use Rattle.expand_order.specs.declared.Ahead.{Ahead}
 use Rattle.expand_order.specs.declared.Ahead.the-variants.{Less, Greater, Both}
-use Rattle.expand_parts.specs.Runs.{expanded, bytesOf, Placed, leftOf, Ready, Going, most, Filled}
-use Rattle.expand_order.specs.Ahead.{Agree, Compared, orderLengths}
+use Rattle.expand_parts.specs.Runs.{expandedBy, bytesOf, RunPlaced, leftOf, ExpandReady, Going, most, Filled}
+use Rattle.expand_order.specs.Ahead.{Agree, FrontsCompared, orderLengths}
 use Rattle.expand_order.proofs.Agreeing.{order-fronts}
 use Rattle.expand_parts.proofs.Begin.{own, own-placed}
 use Rattle.expand_parts.proofs.Expansions.{length-bytes, expanded-none}
@@ -28,11 +28,11 @@ use Rattle.expand_parts.proofs.Filling.{left-none}
 pub record Matching (t a b texts bind : List ℕ) (count : ℕ) (x y : Run) : Type 0 where
   pub first : Going t a texts bind count x
   pub second : Going t b texts bind count y
-  pub left : (log : List Logged) → HoldsBindings log texts bind count → orderBytes (expanded log a) (expanded log b) ≡ orderBytes (leftOf log a texts x) (leftOf log b texts y)
+  pub left : (log : List Logged) → HoldsBindings log texts bind count → orderBytes (expandedBy log a) (expandedBy log b) ≡ orderBytes (leftOf log a texts x) (leftOf log b texts y)
 
 -- ---- the start
 
-ready-going : {t raw texts bind : List ℕ} {count : ℕ} → Ready t raw texts bind count 0 → Going t raw texts bind count (own 0 0 0)
+ready-going : {t raw texts bind : List ℕ} {count : ℕ} → ExpandReady t raw texts bind count 0 → Going t raw texts bind count (own 0 0 0)
 ready-going {raw = raw} {texts = texts} r =
     record {
       table = r .table;
@@ -41,7 +41,7 @@ ready-going {raw = raw} {texts = texts} r =
       held = r .held;
     }
 
-pub match-begin : {t a b texts bind : List ℕ} {count : ℕ} → Ready t a texts bind count 0 → Ready t b texts bind count 0 → Matching t a b texts bind count (own 0 0 0) (own 0 0 0)
+pub match-begin : {t a b texts bind : List ℕ} {count : ℕ} → ExpandReady t a texts bind count 0 → ExpandReady t b texts bind count 0 → Matching t a b texts bind count (own 0 0 0) (own 0 0 0)
 match-begin {a = a} {b = b} {texts = texts} r s =
     record {
       first = ready-going r;
@@ -54,7 +54,7 @@ match-begin {a = a} {b = b} {texts = texts} r s =
 abbrev pub behind : Run → ℕ → Run
 behind r n = record { bound = r .bound; from = r .from + n; to = r .to; next = r .next }
 
-behind-placed : {raw texts : List ℕ} {r : Run} {n : ℕ} → Placed raw texts r → n ≤ r .to - r .from → Placed raw texts (behind r n)
+behind-placed : {raw texts : List ℕ} {r : Run} {n : ℕ} → RunPlaced raw texts r → n ≤ r .to - r .from → RunPlaced raw texts (behind r n)
 behind-placed p h =
     record { ordered = omega (arith, p .ordered); in-raw = p .in-raw; in-texts = p .in-texts; within = p .within; sound = p .sound }
 
@@ -70,14 +70,14 @@ behind-bytes raw texts r n =
 left-last : {raw texts bind : List ℕ} {count : ℕ} {r x : Run} → Filled raw texts bind count r x → x .to - x .from ≡ 0 → (log : List Logged) → leftOf log raw texts x ≡ []
 left-last {raw} {texts} {bind} {count} {r} {x} f e log =
     left-none log raw texts x (omega arith)
-    ∙ ap (expanded log) (drop-of-length-le raw {i = x .next} (f .last (omega arith)))
+    ∙ ap (expandedBy log) (drop-of-length-le raw {i = x .next} (f .last (omega arith)))
     ∙ expanded-none log
 
-left-is : (log : List Logged) (raw texts : List ℕ) (r : Run) → leftOf log raw texts r ≡ bytesOf raw texts r ++ expanded log (drop (r .next) raw)
+left-is : (log : List Logged) (raw texts : List ℕ) (r : Run) → leftOf log raw texts r ≡ bytesOf raw texts r ++ expandedBy log (drop (r .next) raw)
 unfolding leftOf
 left-is log raw texts r = refl
 
-left-longer : {raw texts : List ℕ} {x : Run} → Placed raw texts x → (log : List Logged) → x .to - x .from ≤ length (leftOf log raw texts x)
+left-longer : {raw texts : List ℕ} {x : Run} → RunPlaced raw texts x → (log : List Logged) → x .to - x .from ≤ length (leftOf log raw texts x)
 unfolding leftOf
 left-longer {raw} {texts} {x} p log = rw length-append (omega (arith, length-bytes p))
 
@@ -102,32 +102,32 @@ less-behind k f e n h z = omega arith
 
 module _ {t a b texts bind : List ℕ} {count : ℕ} {x y p q : Run} (m : Matching t a b texts bind count x y)
     (f : Filled a texts bind count x p) (g : Filled b texts bind count y q) where
-  now-left : (log : List Logged) → HoldsBindings log texts bind count → orderBytes (expanded log a) (expanded log b) ≡ orderBytes (leftOf log a texts p) (leftOf log b texts q)
+  now-left : (log : List Logged) → HoldsBindings log texts bind count → orderBytes (expandedBy log a) (expandedBy log b) ≡ orderBytes (leftOf log a texts p) (leftOf log b texts q)
   now-left log h = m .left log h ∙ rw (f .left log h, g .left log h)
 
-  module _ {r : Ahead} (c : Compared (bytesOf a texts p) (bytesOf b texts q) r) where
-    pub match-lower : r ≡ Less → (log : List Logged) → HoldsBindings log texts bind count → order.the-variants.Less ≡ orderBytes (expanded log a) (expanded log b)
-    unfolding Compared
+  module _ {r : Ahead} (c : FrontsCompared (bytesOf a texts p) (bytesOf b texts q) r) where
+    pub match-lower : r ≡ Less → (log : List Logged) → HoldsBindings log texts bind count → order.the-variants.Less ≡ orderBytes (expandedBy log a) (expandedBy log b)
+    unfolding FrontsCompared
     match-lower e log h =
         let d : (s t : List ℕ) → orderBytes (bytesOf a texts p ++ s) (bytesOf b texts q ++ t) ≡ order.the-variants.Less = rw e at c in
         sym (now-left log h ∙ rw (left-is log a texts p, left-is log b texts q) (d _ _))
 
-    pub match-higher : r ≡ Greater → (log : List Logged) → HoldsBindings log texts bind count → order.the-variants.Greater ≡ orderBytes (expanded log a) (expanded log b)
-    unfolding Compared
+    pub match-higher : r ≡ Greater → (log : List Logged) → HoldsBindings log texts bind count → order.the-variants.Greater ≡ orderBytes (expandedBy log a) (expandedBy log b)
+    unfolding FrontsCompared
     match-higher e log h =
         let d : (s t : List ℕ) → orderBytes (bytesOf a texts p ++ s) (bytesOf b texts q ++ t) ≡ order.the-variants.Greater = rw e at c in
         sym (now-left log h ∙ rw (left-is log a texts p, left-is log b texts q) (d _ _))
 
     module _ {n : ℕ} (e : r ≡ Both n) where
       agreed : Agree (bytesOf a texts p) (bytesOf b texts q) n
-      unfolding Compared
+      unfolding FrontsCompared
       agreed = rw e at c
 
       -- one of the two has no more bytes than n
       pub shorter : n ≡ min (p .to - p .from) (q .to - q .from)
       shorter = agreed .count ∙ rw (length-bytes (f .placed), length-bytes (g .placed))
 
-      pub match-end : n ≡ 0 → {o : order.Order} → o ≡ orderLengths (p .to - p .from) (q .to - q .from) → (log : List Logged) → HoldsBindings log texts bind count → o ≡ orderBytes (expanded log a) (expanded log b)
+      pub match-end : n ≡ 0 → {o : order.Order} → o ≡ orderLengths (p .to - p .from) (q .to - q .from) → (log : List Logged) → HoldsBindings log texts bind count → o ≡ orderBytes (expandedBy log a) (expandedBy log b)
       match-end z l log h =
           l
           ∙ ends (sym shorter ∙ z) (λ o. left-last f o log) (λ o. left-last g o log) (left-longer (f .placed) log) (left-longer (g .placed) log)

@@ -16,10 +16,10 @@ pub record Agree (p q : List ℕ) (n : ℕ) : Type 0 where
   pub same : take n p ≡ take n q
 
 -- what the front of p and q says of all lists that they begin
-unfoldable pub Compared : List ℕ → List ℕ → Ahead → Type 0
-Compared p q Less = (s t : List ℕ) → orderBytes (p ++ s) (q ++ t) ≡ order.the-variants.Less
-Compared p q Greater = (s t : List ℕ) → orderBytes (p ++ s) (q ++ t) ≡ order.the-variants.Greater
-Compared p q (Both n) = Agree p q n
+unfoldable pub FrontsCompared : List ℕ → List ℕ → Ahead → Type 0
+FrontsCompared p q Less = (s t : List ℕ) → orderBytes (p ++ s) (q ++ t) ≡ order.the-variants.Less
+FrontsCompared p q Greater = (s t : List ℕ) → orderBytes (p ++ s) (q ++ t) ≡ order.the-variants.Greater
+FrontsCompared p q (Both n) = Agree p q n
 
 -- the order of two lists by their lengths, of which one is empty
 unfoldable pub orderLengths : ℕ → ℕ → order.Order

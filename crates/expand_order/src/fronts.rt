@@ -1,6 +1,6 @@
 // Two runs compared from their fronts.
-ghost use Rattle.expand_parts.specs.Runs.{bytesOf, Placed};
-ghost use Rattle.expand_order.specs.Ahead.{Compared};
+ghost use Rattle.expand_parts.specs.Runs.{bytesOf, RunPlaced};
+ghost use Rattle.expand_order.specs.Ahead.{FrontsCompared};
 use crate::Ahead;
 use byteorder::compare;
 use byteorder::lesser;
@@ -9,7 +9,7 @@ use lists::Order;
 
 // Two runs of bytes, as far as the shorter one goes.
 fn ahead(p: &[u8], q: &[u8]) -> Ahead
-    ensures { λ r. ⌜ Compared (now (p .entry)) (now (q .entry)) r ⌝ }
+    ensures { λ r. ⌜ FrontsCompared (now (p .entry)) (now (q .entry)) r ⌝ }
 {
     let n = lesser(p.len(), q.len());
     match compare(&p[..n], &q[..n]) {
@@ -21,8 +21,8 @@ fn ahead(p: &[u8], q: &[u8]) -> Ahead
 
 // Some bytes and a run of b.
 fn against(p: &[u8], b: &[u8], texts: &[u8], y: Run) -> Ahead
-    requires { ⌜ Placed (now b) (now texts) y ⌝ }
-    ensures { λ r. ⌜ Compared (now (p .entry)) (bytesOf (now (b .entry)) (now (texts .entry)) y) r ⌝ }
+    requires { ⌜ RunPlaced (now b) (now texts) y ⌝ }
+    ensures { λ r. ⌜ FrontsCompared (now (p .entry)) (bytesOf (now (b .entry)) (now (texts .entry)) y) r ⌝ }
 {
     let from = y.from;
     let to = y.to;
@@ -34,8 +34,8 @@ fn against(p: &[u8], b: &[u8], texts: &[u8], y: Run) -> Ahead
 
 // A run of a and a run of b.
 pub fn runs_ahead(a: &[u8], b: &[u8], texts: &[u8], x: Run, y: Run) -> Ahead
-    requires { ⌜ Placed (now a) (now texts) x × Placed (now b) (now texts) y ⌝ }
-    ensures { λ r. ⌜ Compared (bytesOf (now (a .entry)) (now (texts .entry)) x) (bytesOf (now (b .entry)) (now (texts .entry)) y) r ⌝ }
+    requires { ⌜ RunPlaced (now a) (now texts) x × RunPlaced (now b) (now texts) y ⌝ }
+    ensures { λ r. ⌜ FrontsCompared (bytesOf (now (a .entry)) (now (texts .entry)) x) (bytesOf (now (b .entry)) (now (texts .entry)) y) r ⌝ }
 {
     let from = x.from;
     let to = x.to;

@@ -4,7 +4,7 @@ ghost use mathlib.Core.List.{List};
 ghost use Rattle.hold_bindings.specs.Log.{Logged};
 ghost use Rattle.hold_bindings.specs.Held.{HoldsBindings};
 ghost use Rattle.lists.specs.Order.{orderBytes};
-ghost use Rattle.expand_parts.specs.Runs.{expanded, Ready};
+ghost use Rattle.expand_parts.specs.Runs.{expandedBy, ExpandReady};
 ghost use Rattle.expand_order.specs.Ahead.{orderLengths};
 
 mod fronts;
@@ -36,8 +36,8 @@ fn longer(i: usize, j: usize) -> Order
 
 // How what two raw texts expand to compares.
 pub fn order(t: &[u8; 256], a: &[u8], b: &[u8], texts: &[u8], bind: &[u32], count: usize) -> Order
-    requires { ⌜ Ready (now t) (now a) (now texts) (now bind) count 0 × Ready (now t) (now b) (now texts) (now bind) count 0 ⌝ }
-    ensures { λ r. ⌜ ((log : List Logged) → HoldsBindings log (now (texts .entry)) (now (bind .entry)) count → r ≡ orderBytes (expanded log (now (a .entry))) (expanded log (now (b .entry)))) ⌝ }
+    requires { ⌜ ExpandReady (now t) (now a) (now texts) (now bind) count 0 × ExpandReady (now t) (now b) (now texts) (now bind) count 0 ⌝ }
+    ensures { λ r. ⌜ ((log : List Logged) → HoldsBindings log (now (texts .entry)) (now (bind .entry)) count → r ≡ orderBytes (expandedBy log (now (a .entry))) (expandedBy log (now (b .entry)))) ⌝ }
 {
     let mut x = Run {
         bound: false,

@@ -10,19 +10,19 @@ use Rattle.spec.specs.Dollars.{expand}
 use Rattle.spec.specs.Reading.{Bound, fileVar}
 use Rattle.hold_bindings.specs.Log.{Logged, ofFile, boundBy}
 use Rattle.expand_parts.specs.declared.Run.{Run}
-use Rattle.expand_parts.specs.Runs.{expanded, bytesOf, Placed}
+use Rattle.expand_parts.specs.Runs.{expandedBy, bytesOf, RunPlaced}
 
-pub expanded-vars : (log : List Logged) (vars : List Bound) (raw : List ℕ) → vars ≡ boundBy ofFile log → expand (fileVar vars) raw ≡ expanded log raw
-unfolding expanded
+pub expanded-vars : (log : List Logged) (vars : List Bound) (raw : List ℕ) → vars ≡ boundBy ofFile log → expand (fileVar vars) raw ≡ expandedBy log raw
+unfolding expandedBy
 expanded-vars log vars raw e = rw e
 
-pub length-bytes : {raw texts : List ℕ} {r : Run} → Placed raw texts r → length (bytesOf raw texts r) ≡ r .to - r .from
+pub length-bytes : {raw texts : List ℕ} {r : Run} → RunPlaced raw texts r → length (bytesOf raw texts r) ≡ r .to - r .from
 unfolding bytesOf
 length-bytes {raw} {texts} {r} p =
     split (r .bound)
     (λ (e : r .bound ≡ true). rw e (length-part texts (r .from) (r .to) (p .in-texts e)))
     (λ (e : r .bound ≡ false). rw e (length-part raw (r .from) (r .to) (p .in-raw e)))
 
-pub expanded-none : (log : List Logged) → expanded log [] ≡ []
-unfolding expanded
+pub expanded-none : (log : List Logged) → expandedBy log [] ≡ []
+unfolding expandedBy
 expanded-none log = refl

@@ -11,7 +11,7 @@ use Rattle.lists.specs.Parts.{part-none}
 use Rattle.hold_bindings.specs.Log.{Logged}
 use Rattle.hold_bindings.specs.Held.{maxTexts, HoldsBindings}
 use Rattle.expand_parts.specs.declared.Run.{Run}
-use Rattle.expand_parts.specs.Runs.{expanded, bytesOf, leftOf, Begins, Going, most}
+use Rattle.expand_parts.specs.Runs.{expandedBy, bytesOf, leftOf, BeginsRun, Going, most}
 
 pub bytes-none : (raw texts : List ℕ) (r : Run) → r .to ≤ r .from → bytesOf raw texts r ≡ []
 unfolding bytesOf
@@ -20,7 +20,7 @@ bytes-none raw texts r h =
     (λ (e : r .bound ≡ true). rw e (part-none texts (r .from) (r .to) h))
     (λ (e : r .bound ≡ false). rw e (part-none raw (r .from) (r .to) h))
 
-pub left-none : (log : List Logged) (raw texts : List ℕ) (r : Run) → r .to ≤ r .from → leftOf log raw texts r ≡ expanded log (drop (r .next) raw)
+pub left-none : (log : List Logged) (raw texts : List ℕ) (r : Run) → r .to ≤ r .from → leftOf log raw texts r ≡ expandedBy log (drop (r .next) raw)
 unfolding leftOf
 left-none log raw texts r h = rw (bytes-none raw texts r h)
 
@@ -39,7 +39,7 @@ pub record Filling (t raw texts bind : List ℕ) (count : ℕ) (r x : Run) : Typ
   pub left : (log : List Logged) → HoldsBindings log texts bind count → leftOf log raw texts r ≡ leftOf log raw texts x
 
 module _ {t raw texts bind : List ℕ} {count : ℕ} {r x : Run} (f : Filling t raw texts bind count r x) where
-  pub fill-on : {y : Run} → x .to ≤ x .from → Begins raw texts bind count (x .next) y → Filling t raw texts bind count r y
+  pub fill-on : {y : Run} → x .to ≤ x .from → BeginsRun raw texts bind count (x .next) y → Filling t raw texts bind count r y
   fill-on {y} h b =
       record {
         going =

@@ -3,7 +3,7 @@ ghost use mathlib.Core.List.{List};
 ghost use Prim.Native.Nat.{ℕ, _<_};
 ghost use lib.ListN.{length};
 ghost use Rattle.hold_bindings.specs.Held.{SoundBindings};
-ghost use Rattle.expand_parts.specs.Runs.{Begins, Variable, Ready, Going, Filled};
+ghost use Rattle.expand_parts.specs.Runs.{BeginsRun, Variable, ExpandReady, Going, Filled};
 use hold_bindings::FoundEntry;
 use hold_bindings::newest;
 use hold_bindings::value_place;
@@ -45,8 +45,8 @@ fn variable(wanted: &[u8], texts: &[u8], bind: &[u32], count: usize, next: usize
 
 // The run that begins at place i of the raw text.
 pub fn run_at(t: &[u8; 256], raw: &[u8], i: usize, texts: &[u8], bind: &[u32], count: usize) -> Run
-    requires { ⌜ (i < length (now raw)) × Ready (now t) (now raw) (now texts) (now bind) count i ⌝ }
-    ensures { λ r. ⌜ Begins (now (raw .entry)) (now (texts .entry)) (now (bind .entry)) count i r ⌝ }
+    requires { ⌜ (i < length (now raw)) × ExpandReady (now t) (now raw) (now texts) (now bind) count i ⌝ }
+    ensures { λ r. ⌜ BeginsRun (now (raw .entry)) (now (texts .entry)) (now (bind .entry)) count i r ⌝ }
 {
     if raw[i] != b'$' {
         let end = find(raw, i, b'$');

@@ -19,7 +19,7 @@ use Rattle.orders.specs.Reach.{upstream, in-upstream}
 use Rattle.spec.specs.Promises.{filled}
 use Rattle.hold_columns.specs.Columns.{beforeIn, Shown}
 use Rattle.hold_columns.proofs.Held.{before-small}
-use Rattle.graph_list.specs.Listing.{marked, Unblocked, Clear, NextReady, PassAsked, Passed, ListAsked, leastIn}
+use Rattle.graph_list.specs.Listing.{marked, Unblocked, ClearSteps, NextReady, PassAsked, ReadyPassed, ListAsked, leastIn}
 
 -- the marked steps
 
@@ -52,7 +52,7 @@ pub record Listing (mentions ends made order first lent pending clear list : Lis
   pub clear-long : length clear ≡ length first
   pub list-long : length list ≡ length lent
   pub count-in : count ≤ length first
-  pub clear-now : Clear (beforeIn mentions ends made) pending clear
+  pub clear-now : ClearSteps (beforeIn mentions ends made) pending clear
   pub next : NextReady (beforeIn mentions ends made) pending order (length first) s
   pub left : (u : ℕ) → getD pending u 0 ≡ 1 → (getD first u 0 ≡ 1) × (u ∉ take count list)
   pub still : (u : ℕ) → getD first u 0 ≡ 1 → u ∉ take count list → getD pending u 0 ≡ 1
@@ -68,7 +68,7 @@ module _ {mentions ends made order pending clear list : List ℕ} (q : ListAsked
     clear-now = λ s h. absurd (omega (arith, sym h ∙ ap (λ (l : List ℕ). getD l s 0) (q .unclear) ∙ getD-zeros (length pending) s));
   }
 
-  pub list-begin : {exit : List ℕ} {s : ℕ} → Passed mentions ends made order pending exit s → Listing mentions ends made order pending list pending exit list 0 s
+  pub list-begin : {exit : List ℕ} {s : ℕ} → ReadyPassed mentions ends made order pending exit s → Listing mentions ends made order pending list pending exit list 0 s
   list-begin p = record {
     pending-long = refl;
     clear-long = p .long;
@@ -147,7 +147,7 @@ module _ {mentions ends made order first before-clear lent pending clear list : 
           clear-now = λ u h. (let (d, free) = r .clear-now u h in (λ p. d (off u p .1), λ m w p. free m w (off m p .1)));
         }
 
-    pub list-more : {exit : List ℕ} {k : ℕ} → Passed mentions ends made order (set pending s 0) exit k → Listing mentions ends made order first lent (set pending s 0) exit (set list count s) (count + 1) k
+    pub list-more : {exit : List ℕ} {k : ℕ} → ReadyPassed mentions ends made order (set pending s 0) exit k → Listing mentions ends made order first lent (set pending s 0) exit (set list count s) (count + 1) k
     list-more p =
         let e : length (set pending s 0) ≡ length first = simp length-set (r .pending-long) in
         record {

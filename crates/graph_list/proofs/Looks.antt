@@ -15,7 +15,7 @@ use Rattle.lists.specs.Tests.{differ}
 use Rattle.lists.specs.Members.{all}
 use Rattle.spec.specs.Basics.{concat}
 use Rattle.hold_columns.specs.Columns.{madeBy, makerIn, makersIn}
-use Rattle.graph_list.specs.Listing.{allClear, Looks}
+use Rattle.graph_list.specs.Listing.{allClear, LooksAt}
 
 -- the makers of one file more
 
@@ -42,7 +42,7 @@ clear-end made clear = refl
 -- the ways out of a look
 
 module _ {s : ℕ} {ready : Bool} {pending clear : List ℕ} {best : ℕ} where
-  pub look-clear : {v : ℕ} → v ≡ getD clear s 0 → v ≡ 1 → Looks s ready pending clear clear best best
+  pub look-clear : {v : ℕ} → v ≡ getD clear s 0 → v ≡ 1 → LooksAt s ready pending clear clear best best
   look-clear e w = record {
     long = refl;
     keeps = λ u h. h;
@@ -53,7 +53,7 @@ module _ {s : ℕ} {ready : Bool} {pending clear : List ℕ} {best : ℕ} where
     least = λ r p d. absurd (d (sym e ∙ w));
   }
 
-  pub look-blocked : {a : Bool} → a ≡ ready → a ≡ false → Looks s ready pending clear clear best best
+  pub look-blocked : {a : Bool} → a ≡ ready → a ≡ false → LooksAt s ready pending clear clear best best
   look-blocked e w = record {
     long = refl;
     keeps = λ u h. h;
@@ -65,7 +65,7 @@ module _ {s : ℕ} {ready : Bool} {pending clear : List ℕ} {best : ℕ} where
   }
 
   module _ {a : Bool} (e : a ≡ ready) (w : a ≡ true) {v : ℕ} (g : v ≡ getD pending s 0) where
-    pub look-free : (v ≡ 1 → ⊥) → s < length clear → Looks s ready pending clear (set clear s 1) best best
+    pub look-free : (v ≡ 1 → ⊥) → s < length clear → LooksAt s ready pending clear (set clear s 1) best best
     look-free d b = record {
       long = length-set clear s 1;
       keeps = λ u h. elim (ℕ-discrete u s) [ yes q ↦ rw q (getD-set-same clear s 1 0 b) | no n ↦ getD-set-other clear s u 1 0 n ∙ h ];
@@ -79,7 +79,7 @@ module _ {s : ℕ} {ready : Bool} {pending clear : List ℕ} {best : ℕ} where
       least = λ r p n. absurd (d (g ∙ p));
     }
 
-    pub look-lower : v ≡ 1 → s < best → Looks s ready pending clear clear best s
+    pub look-lower : v ≡ 1 → s < best → LooksAt s ready pending clear clear best s
     look-lower p b = record {
       long = refl;
       keeps = λ u h. h;
@@ -90,7 +90,7 @@ module _ {s : ℕ} {ready : Bool} {pending clear : List ℕ} {best : ℕ} where
       least = λ r q n. le-refl s;
     }
 
-    pub look-higher : v ≡ 1 → best ≤ s → Looks s ready pending clear clear best best
+    pub look-higher : v ≡ 1 → best ≤ s → LooksAt s ready pending clear clear best best
     look-higher p b = record {
       long = refl;
       keeps = λ u h. h;

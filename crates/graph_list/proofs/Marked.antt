@@ -14,7 +14,7 @@ use Rattle.spec.specs.Stale.{isStale, staleNeeded, listOf}
 use Rattle.hold_columns.specs.Columns.{bit, HoldsColumns, Marks, Shown}
 use Rattle.hold_columns.proofs.Held.{held-before, held-steps}
 use Rattle.graph_stale.specs.Judge.{timeAt, StaleMarked}
-use Rattle.graph_list.specs.Listing.{marked, leastIn, ListAsked, SpaceAsked, StaleListed}
+use Rattle.graph_list.specs.Listing.{marked, leastIn, ListAsked, ListSpaceAsked, StaleListed}
 use Rattle.graph_list.proofs.Listing.{in-marked, marked-in, rising-marked}
 
 -- marks that stand at the members of a rising list of steps give that list
@@ -51,7 +51,7 @@ pub stale-listed : {mentions ends phony made times order marks list exit : List 
     → Shown (leastIn mentions ends made marks) list k exit → StaleListed mentions ends phony made times order list k exit
 stale-listed {times} r s steps files roots h o = rw (least-list times h roots (r .marked steps files roots h o)) at s
 
-pub ask-list : {mentions ends phony made times order blank marks clear list : List ℕ} → SpaceAsked mentions ends phony made times order blank clear list
+pub ask-list : {mentions ends phony made times order blank marks clear list : List ℕ} → ListSpaceAsked mentions ends phony made times order blank clear list
     → StaleMarked mentions ends phony made times order marks → ListAsked mentions ends made order marks clear list
 ask-list q r = record {
   sound = rw (r .long) (q .asked .sound);

@@ -13,13 +13,13 @@ use lib.Seq.{take-suc, take-all}
 use borrow.Author.Tests.{eqb-true, eq-eqb}
 use Rattle.lists.specs.Members.{_∈_, all-true, true-all, in-snoc, in-left, in-right, here, not-in-nil}
 use Rattle.orders.specs.Reach.{direct, further}
-use Rattle.hold_columns.specs.Columns.{inputsIn, beforeIn, Sorted}
-use Rattle.graph_list.specs.Listing.{allClear, Unblocked, Clear, Looks, LookAsked, NextReady, PassAsked, Passed}
+use Rattle.hold_columns.specs.Columns.{inputsIn, beforeIn, SortedSteps}
+use Rattle.graph_list.specs.Listing.{allClear, Unblocked, ClearSteps, LooksAt, LookAsked, NextReady, PassAsked, ReadyPassed}
 
 pub record Passing (mentions ends made order pending clear : List ℕ) (best i : ℕ) : Type 0 where
   pub within : i ≤ length order
   pub long : length clear ≡ length pending
-  pub clear-now : Clear (beforeIn mentions ends made) pending clear
+  pub clear-now : ClearSteps (beforeIn mentions ends made) pending clear
   pub done : (s : ℕ) → s ∈ take i order → (getD pending s 0 ≡ 1 → ⊥) → Unblocked (beforeIn mentions ends made) pending s → getD clear s 0 ≡ 1
   pub next : NextReady (beforeIn mentions ends made) pending (take i order) (length pending) best
 
@@ -37,7 +37,7 @@ unblocked-by : (before : ℕ → List ℕ) (pending : List ℕ) (s : ℕ) → ((
 unblocked-by before pending s f m (direct h) = f m h .0
 unblocked-by before pending s f m (further {k = k} u h) = f k h .1 m u
 
-module _ {mentions ends made order pending clear : List ℕ} {best i : ℕ} (q : Sorted (beforeIn mentions ends made) order) (r : Passing mentions ends made order pending clear best i)
+module _ {mentions ends made order pending clear : List ℕ} {best i : ℕ} (q : SortedSteps (beforeIn mentions ends made) order) (r : Passing mentions ends made order pending clear best i)
     (b : i < length order) {s : ℕ} (e : s ≡ getD order i 0) where
   -- no pending step is upstream exactly where the makers of the inputs are all clear
 
@@ -53,7 +53,7 @@ module _ {mentions ends made order pending clear : List ℕ} {best i : ℕ} (q :
   one-more : take (i + 1) order ≡ take i order ++ (s ∷ [])
   one-more = rw (add-one i, e) (take-suc order i 0 b)
 
-  pub pass-more : {exit : List ℕ} {k : ℕ} → Looks s (allClear made clear (inputsIn mentions ends s)) pending clear exit best k → Passing mentions ends made order pending exit k (i + 1)
+  pub pass-more : {exit : List ℕ} {k : ℕ} → LooksAt s (allClear made clear (inputsIn mentions ends s)) pending clear exit best k → Passing mentions ends made order pending exit k (i + 1)
   pass-more {exit} {k} l = record {
     within = omega arith;
     long = l .long ∙ r .long;
@@ -85,7 +85,7 @@ module _ {mentions ends made order pending clear : List ℕ} {best i : ℕ} (q :
     };
   }
 
-pub pass-end : {mentions ends made order pending clear : List ℕ} {best i : ℕ} → Passing mentions ends made order pending clear best i → length order ≤ i → Passed mentions ends made order pending clear best
+pub pass-end : {mentions ends made order pending clear : List ℕ} {best i : ℕ} → Passing mentions ends made order pending clear best i → length order ≤ i → ReadyPassed mentions ends made order pending clear best
 pass-end {order} {i} r b = record { next = rw (take-all i order b) at (r .next); long = r .long; clear-now = r .clear-now }
 
 pub pass-ask : {mentions ends made order pending before-clear clear : List ℕ} {best i s : ℕ} → PassAsked mentions ends made order pending before-clear → Passing mentions ends made order pending clear best i

@@ -14,7 +14,7 @@ use Rattle.orders.specs.Reach.{ComesBefore, upstream}
 use Rattle.spec.specs.Reading.{Step}
 use Rattle.spec.specs.Graph.{before, needed}
 use Rattle.spec.specs.Stale.{listOf}
-use Rattle.hold_columns.specs.Columns.{makersIn, beforeIn, HoldsColumns, SoundColumns, Sorted, Shown}
+use Rattle.hold_columns.specs.Columns.{makersIn, beforeIn, HoldsColumns, SoundColumns, SortedSteps, Shown}
 use Rattle.graph_stale.specs.Judge.{timeAt}
 
 -- the steps with the mark 1
@@ -32,11 +32,11 @@ abbrev pub Unblocked : (ℕ → List ℕ) → List ℕ → ℕ → Type 0
 Unblocked before pending s = (m : ℕ) → ComesBefore before m s → getD pending m 0 ≡ 1 → ⊥
 
 -- a clear step is not pending, and no pending step is upstream of it
-abbrev pub Clear : (ℕ → List ℕ) → List ℕ → List ℕ → Type 0
-Clear before pending clear = (s : ℕ) → getD clear s 0 ≡ 1 → (getD pending s 0 ≡ 1 → ⊥) × Unblocked before pending s
+abbrev pub ClearSteps : (ℕ → List ℕ) → List ℕ → List ℕ → Type 0
+ClearSteps before pending clear = (s : ℕ) → getD clear s 0 ≡ 1 → (getD pending s 0 ≡ 1 → ⊥) × Unblocked before pending s
 
 -- What a look at step s makes of the lowest ready step so far and of the clear steps, by whether its inputs' makers are all clear.
-pub record Looks (s : ℕ) (ready : Bool) (pending clear exit : List ℕ) (best r : ℕ) : Type 0 where
+pub record LooksAt (s : ℕ) (ready : Bool) (pending clear exit : List ℕ) (best r : ℕ) : Type 0 where
   pub long : length exit ≡ length clear
   pub keeps : (u : ℕ) → getD clear u 0 ≡ 1 → getD exit u 0 ≡ 1
   pub clears : (u : ℕ) → getD exit u 0 ≡ 1 → (getD clear u 0 ≡ 1) ⊎ ((u ≡ s) × (ready ≡ true) × (getD pending s 0 ≡ 1 → ⊥))
@@ -58,20 +58,20 @@ pub record NextReady (before : ℕ → List ℕ) (pending order : List ℕ) (n r
 
 pub record PassAsked (mentions ends made order pending clear : List ℕ) : Type 0 where
   pub sound : SoundColumns (length pending) mentions ends made
-  pub sorted : Sorted (beforeIn mentions ends made) order
+  pub sorted : SortedSteps (beforeIn mentions ends made) order
   pub steps : (i : ℕ) → i < length order → getD order i 0 < length pending
   pub long : length clear ≡ length pending
-  pub clear-now : Clear (beforeIn mentions ends made) pending clear
+  pub clear-now : ClearSteps (beforeIn mentions ends made) pending clear
 
-pub record Passed (mentions ends made order pending exit : List ℕ) (r : ℕ) : Type 0 where
+pub record ReadyPassed (mentions ends made order pending exit : List ℕ) (r : ℕ) : Type 0 where
   pub next : NextReady (beforeIn mentions ends made) pending order (length pending) r
   pub long : length exit ≡ length pending
-  pub clear-now : Clear (beforeIn mentions ends made) pending exit
+  pub clear-now : ClearSteps (beforeIn mentions ends made) pending exit
 
 -- What the list asks: sound tables, an order that holds every pending step, nothing clear yet, room for every step.
 pub record ListAsked (mentions ends made order pending clear list : List ℕ) : Type 0 where
   pub sound : SoundColumns (length pending) mentions ends made
-  pub sorted : Sorted (beforeIn mentions ends made) order
+  pub sorted : SortedSteps (beforeIn mentions ends made) order
   pub steps : (i : ℕ) → i < length order → getD order i 0 < length pending
   pub inside : (s : ℕ) → getD pending s 0 ≡ 1 → s ∈ order
   pub unclear : clear ≡ zeros (length pending)
@@ -86,12 +86,12 @@ leastIn mentions ends made pending = greedy (marked (length pending) pending) (u
 pub record StaleListAsked (mentions ends phony made times order list : List ℕ) : Type 0 where
   pub sound : SoundColumns (length phony) mentions ends made
   pub timed : length times ≡ length made
-  pub sorted : Sorted (beforeIn mentions ends made) order
+  pub sorted : SortedSteps (beforeIn mentions ends made) order
   pub steps : (i : ℕ) → i < length order → getD order i 0 < length phony
   pub room : length phony ≤ length list
 
 -- the same, with working space that is all zero
-pub record SpaceAsked (mentions ends phony made times order marks clear list : List ℕ) : Type 0 where
+pub record ListSpaceAsked (mentions ends phony made times order marks clear list : List ℕ) : Type 0 where
   pub asked : StaleListAsked mentions ends phony made times order list
   pub unmarked : marks ≡ zeros (length phony)
   pub unclear : clear ≡ zeros (length phony)

@@ -3,8 +3,8 @@ ghost use mathlib.Core.Path.{_≡_};
 ghost use Prim.Native.Nat.{_<_};
 ghost use lib.ListN.{length};
 ghost use Rattle.lists.specs.Lent.{Spare, Leaves};
-ghost use Rattle.hold_columns.specs.Columns.{Files, inputsIn, Shown};
-ghost use Rattle.graph_list.specs.Listing.{allClear, Looks, LookAsked, PassAsked, Passed, ListAsked, leastIn, StaleListAsked, SpaceAsked, StaleListed};
+ghost use Rattle.hold_columns.specs.Columns.{FilesMade, inputsIn, Shown};
+ghost use Rattle.graph_list.specs.Listing.{allClear, LooksAt, LookAsked, PassAsked, ReadyPassed, ListAsked, leastIn, StaleListAsked, ListSpaceAsked, StaleListed};
 use graph_stale::stale_commands;
 use hold_columns::inputs;
 use hold_columns::maker;
@@ -14,7 +14,7 @@ use spec::limits::STEPS;
 
 // Are all makers of these files clear.
 fn all_clear(fs: &[u32], made: &[u32], clear: &[u32]) -> bool
-    requires { ⌜ Files (length (now clear)) (now fs) (now made) ⌝ }
+    requires { ⌜ FilesMade (length (now clear)) (now fs) (now made) ⌝ }
     ensures { λ r. ⌜ r ≡ allClear (now (made .entry)) (now (clear .entry)) (now (fs .entry)) ⌝ }
 {
     let mut i = 0;
@@ -43,7 +43,7 @@ fn look(
     best: usize,
 ) -> usize
     requires { ⌜ LookAsked (now mentions) (now ends) (now made) (now pending) (now clear) s ⌝ }
-    ensures { λ r. ⌜ Looks s (allClear (now (made .entry)) (now (clear .entry)) (inputsIn (now (mentions .entry)) (now (ends .entry)) s)) (now (pending .entry)) (now (clear .entry)) (now (clear .exit)) best r ⌝ }
+    ensures { λ r. ⌜ LooksAt s (allClear (now (made .entry)) (now (clear .entry)) (inputsIn (now (mentions .entry)) (now (ends .entry)) s)) (now (pending .entry)) (now (clear .entry)) (now (clear .exit)) best r ⌝ }
 {
     if at(clear, s) == 1 {
         return best;
@@ -71,7 +71,7 @@ fn next_ready(
     clear: &mut [u32],
 ) -> usize
     requires { ⌜ PassAsked (now mentions) (now ends) (now made) (now order) (now pending) (now clear) ⌝ }
-    ensures { λ r. ⌜ Passed (now (mentions .entry)) (now (ends .entry)) (now (made .entry)) (now (order .entry)) (now (pending .entry)) (now (clear .exit)) r ⌝ }
+    ensures { λ r. ⌜ ReadyPassed (now (mentions .entry)) (now (ends .entry)) (now (made .entry)) (now (order .entry)) (now (pending .entry)) (now (clear .exit)) r ⌝ }
 {
     let mut best = pending.len();
     let mut i = 0;
@@ -119,7 +119,7 @@ fn list_marked(
     clear: &mut [u32],
     list: &mut [u32],
 ) -> usize
-    requires { ⌜ SpaceAsked (now mentions) (now ends) (now phony) (now made) (now times) (now order) (now marks) (now clear) (now list) ⌝ }
+    requires { ⌜ ListSpaceAsked (now mentions) (now ends) (now phony) (now made) (now times) (now order) (now marks) (now clear) (now list) ⌝ }
     ensures { λ r. ⌜ Leaves (Spare (now (marks .entry)) (now (marks .exit)) × Spare (now (clear .entry)) (now (clear .exit))) (StaleListed (now (mentions .entry)) (now (ends .entry)) (now (phony .entry)) (now (made .entry)) (now (times .entry)) (now (order .entry)) (now (list .entry)) r (now (list .exit))) ⌝ }
 {
     stale_commands(mentions, ends, phony, made, times, order, marks);

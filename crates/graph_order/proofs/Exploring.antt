@@ -11,10 +11,10 @@ use lib.Seq.{take-suc, take-suc-set, getD-take, getD-set-same, getD-set-other, l
 use Rattle.lists.specs.Members.{_∈_, _∉_, _⊆_, here, there, in-left, in-right, in-snoc, at-before, place-before, not-in-nil}
 use Rattle.orders.specs.Reach.{direct, Reached, upstream-more}
 use Rattle.spec.specs.Limits.{maxSteps, maxMentions}
-use Rattle.hold_columns.specs.Columns.{outsEnd, orderOnlyEnd, endAt, makerAt, inputsIn, beforeIn, SoundColumns, Files}
+use Rattle.hold_columns.specs.Columns.{outsEnd, orderOnlyEnd, endAt, makerAt, inputsIn, beforeIn, SoundColumns, FilesMade}
 use Rattle.hold_columns.proofs.Makers.{in-makersIn, makersIn-in, maker-low}
 use Rattle.hold_columns.proofs.Held.{part-files, part-few}
-use Rattle.graph_order.specs.Walk.{Walk, Passed, Opens, Settled, Circled, Starts, Finds}
+use Rattle.graph_order.specs.Walk.{Walk, InputsPassed, OpenInput, Settled, Circled, Starts, Finds}
 use Rattle.graph_order.proofs.Walk.{two-done, one-path, not-two, not-one, walk-push, walk-pop, path-room, done-room, walk-circle}
 
 finds-before : (n : ℕ) (l : List ℕ) (x j : ℕ) → Finds l x j → x ∈ take n l → j < n
@@ -47,7 +47,7 @@ pub record Exploring (mentions ends made : List ℕ) (n : ℕ) (old : List ℕ) 
   pub path-long : length path ≡ n
   pub order-long : length order ≡ n
   pub walk : Walk (beforeIn mentions ends made) n (Reached (beforeIn mentions ends made) (root ∷ old)) seen (take depth path) (take done order)
-  pub passed : (s : ℕ) → s < n → Passed mentions ends made next (take done order) s
+  pub passed : (s : ℕ) → s < n → InputsPassed mentions ends made next (take done order) s
   pub kept : old ⊆ take done order
   pub root-seen : (root ∈ take depth path) ⊎ (root ∈ take done order)
 
@@ -77,7 +77,7 @@ pub record Turn (mentions ends made : List ℕ) (n : ℕ) (old : List ℕ) (root
   pub last : s ≡ getD path (depth - 1) 0
   pub inputs : fs ≡ inputsIn mentions ends s
   pub start : from ≡ getD next s 0
-  pub opens : Opens fs made seen from i
+  pub opens : OpenInput fs made seen from i
 
 -- what the indices and the lengths of a turn are
 pub record Numbers (n : ℕ) (seen next path order : List ℕ) (depth done s i : ℕ) : Type 0 where
@@ -101,7 +101,7 @@ module _ {mentions ends made : List ℕ} {n : ℕ} {old : List ℕ} {root : ℕ}
   top-low = r .walk .path-low s top-in
 
   module _ (sound : SoundColumns n mentions ends made) {fs : List ℕ} (q : fs ≡ inputsIn mentions ends s) where
-    pub top-files : Files n fs made
+    pub top-files : FilesMade n fs made
     unfolding inputsIn
     top-files = rw q (part-files sound (endAt ends _ outsEnd) (endAt ends _ orderOnlyEnd))
 
@@ -119,10 +119,10 @@ module _ {mentions ends made : List ℕ} {n : ℕ} {old : List ℕ} {root : ℕ}
   q : fs ≡ inputsIn mentions ends s
   q = t .inputs
 
-  o : Opens fs made seen (getD next s 0) i
+  o : OpenInput fs made seen (getD next s 0) i
   o = rw (t .start) at (t .opens)
 
-  files : Files n fs made
+  files : FilesMade n fs made
   files = top-files r (t .deep) e (t .sound) q
 
   is-top : s ∈ take depth path
@@ -155,7 +155,7 @@ module _ {mentions ends made : List ℕ} {n : ℕ} {old : List ℕ} {root : ℕ}
         )
   ]
 
-  passed-more : (u : ℕ) → u < n → Passed mentions ends made (set next s i) (take done order) u
+  passed-more : (u : ℕ) → u < n → InputsPassed mentions ends made (set next s i) (take done order) u
   passed-more u c = elim (ℕ-discrete u s) [
     | yes d ↦ (
         let g : getD (set next s i) u 0 ≡ i = rw d (getD-set-same next s i 0 (omega (arith, low, r .next-long))) in

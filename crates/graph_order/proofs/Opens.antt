@@ -7,7 +7,7 @@ use mathlib.Core.Path.{_≡_, sym, _∙_}
 use mathlib.Core.List.{List}
 use lib.ListN.{length, getD}
 use Rattle.hold_columns.specs.Columns.{makerAt}
-use Rattle.graph_order.specs.Walk.{Over, Opens}
+use Rattle.graph_order.specs.Walk.{Over, OpenInput}
 
 pub record Opening (fs made seen : List ℕ) (from i : ℕ) : Type 0 where
   pub forward : from ≤ i
@@ -36,7 +36,7 @@ module _ {fs made seen : List ℕ} {from i : ℕ} (r : Opening fs made seen from
     pub open-done : {v : ℕ} → v ≡ getD seen (k - 1) 0 → v ≡ 2 → Opening fs made seen from (i + 1)
     open-done p z = open-more b (λ m q. let d : k - 1 ≡ m = omega arith in rw d at (sym p ∙ z))
 
-    pub open-found : {v : ℕ} → v ≡ getD seen (k - 1) 0 → (v ≡ 2 → ⊥) → (k ≡ 0 → ⊥) → Opens fs made seen from i
+    pub open-found : {v : ℕ} → v ≡ getD seen (k - 1) 0 → (v ≡ 2 → ⊥) → (k ≡ 0 → ⊥) → OpenInput fs made seen from i
     open-found p z d = record {
       forward = r .forward;
       within = r .within;
@@ -45,5 +45,5 @@ module _ {fs made seen : List ℕ} {from i : ℕ} (r : Opening fs made seen from
       not-done = λ h w. z (p ∙ rw e w);
     }
 
-  pub open-end : length fs ≤ i → Opens fs made seen from i
+  pub open-end : length fs ≤ i → OpenInput fs made seen from i
   open-end b = record { forward = r .forward; within = r .within; over = r .over; made-there = λ h. absurd (omega arith); not-done = λ h. absurd (omega arith) }

@@ -12,12 +12,12 @@ use Rattle.lists.specs.Members.{_∈_, has, has-true, has-false, in-cons, in-ta
 use Rattle.orders.specs.Greedy.{In}
 use Rattle.orders.specs.Reach.{ComesBefore, direct, further, Reached, upstream-more, reach-least, reach-complete}
 use Rattle.lists.specs.Fill.{length-zeros, getD-zeros}
-use Rattle.hold_columns.specs.Columns.{makerAt, makersIn, beforeIn, neededIn, SoundColumns, Files}
+use Rattle.hold_columns.specs.Columns.{makerAt, makersIn, beforeIn, neededIn, SoundColumns, FilesMade}
 use Rattle.hold_columns.proofs.Makers.{in-makersIn, makersIn-in, maker-low, makers-small}
 use Rattle.hold_columns.proofs.Held.{before-small}
 use Rattle.graph_order.specs.declared.Visit.{Visit}
 use Rattle.graph_order.specs.declared.Visit.the-variants.{Done, Circle}
-use Rattle.graph_order.specs.Walk.{mark, Walk, Visited, Circled, Explored, Starts, Rooted, RootSeen, RootAsked, SortAsked, Ordered}
+use Rattle.graph_order.specs.Walk.{mark, Walk, Visited, Circled, Explored, Starts, Rooted, RootSeen, RootAsked, SortAsked, OrderFound}
 use Rattle.graph_order.proofs.Walk.{mark-zero, walk-none}
 
 upstream-trans : {before : ℕ → List ℕ} {m k s : ℕ} → ComesBefore before m k → ComesBefore before k s → ComesBefore before m s
@@ -154,7 +154,7 @@ roots-begin {seen} {next} {order} r =
     }
 
 module _ {mentions ends made roots : List ℕ} {n : ℕ} {seen next path order : List ℕ} {done i : ℕ}
-    (sound : SoundColumns n mentions ends made) (files : Files n roots made) (r : Rooting mentions ends made roots n seen next path order done i) where
+    (sound : SoundColumns n mentions ends made) (files : FilesMade n roots made) (r : Rooting mentions ends made roots n seen next path order done i) where
   pub roots-ask : i < length roots → RootAsked mentions ends made roots i seen next path order done
   roots-ask b =
       let e : length order ≡ n = r .state .visited .order-long in
@@ -181,7 +181,7 @@ module _ {mentions ends made roots : List ℕ} {n : ℕ} {seen next path order :
       start : List ℕ
       start = makersIn made roots
 
-  pub roots-end : length roots ≤ i → Ordered mentions ends made roots n order done
+  pub roots-end : length roots ≤ i → OrderFound mentions ends made roots n order done
   unfolding neededIn
   roots-end b = record {
     within = r .state .visited .done-in;

@@ -9,17 +9,17 @@ use Rattle.orders.specs.Greedy.{In}
 use Rattle.hold_columns.specs.Columns.{beforeIn, neededIn, Shown}
 use Rattle.graph_order.specs.declared.Visit.{Visit}
 use Rattle.graph_order.specs.declared.Visit.the-variants.{Done, Circle}
-use Rattle.graph_order.specs.Walk.{Circled, Sorted}
+use Rattle.graph_order.specs.Walk.{Circled, FindsOrder}
 use Rattle.graph_order.specs.Sort.{Showable, InOrder, InCircle}
 
-module _ (mentions ends made roots : List ℕ) (n : ℕ) (path order : List ℕ) {o : Visit} (s : Sorted mentions ends made roots n path order o) where
+module _ (mentions ends made roots : List ℕ) (n : ℕ) (path order : List ℕ) {o : Visit} (s : FindsOrder mentions ends made roots n path order o) where
   pub shows-order : {k : ℕ} → o ≡ Done k → (list : List ℕ) → InOrder mentions ends made roots n order k list list
-  unfolding Sorted
+  unfolding FindsOrder
   shows-order e list = record { sorted = rw e at s; kept = refl }
 
   module _ {from to : ℕ} (e : o ≡ Circle from to) where
     circled : Circled (beforeIn mentions ends made) (In (neededIn mentions ends made n roots)) path from to
-    unfolding Sorted
+    unfolding FindsOrder
     circled = rw e at s
 
     pub showable : {list : List ℕ} → length path ≤ length list → Showable path from to list

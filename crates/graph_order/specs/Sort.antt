@@ -5,14 +5,14 @@ use mathlib.Core.List.{List}
 use lib.ListN.{length}
 use Rattle.orders.specs.Order.{IsCircle}
 use Rattle.orders.specs.Greedy.{In, By}
-use Rattle.hold_columns.specs.Columns.{beforeIn, neededIn, SoundColumns, Files, Shown}
+use Rattle.hold_columns.specs.Columns.{beforeIn, neededIn, SoundColumns, FilesMade, Shown}
 use Rattle.graph_order.specs.declared.Sorting.{Sorting}
 use Rattle.graph_order.specs.declared.Sorting.the-variants.{Ordered as OrderedSteps, Circular}
-use Rattle.graph_order.specs.Walk.{SortAsked, Ordered}
+use Rattle.graph_order.specs.Walk.{SortAsked, OrderFound}
 
 pub record NeededAsked (mentions ends made roots order list : List ℕ) : Type 0 where
   pub sound : SoundColumns (length order) mentions ends made
-  pub files : Files (length order) roots made
+  pub files : FilesMade (length order) roots made
   pub room : length order ≤ length list
 
 -- the same, with the buffers that the walks work in
@@ -21,7 +21,7 @@ pub record SortShows (mentions ends made roots seen next path order list : List 
   pub room : length order ≤ length list
 
 pub record InOrder (mentions ends made roots : List ℕ) (n : ℕ) (order : List ℕ) (k : ℕ) (list exit : List ℕ) : Type 0 where
-  pub sorted : Ordered mentions ends made roots n order k
+  pub sorted : OrderFound mentions ends made roots n order k
   pub kept : exit ≡ list
 
 pub record Showable (path : List ℕ) (from to : ℕ) (list : List ℕ) : Type 0 where

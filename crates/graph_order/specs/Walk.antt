@@ -10,7 +10,7 @@ use Rattle.orders.specs.Order.{IsOrder, IsCircle}
 use Rattle.orders.specs.Greedy.{In, By}
 use Rattle.orders.specs.Reach.{Reached}
 use Rattle.orders.specs.Circle.{Linked}
-use Rattle.hold_columns.specs.Columns.{makerAt, makersIn, inputsIn, beforeIn, neededIn, SoundColumns, Files}
+use Rattle.hold_columns.specs.Columns.{makerAt, makersIn, inputsIn, beforeIn, neededIn, SoundColumns, FilesMade}
 use Rattle.graph_order.specs.declared.Visit.{Visit}
 use Rattle.graph_order.specs.declared.Visit.the-variants.{Done, Circle}
 
@@ -34,7 +34,7 @@ pub record Walk (before : ℕ → List ℕ) (n : ℕ) (Want : ℕ → Type 0) (s
   pub apart : (s : ℕ) → s ∈ path → s ∉ done
 
 -- of a step's inputs the makers of the first few are done: as many as `next` says
-pub record Passed (mentions ends made next done : List ℕ) (s : ℕ) : Type 0 where
+pub record InputsPassed (mentions ends made next done : List ℕ) (s : ℕ) : Type 0 where
   pub within : getD next s 0 ≤ length (inputsIn mentions ends s)
   pub passed : (j : ℕ) → j < getD next s 0 → (m : ℕ) → makerAt made (inputsIn mentions ends s) j ≡ suc m → m ∈ done
 
@@ -43,7 +43,7 @@ abbrev pub Over : List ℕ → List ℕ → List ℕ → ℕ → ℕ → Type 0
 Over fs made seen from r = (j : ℕ) → from ≤ j → j < r → (m : ℕ) → makerAt made fs j ≡ suc m → getD seen m 0 ≡ 2
 
 -- What the search for a file whose maker is not done finds: its place, or the number of files.
-pub record Opens (fs made seen : List ℕ) (from r : ℕ) : Type 0 where
+pub record OpenInput (fs made seen : List ℕ) (from r : ℕ) : Type 0 where
   pub forward : from ≤ r
   pub within : r ≤ length fs
   pub over : Over fs made seen from r
@@ -56,7 +56,7 @@ pub record Visited (mentions ends made : List ℕ) (n : ℕ) (Want : ℕ → Typ
   pub next-long : length next ≡ n
   pub order-long : length order ≡ n
   pub walk : Walk (beforeIn mentions ends made) n Want seen [] (take done order)
-  pub passed : (s : ℕ) → s < n → Passed mentions ends made next (take done order) s
+  pub passed : (s : ℕ) → s < n → InputsPassed mentions ends made next (take done order) s
 
 -- What a walk from `root` finds, with the steps of `old` done before it: all that it reaches in order after them, or a circle.
 pub record Settled (mentions ends made : List ℕ) (n : ℕ) (old : List ℕ) (root : ℕ) (seen next order : List ℕ) (done : ℕ) : Type 0 where
@@ -101,7 +101,7 @@ RootSeen mentions ends made roots n i seen next path order (Circle from to) =
 -- what the walk from root i asks
 pub record RootAsked (mentions ends made roots : List ℕ) (i : ℕ) (seen next path order : List ℕ) (done : ℕ) : Type 0 where
   pub sound : SoundColumns (length order) mentions ends made
-  pub files : Files (length order) roots made
+  pub files : FilesMade (length order) roots made
   pub state : Rooted mentions ends made roots (length order) seen next order done i
   pub path-long : length path ≡ length order
   pub one-more : i < length roots
@@ -109,17 +109,17 @@ pub record RootAsked (mentions ends made roots : List ℕ) (i : ℕ) (seen next 
 -- What all the walks ask: sound tables, roots that are files, nothing seen.
 pub record SortAsked (mentions ends made roots seen next path order : List ℕ) : Type 0 where
   pub sound : SoundColumns (length order) mentions ends made
-  pub files : Files (length order) roots made
+  pub files : FilesMade (length order) roots made
   pub unseen : seen ≡ zeros (length order)
   pub unpassed : next ≡ zeros (length order)
   pub path-long : length path ≡ length order
 
 -- the first k numbers of `order` are the needed steps in an order, with each one after the makers of its inputs
-pub record Ordered (mentions ends made roots : List ℕ) (n : ℕ) (order : List ℕ) (k : ℕ) : Type 0 where
+pub record OrderFound (mentions ends made roots : List ℕ) (n : ℕ) (order : List ℕ) (k : ℕ) : Type 0 where
   pub within : k ≤ n
   pub in-order : IsOrder (In (neededIn mentions ends made n roots)) (By (beforeIn mentions ends made)) (take k order)
 
 -- What they find: an order of the needed steps, or a circle of needed ones.
-unfoldable pub Sorted : List ℕ → List ℕ → List ℕ → List ℕ → ℕ → List ℕ → List ℕ → Visit → Type 0
-Sorted mentions ends made roots n path order (Done k) = Ordered mentions ends made roots n order k
-Sorted mentions ends made roots n path order (Circle from to) = Circled (beforeIn mentions ends made) (In (neededIn mentions ends made n roots)) path from to
+unfoldable pub FindsOrder : List ℕ → List ℕ → List ℕ → List ℕ → ℕ → List ℕ → List ℕ → Visit → Type 0
+FindsOrder mentions ends made roots n path order (Done k) = OrderFound mentions ends made roots n order k
+FindsOrder mentions ends made roots n path order (Circle from to) = Circled (beforeIn mentions ends made) (In (neededIn mentions ends made n roots)) path from to

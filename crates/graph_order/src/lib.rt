@@ -2,12 +2,12 @@
 ghost use mathlib.Core.Path.{_≡_};
 ghost use Prim.Native.Nat.{_+_, _≤_};
 ghost use lib.ListN.{length, take};
-ghost use Rattle.hold_columns.specs.Columns.{Files, Shown};
+ghost use Rattle.hold_columns.specs.Columns.{FilesMade, Shown};
 ghost use Rattle.lists.specs.Lent.{Spare, Leaves};
 ghost use Rattle.lists.specs.Parts.{part};
 ghost use Rattle.spec.specs.Promises.{filled};
 ghost use Rattle.graph_order.specs.Sort.{NeededAsked, Showable, SortShows, NeededSorted};
-ghost use Rattle.graph_order.specs.Walk.{Opens, Finds, Starts, Explored, RootAsked, RootSeen, SortAsked, Sorted};
+ghost use Rattle.graph_order.specs.Walk.{OpenInput, Finds, Starts, Explored, RootAsked, RootSeen, SortAsked, FindsOrder};
 use hold_columns::inputs;
 use hold_columns::maker;
 use slices::words::at;
@@ -34,8 +34,8 @@ struct Reached {
 
 // The place, from `from` on, of the first file whose maker is not done, or the number of files.
 fn next_open(fs: &[u32], made: &[u32], seen: &[u32], from: usize) -> usize
-    requires { ⌜ Files (length (now seen)) (now fs) (now made) × (from ≤ length (now fs)) ⌝ }
-    ensures { λ r. ⌜ Opens (now (fs .entry)) (now (made .entry)) (now (seen .entry)) from r ⌝ }
+    requires { ⌜ FilesMade (length (now seen)) (now fs) (now made) × (from ≤ length (now fs)) ⌝ }
+    ensures { λ r. ⌜ OpenInput (now (fs .entry)) (now (made .entry)) (now (seen .entry)) from r ⌝ }
 {
     let mut i = from;
     while i < fs.len() {
@@ -147,7 +147,7 @@ fn sort(
     order: &mut [u32],
 ) -> Visit
     requires { ⌜ SortAsked (now mentions) (now ends) (now made) (now roots) (now seen) (now next) (now path) (now order) ⌝ }
-    ensures { λ r. ⌜ Leaves (Spare (now (seen .entry)) (now (seen .exit)) × Spare (now (next .entry)) (now (next .exit))) (Sorted (now (mentions .entry)) (now (ends .entry)) (now (made .entry)) (now (roots .entry)) (length (now (order .entry))) (now (path .exit)) (now (order .exit)) r) ⌝ }
+    ensures { λ r. ⌜ Leaves (Spare (now (seen .entry)) (now (seen .exit)) × Spare (now (next .entry)) (now (next .exit))) (FindsOrder (now (mentions .entry)) (now (ends .entry)) (now (made .entry)) (now (roots .entry)) (length (now (order .entry))) (now (path .exit)) (now (order .exit)) r) ⌝ }
 {
     let mut done: usize = 0;
     let mut i = 0;

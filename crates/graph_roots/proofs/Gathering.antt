@@ -17,7 +17,7 @@ use Rattle.lists.specs.Members.{_∈_, keep, any, has, has-true, in-has, in-app
 use Rattle.spec.specs.Basics.{concat}
 use Rattle.spec.specs.Reading.{Step}
 use Rattle.spec.specs.Graph.{inputs, noStep, stepAt, isInput, tops}
-use Rattle.hold_columns.specs.Columns.{outsEnd, endAt, startIn, outsIn, HoldsColumns, SoundColumns}
+use Rattle.hold_columns.specs.Columns.{outsEnd, endAt, stepStart, outsIn, HoldsColumns, SoundColumns}
 use Rattle.hold_columns.proofs.Held.{in-part, outs-low, held-inputs, held-outs, held-steps}
 use Rattle.graph_roots.specs.Tops.{InputsMarked, unmarked, Appended, AppendAsked, outsBefore, TopsAsked, TopsFound}
 
@@ -91,15 +91,15 @@ unfolding outsBefore outsIn
 in-outs-before mentions ends zero h = absurd (not-in-nil h)
 in-outs-before mentions ends (suc s) h = elim (in-append (outsBefore mentions ends s) h) [
   | inl a ↦ in-outs-before mentions ends s a
-  | inr b ↦ in-part mentions (startIn ends s) (endAt ends s outsEnd) b
+  | inr b ↦ in-part mentions (stepStart ends s) (endAt ends s outsEnd) b
 ]
 
 unmarked-in : (marks l : List ℕ) {f : ℕ} → f ∈ unmarked marks l → f ∈ l
 unfolding unmarked
 unmarked-in marks l h = in-keep (λ f. not (eqb (getD marks f 0) 1)) l h .0
 
-start-low : {n : ℕ} {mentions ends made : List ℕ} → SoundColumns n mentions ends made → (s : ℕ) → s ≤ n → startIn ends s ≤ length mentions
-unfolding startIn
+start-low : {n : ℕ} {mentions ends made : List ℕ} → SoundColumns n mentions ends made → (s : ℕ) → s ≤ n → stepStart ends s ≤ length mentions
+unfolding stepStart
 start-low r zero b = omega arith
 start-low r (suc s) b = r .placed s b .mentioned
 
@@ -107,7 +107,7 @@ start-low r (suc s) b = r .placed s b .mentioned
 pub record Gathering (mentions ends phony marks out now : List ℕ) (k s : ℕ) : Type 0 where
   pub within : s ≤ length phony
   pub long : length now ≡ length out
-  pub few : k ≤ startIn ends s
+  pub few : k ≤ stepStart ends s
   pub front : take k now ≡ unmarked marks (outsBefore mentions ends s)
 
 pub gather-begin : {mentions ends phony marks out : List ℕ} → Gathering mentions ends phony marks out out 0 0
@@ -117,11 +117,11 @@ gather-begin = record { within = omega arith; long = refl; few = omega arith; fr
 module _ {mentions ends phony made blank marks out now : List ℕ} {k s : ℕ} (q : TopsAsked mentions ends phony made blank out) (m : InputsMarked mentions ends (length phony) (length made) marks)
     (r : Gathering mentions ends phony marks out now k s) where
   module _ (b : s < length phony) {fs : List ℕ} (e : fs ≡ outsIn mentions ends s) where
-    outs-long : length fs ≡ endAt ends s outsEnd - startIn ends s
+    outs-long : length fs ≡ endAt ends s outsEnd - stepStart ends s
     unfolding outsIn
     outs-long =
         let p = q .sound .placed s b in
-        ap length e ∙ length-part mentions (startIn ends s) (endAt ends s outsEnd) (omega (arith, p .counted, p .inputs, p .mentioned))
+        ap length e ∙ length-part mentions (stepStart ends s) (endAt ends s outsEnd) (omega (arith, p .counted, p .inputs, p .mentioned))
 
     pub gather-ask : AppendAsked fs marks now k
     gather-ask =
@@ -133,7 +133,7 @@ module _ {mentions ends phony made blank marks out now : List ℕ} {k s : ℕ} (
         }
 
     pub gather-more : {exit : List ℕ} {n : ℕ} → Appended fs marks now k exit n → Gathering mentions ends phony marks out exit n (s + 1)
-    unfolding startIn outsBefore unmarked
+    unfolding stepStart outsBefore unmarked
     gather-more a =
         let p = q .sound .placed s b in
         record {

@@ -5,7 +5,7 @@ use mathlib.Core.Logic.{_⊎_}
 use mathlib.Core.List.{List}
 use lib.ListN.{length, getD}
 use Rattle.lists.specs.Members.{_∈_}
-use Rattle.hold_columns.specs.Columns.{inputsIn, Placed}
+use Rattle.hold_columns.specs.Columns.{inputsIn, PartsPlaced}
 
 -- a file with no maker that is not on the card
 abbrev pub Absent : List ℕ → List ℕ → ℕ → Type 0
@@ -29,7 +29,7 @@ pub record LowestMissing (mentions ends made times roots order : List ℕ) (n r 
 
 -- what the search asks: sound tables, a time for each file, and steps
 pub record SourceAsked (mentions ends made times roots order : List ℕ) : Type 0 where
-  pub placed : (i : ℕ) → i < length order → Placed mentions ends (getD order i 0)
+  pub placed : (i : ℕ) → i < length order → PartsPlaced mentions ends (getD order i 0)
   pub low : (f : ℕ) → f ∈ mentions → f < length made
   pub roots-low : (i : ℕ) → i < length roots → getD roots i 0 < length made
   pub timed : length times ≡ length made

@@ -12,9 +12,9 @@ use Rattle.spec.specs.Reading.{Step}
 use Rattle.spec.specs.Graph.{before}
 use Rattle.spec.specs.Stale.{verdict}
 use Rattle.spec.proofs.Stale.{verdict-local}
-use Rattle.hold_columns.specs.Columns.{HoldsColumns, Sorted}
+use Rattle.hold_columns.specs.Columns.{HoldsColumns, SortedSteps}
 use Rattle.graph_stale.specs.declared.Judged.{Judged}
-use Rattle.graph_stale.specs.Judge.{known, timeAt, Told, Judges, JudgeAsked, AllTold, AllAsked}
+use Rattle.graph_stale.specs.Judge.{known, timeAt, VerdictTold, Judges, JudgeAsked, AllTold, AllAsked}
 
 -- the first i steps of the order are told of
 pub record Telling (mentions ends phony made times order before-stale stale late : List ℕ) (i : ℕ) : Type 0 where
@@ -22,8 +22,8 @@ pub record Telling (mentions ends phony made times order before-stale stale late
   pub stale-long : length stale ≡ length phony
   pub late-long : length late ≡ length phony
   pub others : (s : ℕ) → s ∉ take i order → getD stale s 0 ≡ getD before-stale s 0
-  pub told : (steps : List Step) (files : ℕ) → HoldsColumns steps files mentions ends phony made → Sorted (before steps) order
-      → (s : ℕ) → s ∈ take i order → Told steps times stale late s (record { stale = getD stale s 0; time = getD late s 0 })
+  pub told : (steps : List Step) (files : ℕ) → HoldsColumns steps files mentions ends phony made → SortedSteps (before steps) order
+      → (s : ℕ) → s ∈ take i order → VerdictTold steps times stale late s (record { stale = getD stale s 0; time = getD late s 0 })
 
 pub tell-begin : {mentions ends phony made times order stale late : List ℕ} → AllAsked mentions ends phony made times order stale late
     → Telling mentions ends phony made times order stale stale late 0
@@ -41,7 +41,7 @@ module _ (steps : List Step) (times stale late : List ℕ) (s a b t : ℕ) (apar
   kept = verdict-local steps (timeAt times) (known (set stale s a) (set late s b)) (known stale late) t
       (λ m h. ap₂ (λ (x y : ℕ). known (x ∷ []) (y ∷ []) 0) (getD-set-other stale s m a 0 (apart m h)) (getD-set-other late s m b 0 (apart m h)))
 
-  told-kept : {v : Judged} → Told steps times stale late t v → Told steps times (set stale s a) (set late s b) t v
+  told-kept : {v : Judged} → VerdictTold steps times stale late t v → VerdictTold steps times (set stale s a) (set late s b) t v
   told-kept r = record { told-stale = rw kept (r .told-stale); told-time = rw kept (r .told-time) }
 
 module _ {mentions ends phony made times order before-stale stale late : List ℕ} {i : ℕ} (r : Telling mentions ends phony made times order before-stale stale late i) where
@@ -49,7 +49,7 @@ module _ {mentions ends phony made times order before-stale stale late : List �
     one-more : take (i + 1) order ≡ take i order ++ (s ∷ [])
     one-more = rw (add-one i, e) (take-suc order i 0 b)
 
-    module _ {prior : ℕ → List ℕ} (o : Sorted prior order) where
+    module _ {prior : ℕ → List ℕ} (o : SortedSteps prior order) where
       new : s ∉ take i order
       new = rw e (o .once i b)
 

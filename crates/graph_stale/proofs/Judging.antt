@@ -15,7 +15,7 @@ use Rattle.spec.specs.Graph.{nonOrderOnly, stepAt}
 use Rattle.spec.specs.Stale.{phonyStep, madeTime, timeOf, greatest, newestInput, makerStale, outputMissing, staleCommand, stalePhony, verdict}
 use Rattle.hold_columns.specs.Columns.{bit, makerIn, nonOrderOnlyIn, inputsIn, outsIn, HoldsColumns}
 use Rattle.hold_columns.proofs.Held.{held-phony, held-makers, held-makersOf, held-non-order-only, held-inputs, held-outs}
-use Rattle.graph_stale.specs.Judge.{known, timeAt, lateTime, fileTime, newestOf, staleMaker, outdated, bareMissing, Told}
+use Rattle.graph_stale.specs.Judge.{known, timeAt, lateTime, fileTime, newestOf, staleMaker, outdated, bareMissing, VerdictTold}
 
 pub bit-test : (b : Bool) → eqb (bit b) 1 ≡ b
 bit-test true = refl
@@ -78,11 +78,11 @@ module _ {steps : List Step} {files : ℕ} {mentions ends phony made : List ℕ}
     maker : makerStale steps (known stale late) s ≡ m
     maker = sym (e ∙ ap (staleMaker made stale) q ∙ maker-told s)
 
-    told-by : {k : ℕ} → k ≡ bit (verdict steps (timeAt times) (known stale late) s .stale) → Told steps times stale late s (record { stale = k; time = t })
+    told-by : {k : ℕ} → k ≡ bit (verdict steps (timeAt times) (known stale late) s .stale) → VerdictTold steps times stale late s (record { stale = k; time = t })
     unfolding verdict
     told-by w = record { told-stale = w; told-time = newest }
 
-    pub judge-maker : m ≡ true → Told steps times stale late s (record { stale = 1; time = t })
+    pub judge-maker : m ≡ true → VerdictTold steps times stale late s (record { stale = 1; time = t })
     unfolding verdict stalePhony staleCommand
     judge-maker w = told-by (split (phonyStep steps s)
         (λ (z : phonyStep steps s ≡ true). rw (z, maker, w))
@@ -95,13 +95,13 @@ module _ {steps : List Step} {files : ℕ} {mentions ends phony made : List ℕ}
       is-command : (v ≡ 1 → ⊥) → phonyStep steps s ≡ false
       is-command z = sym (phony-test s) ∙ ne-eqb (getD phony s 0) 1 (λ y. z (g ∙ y))
 
-      pub judge-phony : v ≡ 1 → {b : Bool} → b ≡ bareMissing mentions ends times s → {k : ℕ} → k ≡ bit b → Told steps times stale late s (record { stale = k; time = t })
+      pub judge-phony : v ≡ 1 → {b : Bool} → b ≡ bareMissing mentions ends times s → {k : ℕ} → k ≡ bit b → VerdictTold steps times stale late s (record { stale = k; time = t })
       unfolding verdict stalePhony bareMissing
       judge-phony z {b} x y =
           let r : b ≡ verdict steps (timeAt times) (known stale late) s .stale = x ∙ rw (is-phony z, maker, w, held-inputs h s, missing-told s) in
           told-by (y ∙ ap bit r)
 
-      pub judge-command : (v ≡ 1 → ⊥) → {o : List ℕ} → o ≡ outsIn mentions ends s → {b : Bool} → b ≡ outdated times t o → {k : ℕ} → k ≡ bit b → Told steps times stale late s (record { stale = k; time = t })
+      pub judge-command : (v ≡ 1 → ⊥) → {o : List ℕ} → o ≡ outsIn mentions ends s → {b : Bool} → b ≡ outdated times t o → {k : ℕ} → k ≡ bit b → VerdictTold steps times stale late s (record { stale = k; time = t })
       unfolding verdict staleCommand
       judge-command z u {b} x y =
           let r : b ≡ verdict steps (timeAt times) (known stale late) s .stale = x ∙ ap (outdated times t) u ∙ older-told s t ∙ rw (is-command z, maker, w, newest) in

@@ -22,9 +22,9 @@ use Rattle.spec.specs.Stale.{Verdict, unknown, phonyStep, verdict, verdictsAlon
 use Rattle.spec.specs.Words.{input}
 use Rattle.spec.proofs.Graph.{in-before, in-needed}
 use Rattle.spec.proofs.Stale.{verdict-local}
-use Rattle.hold_columns.specs.Columns.{bit, HoldsColumns, Marks, Sorted}
+use Rattle.hold_columns.specs.Columns.{bit, HoldsColumns, Marks, SortedSteps}
 use Rattle.hold_columns.proofs.Held.{held-phony}
-use Rattle.graph_stale.specs.Judge.{known, timeAt, Told, AllTold, CommandsKept, StaleMarked}
+use Rattle.graph_stale.specs.Judge.{known, timeAt, VerdictTold, AllTold, CommandsKept, StaleMarked}
 use Rattle.graph_stale.proofs.Judging.{bit-test}
 
 -- the steps below s are seen to
@@ -100,10 +100,10 @@ marked-inside {phony} {order} {exit} t unmarked k s e = elim (decLt s (length ph
 module _ {mentions ends phony made times order blank stale late exit : List ℕ} (t : AllTold mentions ends phony made times order blank stale late)
     (unmarked : blank ≡ zeros (length phony)) (k : CommandsKept phony stale exit) {steps : List Step} {files : ℕ} (h : HoldsColumns steps files mentions ends phony made)
     (roots : List ℕ) (o : IsOrder (In (needed steps roots)) (By (before steps)) order) where
-  sorted : Sorted (before steps) order
+  sorted : SortedSteps (before steps) order
   sorted = record { once = o .lists .once; after = direct-earlier (needed-closed steps roots) o }
 
-  of : (s : ℕ) → s ∈ needed steps roots → Told steps times stale late s (record { stale = getD stale s 0; time = getD late s 0 })
+  of : (s : ℕ) → s ∈ needed steps roots → VerdictTold steps times stale late s (record { stale = getD stale s 0; time = getD late s 0 })
   of s w = t .told steps files h sorted s (o .lists .each s w)
 
   solves : Solves (verdict steps (timeAt times)) (In (needed steps roots)) (known stale late)

@@ -14,7 +14,7 @@ use Rattle.spec.specs.Basics.{isEmpty}
 use Rattle.spec.specs.Reading.{Step}
 use Rattle.spec.specs.Graph.{before, needed}
 use Rattle.spec.specs.Stale.{Verdict, greatest, verdict, staleNeeded}
-use Rattle.hold_columns.specs.Columns.{bit, makerIn, makersIn, inputsIn, outsIn, HoldsColumns, SoundColumns, Files, Marks, Sorted}
+use Rattle.hold_columns.specs.Columns.{bit, makerIn, makersIn, inputsIn, outsIn, HoldsColumns, SoundColumns, FilesMade, Marks, SortedSteps}
 use Rattle.graph_stale.specs.declared.Judged.{Judged}
 
 -- what the columns say of a step
@@ -56,7 +56,7 @@ pub record FileAsked (made phony times late : List ℕ) (f : ℕ) : Type 0 where
   pub late-long : length late ≡ length phony
 
 pub record FilesAsked (fs made phony times late : List ℕ) : Type 0 where
-  pub files : Files (length phony) fs made
+  pub files : FilesMade (length phony) fs made
   pub timed : length times ≡ length made
   pub late-long : length late ≡ length phony
 
@@ -73,22 +73,22 @@ pub record JudgeAsked (mentions ends phony made times stale late : List ℕ) : T
   pub late-long : length late ≡ length phony
 
 -- the verdict on step s, from what the columns say of the others
-pub record Told (steps : List Step) (times stale late : List ℕ) (s : ℕ) (judged : Judged) : Type 0 where
+pub record VerdictTold (steps : List Step) (times stale late : List ℕ) (s : ℕ) (judged : Judged) : Type 0 where
   pub told-stale : judged .stale ≡ bit (verdict steps (timeAt times) (known stale late) s .stale)
   pub told-time : judged .time ≡ verdict steps (timeAt times) (known stale late) s .time
 
 -- whatever steps the tables hold
 abbrev pub Judges : List ℕ → List ℕ → List ℕ → List ℕ → List ℕ → List ℕ → List ℕ → ℕ → Judged → Type 0
 Judges mentions ends phony made times stale late s judged =
-    (steps : List Step) (files : ℕ) → HoldsColumns steps files mentions ends phony made → Told steps times stale late s judged
+    (steps : List Step) (files : ℕ) → HoldsColumns steps files mentions ends phony made → VerdictTold steps times stale late s judged
 
 -- the columns hold the verdict on each step of the order, and what they held before of any other
 pub record AllTold (mentions ends phony made times order before-stale stale late : List ℕ) : Type 0 where
   pub stale-long : length stale ≡ length phony
   pub late-long : length late ≡ length phony
   pub others : (s : ℕ) → s ∉ order → getD stale s 0 ≡ getD before-stale s 0
-  pub told : (steps : List Step) (files : ℕ) → HoldsColumns steps files mentions ends phony made → Sorted (before steps) order
-      → (s : ℕ) → s ∈ order → Told steps times stale late s (record { stale = getD stale s 0; time = getD late s 0 })
+  pub told : (steps : List Step) (files : ℕ) → HoldsColumns steps files mentions ends phony made → SortedSteps (before steps) order
+      → (s : ℕ) → s ∈ order → VerdictTold steps times stale late s (record { stale = getD stale s 0; time = getD late s 0 })
 
 pub record AllAsked (mentions ends phony made times order stale late : List ℕ) : Type 0 where
   pub asked : JudgeAsked mentions ends phony made times stale late

@@ -3,7 +3,7 @@ ghost use mathlib.Core.Path.{_≡_};
 ghost use Prim.Native.Nat.{ℕ, _<_, max};
 ghost use lib.ListN.{length, getD};
 ghost use Rattle.lists.specs.Members.{_∈_};
-ghost use Rattle.hold_columns.specs.Columns.{bit, Files, Placed};
+ghost use Rattle.hold_columns.specs.Columns.{bit, FilesMade, PartsPlaced};
 ghost use Rattle.graph_stale.specs.Judge.{fileTime, newestOf, staleMaker, outdated, bareMissing, FileAsked, FilesAsked, JudgeAsked, Judges, AllAsked, AllTold, CommandsKept, StaleAsked, StaleMarked};
 use hold_columns::inputs;
 use hold_columns::maker;
@@ -66,7 +66,7 @@ fn newest(fs: &[u32], made: &[u32], phony: &[u32], times: &[u64], late: &[u64]) 
 
 // Is a maker of these files stale.
 fn stale_maker(fs: &[u32], made: &[u32], stale: &[u32]) -> bool
-    requires { ⌜ Files (length (now stale)) (now fs) (now made) ⌝ }
+    requires { ⌜ FilesMade (length (now stale)) (now fs) (now made) ⌝ }
     ensures { λ r. ⌜ r ≡ staleMaker (now (made .entry)) (now (stale .entry)) (now (fs .entry)) ⌝ }
 {
     let mut i = 0;
@@ -105,7 +105,7 @@ fn is_outdated(fs: &[u32], times: &[u64], t: u64) -> bool
 
 // Has the step no inputs at all, and is an output missing.
 fn bare_missing(mentions: &[u32], ends: &[u32], times: &[u64], s: usize) -> bool
-    requires { ⌜ Placed (now mentions) (now ends) s × ((f : ℕ) → f ∈ now mentions → f < length (now times)) ⌝ }
+    requires { ⌜ PartsPlaced (now mentions) (now ends) s × ((f : ℕ) → f ∈ now mentions → f < length (now times)) ⌝ }
     ensures { λ r. ⌜ r ≡ bareMissing (now (mentions .entry)) (now (ends .entry)) (now (times .entry)) s ⌝ }
 {
     let fs = inputs(mentions, ends, s);

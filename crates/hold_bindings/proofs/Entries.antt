@@ -10,7 +10,7 @@ use Rattle.lists.specs.Parts.{part, part-to-end, drop-take}
 use Rattle.spec.specs.Limits.{maxName}
 use Rattle.arena.specs.Inserted.{inserted, Shifted}
 use Rattle.hold_bindings.specs.Log.{Logged, noEntry, entryAt, asOf}
-use Rattle.hold_bindings.specs.Held.{maxEntries, maxTexts, maxRows, rowsEnd, textsOf, rowOf, rowsOf, valuesIn, ShortNames, indexIn, Rows, HoldsBindings, HasEntry, Room, HasRoom, startIn, Row, PlaceOf, Pushed}
+use Rattle.hold_bindings.specs.Held.{maxEntries, maxTexts, maxRows, rowsEnd, textsOf, rowOf, rowsOf, valuesIn, ShortNames, indexIn, Rows, HoldsBindings, HasEntry, EntryRoom, HasRoom, entryStart, Row, PlaceOf, Pushed}
 use Rattle.hold_bindings.proofs.Indexing.{nothing-indexed, indexed-more}
 
 -- ---- lengths
@@ -107,8 +107,8 @@ module _ (e : Logged) (l : List Logged) {texts bind : List ℕ} {count : ℕ} (h
   value-end = in-row 1 (omega arith)
 
 -- The next name starts where the log's texts end.
-start-held : (log : List Logged) {texts bind : List ℕ} {count : ℕ} → Rows log texts bind count → startIn bind (length log) ≡ length (textsOf log)
-unfolding startIn textsOf
+start-held : (log : List Logged) {texts bind : List ℕ} {count : ℕ} → Rows log texts bind count → entryStart bind (length log) ≡ length (textsOf log)
+unfolding entryStart textsOf
 start-held [] h = refl
 start-held (e ∷ l) h = value-end e l h ∙ simp length-append (omega arith)
 
@@ -162,8 +162,8 @@ row-at log k {texts} {bind} {count} h b =
 pub row-of : {texts bind : List ℕ} {k : ℕ} (h : HasEntry texts bind k) → Row (entryAt k (h .log)) texts bind k
 row-of {texts} {bind} {k} h = row-at (h .log) k (h .held) (h .below)
 
-pub start-later : (bind : List ℕ) (k : ℕ) → (k ≡ 0 → ⊥) → getD bind (3 * k - 2) 0 ≡ startIn bind k
-unfolding startIn
+pub start-later : (bind : List ℕ) (k : ℕ) → (k ≡ 0 → ⊥) → getD bind (3 * k - 2) 0 ≡ entryStart bind k
+unfolding entryStart
 start-later bind zero h = absurd (h refl)
 start-later bind (suc k) h = let z : 3 * suc k - 2 ≡ 3 * k + 1 = omega arith in rw z
 
@@ -195,17 +195,17 @@ length-copied l a b i m q h =
     let n : length (paste l i a (length a)) ≡ length l = length-paste l i a (length a) (omega arith) (omega arith) in
     length-paste (paste l i a (length a)) m b (length b) (omega arith) (omega arith) ∙ n
 
-module _ {log : List Logged} {texts bind : List ℕ} {count : ℕ} (e : Logged) (r : Room log texts bind count e) where
-  room-start : startIn bind count ≡ length (textsOf log)
+module _ {log : List Logged} {texts bind : List ℕ} {count : ℕ} (e : Logged) (r : EntryRoom log texts bind count e) where
+  room-start : entryStart bind count ≡ length (textsOf log)
   room-start = rw (r .held .rows .counted) (start-held log (r .held .rows))
 
   -- The entry's name ends at m and its value at t.
-  module _ (m t : ℕ) (hm : m ≡ startIn bind count + length (e .name)) (ht : t ≡ m + length (e .value)) where
+  module _ (m t : ℕ) (hm : m ≡ entryStart bind count + length (e .name)) (ht : t ≡ m + length (e .value)) where
     pub room-fits : t ≤ maxTexts
     room-fits = omega (arith, room-start, length-texts log (r .held .rows .names), r .held .rows .counted, r .few, r .name, r .value)
 
     rows-pushed : Rows (e ∷ log)
-        (paste (paste texts (startIn bind count) (e .name) (length (e .name))) m (e .value) (length (e .value)))
+        (paste (paste texts (entryStart bind count) (e .name) (length (e .name))) m (e .value) (length (e .value)))
         (set (set (set bind (3 * count) m) (3 * count + 1) t) (3 * count + 2) (e .owner))
         (count + 1)
     unfolding textsOf rowsOf rowOf valuesIn
@@ -223,18 +223,18 @@ module _ {log : List Logged} {texts bind : List ℕ} {count : ℕ} (e : Logged) 
           few = omega (arith, r .few);
           names = (r .name, r .held .rows .names);
           values = r .value;
-          texts-long = rw (length-copied texts (e .name) (e .value) (startIn bind count) m hm w) (r .held .rows .texts-long);
+          texts-long = rw (length-copied texts (e .name) (e .value) (entryStart bind count) m hm w) (r .held .rows .texts-long);
           bind-long = simp length-set (r .held .rows .bind-long);
-          texts-held = rw n (copied texts (textsOf log) (e .name) (e .value) (startIn bind count) m hm w (rw s (r .held .rows .texts-held)));
+          texts-held = rw n (copied texts (textsOf log) (e .name) (e .value) (entryStart bind count) m hm w (rw s (r .held .rows .texts-held)));
           bind-held =
               rw (k, x, y)
               (stored bind (rowsOf log) (3 * count) m t (e .owner) (omega (arith, r .few, r .held .rows .bind-long)) (rw (← j) (r .held .rows .bind-held)));
         }
 
 -- Behind the rows nothing changes.
-pub pushed : {texts bind : List ℕ} {count : ℕ} (e : Logged) → HasRoom texts bind count e → (m t : ℕ) → m ≡ startIn bind count + length (e .name) → t ≡ m + length (e .value)
+pub pushed : {texts bind : List ℕ} {count : ℕ} (e : Logged) → HasRoom texts bind count e → (m t : ℕ) → m ≡ entryStart bind count + length (e .name) → t ≡ m + length (e .value)
     → Pushed texts bind count e
-    (paste (paste texts (startIn bind count) (e .name) (length (e .name))) m (e .value) (length (e .value)))
+    (paste (paste texts (entryStart bind count) (e .name) (length (e .name))) m (e .value) (length (e .value)))
     (set (set (set bind (3 * count) m) (3 * count + 1) t) (3 * count + 2) (e .owner))
 pushed {bind = bind} {count = count} e h m t hm ht =
     let f : count < maxEntries = h .room .few in
@@ -265,7 +265,7 @@ rows-kept {log} {bind = bind} {bind′ = bind′} h l e =
     }
 
 -- The rows are those of one entry more, and behind them the index was lent and comes back as m with that entry's number put in.
-module _ {log : List Logged} {texts bind : List ℕ} {count : ℕ} {e : Logged} (r : Room log texts bind count e)
+module _ {log : List Logged} {texts bind : List ℕ} {count : ℕ} {e : Logged} (r : EntryRoom log texts bind count e)
     {p : ℕ} (place : PlaceOf texts bind count (e .owner) (e .name) p) {texts′ bind′ : List ℕ} (w : Pushed texts bind count e texts′ bind′)
     {m : List ℕ} (x : Shifted (part bind′ rowsEnd (length bind′)) count p count m) where
   abbrev back : List ℕ

@@ -16,7 +16,7 @@ use Rattle.arena.specs.Inserted.{inserted}
 use Rattle.arena.proofs.Inserting.{length-inserted, each-inserted, pairs-inserted, has-inserted, keeps-inserted}
 use Rattle.hold_bindings.specs.declared.FoundEntry.the-variants.{At, Missing}
 use Rattle.hold_bindings.specs.Log.{Logged, entryAt, isNamed, newest}
-use Rattle.hold_bindings.specs.Index.{keyOf, keyAt, Before, Indexed, Between}
+use Rattle.hold_bindings.specs.Index.{keyOf, keyAt, Before, Indexed, KeyBetween}
 use Rattle.hold_bindings.proofs.Lookups.{entry-kept, entry-newest}
 
 pub nothing-indexed : Indexed [] []
@@ -30,12 +30,12 @@ nothing-indexed =
 
 -- ---- halving
 
-pub between-all : (log : List Logged) (index key : List ℕ) → Between log index key 0 (length index)
+pub between-all : (log : List Logged) (index key : List ℕ) → KeyBetween log index key 0 (length index)
 between-all log index key =
     record { within = omega arith; before = λ i a. absurd (not-suc-le-zero a); after = λ i a b. absurd (omega arith) }
 
-module _ {log : List Logged} {index key : List ℕ} {low high : ℕ} (b : Between log index key low high) (x : Indexed log index) {mid : ℕ} (below : mid < high) where
-  pub between-lower : lessBytes key (keyAt log (getD index mid 0)) ≡ true → Between log index key low mid
+module _ {log : List Logged} {index key : List ℕ} {low high : ℕ} (b : KeyBetween log index key low high) (x : Indexed log index) {mid : ℕ} (below : mid < high) where
+  pub between-lower : lessBytes key (keyAt log (getD index mid 0)) ≡ true → KeyBetween log index key low mid
   between-lower e =
       record {
         within = omega (arith, b .within);
@@ -50,7 +50,7 @@ module _ {log : List Logged} {index key : List ℕ} {low high : ℕ} (b : Betwee
         ];
       }
 
-  pub between-higher : lessBytes key (keyAt log (getD index mid 0)) ≡ false → Between log index key (mid + 1) high
+  pub between-higher : lessBytes key (keyAt log (getD index mid 0)) ≡ false → KeyBetween log index key (mid + 1) high
   between-higher e =
       record {
         within = b .within;
@@ -121,7 +121,7 @@ newest-none o n (e ∷ l) f =
 
 -- ---- the entry in front of the place of a name
 
-module _ {log : List Logged} {index : List ℕ} (x : Indexed log index) {o : ℕ} {n : List ℕ} {p : ℕ} (b : Between log index (o ∷ n) p p) where
+module _ {log : List Logged} {index : List ℕ} (x : Indexed log index) {o : ℕ} {n : List ℕ} {p : ℕ} (b : KeyBetween log index (o ∷ n) p p) where
   -- An entry of this name stands in front of the place.
   in-front : (k : ℕ) → k < length log → o ∷ n ≡ keyAt log k → (i : ℕ) × (i < p) × (getD index i 0 ≡ k)
   in-front k h q =
@@ -171,7 +171,7 @@ module _ {log : List Logged} {index : List ℕ} (x : Indexed log index) {o : ℕ
 
 -- ---- an entry more
 
-module _ (e : Logged) (l : List Logged) {index : List ℕ} (x : Indexed l index) {p : ℕ} (b : Between l index (keyOf e) p p) where
+module _ (e : Logged) (l : List Logged) {index : List ℕ} (x : Indexed l index) {p : ℕ} (b : KeyBetween l index (keyOf e) p p) where
   before-kept : (i j : ℕ) → i < j → j < length index → Before (e ∷ l) (getD index i 0) (getD index j 0)
   before-kept i j a c =
       rw (entry-kept e l (getD index i 0) (x .below i (omega arith)), entry-kept e l (getD index j 0) (x .below j c)) (x .sorted i j a c)

@@ -15,7 +15,7 @@ use Rattle.spec.specs.Basics.{orElse, among}
 use Rattle.spec.specs.Reading.{Rule, boundTo, fileVar, hasKey, keysOf}
 use Rattle.hold_bindings.specs.declared.FoundEntry.{FoundEntry}
 use Rattle.hold_bindings.specs.declared.FoundEntry.the-variants.{At, Missing}
-use Rattle.hold_bindings.specs.Log.{Logged, ofFile, ofRules, ofKeys, ofStep, entryAt, isNamed, newest, isAt, valueOf, boundOf, boundBy, rulesIn, rulesOf, newestRule, keysAt, withKey, Owner, Owned}
+use Rattle.hold_bindings.specs.Log.{Logged, ofFile, ofRules, ofKeys, ofBlock, entryAt, isNamed, newest, isAt, valueOf, boundOf, boundBy, rulesIn, rulesOf, newestRule, keysAt, withKey, Owner, Owned}
 
 -- ---- numbers of entries
 
@@ -89,7 +89,7 @@ key-newest o n (e ∷ l) =
 
 -- ---- owners
 
-pub keys-not-step : (k s : ℕ) → ofKeys k ≡ ofStep s → ⊥
+pub keys-not-step : (k s : ℕ) → ofKeys k ≡ ofBlock s → ⊥
 keys-not-step k s e = omega arith
 
 module _ (steps entries : ℕ) where
@@ -102,7 +102,7 @@ module _ (steps entries : ℕ) where
   pub owner-keys : (j : ℕ) → j < entries → Owner steps entries (ofKeys j)
   owner-keys j h = record { key = λ k e. omega arith; line = λ s e. absurd (keys-not-step j s e) }
 
-  pub owner-step : (j : ℕ) → j < steps → Owner steps entries (ofStep j)
+  pub owner-step : (j : ℕ) → j < steps → Owner steps entries (ofBlock j)
   owner-step j h = record { key = λ k e. absurd (keys-not-step k j (sym e)); line = λ s e. omega arith }
 
 pub owned-more : (a b : ℕ) (log : List Logged) → a ≤ b → Owned a log → Owned b log
@@ -111,11 +111,11 @@ owned-more a b (e ∷ l) h w =
     (record { key = w .0 .key; line = λ s p. let m = w .0 .line s p in omega arith }, owned-more a b l h (w .1))
 
 -- The block of a step that was not begun has no line, and an entry that is not there has no keys.
-pub no-lines : (steps : ℕ) (log : List Logged) (s : ℕ) → Owned steps log → steps ≤ s → boundBy (ofStep s) log ≡ []
+pub no-lines : (steps : ℕ) (log : List Logged) (s : ℕ) → Owned steps log → steps ≤ s → boundBy (ofBlock s) log ≡ []
 unfolding boundBy
 no-lines steps [] s w h = refl
 no-lines steps (e ∷ l) s w h =
-    bound-other e l (ofStep s) (λ p. let m = w .0 .line s p in omega arith) ∙ no-lines steps l s (w .1) h
+    bound-other e l (ofBlock s) (λ p. let m = w .0 .line s p in omega arith) ∙ no-lines steps l s (w .1) h
 
 pub no-keys : (steps : ℕ) (log : List Logged) (k : ℕ) → Owned steps log → length log ≤ k → boundBy (ofKeys k) log ≡ []
 unfolding boundBy

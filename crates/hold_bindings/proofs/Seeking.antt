@@ -10,7 +10,7 @@ use lib.Seq.{getD-take, getD-drop}
 use Rattle.lists.specs.Bytes.{eqBytes, lessBytes, less-same, less-lower, less-asym}
 use Rattle.hold_bindings.specs.declared.FoundEntry.the-variants.{At, Missing}
 use Rattle.hold_bindings.specs.Log.{Logged, entryAt, isNamed, newest}
-use Rattle.hold_bindings.specs.Index.{keyOf, keyAt, Between}
+use Rattle.hold_bindings.specs.Index.{keyOf, keyAt, KeyBetween}
 use Rattle.hold_bindings.specs.Held.{rowsEnd, indexIn, HoldsBindings, Row, PlaceOf}
 use Rattle.hold_bindings.proofs.Indexing.{between-all, between-lower, between-higher, none-in-front, last-named, last-other}
 
@@ -50,7 +50,7 @@ module _ {log : List Logged} {texts bind : List ℕ} {count : ℕ} (h : HoldsBin
 pub record Halving (texts bind : List ℕ) (count o : ℕ) (n : List ℕ) (low high : ℕ) : Type 0 where
   pub ordered : low ≤ high
   pub within : high ≤ count
-  pub between : (log : List Logged) → HoldsBindings log texts bind count → Between log (indexIn bind count) (o ∷ n) low high
+  pub between : (log : List Logged) → HoldsBindings log texts bind count → KeyBetween log (indexIn bind count) (o ∷ n) low high
 
 pub half-begin : {texts bind : List ℕ} {count o : ℕ} {n : List ℕ} → Halving texts bind count o n 0 count
 half-begin {bind = bind} {count = count} {o = o} {n = n} =

@@ -8,7 +8,7 @@ use Rattle.lists.specs.Parts.{part}
 use Rattle.spec.specs.Limits.{maxRules, maxBindings, maxName, maxWritten}
 use Rattle.hold_bindings.specs.declared.ValuePlace.{ValuePlace}
 use Rattle.hold_bindings.specs.Log.{Logged, entryAt}
-use Rattle.hold_bindings.specs.Index.{Indexed, Between}
+use Rattle.hold_bindings.specs.Index.{Indexed, KeyBetween}
 
 -- "128 rules, 1,024 bindings .. declared names 64 bytes .. all paths and values read so far .. 60,000 bytes together"
 abbrev pub maxEntries : ℕ
@@ -82,7 +82,7 @@ pub record HasEntry (texts bind : List ℕ) (k : ℕ) : Type 0 where
   pub held : HoldsBindings log texts bind count
   pub below : k < count
 
-pub record Room (log : List Logged) (texts bind : List ℕ) (count : ℕ) (e : Logged) : Type 0 where
+pub record EntryRoom (log : List Logged) (texts bind : List ℕ) (count : ℕ) (e : Logged) : Type 0 where
   pub held : HoldsBindings log texts bind count
   pub few : count < maxEntries
   pub owner : e .owner ≤ maxOwner
@@ -91,24 +91,24 @@ pub record Room (log : List Logged) (texts bind : List ℕ) (count : ℕ) (e : L
 
 pub record HasRoom (texts bind : List ℕ) (count : ℕ) (e : Logged) : Type 0 where
   pub log : List Logged
-  pub room : Room log texts bind count e
+  pub room : EntryRoom log texts bind count e
 
 -- ------------------------------------------------------------------ one entry in the buffers
 
 -- where the name of entry k starts
-unfoldable pub startIn : List ℕ → ℕ → ℕ
-startIn bind zero = 0
-startIn bind (suc k) = getD bind (3 * k + 1) 0
+unfoldable pub entryStart : List ℕ → ℕ → ℕ
+entryStart bind zero = 0
+entryStart bind (suc k) = getD bind (3 * k + 1) 0
 
 -- Entry k is e.
 pub record Row (e : Logged) (texts bind : List ℕ) (k : ℕ) : Type 0 where
   pub within : 3 * k + 2 < length bind
-  pub named : startIn bind k ≤ getD bind (3 * k) 0
+  pub named : entryStart bind k ≤ getD bind (3 * k) 0
   pub valued : getD bind (3 * k) 0 ≤ getD bind (3 * k + 1) 0
   pub ends : getD bind (3 * k + 1) 0 ≤ maxTexts
   pub texts-long : maxTexts ≤ length texts
   pub owner : getD bind (3 * k + 2) 0 ≡ e .owner
-  pub name : part texts (startIn bind k) (getD bind (3 * k) 0) ≡ e .name
+  pub name : part texts (entryStart bind k) (getD bind (3 * k) 0) ≡ e .name
   pub value : part texts (getD bind (3 * k) 0) (getD bind (3 * k + 1) 0) ≡ e .value
 
 -- The value of entry k lies there.
@@ -123,10 +123,10 @@ pub record ValueAt (texts bind : List ℕ) (k : ℕ) (p : ValuePlace) : Type 0 w
 -- No entry in front of place p of the index comes after this owner and this name, and every one from there on does.
 pub record PlaceOf (texts bind : List ℕ) (count owner : ℕ) (wanted : List ℕ) (p : ℕ) : Type 0 where
   pub within : p ≤ count
-  pub between : (log : List Logged) → HoldsBindings log texts bind count → Between log (indexIn bind count) (owner ∷ wanted) p p
+  pub between : (log : List Logged) → HoldsBindings log texts bind count → KeyBetween log (indexIn bind count) (owner ∷ wanted) p p
 
 -- An entry more in the texts and the rows.
 pub record Pushed (texts bind : List ℕ) (count : ℕ) (e : Logged) (texts′ bind′ : List ℕ) : Type 0 where
   pub long : length bind′ ≡ length bind
-  pub rows : (log : List Logged) → Room log texts bind count e → Rows (e ∷ log) texts′ bind′ (count + 1)
+  pub rows : (log : List Logged) → EntryRoom log texts bind count e → Rows (e ∷ log) texts′ bind′ (count + 1)
   pub behind : drop rowsEnd bind′ ≡ drop rowsEnd bind

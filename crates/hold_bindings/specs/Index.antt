@@ -25,7 +25,7 @@ pub record Indexed (log : List Logged) (index : List ℕ) : Type 0 where
   pub every : (k : ℕ) → k < length log → (i : ℕ) × (i < length index) × (getD index i 0 ≡ k)
 
 -- No entry in front of place `low` comes after the key, and every one from place `high` on does.
-pub record Between (log : List Logged) (index key : List ℕ) (low high : ℕ) : Type 0 where
+pub record KeyBetween (log : List Logged) (index key : List ℕ) (low high : ℕ) : Type 0 where
   pub within : high ≤ length index
   pub before : (i : ℕ) → i < low → lessBytes key (keyAt log (getD index i 0)) ≡ false
   pub after : (i : ℕ) → high ≤ i → i < length index → lessBytes key (keyAt log (getD index i 0)) ≡ true

@@ -33,8 +33,8 @@ ofRules = 1
 abbrev pub ofKeys : ℕ → ℕ
 ofKeys k = 2 + 2 * k
 
-abbrev pub ofStep : ℕ → ℕ
-ofStep s = 3 + 2 * s
+abbrev pub ofBlock : ℕ → ℕ
+ofBlock s = 3 + 2 * s
 
 -- ------------------------------------------------------------------ entries by number
 
@@ -108,7 +108,7 @@ withKey b (r ∷ rs) = record { name = r .name; keys = b ∷ r .keys } ∷ rs
 -- A key stands after its rule's declaration, and a block line in the block of a step that was begun.
 pub record Owner (steps entries o : ℕ) : Type 0 where
   pub key : (k : ℕ) → o ≡ ofKeys k → k < entries
-  pub line : (s : ℕ) → o ≡ ofStep s → s < steps
+  pub line : (s : ℕ) → o ≡ ofBlock s → s < steps
 
 abbrev pub Owned : ℕ → List Logged → Type 0
 Owned steps [] = Unit {0}

@@ -6,7 +6,7 @@ ghost use lib.ListN.{length, set};
 ghost use Rattle.lists.specs.Bytes.{lessBytes};
 ghost use Rattle.hold_bindings.specs.Log.{Logged, logged, entryAt, isNamed, newest};
 ghost use Rattle.hold_bindings.specs.Index.{keyAt};
-ghost use Rattle.hold_bindings.specs.Held.{HoldsBindings, SoundBindings, HasEntry, HasRoom, Room, startIn, ValueAt, PlaceOf, Pushed};
+ghost use Rattle.hold_bindings.specs.Held.{HoldsBindings, SoundBindings, HasEntry, HasRoom, EntryRoom, entryStart, ValueAt, PlaceOf, Pushed};
 use arena::insert;
 use byteorder::equal;
 use byteorder::less;
@@ -43,7 +43,7 @@ pub struct ValuePlace {
 // Where the name of entry k starts.
 fn start(bind: &[u32], k: usize) -> usize
     requires { ⌜ (3 * k ≤ length (now bind)) × (k < 2 ^ 32) ⌝ }
-    ensures { λ r. ⌜ r ≡ startIn (now (bind .entry)) k ⌝ }
+    ensures { λ r. ⌜ r ≡ entryStart (now (bind .entry)) k ⌝ }
 {
     if k == 0 {
         return 0;
@@ -181,7 +181,7 @@ pub fn push(
     value: &[u8],
 )
     requires { ⌜ HasRoom (now texts) (now bind) count (logged owner (now name) (now value)) ⌝ }
-    ensures { λ _. ⌜ ((log : List Logged) → Room log (now (texts .entry)) (now (bind .entry)) count (logged owner (now (name .entry)) (now (value .entry))) → HoldsBindings (logged owner (now (name .entry)) (now (value .entry)) ∷ log) (now (texts .exit)) (now (bind .exit)) (count + 1)) ⌝ }
+    ensures { λ _. ⌜ ((log : List Logged) → EntryRoom log (now (texts .entry)) (now (bind .entry)) count (logged owner (now (name .entry)) (now (value .entry))) → HoldsBindings (logged owner (now (name .entry)) (now (value .entry)) ∷ log) (now (texts .exit)) (now (bind .exit)) (count + 1)) ⌝ }
 {
     let p = place_of(texts, bind, count, owner, name);
     push_row(texts, bind, count, owner, name, value);

@@ -14,7 +14,7 @@ use Rattle.spec.specs.Reading.{Step, isPhony}
 use Rattle.spec.specs.Graph.{inputs, nonOrderOnly, noStep, stepAt, makers, makersOf, before, needed}
 use Rattle.spec.specs.Stale.{phonyStep}
 use Rattle.spec.proofs.Graph.{in-makers}
-use Rattle.hold_columns.specs.Columns.{bit, mentionsOf, outsEnd, implicitEnd, orderOnlyEnd, endAt, madeBy, HoldsColumns, startIn, outsIn, nonOrderOnlyIn, inputsIn, makerIn, makersIn, beforeIn, neededIn, SoundColumns, Files}
+use Rattle.hold_columns.specs.Columns.{bit, mentionsOf, outsEnd, implicitEnd, orderOnlyEnd, endAt, madeBy, HoldsColumns, stepStart, outsIn, nonOrderOnlyIn, inputsIn, makerIn, makersIn, beforeIn, neededIn, SoundColumns, FilesMade}
 use Rattle.hold_columns.proofs.Makers.{makers-small}
 use Rattle.hold_columns.proofs.Places.{read-inputs, read-non-order-only, read-outs, read-placed}
 
@@ -38,10 +38,10 @@ non-order-only-low low ends s q i b = rw q (part-low low (endAt ends s outsEnd) 
 pub outs-low : {mentions : List ℕ} {n : ℕ} → ((f : ℕ) → f ∈ mentions → f < n) → (ends : List ℕ) (s : ℕ) {fs : List ℕ} → fs ≡ outsIn mentions ends s
     → (i : ℕ) → i < length fs → getD fs i 0 < n
 unfolding outsIn
-outs-low low ends s q i b = rw q (part-low low (startIn ends s) (endAt ends s outsEnd) i (rw q at b))
+outs-low low ends s q i b = rw q (part-low low (stepStart ends s) (endAt ends s outsEnd) i (rw q at b))
 
 -- and their makers are steps
-pub part-files : {n : ℕ} {mentions ends made : List ℕ} → SoundColumns n mentions ends made → (f e : ℕ) → Files n (part mentions f e) made
+pub part-files : {n : ℕ} {mentions ends made : List ℕ} → SoundColumns n mentions ends made → (f e : ℕ) → FilesMade n (part mentions f e) made
 part-files r f e = record { low = part-low (r .low) f e; makers = r .makers }
 
 pub before-small : {n : ℕ} {mentions ends made : List ℕ} → SoundColumns n mentions ends made → Closed (beforeIn mentions ends made) (λ s. s < n)

@@ -8,7 +8,7 @@ use mathlib.Core.List.{List, [], _∷_, map}
 use lib.ListN.{length, getD}
 use Rattle.lists.specs.Members.{_∈_, here, in-cons, in-append, in-left, in-right, not-in-nil}
 use Rattle.spec.specs.Basics.{concat}
-use Rattle.hold_columns.specs.Columns.{madeBy, makerIn, makersIn, makerAt, Files}
+use Rattle.hold_columns.specs.Columns.{madeBy, makerIn, makersIn, makerAt, FilesMade}
 
 in-madeBy : (k : ℕ) {m : ℕ} → m ∈ madeBy k → k ≡ suc m
 unfolding madeBy
@@ -37,8 +37,8 @@ makersIn-in made [] i b e = absurd (not-suc-le-zero b)
 makersIn-in made (f ∷ fs) zero b e = in-left (concat (map (makerIn made) fs)) (makerIn-in made f e)
 makersIn-in made (f ∷ fs) (suc i) b e = in-right (makerIn made f) (makersIn-in made fs i (le-of-suc-le-suc b) e)
 
-pub maker-low : {n : ℕ} {fs made : List ℕ} → Files n fs made → {i k : ℕ} → i < length fs → k ≡ makerAt made fs i → k ≤ n
+pub maker-low : {n : ℕ} {fs made : List ℕ} → FilesMade n fs made → {i k : ℕ} → i < length fs → k ≡ makerAt made fs i → k ≤ n
 maker-low {fs} r {i} b e = rw e (r .makers (getD fs i 0) (r .low i b))
 
-pub makers-small : {n : ℕ} {fs made : List ℕ} → Files n fs made → (m : ℕ) → m ∈ makersIn made fs → m < n
+pub makers-small : {n : ℕ} {fs made : List ℕ} → FilesMade n fs made → (m : ℕ) → m ∈ makersIn made fs → m < n
 makers-small {fs} {made} r m h = let (i, b, e) = in-makersIn made fs h in maker-low r {i = i} b (sym e)

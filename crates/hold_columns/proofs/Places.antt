@@ -10,14 +10,14 @@ use Rattle.lists.specs.Parts.{part}
 use Rattle.spec.specs.Basics.{concat}
 use Rattle.spec.specs.Reading.{Step}
 use Rattle.spec.specs.Graph.{inputs, nonOrderOnly, stepAt}
-use Rattle.hold_columns.specs.Columns.{mentionsOf, perStep, outsEnd, insEnd, implicitEnd, orderOnlyEnd, lastEnd, endPlace, endAt, endsFrom, startIn, outsIn, insIn, nonOrderOnlyIn, inputsIn, Placed}
+use Rattle.hold_columns.specs.Columns.{mentionsOf, perStep, outsEnd, insEnd, implicitEnd, orderOnlyEnd, lastEnd, endPlace, endAt, stepEndsFrom, stepStart, outsIn, insIn, nonOrderOnlyIn, inputsIn, PartsPlaced}
 
-pub start-zero : (ends : List ℕ) (s : ℕ) → s ≡ 0 → 0 ≡ startIn ends s
-unfolding startIn
+pub start-zero : (ends : List ℕ) (s : ℕ) → s ≡ 0 → 0 ≡ stepStart ends s
+unfolding stepStart
 start-zero ends s e = rw e
 
-pub start-suc : (ends : List ℕ) (s : ℕ) → (s ≡ 0 → ⊥) → endAt ends (s - 1) lastEnd ≡ startIn ends s
-unfolding startIn
+pub start-suc : (ends : List ℕ) (s : ℕ) → (s ≡ 0 → ⊥) → endAt ends (s - 1) lastEnd ≡ stepStart ends s
+unfolding stepStart
 start-suc ends zero d = absurd (d refl)
 start-suc ends (suc s) d = let e : suc s - 1 ≡ s = omega arith in rw e
 
@@ -35,20 +35,20 @@ skip-step a b c d r i j e = let q : i ≡ suc (suc (suc (suc j))) = omega arith 
 after : ℕ → Step → ℕ
 after k x = k + length (x .outs) + length (x .ins) + length (x .implicit) + length (x .orderOnly)
 
-pub length-ends : (k : ℕ) (steps : List Step) → length (endsFrom k steps) ≡ perStep * length steps
-unfolding endsFrom after
+pub length-ends : (k : ℕ) (steps : List Step) → length (stepEndsFrom k steps) ≡ perStep * length steps
+unfolding stepEndsFrom after
 length-ends k [] = refl
 length-ends k (x ∷ l) = omega (arith, length-ends (after k x) l)
 
 -- the end of number j of step s
 abbrev endOf : ℕ → List Step → ℕ → ℕ → ℕ
-endOf k steps s j = endAt (endsFrom k steps) s j
+endOf k steps s j = endAt (stepEndsFrom k steps) s j
 
 end-next : (k : ℕ) (x : Step) (l : List Step) (s j : ℕ) → endOf k (x ∷ l) (suc s) j ≡ endOf (after k x) l s j
-unfolding endsFrom after
+unfolding stepEndsFrom after
 end-next k x l s j =
     skip-step (k + length (x .outs)) (k + length (x .outs) + length (x .ins)) (k + length (x .outs) + length (x .ins) + length (x .implicit))
-    (after k x) (endsFrom (after k x) l) (endPlace (suc s) j) (endPlace s j) (omega arith)
+    (after k x) (stepEndsFrom (after k x) l) (endPlace (suc s) j) (endPlace s j) (omega arith)
 
 length-after : (pre : List ℕ) (x : Step) → length (pre ++ mentionsOf x) ≡ after (length pre) x
 unfolding mentionsOf after
@@ -83,7 +83,7 @@ moved pre x l = append-assoc pre (mentionsOf x) (concat (map mentionsOf l))
 
 inputs-at : (pre : List ℕ) (steps : List Step) (s : ℕ)
     → part (pre ++ concat (map mentionsOf steps)) (endOf (length pre) steps s outsEnd) (endOf (length pre) steps s orderOnlyEnd) ≡ inputs (stepAt steps s)
-unfolding endsFrom concat inputs after
+unfolding stepEndsFrom concat inputs after
 inputs-at pre [] s = refl
 inputs-at pre (x ∷ l) zero = first-inputs pre x (concat (map mentionsOf l))
 inputs-at pre (x ∷ l) (suc s) =
@@ -91,7 +91,7 @@ inputs-at pre (x ∷ l) (suc s) =
 
 non-order-only-at : (pre : List ℕ) (steps : List Step) (s : ℕ)
     → part (pre ++ concat (map mentionsOf steps)) (endOf (length pre) steps s outsEnd) (endOf (length pre) steps s implicitEnd) ≡ nonOrderOnly (stepAt steps s)
-unfolding endsFrom concat nonOrderOnly
+unfolding stepEndsFrom concat nonOrderOnly
 non-order-only-at pre [] s = refl
 non-order-only-at pre (x ∷ l) zero = first-non-order-only pre x (concat (map mentionsOf l))
 non-order-only-at pre (x ∷ l) (suc s) =
@@ -103,13 +103,13 @@ startFrom k steps zero = k
 startFrom k steps (suc s) = endOf k steps s lastEnd
 
 start-next : (k : ℕ) (x : Step) (l : List Step) (s : ℕ) → startFrom k (x ∷ l) (suc s) ≡ startFrom (after k x) l s
-unfolding startFrom endsFrom after
+unfolding startFrom stepEndsFrom after
 start-next k x l zero = refl
 start-next k x l (suc s) = end-next k x l s lastEnd
 
 outs-at : (pre : List ℕ) (steps : List Step) (s : ℕ)
     → part (pre ++ concat (map mentionsOf steps)) (startFrom (length pre) steps s) (endOf (length pre) steps s outsEnd) ≡ stepAt steps s .outs
-unfolding endsFrom concat startFrom
+unfolding stepEndsFrom concat startFrom
 outs-at pre [] s = let e : 0 - startFrom (length pre) [] s ≡ 0 = omega arith in rw e
 outs-at pre (x ∷ l) zero = first-outs pre x (concat (map mentionsOf l))
 outs-at pre (x ∷ l) (suc s) =
@@ -117,14 +117,14 @@ outs-at pre (x ∷ l) (suc s) =
 
 -- the parts of a step follow one another
 record Ordered (k : ℕ) (steps : List Step) (s : ℕ) : Type 0 where
-  within : endPlace s lastEnd < length (endsFrom k steps)
+  within : endPlace s lastEnd < length (stepEndsFrom k steps)
   outs : startFrom k steps s ≤ endOf k steps s outsEnd
   counted : endOf k steps s outsEnd ≤ endOf k steps s implicitEnd
   inputs : endOf k steps s implicitEnd ≤ endOf k steps s orderOnlyEnd
   mentioned : endOf k steps s lastEnd ≤ k + length (concat (map mentionsOf steps))
 
 ordered : (k : ℕ) (steps : List Step) (s : ℕ) → s < length steps → Ordered k steps s
-unfolding endsFrom concat mentionsOf startFrom after
+unfolding stepEndsFrom concat mentionsOf startFrom after
 ordered k [] s b = absurd (not-suc-le-zero b)
 ordered k (x ∷ l) zero b = record {
   within = omega arith;
@@ -146,24 +146,24 @@ ordered k (x ∷ l) (suc s) b =
 -- the parts as they are read from the columns
 
 module _ (steps : List Step) where
-  pub read-inputs : (s : ℕ) → inputsIn (concat (map mentionsOf steps)) (endsFrom 0 steps) s ≡ inputs (stepAt steps s)
+  pub read-inputs : (s : ℕ) → inputsIn (concat (map mentionsOf steps)) (stepEndsFrom 0 steps) s ≡ inputs (stepAt steps s)
   unfolding inputsIn
   read-inputs s = inputs-at [] steps s
 
-  pub read-non-order-only : (s : ℕ) → nonOrderOnlyIn (concat (map mentionsOf steps)) (endsFrom 0 steps) s ≡ nonOrderOnly (stepAt steps s)
+  pub read-non-order-only : (s : ℕ) → nonOrderOnlyIn (concat (map mentionsOf steps)) (stepEndsFrom 0 steps) s ≡ nonOrderOnly (stepAt steps s)
   unfolding nonOrderOnlyIn
   read-non-order-only s = non-order-only-at [] steps s
 
-  start-same : (s : ℕ) → startFrom 0 steps s ≡ startIn (endsFrom 0 steps) s
-  unfolding startFrom startIn
+  start-same : (s : ℕ) → startFrom 0 steps s ≡ stepStart (stepEndsFrom 0 steps) s
+  unfolding startFrom stepStart
   start-same zero = refl
   start-same (suc s) = refl
 
-  pub read-outs : (s : ℕ) → outsIn (concat (map mentionsOf steps)) (endsFrom 0 steps) s ≡ stepAt steps s .outs
+  pub read-outs : (s : ℕ) → outsIn (concat (map mentionsOf steps)) (stepEndsFrom 0 steps) s ≡ stepAt steps s .outs
   unfolding outsIn
   read-outs s = rw (← start-same s) (outs-at [] steps s)
 
-  pub read-placed : (s : ℕ) → s < length steps → Placed (concat (map mentionsOf steps)) (endsFrom 0 steps) s
+  pub read-placed : (s : ℕ) → s < length steps → PartsPlaced (concat (map mentionsOf steps)) (stepEndsFrom 0 steps) s
   read-placed s b =
       let r = ordered 0 steps s b in
       record {
@@ -184,23 +184,23 @@ first-ins pre x rest =
     (sym (length-append pre (x .outs))) (simp length-append (omega arith)))
 
 ins-at : (pre : List ℕ) (steps : List Step) (s : ℕ) → part (pre ++ concat (map mentionsOf steps)) (endOf (length pre) steps s outsEnd) (endOf (length pre) steps s insEnd) ≡ stepAt steps s .ins
-unfolding endsFrom concat
+unfolding stepEndsFrom concat
 ins-at pre [] s = refl
 ins-at pre (x ∷ l) zero = first-ins pre x (concat (map mentionsOf l))
 ins-at pre (x ∷ l) (suc s) =
     rw (end-next (length pre) x l s outsEnd, end-next (length pre) x l s insEnd, ← moved pre x l, ← length-after pre x) (ins-at (pre ++ mentionsOf x) l s)
 
 ins-ordered : (k : ℕ) (steps : List Step) (s : ℕ) → s < length steps → (endOf k steps s outsEnd ≤ endOf k steps s insEnd) × (endOf k steps s insEnd ≤ endOf k steps s implicitEnd)
-unfolding endsFrom after
+unfolding stepEndsFrom after
 ins-ordered k [] s b = absurd (not-suc-le-zero b)
 ins-ordered k (x ∷ l) zero b = (omega arith, omega arith)
 ins-ordered k (x ∷ l) (suc s) b = rw (end-next k x l s outsEnd, end-next k x l s insEnd, end-next k x l s implicitEnd) (ins-ordered (after k x) l s (le-of-suc-le-suc b))
 
 module _ (steps : List Step) where
-  pub read-ins : (s : ℕ) → insIn (concat (map mentionsOf steps)) (endsFrom 0 steps) s ≡ stepAt steps s .ins
+  pub read-ins : (s : ℕ) → insIn (concat (map mentionsOf steps)) (stepEndsFrom 0 steps) s ≡ stepAt steps s .ins
   unfolding insIn
   read-ins s = ins-at [] steps s
 
   pub read-ins-placed : (s : ℕ) → s < length steps
-      → (endAt (endsFrom 0 steps) s outsEnd ≤ endAt (endsFrom 0 steps) s insEnd) × (endAt (endsFrom 0 steps) s insEnd ≤ endAt (endsFrom 0 steps) s implicitEnd)
+      → (endAt (stepEndsFrom 0 steps) s outsEnd ≤ endAt (stepEndsFrom 0 steps) s insEnd) × (endAt (stepEndsFrom 0 steps) s insEnd ≤ endAt (stepEndsFrom 0 steps) s implicitEnd)
   read-ins-placed s b = ins-ordered 0 steps s b

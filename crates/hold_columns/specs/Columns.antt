@@ -53,14 +53,14 @@ abbrev pub endAt : List ℕ → ℕ → ℕ → ℕ
 endAt ends s k = getD ends (endPlace s k) 0
 
 -- the ends of all steps, counted from k
-unfoldable pub endsFrom : ℕ → List Step → List ℕ
-endsFrom k [] = []
-endsFrom k (s ∷ l) =
+unfoldable pub stepEndsFrom : ℕ → List Step → List ℕ
+stepEndsFrom k [] = []
+stepEndsFrom k (s ∷ l) =
     let a = k + length (s .outs) in
     let b = a + length (s .ins) in
     let c = b + length (s .implicit) in
     let d = c + length (s .orderOnly) in
-    a ∷ b ∷ c ∷ d ∷ endsFrom d l
+    a ∷ b ∷ c ∷ d ∷ stepEndsFrom d l
 
 -- what an entry of the makers' column says: 0 no maker, else the step after
 unfoldable pub madeBy : ℕ → List ℕ
@@ -70,7 +70,7 @@ madeBy (suc m) = m ∷ []
 -- the columns hold these steps, over so many files
 pub record HoldsColumns (steps : List Step) (files : ℕ) (mentions ends phony made : List ℕ) : Type 0 where
   pub mentioned : mentions ≡ concat (map mentionsOf steps)
-  pub ended : ends ≡ endsFrom 0 steps
+  pub ended : ends ≡ stepEndsFrom 0 steps
   pub phonies : phony ≡ map (λ (s : Step). bit (isPhony (s .rule))) steps
   pub counted : length made ≡ files
   pub makes : (f : ℕ) → f < files → makers steps f ≡ madeBy (getD made f 0)
@@ -82,13 +82,13 @@ pub record HoldsColumns (steps : List Step) (files : ℕ) (mentions ends phony m
 -- ------------------------------------------------------------------ what is read from them
 
 -- where a step's outputs start
-unfoldable pub startIn : List ℕ → ℕ → ℕ
-startIn ends zero = 0
-startIn ends (suc s) = endAt ends s lastEnd
+unfoldable pub stepStart : List ℕ → ℕ → ℕ
+stepStart ends zero = 0
+stepStart ends (suc s) = endAt ends s lastEnd
 
 unfoldable pub outsIn : List ℕ → List ℕ → ℕ → List ℕ
-unfolding startIn
-outsIn mentions ends s = part mentions (startIn ends s) (endAt ends s outsEnd)
+unfolding stepStart
+outsIn mentions ends s = part mentions (stepStart ends s) (endAt ends s outsEnd)
 
 -- the inputs that are neither implicit nor order-only
 unfoldable pub insIn : List ℕ → List ℕ → ℕ → List ℕ
@@ -127,16 +127,16 @@ neededIn mentions ends made n roots = reach (beforeIn mentions ends made) n (mak
 -- ------------------------------------------------------------------ what reading them asks
 
 -- a step's parts lie in the mentions, one after another
-pub record Placed (mentions ends : List ℕ) (s : ℕ) : Type 0 where
+pub record PartsPlaced (mentions ends : List ℕ) (s : ℕ) : Type 0 where
   pub within : endPlace s lastEnd < length ends
-  pub outs : startIn ends s ≤ endAt ends s outsEnd
+  pub outs : stepStart ends s ≤ endAt ends s outsEnd
   pub counted : endAt ends s outsEnd ≤ endAt ends s implicitEnd
   pub inputs : endAt ends s implicitEnd ≤ endAt ends s orderOnlyEnd
   pub mentioned : endAt ends s lastEnd ≤ length mentions
 
 -- all numbers of n steps' columns are in range
 pub record SoundColumns (n : ℕ) (mentions ends made : List ℕ) : Type 0 where
-  pub placed : (s : ℕ) → s < n → Placed mentions ends s
+  pub placed : (s : ℕ) → s < n → PartsPlaced mentions ends s
   pub low : (f : ℕ) → f ∈ mentions → f < length made
   pub makers : (f : ℕ) → f < length made → getD made f 0 ≤ n
   pub few-steps : n ≤ maxSteps
@@ -144,7 +144,7 @@ pub record SoundColumns (n : ℕ) (mentions ends made : List ℕ) : Type 0 where
   pub few-mentions : length mentions ≤ maxMentions
 
 -- files that the makers' column has, and entries of it for n steps
-pub record Files (n : ℕ) (fs made : List ℕ) : Type 0 where
+pub record FilesMade (n : ℕ) (fs made : List ℕ) : Type 0 where
   pub low : (i : ℕ) → i < length fs → getD fs i 0 < length made
   pub makers : (f : ℕ) → f < length made → getD made f 0 ≤ n
 
@@ -154,7 +154,7 @@ pub record Marks (n : ℕ) (l marks : List ℕ) : Type 0 where
   pub marked : (s : ℕ) → s < n → getD marks s 0 ≡ bit (has s l)
 
 -- a list of steps, none twice, in which each comes after those before it
-pub record Sorted (before : ℕ → List ℕ) (l : List ℕ) : Type 0 where
+pub record SortedSteps (before : ℕ → List ℕ) (l : List ℕ) : Type 0 where
   pub once : Once l
   pub after : Each (λ earlier s. (m : ℕ) → m ∈ before s → m ∈ earlier) l
 

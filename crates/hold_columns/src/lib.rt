@@ -2,7 +2,7 @@
 ghost use mathlib.Core.Path.{_≡_};
 ghost use Prim.Native.Nat.{_^_, _<_};
 ghost use lib.ListN.{length, getD};
-ghost use Rattle.hold_columns.specs.Columns.{Placed, lastEnd, endPlace, endAt, startIn, outsIn, nonOrderOnlyIn, inputsIn, makerAt};
+ghost use Rattle.hold_columns.specs.Columns.{PartsPlaced, lastEnd, endPlace, endAt, stepStart, outsIn, nonOrderOnlyIn, inputsIn, makerAt};
 use slices::words::at;
 
 // How many ends a step has, and which is which: those of its outputs, its inputs, its implicit and its order-only inputs.
@@ -36,7 +36,7 @@ pub fn end_at(ends: &[u32], s: usize, k: usize) -> usize
 
 // The step's inputs of any kind.
 pub fn inputs<'a, 'b>(mentions: &'a [u32], ends: &'b [u32], s: usize) -> &'a [u32]
-    requires { ⌜ Placed (now mentions) (now ends) s ⌝ }
+    requires { ⌜ PartsPlaced (now mentions) (now ends) s ⌝ }
     ensures { λ r. ⌜ now r ≡ inputsIn (now (mentions .entry)) (now (ends .entry)) s ⌝ }
 {
     let from = end_at(ends, s, OUTS_END);
@@ -46,7 +46,7 @@ pub fn inputs<'a, 'b>(mentions: &'a [u32], ends: &'b [u32], s: usize) -> &'a [u3
 
 // The step's inputs that are not order-only.
 pub fn non_order_only<'a, 'b>(mentions: &'a [u32], ends: &'b [u32], s: usize) -> &'a [u32]
-    requires { ⌜ Placed (now mentions) (now ends) s ⌝ }
+    requires { ⌜ PartsPlaced (now mentions) (now ends) s ⌝ }
     ensures { λ r. ⌜ now r ≡ nonOrderOnlyIn (now (mentions .entry)) (now (ends .entry)) s ⌝ }
 {
     let from = end_at(ends, s, OUTS_END);
@@ -57,7 +57,7 @@ pub fn non_order_only<'a, 'b>(mentions: &'a [u32], ends: &'b [u32], s: usize) ->
 // Where the step's outputs start.
 fn start(ends: &[u32], s: usize) -> usize
     requires { ⌜ endPlace s lastEnd < length (now ends) ⌝ }
-    ensures { λ r. ⌜ r ≡ startIn (now (ends .entry)) s ⌝ }
+    ensures { λ r. ⌜ r ≡ stepStart (now (ends .entry)) s ⌝ }
 {
     if s == 0 {
         return 0;
@@ -67,7 +67,7 @@ fn start(ends: &[u32], s: usize) -> usize
 
 // The step's outputs.
 pub fn outs<'a, 'b>(mentions: &'a [u32], ends: &'b [u32], s: usize) -> &'a [u32]
-    requires { ⌜ Placed (now mentions) (now ends) s ⌝ }
+    requires { ⌜ PartsPlaced (now mentions) (now ends) s ⌝ }
     ensures { λ r. ⌜ now r ≡ outsIn (now (mentions .entry)) (now (ends .entry)) s ⌝ }
 {
     let from = start(ends, s);

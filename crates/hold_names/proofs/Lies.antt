@@ -13,7 +13,7 @@ use Rattle.lists.specs.Fill.{zeroed, length-zeroed, getD-zeroed-in}
 use Rattle.lists.specs.Parts.{part, drop-take}
 use Rattle.spec.specs.Limits.{maxFiles}
 use Rattle.spec.specs.Basics.{among, concat}
-use Rattle.hold_names.specs.Table.{endsFrom, buckets, bucketOf, lastIn, linksFrom, headsFrom, maxNumbers, HoldsNames, Names, startIn, linked}
+use Rattle.hold_names.specs.Table.{nameEndsFrom, buckets, bucketOf, lastIn, linksFrom, headsFrom, maxNumbers, HoldsNames, NamesFile, nameStart, linked}
 use Rattle.hold_names.proofs.Buckets.{bucket-small, name-old, name-new, last-none, last-old, last-new, last-other, nowhere}
 
 -- ---- names end to end
@@ -66,14 +66,14 @@ part-concat (f ∷ l) (suc k) h =
 
 -- ---- the column of ends
 
-ends-at : (at : ℕ) (files : List (List ℕ)) (k : ℕ) → k < length files → getD (endsFrom at files) k 0 ≡ at + startOf files (suc k)
-unfolding endsFrom
+ends-at : (at : ℕ) (files : List (List ℕ)) (k : ℕ) → k < length files → getD (nameEndsFrom at files) k 0 ≡ at + startOf files (suc k)
+unfolding nameEndsFrom
 ends-at at [] k h = absurd (not-suc-le-zero h)
 ends-at at (f ∷ l) zero h = omega (arith, start-cons f l 0, start-zero l)
 ends-at at (f ∷ l) (suc k) h = omega (arith, start-cons f l (suc k), ends-at (at + length f) l k (le-of-suc-le-suc h))
 
-ends-snoc : (at : ℕ) (l : List (List ℕ)) (p : List ℕ) → endsFrom at (l ++ (p ∷ [])) ≡ endsFrom at l ++ ((at + (length (concat l) + length p)) ∷ [])
-unfolding endsFrom
+ends-snoc : (at : ℕ) (l : List (List ℕ)) (p : List ℕ) → nameEndsFrom at (l ++ (p ∷ [])) ≡ nameEndsFrom at l ++ ((at + (length (concat l) + length p)) ∷ [])
+unfolding nameEndsFrom
 ends-snoc at [] p = let z : at + (length (concat {A = ℕ} []) + length p) ≡ at + length p = omega (arith, ap length concat-none) in rw z
 ends-snoc at (f ∷ l) p =
     let z : at + (length (concat (f ∷ l)) + length p) ≡ at + length f + (length (concat l) + length p) =
@@ -91,25 +91,25 @@ module _ {names index : List ℕ} {count : ℕ} {files : List (List ℕ)} (h : H
       sym (getD-take count index k 0 l) ∙ ap (λ (x : List ℕ). getD x k 0) (h .column)
       ∙ ends-at 0 files k (omega (arith, h .counted)) ∙ omega arith
 
-  pub start-held : (k : ℕ) → k ≤ count → startIn index k ≡ startOf files k
-  unfolding startIn
+  pub start-held : (k : ℕ) → k ≤ count → nameStart index k ≡ startOf files k
+  unfolding nameStart
   start-held zero l = sym (start-zero files)
   start-held (suc k) l = end-held k l
 
   -- in order, and within the bytes
-  pub name-within : (k : ℕ) → k < count → (startIn index k ≤ getD index k 0) × (getD index k 0 ≤ length names)
+  pub name-within : (k : ℕ) → k < count → (nameStart index k ≤ getD index k 0) × (getD index k 0 ≤ length names)
   name-within k l =
       omega
       (arith, start-held k (omega arith), end-held k l, start-suc files k (omega (arith, h .counted)), start-within files (suc k), h .within)
 
-  pub name-held : (k : ℕ) → k < count → part names (startIn index k) (getD index k 0) ≡ getD files k []
+  pub name-held : (k : ℕ) → k < count → part names (nameStart index k) (getD index k 0) ≡ getD files k []
   name-held k l =
       rw (start-held k (omega arith), end-held k l)
       (sym (part-take names (length (concat files)) (startOf files k) (startOf files (suc k)) (start-within files (suc k)))
       ∙ ap (λ (x : List ℕ). part x (startOf files k) (startOf files (suc k))) (h .bytes)
       ∙ part-concat files k (omega (arith, h .counted)))
 
-  pub used-held : startIn index count ≡ length (concat files)
+  pub used-held : nameStart index count ≡ length (concat files)
   used-held =
       start-held count (omega arith)
       ∙ ap (λ (x : List (List ℕ)). length (concat x)) (take-all count files (omega (arith, h .counted)))
@@ -121,24 +121,24 @@ holds-one {f = f} {g = g} a b =
     ext-getD [] f g (sym (a .counted) ∙ b .counted)
     (λ k l. sym (name-held a k (omega (arith, a .counted))) ∙ name-held b k (omega (arith, a .counted)))
 
-pub names-answer : {names index : List ℕ} {count k : ℕ} → k < count → Names names index count k (part names (startIn index k) (getD index k 0))
+pub names-answer : {names index : List ℕ} {count k : ℕ} → k < count → NamesFile names index count k (part names (nameStart index k) (getD index k 0))
 names-answer {k = k} l = record { answer = λ files h. name-held h k l }
 
 -- ---- where a name begins
 
-pub start-none : (index : List ℕ) {k : ℕ} → k ≡ 0 → 0 ≡ startIn index k
-unfolding startIn
+pub start-none : (index : List ℕ) {k : ℕ} → k ≡ 0 → 0 ≡ nameStart index k
+unfolding nameStart
 start-none index e = rw e
 
-pub start-one : (index : List ℕ) (k : ℕ) → (k ≡ 0 → ⊥) → getD index (k - 1) 0 ≡ startIn index k
-unfolding startIn
+pub start-one : (index : List ℕ) (k : ℕ) → (k ≡ 0 → ⊥) → getD index (k - 1) 0 ≡ nameStart index k
+unfolding nameStart
 start-one index zero h = absurd (h refl)
 start-one index (suc k) h = let z : suc k - 1 ≡ k = omega arith in rw z
 
 -- ---- no name, and one name more
 
 pub holds-none : (names index : List ℕ) → length names < 2 ^ 32 → maxNumbers ≤ length index → HoldsNames names (zeroed index headsFrom maxNumbers) 0 []
-unfolding endsFrom concat
+unfolding nameEndsFrom concat
 holds-none names index h r =
     record {
       counted = refl;

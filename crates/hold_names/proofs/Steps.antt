@@ -16,7 +16,7 @@ use Rattle.spec.specs.Reading.{numberOf}
 use Rattle.hold_names.specs.declared.FoundName.{FoundName}
 use Rattle.hold_names.specs.declared.FoundName.the-variants.{At, Missing}
 use Rattle.hold_names.specs.declared.Added.the-variants.{Old, New, Full}
-use Rattle.hold_names.specs.Table.{buckets, bucketOf, lastIn, linksFrom, headsFrom, HoldsNames, SoundNames, found, fits, added, filesAfter, countAfter, FindsName, AddsName, Names, startIn, linked}
+use Rattle.hold_names.specs.Table.{buckets, bucketOf, lastIn, linksFrom, headsFrom, HoldsNames, SoundNames, found, fits, added, filesAfter, countAfter, FindsName, AddsName, NamesFile, nameStart, linked}
 use Rattle.hold_names.proofs.Buckets.{bucket-small, last-low, last-is, last-behind, first-stands, among-nowhere}
 use Rattle.hold_names.proofs.Lies.{holds-one, holds-more, used-held}
 
@@ -53,7 +53,7 @@ module _ {names index : List ℕ} {count : ℕ} {path : List ℕ} where
     find-end l =
         finds (rw (among-nowhere path (r .files) (λ k d. r .passed k (omega arith) (omega (arith, r .holds .counted)))))
 
-    module _ (l : 0 < j) {n : List ℕ} (a : Names names index count (j - 1) n) where
+    module _ (l : 0 < j) {n : List ℕ} (a : NamesFile names index count (j - 1) n) where
       name : n ≡ getD (r .files) (j - 1) []
       name = a .answer (r .files) (r .holds)
 
@@ -133,7 +133,7 @@ module _ {names index : List ℕ} {count : ℕ} {p : List ℕ} {r : FoundName} (
     unfolding fits
     full-files l = add-full (λ files h. rw (le-ltb (length files) maxFiles (omega (arith, h .counted))))
 
-    module _ (a : count < maxFiles) {from : ℕ} (s : from ≡ startIn index count) where
+    module _ (a : count < maxFiles) {from : ℕ} (s : from ≡ nameStart index count) where
       pub full-bytes : length names - from < length p → AddsName names index count p names index Full
       unfolding fits
       full-bytes l =

@@ -17,9 +17,9 @@ use Rattle.hold_names.specs.declared.Added.the-variants.{Old, New, Full}
 -- ---- what is held
 
 -- the ends of names that lie end to end from a place on
-unfoldable pub endsFrom : ℕ → List (List ℕ) → List ℕ
-endsFrom at [] = []
-endsFrom at (f ∷ l) = (at + length f) ∷ endsFrom (at + length f) l
+unfoldable pub nameEndsFrom : ℕ → List (List ℕ) → List ℕ
+nameEndsFrom at [] = []
+nameEndsFrom at (f ∷ l) = (at + length f) ∷ nameEndsFrom (at + length f) l
 
 -- as many buckets as files
 abbrev pub buckets : ℕ
@@ -57,7 +57,7 @@ pub record HoldsNames (names index : List ℕ) (count : ℕ) (files : List (List
   pub small : length names < 2 ^ 32
   pub within : length (concat files) ≤ length names
   pub bytes : take (length (concat files)) names ≡ concat files
-  pub column : take count index ≡ endsFrom 0 files
+  pub column : take count index ≡ nameEndsFrom 0 files
   -- no name is there twice
   pub once : (i j : ℕ) → i < j → j < count → getD files i [] ≡ getD files j [] → ⊥
   -- each name's link is the one before it in its bucket
@@ -101,13 +101,13 @@ pub record AddsName (names index : List ℕ) (count : ℕ) (path names′ index�
   pub answer : (files : List (List ℕ)) → HoldsNames names index count files → r ≡ added (length names) path files
   pub after : (files : List (List ℕ)) → HoldsNames names index count files → HoldsNames names′ index′ (countAfter r count) (filesAfter r path files)
 
-pub record Names (names index : List ℕ) (count k : ℕ) (r : List ℕ) : Type 0 where
+pub record NamesFile (names index : List ℕ) (count k : ℕ) (r : List ℕ) : Type 0 where
   pub answer : (files : List (List ℕ)) → HoldsNames names index count files → r ≡ getD files k []
 
 -- where name k begins, by the column of ends
-unfoldable pub startIn : List ℕ → ℕ → ℕ
-startIn index zero = 0
-startIn index (suc k) = getD index k 0
+unfoldable pub nameStart : List ℕ → ℕ → ℕ
+nameStart index zero = 0
+nameStart index (suc k) = getD index k 0
 
 -- the three numbers of a name more: its end, its link, and the head of its bucket
 unfoldable pub linked : List ℕ → ℕ → ℕ → ℕ → List ℕ

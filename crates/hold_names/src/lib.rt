@@ -5,7 +5,7 @@ ghost use Prim.Native.Nat.{_^_, _≤_, _<_};
 ghost use lib.ListN.{length};
 ghost use Rattle.lists.specs.Fill.{zeroed};
 ghost use Rattle.spec.specs.Limits.{maxFiles};
-ghost use Rattle.hold_names.specs.Table.{buckets, bucketOf, headsFrom, maxNumbers, SoundNames, FindsName, AddsName, Names, startIn, linked};
+ghost use Rattle.hold_names.specs.Table.{buckets, bucketOf, headsFrom, maxNumbers, SoundNames, FindsName, AddsName, NamesFile, nameStart, linked};
 use byteorder::equal;
 use slices::bytes::copy_at;
 use slices::words::at;
@@ -114,7 +114,7 @@ pub fn add(names: &mut [u8], index: &mut [u32], count: usize, path: &[u8]) -> Ad
 pub fn file_name<'a>(names: &'a [u8], index: &[u32], count: usize, k: usize) -> &'a [u8]
     requires { ⌜ SoundNames (now names) (now index) count ⌝ }
     requires { ⌜ k < count ⌝ }
-    ensures { λ r. ⌜ Names (now (names .entry)) (now (index .entry)) count k (now r) ⌝ }
+    ensures { λ r. ⌜ NamesFile (now (names .entry)) (now (index .entry)) count k (now r) ⌝ }
 {
     let from = start(index, k);
     let to = at(index, k);
@@ -124,7 +124,7 @@ pub fn file_name<'a>(names: &'a [u8], index: &[u32], count: usize, k: usize) -> 
 // Where name k begins: where the one before it ends.
 fn start(index: &[u32], k: usize) -> usize
     requires { ⌜ k ≤ length (now index) ⌝ }
-    ensures { λ r. ⌜ r ≡ startIn (now (index .entry)) k ⌝ }
+    ensures { λ r. ⌜ r ≡ nameStart (now (index .entry)) k ⌝ }
 {
     if k == 0 {
         return 0;

@@ -22,7 +22,7 @@ use Rattle.hold_columns.specs.Columns.{madeBy}
 use Rattle.hold_reading.specs.declared.Counts.{Counts}
 use Rattle.hold_reading.specs.declared.Open.{Open}
 use Rattle.hold_reading.specs.declared.LineAnswer.the-variants.{Goes, Refused}
-use Rattle.hold_reading.specs.Held.{joined, Opens, capacities, HoldsReading, Agrees, goes, refuses}
+use Rattle.hold_reading.specs.Held.{joined, OpensBlock, capacities, HoldsReading, Agrees, goes, refuses}
 use Rattle.hold_reading.specs.Buffers.{Buffers}
 
 -- ---- by the answer
@@ -34,7 +34,7 @@ pub record GoesOn (bs : Buffers) (c : Counts) (o : Open) (out : Outcome) : Type 
   pub block : Block
   pub outcome : out ≡ goesOn reading block
   pub holds : HoldsReading log bs c (joined reading block)
-  pub opens : Opens log block o
+  pub opens : OpensBlock log block o
 
 module _ {bs : Buffers} where
   pub agreed-on : {out : Outcome} {c : Counts} {o : Open} → Agrees bs out (Goes c o) → GoesOn bs c o out
@@ -60,7 +60,7 @@ none-over = any-none (longerThan maxPath)
 module _ (bs : Buffers) where
   pub start-held : HoldsNames (bs .names) (bs .index) 0 [] → maxTexts ≤ length (bs .texts) → maxRows ≤ length (bs .bind) → sum capacities ≤ length (bs .graph)
       → HoldsReading [] bs noCounts (joined nothingRead noBlock)
-  unfolding joined boundBy rulesOf rulesIn valuesIn concat makers makersFrom madeBy Rattle.hold_columns.specs.Columns.endsFrom
+  unfolding joined boundBy rulesOf rulesIn valuesIn concat makers makersFrom madeBy Rattle.hold_columns.specs.Columns.stepEndsFrom
   start-held n t b g =
       record {
         named = n;

@@ -9,16 +9,16 @@ use Rattle.lists.specs.Members.{has}
 use Rattle.spec.specs.Basics.{concat}
 use Rattle.spec.specs.Reading.{Step, isPhony}
 use Rattle.spec.specs.Graph.{noStep, stepAt, inputs, makers, makersFrom}
-use Rattle.hold_columns.specs.Columns.{bit, mentionsOf, endsFrom, HoldsColumns}
-use Rattle.hold_reading.specs.Binds.{bare}
+use Rattle.hold_columns.specs.Columns.{bit, mentionsOf, stepEndsFrom, HoldsColumns}
+use Rattle.hold_reading.specs.Binds.{withoutBlock}
 
-mentions-bare : (l : List Step) → concat (map mentionsOf (map bare l)) ≡ concat (map mentionsOf l)
-unfolding concat mentionsOf inputs bare
+mentions-bare : (l : List Step) → concat (map mentionsOf (map withoutBlock l)) ≡ concat (map mentionsOf l)
+unfolding concat mentionsOf inputs withoutBlock
 mentions-bare [] = refl
 mentions-bare (s ∷ l) = ap (λ (r : List ℕ). mentionsOf s ++ r) (mentions-bare l)
 
-ends-bare : (k : ℕ) (l : List Step) → endsFrom k (map bare l) ≡ endsFrom k l
-unfolding endsFrom bare
+ends-bare : (k : ℕ) (l : List Step) → stepEndsFrom k (map withoutBlock l) ≡ stepEndsFrom k l
+unfolding stepEndsFrom withoutBlock
 ends-bare k [] = refl
 ends-bare k (s ∷ l) =
     let a = k + length (s .outs) in
@@ -27,26 +27,26 @@ ends-bare k (s ∷ l) =
     let d = c + length (s .orderOnly) in
     ap (λ (r : List ℕ). a ∷ b ∷ c ∷ d ∷ r) (ends-bare d l)
 
-phony-bare : (l : List Step) → map (λ (s : Step). bit (isPhony (s .rule))) (map bare l) ≡ map (λ (s : Step). bit (isPhony (s .rule))) l
-unfolding bare
+phony-bare : (l : List Step) → map (λ (s : Step). bit (isPhony (s .rule))) (map withoutBlock l) ≡ map (λ (s : Step). bit (isPhony (s .rule))) l
+unfolding withoutBlock
 phony-bare [] = refl
 phony-bare (s ∷ l) = ap (λ (r : List ℕ). bit (isPhony (s .rule)) ∷ r) (phony-bare l)
 
-makers-from-bare : (k : ℕ) (l : List Step) (f : ℕ) → makersFrom k (map bare l) f ≡ makersFrom k l f
-unfolding makersFrom bare
+makers-from-bare : (k : ℕ) (l : List Step) (f : ℕ) → makersFrom k (map withoutBlock l) f ≡ makersFrom k l f
+unfolding makersFrom withoutBlock
 makers-from-bare k [] f = refl
 makers-from-bare k (s ∷ l) f =
     split (has f (s .outs))
     (λ (e : has f (s .outs) ≡ true). rw e (ap (λ (r : List ℕ). k ∷ r) (makers-from-bare (suc k) l f)))
     (λ (e : has f (s .outs) ≡ false). rw e (makers-from-bare (suc k) l f))
 
-rule-bare : (l : List Step) (s : ℕ) → stepAt (map bare l) s .rule ≡ stepAt l s .rule
-unfolding bare
-rule-bare l s = ap (λ (x : Step). x .rule) (List·getD-map bare l s noStep)
+rule-bare : (l : List Step) (s : ℕ) → stepAt (map withoutBlock l) s .rule ≡ stepAt l s .rule
+unfolding withoutBlock
+rule-bare l s = ap (λ (x : Step). x .rule) (List·getD-map withoutBlock l s noStep)
 
-module _ (a b : List Step) (e : map bare a ≡ map bare b) where
+module _ (a b : List Step) (e : map withoutBlock a ≡ map withoutBlock b) where
   pub same-count : length a ≡ length b
-  same-count = sym (length-map a bare) ∙ ap length e ∙ length-map b bare
+  same-count = sym (length-map a withoutBlock) ∙ ap length e ∙ length-map b withoutBlock
 
   pub same-rule : (s : ℕ) → stepAt a s .rule ≡ stepAt b s .rule
   same-rule s = sym (rule-bare a s) ∙ ap (λ (l : List Step). stepAt l s .rule) e ∙ rule-bare b s
@@ -59,7 +59,7 @@ module _ (a b : List Step) (e : map bare a ≡ map bare b) where
   same-tables h =
       record {
         mentioned = h .mentioned ∙ sym (mentions-bare b) ∙ sym (ap (λ (l : List Step). concat (map mentionsOf l)) e) ∙ mentions-bare a;
-        ended = h .ended ∙ sym (ends-bare 0 b) ∙ sym (ap (endsFrom 0) e) ∙ ends-bare 0 a;
+        ended = h .ended ∙ sym (ends-bare 0 b) ∙ sym (ap (stepEndsFrom 0) e) ∙ ends-bare 0 a;
         phonies =
             h .phonies ∙ sym (phony-bare b) ∙ sym (ap (map (λ (s : Step). bit (isPhony (s .rule)))) e) ∙ phony-bare a;
         counted = h .counted;
@@ -71,6 +71,6 @@ module _ (a b : List Step) (e : map bare a ≡ map bare b) where
       }
 
 -- The last step with another block.
-pub bare-last : (l : List Step) (s t : Step) → bare s ≡ bare t → map bare (l ++ (s ∷ [])) ≡ map bare (l ++ (t ∷ []))
+pub bare-last : (l : List Step) (s t : Step) → withoutBlock s ≡ withoutBlock t → map withoutBlock (l ++ (s ∷ [])) ≡ map withoutBlock (l ++ (t ∷ []))
 bare-last [] s t e = ap (λ (x : Step). x ∷ []) e
-bare-last (x ∷ l) s t e = ap (λ (r : List Step). bare x ∷ r) (bare-last l s t e)
+bare-last (x ∷ l) s t e = ap (λ (r : List Step). withoutBlock x ∷ r) (bare-last l s t e)

@@ -15,12 +15,12 @@ use Rattle.spec.specs.Statements.{countBinding, setVar}
 use Rattle.spec.specs.Manifest.{withRule, withStep}
 use Rattle.spec.specs.Graph.{noStep, stepAt}
 use Rattle.hold_bindings.specs.declared.FoundEntry.the-variants.{At}
-use Rattle.hold_bindings.specs.Log.{Logged, logged, ofFile, ofRules, ofKeys, ofStep, boundBy, rulesIn, rulesOf, newestRule, withKey, Owned}
-use Rattle.hold_bindings.specs.Held.{maxEntries, maxOwner, HoldsBindings, Room, valuesIn}
+use Rattle.hold_bindings.specs.Log.{Logged, logged, ofFile, ofRules, ofKeys, ofBlock, boundBy, rulesIn, rulesOf, newestRule, withKey, Owned}
+use Rattle.hold_bindings.specs.Held.{maxEntries, maxOwner, HoldsBindings, EntryRoom, valuesIn}
 use Rattle.hold_bindings.proofs.Lookups.{bound-same, bound-other, owner-file, owner-rules, owner-keys, owner-step, keys-not-step, rules-other, rules-declared, rules-key}
 use Rattle.hold_reading.specs.declared.Counts.{Counts}
-use Rattle.hold_reading.specs.Held.{Bound}
-use Rattle.hold_reading.specs.Binds.{countedMore, countedRule, keyMore, lineMore, bare, Beside}
+use Rattle.hold_reading.specs.Held.{HoldsBound}
+use Rattle.hold_reading.specs.Binds.{countedMore, countedRule, keyMore, lineMore, withoutBlock, Beside}
 use Rattle.hold_reading.proofs.Bare.{bare-last}
 
 -- ---- the newest rule
@@ -53,15 +53,15 @@ open-keys log k r rs e h = newest-keys log log k r rs e (sym h)
 
 -- ---- room for an entry
 
-pub bound-room : {log : List Logged} {texts bind : List ℕ} {c : Counts} {rd : Reading} → Bound log texts bind c rd → (e : Logged) → c .entries < maxEntries
-    → c .written + length (e .value) ≤ maxWritten → e .owner ≤ maxOwner → length (e .name) ≤ maxName → Room log texts bind (c .entries) e
+pub bound-room : {log : List Logged} {texts bind : List ℕ} {c : Counts} {rd : Reading} → HoldsBound log texts bind c rd → (e : Logged) → c .entries < maxEntries
+    → c .written + length (e .value) ≤ maxWritten → e .owner ≤ maxOwner → length (e .name) ≤ maxName → EntryRoom log texts bind (c .entries) e
 bound-room b e f w o n = record { held = b .held; few = f; owner = o; name = n; value = omega (arith, b .shared) }
 
 -- ---- a rule
 
-module _ {log : List Logged} {texts bind texts′ bind′ : List ℕ} {c : Counts} {rd : Reading} (b : Bound log texts bind c rd) where
+module _ {log : List Logged} {texts bind texts′ bind′ : List ℕ} {c : Counts} {rd : Reading} (b : HoldsBound log texts bind c rd) where
   pub bound-rule : (n : List ℕ) → HoldsBindings (logged ofRules n [] ∷ log) texts′ bind′ (c .entries + 1) → c .rules < maxRules
-      → Bound (logged ofRules n [] ∷ log) texts′ bind′ (countedRule c) (withRule (record { name = n; keys = [] }) rd)
+      → HoldsBound (logged ofRules n [] ∷ log) texts′ bind′ (countedRule c) (withRule (record { name = n; keys = [] }) rd)
   unfolding withRule valuesIn
   bound-rule n h f =
       let e = logged ofRules n [] in
@@ -71,7 +71,7 @@ module _ {log : List Logged} {texts bind texts′ bind′ : List ℕ} {c : Count
         rules =
             ap (λ (rs : List Rule). record { name = n; keys = [] } ∷ rs) (b .rules)
             ∙ sym (rules-declared e log (length (rd .steps)) (b .owned) refl);
-        blocks = λ s d. b .blocks s d ∙ sym (bound-other e log (ofStep s) (λ p. omega arith));
+        blocks = λ s d. b .blocks s d ∙ sym (bound-other e log (ofBlock s) (λ p. omega arith));
         owned = (owner-rules (length (rd .steps)) (length log), b .owned);
         steps-counted = b .steps-counted;
         rules-counted = omega (arith, b .rules-counted);
@@ -95,11 +95,11 @@ record More (n : ℕ) (rd rd′ : Reading) : Type 0 where
   bindings : rd′ .bindings ≡ rd .bindings + 1
   written : rd′ .written ≡ rd .written + n
 
-module _ {log : List Logged} {texts bind texts′ bind′ : List ℕ} {c : Counts} {rd : Reading} (b : Bound log texts bind c rd) (e : Logged)
+module _ {log : List Logged} {texts bind texts′ bind′ : List ℕ} {c : Counts} {rd : Reading} (b : HoldsBound log texts bind c rd) (e : Logged)
     (h : HoldsBindings (e ∷ log) texts′ bind′ (c .entries + 1)) (f : c .bindings < maxBindings) (w : c .written + length (e .value) ≤ maxWritten) where
   bound-more : {rd′ : Reading} → More (length (e .value)) rd rd′ → rd′ .vars ≡ boundBy ofFile (e ∷ log) → rd′ .rules ≡ rulesOf (e ∷ log)
-      → ((s : ℕ) → s < length (rd′ .steps) → stepAt (rd′ .steps) s .block ≡ boundBy (ofStep s) (e ∷ log)) → Owned (length (rd′ .steps)) (e ∷ log)
-      → Bound (e ∷ log) texts′ bind′ (countedMore (length (e .value)) c) rd′
+      → ((s : ℕ) → s < length (rd′ .steps) → stepAt (rd′ .steps) s .block ≡ boundBy (ofBlock s) (e ∷ log)) → Owned (length (rd′ .steps)) (e ∷ log)
+      → HoldsBound (e ∷ log) texts′ bind′ (countedMore (length (e .value)) c) rd′
   unfolding valuesIn
   bound-more m vars rules blocks owned =
       record {
@@ -121,9 +121,9 @@ module _ {log : List Logged} {texts bind texts′ bind′ : List ℕ} {c : Count
       }
 
 -- a variable of the file
-module _ {log : List Logged} {texts bind texts′ bind′ : List ℕ} {c : Counts} {rd : Reading} (b : Bound log texts bind c rd) (n v : List ℕ)
+module _ {log : List Logged} {texts bind texts′ bind′ : List ℕ} {c : Counts} {rd : Reading} (b : HoldsBound log texts bind c rd) (n v : List ℕ)
     (h : HoldsBindings (logged ofFile n v ∷ log) texts′ bind′ (c .entries + 1)) (f : c .bindings < maxBindings) (w : c .written + length v ≤ maxWritten) where
-  pub bound-var : Bound (logged ofFile n v ∷ log) texts′ bind′ (countedMore (length v) c) (setVar n v (countBinding (length v) rd))
+  pub bound-var : HoldsBound (logged ofFile n v ∷ log) texts′ bind′ (countedMore (length v) c) (setVar n v (countBinding (length v) rd))
   unfolding setVar countBinding
   bound-var =
       let e = logged ofFile n v in
@@ -131,14 +131,14 @@ module _ {log : List Logged} {texts bind texts′ bind′ : List ℕ} {c : Count
       (record { files = refl; steps = refl; rules = refl; bindings = refl; written = refl })
       (ap (λ (l : List Binding). record { name = n; value = v } ∷ l) (b .vars) ∙ sym (bound-same e log ofFile refl))
       (b .rules ∙ sym (rules-other e log (λ p. omega arith) (λ k p. omega arith)))
-      (λ s d. b .blocks s d ∙ sym (bound-other e log (ofStep s) (λ p. omega arith)))
+      (λ s d. b .blocks s d ∙ sym (bound-other e log (ofBlock s) (λ p. omega arith)))
       (owner-file (length (rd .steps)) (length log), b .owned)
 
 -- a key of the open rule
-module _ {log : List Logged} {texts bind texts′ bind′ : List ℕ} {c : Counts} (rd : Reading) (r : Rule) (k : ℕ) (b : Bound log texts bind c (withRule r rd))
+module _ {log : List Logged} {texts bind texts′ bind′ : List ℕ} {c : Counts} (rd : Reading) (r : Rule) (k : ℕ) (b : HoldsBound log texts bind c (withRule r rd))
     (o : newestRule log ≡ At k) (n v : List ℕ) (h : HoldsBindings (logged (ofKeys k) n v ∷ log) texts′ bind′ (c .entries + 1)) (f : c .bindings < maxBindings)
     (w : c .written + length v ≤ maxWritten) where
-  pub bound-key : Bound (logged (ofKeys k) n v ∷ log) texts′ bind′ (countedMore (length v) c) (withRule (keyMore n v r) (countBinding (length v) rd))
+  pub bound-key : HoldsBound (logged (ofKeys k) n v ∷ log) texts′ bind′ (countedMore (length v) c) (withRule (keyMore n v r) (countBinding (length v) rd))
   unfolding withRule withKey countBinding
   bound-key =
       let e = logged (ofKeys k) n v in
@@ -146,18 +146,18 @@ module _ {log : List Logged} {texts bind texts′ bind′ : List ℕ} {c : Count
       (record { files = refl; steps = refl; rules = refl; bindings = refl; written = refl })
       (b .vars ∙ sym (bound-other e log ofFile (λ p. omega arith)))
       (ap (withKey (record { name = n; value = v })) (b .rules) ∙ sym (rules-key e log k refl o))
-      (λ s d. b .blocks s d ∙ sym (bound-other e log (ofStep s) (keys-not-step k s)))
+      (λ s d. b .blocks s d ∙ sym (bound-other e log (ofBlock s) (keys-not-step k s)))
       (owner-keys (length (rd .steps)) (length log) k (newest-rule-below log k o), b .owned)
 
 -- a line of the open step's block
-module _ {log : List Logged} {texts bind texts′ bind′ : List ℕ} {c : Counts} (rd : Reading) (s : Step) (b : Bound log texts bind c (withStep s rd)) (n v : List ℕ)
-    (h : HoldsBindings (logged (ofStep (length (rd .steps))) n v ∷ log) texts′ bind′ (c .entries + 1)) (f : c .bindings < maxBindings)
+module _ {log : List Logged} {texts bind texts′ bind′ : List ℕ} {c : Counts} (rd : Reading) (s : Step) (b : HoldsBound log texts bind c (withStep s rd)) (n v : List ℕ)
+    (h : HoldsBindings (logged (ofBlock (length (rd .steps))) n v ∷ log) texts′ bind′ (c .entries + 1)) (f : c .bindings < maxBindings)
     (w : c .written + length v ≤ maxWritten) where
   line-blocks : (i : ℕ) → i < length (rd .steps ++ (lineMore n v s ∷ []))
-      → stepAt (rd .steps ++ (lineMore n v s ∷ [])) i .block ≡ boundBy (ofStep i) (logged (ofStep (length (rd .steps))) n v ∷ log)
+      → stepAt (rd .steps ++ (lineMore n v s ∷ [])) i .block ≡ boundBy (ofBlock i) (logged (ofBlock (length (rd .steps))) n v ∷ log)
   unfolding withStep
   line-blocks i d =
-      let e = logged (ofStep (length (rd .steps))) n v in
+      let e = logged (ofBlock (length (rd .steps))) n v in
       let m : length (rd .steps ++ (s ∷ [])) ≡ length (rd .steps) + 1 = length-append (rd .steps) (s ∷ []) in
       let m′ : length (rd .steps ++ (lineMore n v s ∷ [])) ≡ length (rd .steps) + 1 = length-append (rd .steps) (lineMore n v s ∷ []) in
       elim (decLt i (length (rd .steps))) [
@@ -165,21 +165,21 @@ module _ {log : List Logged} {texts bind texts′ bind′ : List ℕ} {c : Count
             ap (λ (x : Step). x .block) (List·getD-append (rd .steps) (lineMore n v s ∷ []) noStep i l)
             ∙ sym (ap (λ (x : Step). x .block) (List·getD-append (rd .steps) (s ∷ []) noStep i l))
             ∙ b .blocks i (omega arith)
-            ∙ sym (bound-other e log (ofStep i) (λ p. omega arith))
+            ∙ sym (bound-other e log (ofBlock i) (λ p. omega arith))
         | no l ↦
             (let z : i ≡ length (rd .steps) = omega arith in
             rw z
             (ap (λ (x : Step). x .block) (getD-append-seam (rd .steps) (lineMore n v s) [] noStep)
             ∙ ap (λ (l : List Binding). record { name = n; value = v } ∷ l)
             (sym (ap (λ (x : Step). x .block) (getD-append-seam (rd .steps) s [] noStep)) ∙ b .blocks (length (rd .steps)) (omega arith))
-            ∙ sym (bound-same e log (ofStep (length (rd .steps))) refl)))
+            ∙ sym (bound-same e log (ofBlock (length (rd .steps))) refl)))
       ]
 
-  pub bound-line : Bound (logged (ofStep (length (rd .steps))) n v ∷ log) texts′ bind′ (countedMore (length v) c)
+  pub bound-line : HoldsBound (logged (ofBlock (length (rd .steps))) n v ∷ log) texts′ bind′ (countedMore (length v) c)
       (withStep (lineMore n v s) (countBinding (length v) rd))
   unfolding withStep countBinding
   bound-line =
-      let e = logged (ofStep (length (rd .steps))) n v in
+      let e = logged (ofBlock (length (rd .steps))) n v in
       let m : length (rd .steps ++ (lineMore n v s ∷ [])) ≡ length (rd .steps ++ (s ∷ [])) = simp length-append in
       bound-more b e h f w
       (record { files = refl; steps = m; rules = refl; bindings = refl; written = refl })
@@ -218,7 +218,7 @@ module _ {c : Counts} {rd : Reading} where
         mentions-counted = refl;
       }
 
-  beside-more : (v : List ℕ) {rd′ : Reading} → rd′ .files ≡ rd .files → map bare (rd′ .steps) ≡ map bare (rd .steps) → rd′ .defaults ≡ rd .defaults
+  beside-more : (v : List ℕ) {rd′ : Reading} → rd′ .files ≡ rd .files → map withoutBlock (rd′ .steps) ≡ map withoutBlock (rd .steps) → rd′ .defaults ≡ rd .defaults
       → rd′ .mentions ≡ rd .mentions → Beside c rd (countedMore (length v) c) rd′
   beside-more v f s d m =
       record {
@@ -242,5 +242,5 @@ module _ {c : Counts} (rd : Reading) (n v : List ℕ) where
   beside-key r = beside-more v refl refl refl refl
 
   pub beside-line : (s : Step) → Beside c (withStep s rd) (countedMore (length v) c) (withStep (lineMore n v s) (countBinding (length v) rd))
-  unfolding withStep countBinding bare
+  unfolding withStep countBinding withoutBlock
   beside-line s = beside-more v refl (bare-last (rd .steps) (lineMore n v s) s refl) refl refl

@@ -15,7 +15,7 @@ use Rattle.hold_reading.specs.declared.Open.{Open}
 use Rattle.hold_reading.specs.declared.Open.the-variants.{Nothing}
 use Rattle.hold_reading.specs.declared.LineAnswer.{LineAnswer}
 use Rattle.hold_reading.specs.declared.LineAnswer.the-variants.{Refused}
-use Rattle.hold_reading.specs.Held.{joined, Opens, nothing, Bound, Ruled, phony, declared, Graphed, HoldsReading, Agrees, goes, refuses}
+use Rattle.hold_reading.specs.Held.{joined, OpensBlock, nothing, HoldsBound, Ruled, phony, declared, Graphed, HoldsReading, Agrees, goes, refuses}
 use Rattle.hold_reading.specs.Binds.{Known, SoundBlock, Beside, Binds, Meets}
 use Rattle.hold_reading.proofs.Bare.{same-count, same-rule, same-tables}
 use Rattle.hold_reading.specs.Buffers.{Buffers, withBindings}
@@ -68,7 +68,7 @@ module _ {log : List Logged} {bs : Buffers} {c : Counts} {rd : Reading} where
   lifted h Binds.refuses = refuses
 
 module _ {log : List Logged} {bs : Buffers} {c : Counts} (rd : Reading) {b : Block} {o : Open}
-    (h : HoldsReading log bs c (joined rd b)) (p : Opens log b o) where
+    (h : HoldsReading log bs c (joined rd b)) (p : OpensBlock log b o) where
   -- what a line that binds asks
   pub known : Known log (bs .texts) (bs .bind) c rd b o
   known =
@@ -93,9 +93,9 @@ pub refused-by : {log : List Logged} {c : Counts} {rd : Reading} {texts bind : L
 refused-by e = rw e Binds.refuses
 
 -- Where no block is open, nothing is joined.
-pub joined-none : (rd : Reading) {log : List Logged} {b : Block} → Opens log b Nothing → joined rd b ≡ rd
+pub joined-none : (rd : Reading) {log : List Logged} {b : Block} → OpensBlock log b Nothing → joined rd b ≡ rd
 unfolding joined
 joined-none rd nothing = refl
 
-pub none-bound : {log : List Logged} {texts bind : List ℕ} {c : Counts} {rd : Reading} {b : Block} → Known log texts bind c rd b Nothing → Bound log texts bind c rd
+pub none-bound : {log : List Logged} {texts bind : List ℕ} {c : Counts} {rd : Reading} {b : Block} → Known log texts bind c rd b Nothing → HoldsBound log texts bind c rd
 none-bound {rd = rd} w = rw (joined-none rd (w .opens)) at (w .bound)

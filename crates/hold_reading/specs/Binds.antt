@@ -9,7 +9,7 @@ use Rattle.spec.specs.Limits.{maxFiles, maxMentions}
 use Rattle.spec.specs.Reading.{Rule, Step, Reading}
 use Rattle.spec.specs.Statements.{Block, Outcome, goesOn, refused}
 use Rattle.hold_bindings.specs.Log.{Logged}
-use Rattle.hold_reading.specs.Held.{joined, Opens, Bound}
+use Rattle.hold_reading.specs.Held.{joined, OpensBlock, HoldsBound}
 use Rattle.hold_reading.specs.declared.Counts.{Counts}
 use Rattle.hold_reading.specs.declared.Open.{Open}
 use Rattle.hold_reading.specs.declared.LineAnswer.{LineAnswer}
@@ -17,8 +17,8 @@ use Rattle.hold_reading.specs.declared.LineAnswer.the-variants.{Goes, Re
 
 -- the table of bindings holds this reading and block
 pub record Known (log : List Logged) (texts bind : List ℕ) (c : Counts) (rd : Reading) (b : Block) (o : Open) : Type 0 where
-  pub bound : Bound log texts bind c (joined rd b)
-  pub opens : Opens log b o
+  pub bound : HoldsBound log texts bind c (joined rd b)
+  pub opens : OpensBlock log b o
   -- counts within their limits that a line that binds leaves as they are
   pub few-files : length (joined rd b .files) ≤ maxFiles
   pub few-mentions : joined rd b .mentions ≤ maxMentions
@@ -69,13 +69,13 @@ lineMore n v s =
     record { outs = s .outs; ins = s .ins; implicit = s .implicit; orderOnly = s .orderOnly; rule = s .rule; block = record { name = n; value = v } ∷ s .block }
 
 -- a step without its block
-unfoldable pub bare : Step → Step
-bare s = record { outs = s .outs; ins = s .ins; implicit = s .implicit; orderOnly = s .orderOnly; rule = s .rule; block = [] }
+unfoldable pub withoutBlock : Step → Step
+withoutBlock s = record { outs = s .outs; ins = s .ins; implicit = s .implicit; orderOnly = s .orderOnly; rule = s .rule; block = [] }
 
 -- what the names and the columns of the graph hold stays: files, defaults, mentions, and the steps without their blocks
 pub record Beside (c : Counts) (rd : Reading) (c′ : Counts) (rd′ : Reading) : Type 0 where
   pub files : rd′ .files ≡ rd .files
-  pub steps : map bare (rd′ .steps) ≡ map bare (rd .steps)
+  pub steps : map withoutBlock (rd′ .steps) ≡ map withoutBlock (rd .steps)
   pub defaults : rd′ .defaults ≡ rd .defaults
   pub mentions : rd′ .mentions ≡ rd .mentions
   pub files-counted : c′ .files ≡ c .files
@@ -85,7 +85,7 @@ pub record Beside (c : Counts) (rd : Reading) (c′ : Counts) (rd′ : Reading) 
 
 -- An outcome and an answer agree: what goes on is held by the log with more entries, and all else stays; a refusal is the same.
 pub data Binds (log : List Logged) (c : Counts) (rd : Reading) (texts bind : List ℕ) : Outcome → LineAnswer → Type 0 where
-  goes : {rd′ : Reading} {b : Block} {c′ : Counts} {o : Open} (more : List Logged) → Bound (more ++ log) texts bind c′ (joined rd′ b) → Opens (more ++ log) b o
+  goes : {rd′ : Reading} {b : Block} {c′ : Counts} {o : Open} (more : List Logged) → HoldsBound (more ++ log) texts bind c′ (joined rd′ b) → OpensBlock (more ++ log) b o
       → Beside c rd c′ (joined rd′ b) → Binds log c rd texts bind (goesOn rd′ b) (Goes c′ o)
   refuses : {r : Refusal} → Binds log c rd texts bind (refused r) (Refused r)
 

@@ -15,7 +15,7 @@ use Rattle.spec.specs.Graph.{stepAt}
 use Rattle.arena.specs.Columns.{Lies, startOf}
 use Rattle.hold_names.specs.Table.{HoldsNames}
 use Rattle.hold_bindings.specs.declared.FoundEntry.the-variants.{At}
-use Rattle.hold_bindings.specs.Log.{Logged, ofFile, ofRules, ofStep, entryAt, boundBy, rulesOf, newestRule, Owned}
+use Rattle.hold_bindings.specs.Log.{Logged, ofFile, ofRules, ofBlock, entryAt, boundBy, rulesOf, newestRule, Owned}
 use Rattle.hold_bindings.specs.Held.{HoldsBindings, valuesIn}
 use Rattle.hold_columns.specs.Columns.{perStep, endPlace, HoldsColumns}
 use Rattle.hold_reading.specs.declared.Counts.{Counts}
@@ -33,17 +33,17 @@ joined rd (ruleBlock start r) = withRule r rd
 joined rd (buildBlock s) = withStep s rd
 
 -- the open block as the code has it
-pub data Opens (log : List Logged) : Block → Open → Type 0 where
-  nothing : Opens log noBlock Nothing
-  aRule : {start k : ℕ} {r : Rule} → newestRule log ≡ At k → Opens log (ruleBlock start r) (OpenRule start k)
-  aStep : {s : Step} → Opens log (buildBlock s) OpenStep
+pub data OpensBlock (log : List Logged) : Block → Open → Type 0 where
+  nothing : OpensBlock log noBlock Nothing
+  aRule : {start k : ℕ} {r : Rule} → newestRule log ≡ At k → OpensBlock log (ruleBlock start r) (OpenRule start k)
+  aStep : {s : Step} → OpensBlock log (buildBlock s) OpenStep
 
 -- the table of bindings holds the reading's variables, rules and blocks
-pub record Bound (log : List Logged) (texts bind : List ℕ) (c : Counts) (rd : Reading) : Type 0 where
+pub record HoldsBound (log : List Logged) (texts bind : List ℕ) (c : Counts) (rd : Reading) : Type 0 where
   pub held : HoldsBindings log texts bind (c .entries)
   pub vars : rd .vars ≡ boundBy ofFile log
   pub rules : rd .rules ≡ rulesOf log
-  pub blocks : (s : ℕ) → s < length (rd .steps) → stepAt (rd .steps) s .block ≡ boundBy (ofStep s) log
+  pub blocks : (s : ℕ) → s < length (rd .steps) → stepAt (rd .steps) s .block ≡ boundBy (ofBlock s) log
   pub owned : Owned (length (rd .steps)) log
   pub steps-counted : c .steps ≡ length (rd .steps)
   pub rules-counted : c .rules ≡ length (rd .rules)
@@ -115,7 +115,7 @@ pub record Graphed (log : List Logged) (graph : List ℕ) (c : Counts) (rd : Rea
 -- all that is held of a reading
 pub record HoldsReading (log : List Logged) (bs : Buffers) (c : Counts) (rd : Reading) : Type 0 where
   pub named : HoldsNames (bs .names) (bs .index) (c .files) (rd .files)
-  pub bound : Bound log (bs .texts) (bs .bind) c rd
+  pub bound : HoldsBound log (bs .texts) (bs .bind) c rd
   pub graphed : Graphed log (bs .graph) c rd
   -- every name was a path within its limit, so a longer expansion is no file's name
   pub short : overPaths (rd .files) ≡ false
@@ -123,6 +123,6 @@ pub record HoldsReading (log : List Logged) (bs : Buffers) (c : Counts) (rd : Re
 -- An outcome and an answer agree: what goes on is held, and a refusal is the same. The buffers are working space after a refusal, which the
 -- promises say by their room (`SameRoom`, `Spare`).
 pub data Agrees (bs : Buffers) : Outcome → LineAnswer → Type 0 where
-  goes : {log : List Logged} {rd : Reading} {b : Block} {c : Counts} {o : Open} → HoldsReading log bs c (joined rd b) → Opens log b o
+  goes : {log : List Logged} {rd : Reading} {b : Block} {c : Counts} {o : Open} → HoldsReading log bs c (joined rd b) → OpensBlock log b o
       → Agrees bs (goesOn rd b) (Goes c o)
   refuses : {r : Refusal} → Agrees bs (refused r) (Refused r)

@@ -18,11 +18,11 @@ use Rattle.hold_bindings.specs.declared.FoundEntry.the-variants.{At}
 use Rattle.hold_bindings.specs.Log.{Logged, ofRules, ofKeys, newest, isAt, newestRule, rulesOf}
 use Rattle.hold_bindings.proofs.Lookups.{declared-newest, key-newest}
 use Rattle.hold_reading.specs.declared.Counts.{Counts}
-use Rattle.hold_reading.specs.Held.{Bound}
+use Rattle.hold_reading.specs.Held.{HoldsBound}
 use Rattle.hold_reading.proofs.Grow.{open-keys}
 use Rattle.hold_rules.specs.Tests.{keyed, badKey}
 
-pub declared-held : {log : List Logged} {texts bind : List ℕ} {c : Counts} {rd : Reading} → Bound log texts bind c rd → (n : List ℕ)
+pub declared-held : {log : List Logged} {texts bind : List ℕ} {c : Counts} {rd : Reading} → HoldsBound log texts bind c rd → (n : List ℕ)
     → declared n rd ≡ isPhony n || isAt (newest ofRules n log)
 unfolding declared
 declared-held {log} b n = rw (b .rules) (ap (λ (t : Bool). isPhony n || t) (declared-newest n log))

@@ -6,7 +6,7 @@ ghost use Rattle.spec.specs.Reading.{Reading, declared};
 ghost use Rattle.spec.specs.Statements.{ruleKey};
 ghost use Rattle.hold_bindings.specs.Log.{Logged, isAt, newest};
 ghost use Rattle.hold_bindings.specs.Held.{HoldsBindings, SoundBindings};
-ghost use Rattle.hold_reading.specs.Held.{Bound};
+ghost use Rattle.hold_reading.specs.Held.{HoldsBound};
 ghost use Rattle.hold_rules.specs.Tests.{OfRule, keyed, badKey};
 use byteorder::equal;
 use hold_bindings::FoundEntry;
@@ -31,7 +31,7 @@ fn has_line(texts: &[u8], bind: &[u32], count: usize, owner: usize, name: &[u8])
 // "`phony` is declared from the start."
 pub fn is_declared(texts: &[u8], bind: &[u32], c: Counts, name: &[u8]) -> bool
     requires { ⌜ SoundBindings (now texts) (now bind) (c .entries) ⌝ }
-    ensures { λ r. ⌜ ((log : List Logged) (rd : Reading) → Bound log (now (texts .entry)) (now (bind .entry)) c rd → r ≡ declared (now (name .entry)) rd) ⌝ }
+    ensures { λ r. ⌜ ((log : List Logged) (rd : Reading) → HoldsBound log (now (texts .entry)) (now (bind .entry)) c rd → r ≡ declared (now (name .entry)) rd) ⌝ }
 {
     if equal(name, b"phony") {
         return true;

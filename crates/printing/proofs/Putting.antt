@@ -12,17 +12,17 @@ use Rattle.lists.specs.Text.{bytes}
 use Rattle.spec.specs.Answers.{Said}
 use Rattle.spec.specs.Promises.{filled, refused14}
 use Rattle.printing.specs.Lines.{decimal, worded, refusedText, refusedLine, spaced, circleLine, circleOutput, headOf}
-use Rattle.printing.specs.Writes.{Puts, PutsUpTo, LeavesOutput}
+use Rattle.printing.specs.Writes.{PutsInLine, PutsUpTo, LeavesOutput}
 use Rattle.printing.proofs.Digits.{decimal-of}
 
-pub put-law : (s d e : List ℕ) (at r : ℕ) → at + length s ≤ length d → e ≡ paste d at s (length s) → r ≡ at + length s → Puts s d at e r
+pub put-law : (s d e : List ℕ) (at r : ℕ) → at + length s ≤ length d → e ≡ paste d at s (length s) → r ≡ at + length s → PutsInLine s d at e r
 put-law s d e at r h w n =
     record {
       end = n;
       front = rw (n, w) (take-paste d at s (length s) (omega arith) (omega arith) ∙ ap (λ (l : List ℕ). take at d ++ l) (take-length s));
     }
 
-pub puts-then : {s t d e f : List ℕ} {at m r : ℕ} → Puts s d at e m → Puts t e m f r → Puts (s ++ t) d at f r
+pub puts-then : {s t d e f : List ℕ} {at m r : ℕ} → PutsInLine s d at e m → PutsInLine t e m f r → PutsInLine (s ++ t) d at f r
 puts-then {s} {t} {d} {e} {f} {at} {m} {r} a b =
     record {
       end = rw (length-append s t) (omega (arith, a .end, b .end));
@@ -30,12 +30,12 @@ puts-then {s} {t} {d} {e} {f} {at} {m} {r} a b =
     }
 
 pub number-law : (n k : ℕ) (out : List ℕ) {d e : List ℕ} {at r : ℕ} → Fewest 10 1 n k → take k out ≡ digits 10 k n → k ≡ length (take k out) → k ≤ 20
-    → Puts (take k out) d at e r → PutsUpTo 20 (decimal n) d at e r
+    → PutsInLine (take k out) d at e r → PutsUpTo 20 (decimal n) d at e r
 number-law n k out {d} {e} {at} {r} w t c h p =
     let q : take k out ≡ decimal n = t ∙ decimal-of k n w in
     record { puts = rw q at p; short = omega (arith, p .end) }
 
-pub worded-law : (n : ℕ) {w d e f : List ℕ} {at m r : ℕ} → Puts w d at e m → PutsUpTo 20 (decimal n) e m f r → PutsUpTo (length w + 20) (worded w n) d at f r
+pub worded-law : (n : ℕ) {w d e f : List ℕ} {at m r : ℕ} → PutsInLine w d at e m → PutsUpTo 20 (decimal n) e m f r → PutsUpTo (length w + 20) (worded w n) d at f r
 unfolding worded
 worded-law n a b = record { puts = puts-then a (b .puts); short = omega (arith, a .end, b .short) }
 
@@ -51,7 +51,7 @@ end-law d e at r h w n =
     }
 
 -- A text from the line's start, ended.
-pub ended-law : {s d e f : List ℕ} {m r : ℕ} → length e ≡ length d → Puts s d 0 e m → LeavesOutput (take m e ++ (10 ∷ [])) e r f → LeavesOutput (s ++ (10 ∷ [])) d r f
+pub ended-law : {s d e f : List ℕ} {m r : ℕ} → length e ≡ length d → PutsInLine s d 0 e m → LeavesOutput (take m e ++ (10 ∷ [])) e r f → LeavesOutput (s ++ (10 ∷ [])) d r f
 unfolding filled
 ended-law {s} {d} {e} {f} {m} {r} k p l =
     let q : take m e ≡ s = p .front in
@@ -62,7 +62,7 @@ pub up-to-then : {a b : ℕ} {s t d e f : List ℕ} {at m r : ℕ} → PutsUpTo 
 up-to-then p q = record { puts = puts-then (p .puts) (q .puts); short = omega (arith, p .short, q .short) }
 
 -- A text is as long as it is.
-pub up-to-length : {s d e : List ℕ} {at r : ℕ} → Puts s d at e r → PutsUpTo (length s) s d at e r
+pub up-to-length : {s d e : List ℕ} {at r : ℕ} → PutsInLine s d at e r → PutsUpTo (length s) s d at e r
 up-to-length p = record { puts = p; short = omega (arith, p .end) }
 
 -- Steps behind spaces, one more at the end.
@@ -105,7 +105,7 @@ pub refused-law : (s : Said) {d e f : List ℕ} {m r : ℕ} → PutsUpTo 28 (wor
 unfolding refusedText
 refused-law s p q = up-to-then p q
 
-pub head-law : (k n : ℕ) {d e f g : List ℕ} {i j r : ℕ} → PutsUpTo 21 (worded (bytes "[") k) d 0 e i → PutsUpTo 21 (worded (bytes "/") n) e i f j → Puts (bytes "] ") f j g r
+pub head-law : (k n : ℕ) {d e f g : List ℕ} {i j r : ℕ} → PutsUpTo 21 (worded (bytes "[") k) d 0 e i → PutsUpTo 21 (worded (bytes "/") n) e i f j → PutsInLine (bytes "] ") f j g r
     → PutsUpTo 44 (headOf k n) d 0 g r
 unfolding headOf
 head-law k n p q s = up-to-then (up-to-then p q) (up-to-length s)
@@ -120,7 +120,7 @@ regroup a n w l = simp append-assoc
 
 -- the refusal, a line end and the word, and the steps
 pub said-circle : (l : List ℕ) {d e f g h : List ℕ} {i j m r : ℕ} → length g ≡ length d → PutsUpTo 52 (refusedText (refused14 (length l))) d 0 e i
-    → Puts (10 ∷ bytes "circle") e i f j → PutsUpTo (21 * length l) (spaced l) f j g m → LeavesOutput (take m g ++ (10 ∷ [])) g r h → LeavesOutput (circleOutput l) d r h
+    → PutsInLine (10 ∷ bytes "circle") e i f j → PutsUpTo (21 * length l) (spaced l) f j g m → LeavesOutput (take m g ++ (10 ∷ [])) g r h → LeavesOutput (circleOutput l) d r h
 unfolding circleOutput refusedLine circleLine
 said-circle l k p w q t =
     rw (regroup (refusedText (refused14 (length l))) (10 ∷ []) (bytes "circle") (spaced l)) at (ended-law k (puts-then (puts-then (p .puts) w) (q .puts)) t)

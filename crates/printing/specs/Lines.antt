@@ -17,8 +17,8 @@ unfoldable pub decimal : ℕ → List ℕ
 unfolding decimalUp
 decimal n = decimalUp (suc n) n
 
-abbrev pub newline : List ℕ
-newline = 10 ∷ []
+abbrev pub newlineBytes : List ℕ
+newlineBytes = 10 ∷ []
 
 -- a word and a number behind it
 unfoldable pub worded : List ℕ → ℕ → List ℕ
@@ -27,7 +27,7 @@ worded w n = w ++ decimal n
 
 -- "`no work` for an empty list"
 abbrev pub noWork : List ℕ
-noWork = bytes "no work" ++ newline
+noWork = bytes "no work" ++ newlineBytes
 
 -- "`refused N at P` for a refusal", without its line end
 unfoldable pub refusedText : Said → List ℕ
@@ -36,7 +36,7 @@ refusedText s = worded (bytes "refused ") (s .number) ++ worded (bytes " at ") (
 
 unfoldable pub refusedLine : Said → List ℕ
 unfolding refusedText
-refusedLine s = refusedText s ++ newline
+refusedLine s = refusedText s ++ newlineBytes
 
 -- "after a 14 a line such as `circle 0 1`"
 unfoldable pub spaced : List ℕ → List ℕ
@@ -46,7 +46,7 @@ spaced (s ∷ l) = worded (bytes " ") s ++ spaced l
 
 unfoldable pub circleLine : List ℕ → List ℕ
 unfolding spaced
-circleLine l = bytes "circle" ++ spaced l ++ newline
+circleLine l = bytes "circle" ++ spaced l ++ newlineBytes
 
 -- after a 14: the refusal's line, then the circle's
 unfoldable pub circleOutput : List ℕ → List ℕ
@@ -58,6 +58,6 @@ unfoldable pub headOf : ℕ → ℕ → List ℕ
 unfolding worded
 headOf k n = worded (bytes "[") k ++ worded (bytes "/") n ++ bytes "] "
 
-unfoldable pub lineOf : ℕ → ℕ → List ℕ → List ℕ
+unfoldable pub stepLineOf : ℕ → ℕ → List ℕ → List ℕ
 unfolding headOf
-lineOf k n text = headOf k n ++ text ++ newline
+stepLineOf k n text = headOf k n ++ text ++ newlineBytes

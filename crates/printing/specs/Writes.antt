@@ -11,13 +11,13 @@ abbrev pub lineRoom : ℕ
 lineRoom = maxText + 8 * maxSteps
 
 -- s is written from place `at` on, up to place r
-pub record Puts (s entry : List ℕ) (at : ℕ) (exit : List ℕ) (r : ℕ) : Type 0 where
+pub record PutsInLine (s entry : List ℕ) (at : ℕ) (exit : List ℕ) (r : ℕ) : Type 0 where
   pub end : r ≡ at + length s
   pub front : take r exit ≡ take at entry ++ s
 
 -- the same, of a text that takes at most `most` places
 pub record PutsUpTo (most : ℕ) (s entry : List ℕ) (at : ℕ) (exit : List ℕ) (r : ℕ) : Type 0 where
-  pub puts : Puts s entry at exit r
+  pub puts : PutsInLine s entry at exit r
   pub short : r ≤ at + most
 
 -- the lent buffer holds n bytes, which are `out`, and zeros beyond

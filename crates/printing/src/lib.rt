@@ -4,7 +4,7 @@ ghost use Prim.Native.Nat.{_+_, _*_, _≤_, _<_};
 ghost use lib.ListN.{length, take};
 ghost use Rattle.answers.specs.Numbers.{said};
 ghost use Rattle.printing.specs.Lines.{decimal, worded, noWork, refusedText, refusedLine, spaced, circleOutput, headOf};
-ghost use Rattle.printing.specs.Writes.{lineRoom, Puts, PutsUpTo, LeavesOutput};
+ghost use Rattle.printing.specs.Writes.{lineRoom, PutsInLine, PutsUpTo, LeavesOutput};
 use answers::Numbers;
 use slices::bytes::copy_at;
 use slices::bytes::zero_from;
@@ -18,7 +18,7 @@ pub const LINE: usize = TEXT + 8 * STEPS;
 // Writes s from place `from` on, and gives the place behind it.
 fn put(line: &mut [u8], from: usize, s: &[u8]) -> usize
     requires { ⌜ from + length (now s) ≤ length (now line) ⌝ }
-    ensures { λ r. ⌜ Puts (now (s .entry)) (now (line .entry)) from (now (line .exit)) r ⌝ }
+    ensures { λ r. ⌜ PutsInLine (now (s .entry)) (now (line .entry)) from (now (line .exit)) r ⌝ }
 {
     copy_at(line, from, s);
     from + s.len()

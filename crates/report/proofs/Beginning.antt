@@ -17,21 +17,21 @@ use Rattle.printing.specs.Writes.{LeavesOutput}
 use Rattle.report.specs.declared.Begun.{Begun}
 use Rattle.report.specs.declared.Begun.the-variants.{Whole, Refusal, Steps}
 use Rattle.report.specs.Output.{Checks, fine, stopped, checkTexts, checkedOutput, listOutput, stepLines, Outputs}
-use Rattle.report.specs.Begins.{whole, refusing, checkedOpening, listOpening, planOpening, Opens, writtenBy, Within, Rooms, Planned, Begins}
+use Rattle.report.specs.Begins.{wholeOutput, refusing, checkedOpening, listOpening, planOpening, OpensReport, writtenBy, BegunWithin, Rooms, Planned, BeginsReport}
 use Rattle.report.proofs.Early.{not-0, not-14}
 use Rattle.report.proofs.Texts.{front-filled, fits-filled}
 
-pub opens-whole : {out d f : List ℕ} {n : ℕ} → LeavesOutput out d n f → Opens (whole out) d (Whole n) f
-unfolding whole
+pub opens-whole : {out d f : List ℕ} {n : ℕ} → LeavesOutput out d n f → OpensReport (wholeOutput out) d (Whole n) f
+unfolding wholeOutput
 opens-whole l = record { begun = ap Whole (l .count); left = l .left }
 
-pub opens-refusal : {out d f : List ℕ} {n : ℕ} → LeavesOutput out d n f → Opens (refusing out) d (Refusal n) f
+pub opens-refusal : {out d f : List ℕ} {n : ℕ} → LeavesOutput out d n f → OpensReport (refusing out) d (Refusal n) f
 unfolding refusing
 opens-refusal l = record { begun = ap Refusal (l .count); left = l .left }
 
 -- ---- a list
 
-pub list-none : (manifest steps : List ℕ) {d f : List ℕ} {n : ℕ} → length steps ≡ 0 → LeavesOutput noWork d n f → Opens (listOpening manifest steps) d (Whole n) f
+pub list-none : (manifest steps : List ℕ) {d f : List ℕ} {n : ℕ} → length steps ≡ 0 → LeavesOutput noWork d n f → OpensReport (listOpening manifest steps) d (Whole n) f
 unfolding listOpening
 list-none manifest [] e l = opens-whole l
 list-none manifest (s ∷ steps) e l = absurd (omega arith)
@@ -42,7 +42,7 @@ list-some manifest [] e = absurd (e refl)
 list-some manifest (s ∷ steps) e = refl
 
 pub list-fine : (manifest steps d e f : List ℕ) → (length steps ≡ 0 → ⊥) → fine ≡ checkTexts manifest steps → length e ≡ length d → f ≡ zeroed e 0 (length e)
-    → Opens (listOpening manifest steps) d (Steps (length steps)) f
+    → OpensReport (listOpening manifest steps) d (Steps (length steps)) f
 unfolding checkedOpening zeroed filled
 list-fine manifest steps d e f h c k w =
     let o : listOpening manifest steps ≡ checkedOpening (length steps) fine = list-some manifest steps h ∙ ap (checkedOpening (length steps)) (sym c) in
@@ -50,7 +50,7 @@ list-fine manifest steps d e f h c k w =
     (record { begun = refl; left = w ∙ rw (drop-length e, k) (append-nil (replicate (length d - 0) 0)) })
 
 pub list-stopped : (manifest steps d e f : List ℕ) (s : Said) {n : ℕ} → (length steps ≡ 0 → ⊥) → stopped s ≡ checkTexts manifest steps → length e ≡ length d
-    → LeavesOutput (refusedLine s) e n f → Opens (listOpening manifest steps) d (Refusal n) f
+    → LeavesOutput (refusedLine s) e n f → OpensReport (listOpening manifest steps) d (Refusal n) f
 unfolding checkedOpening filled
 list-stopped manifest steps d e f s {n} h c k l =
     let o : listOpening manifest steps ≡ refusing (refusedLine s) = list-some manifest steps h ∙ ap (checkedOpening (length steps)) (sym c) in
@@ -71,13 +71,13 @@ module _ (manifest : List ℕ) (s : Said) (list : List ℕ) where
   unfolding planOpening
   planned-refused a b = rw (ne-eqb (s .number) 0 a, ne-eqb (s .number) 14 b)
 
-  pub opens-list : {d f : List ℕ} {r : Begun} → s .number ≡ 0 → Opens (listOpening manifest (take (s .value) list)) d r f → Opens (planOpening manifest s list) d r f
+  pub opens-list : {d f : List ℕ} {r : Begun} → s .number ≡ 0 → OpensReport (listOpening manifest (take (s .value) list)) d r f → OpensReport (planOpening manifest s list) d r f
   opens-list e p = rw (planned-list e) p
 
-  pub opens-circle : {d f : List ℕ} {n : ℕ} → s .number ≡ 14 → LeavesOutput (circleOutput (take (s .value) list)) d n f → Opens (planOpening manifest s list) d (Refusal n) f
+  pub opens-circle : {d f : List ℕ} {n : ℕ} → s .number ≡ 14 → LeavesOutput (circleOutput (take (s .value) list)) d n f → OpensReport (planOpening manifest s list) d (Refusal n) f
   opens-circle e p = rw (planned-circle e) (opens-refusal p)
 
-  pub opens-refused : {d f : List ℕ} {n : ℕ} → (s .number ≡ 0 → ⊥) → (s .number ≡ 14 → ⊥) → LeavesOutput (refusedLine s) d n f → Opens (planOpening manifest s list) d (Refusal n) f
+  pub opens-refused : {d f : List ℕ} {n : ℕ} → (s .number ≡ 0 → ⊥) → (s .number ≡ 14 → ⊥) → LeavesOutput (refusedLine s) d n f → OpensReport (planOpening manifest s list) d (Refusal n) f
   opens-refused a b p = rw (planned-refused a b) (opens-refusal p)
 
 -- ---- a list and a circle fit
@@ -117,25 +117,25 @@ module _ (i : Inputs) (room : ℕ) where
 -- ---- what is written in all
 
 record Right (manifest : List ℕ) (o : PlanOutcome) (r : Begun) (list line : List ℕ) : Type 0 where
-  within : Within r list line
+  within : BegunWithin r list line
   right : Outputs manifest o (writtenBy r manifest list line)
 
--- where the line holds it whole
-whole-written : (manifest list out line : List ℕ) {r : Begun} {exit : List ℕ} → length exit ≡ length line → Opens (whole out) line r exit
-    → (Within r list exit) × (writtenBy r manifest list exit ≡ out)
-unfolding whole writtenBy
+-- where the line holds it wholeOutput
+whole-written : (manifest list out line : List ℕ) {r : Begun} {exit : List ℕ} → length exit ≡ length line → OpensReport (wholeOutput out) line r exit
+    → (BegunWithin r list exit) × (writtenBy r manifest list exit ≡ out)
+unfolding wholeOutput writtenBy
 whole-written manifest list out line {r} {exit} k p =
     (rw (p .begun) (omega (arith, fits-filled out line exit (p .left) k)), rw (p .begun, p .left) (front-filled out line))
 
-refusal-written : (manifest list out line : List ℕ) {r : Begun} {exit : List ℕ} → length exit ≡ length line → Opens (refusing out) line r exit
-    → (Within r list exit) × (writtenBy r manifest list exit ≡ out)
+refusal-written : (manifest list out line : List ℕ) {r : Begun} {exit : List ℕ} → length exit ≡ length line → OpensReport (refusing out) line r exit
+    → (BegunWithin r list exit) × (writtenBy r manifest list exit ≡ out)
 unfolding refusing writtenBy
 refusal-written manifest list out line {r} {exit} k p =
     (rw (p .begun) (omega (arith, fits-filled out line exit (p .left) k)), rw (p .begun, p .left) (front-filled out line))
 
 -- where the steps' lines are to come
 steps-written : (manifest l list line listExit : List ℕ) {r : Begun} {exit : List ℕ} → length listExit ≡ length list → listExit ≡ filled l list
-    → Opens (checkedOpening (length l) fine) line r exit → (Within r listExit exit) × (writtenBy r manifest listExit exit ≡ stepLines manifest (length l) 0 l)
+    → OpensReport (checkedOpening (length l) fine) line r exit → (BegunWithin r listExit exit) × (writtenBy r manifest listExit exit ≡ stepLines manifest (length l) 0 l)
 unfolding checkedOpening writtenBy
 steps-written manifest l list line listExit {r} {exit} k w p = (
   rw (p .begun) (omega (arith, fits-filled l list listExit w k)),
@@ -143,57 +143,57 @@ steps-written manifest l list line listExit {r} {exit} k w p = (
 )
 
 checked-written : (manifest l list line listExit : List ℕ) {r : Begun} {exit : List ℕ} (c : Checks) → length listExit ≡ length list → listExit ≡ filled l list
-    → length exit ≡ length line → Opens (checkedOpening (length l) c) line r exit → (Within r listExit exit) × (writtenBy r manifest listExit exit ≡ checkedOutput manifest l c)
+    → length exit ≡ length line → OpensReport (checkedOpening (length l) c) line r exit → (BegunWithin r listExit exit) × (writtenBy r manifest listExit exit ≡ checkedOutput manifest l c)
 unfolding checkedOutput checkedOpening
 checked-written manifest l list line listExit fine k w j p = steps-written manifest l list line listExit k w p
 checked-written manifest l list line listExit (stopped s) k w j p = refusal-written manifest listExit (refusedLine s) line j p
 
 list-written : (manifest l list line listExit : List ℕ) {r : Begun} {exit : List ℕ} → length listExit ≡ length list → listExit ≡ filled l list
-    → length exit ≡ length line → Opens (listOpening manifest l) line r exit → (Within r listExit exit) × (writtenBy r manifest listExit exit ≡ listOutput manifest l)
+    → length exit ≡ length line → OpensReport (listOpening manifest l) line r exit → (BegunWithin r listExit exit) × (writtenBy r manifest listExit exit ≡ listOutput manifest l)
 unfolding listOutput listOpening
 list-written manifest [] list line listExit k w j p = whole-written manifest listExit noWork line j p
 list-written manifest (s ∷ l) list line listExit k w j p = checked-written manifest (s ∷ l) list line listExit (checkTexts manifest (s ∷ l)) k w j p
 
 module _ (i : Inputs) (room : ℕ) (list line listExit : List ℕ) {r : Begun} {exit : List ℕ} (s : Said)
-    (k : length listExit ≡ length list) (j : length exit ≡ length line) (p : Opens (planOpening (i .manifest) s listExit) line r exit) where
+    (k : length listExit ≡ length list) (j : length exit ≡ length line) (p : OpensReport (planOpening (i .manifest) s listExit) line r exit) where
   plan-right : (o : PlanOutcome) → planAsk i room ≡ o → PlanMeets o list s listExit → Right (i .manifest) o r listExit exit
   unfolding PlanMeets Outputs numberOfRefusal
   plan-right (listed l) e m =
       let n : s .number ≡ 0 = ap (λ (x : Said). x .number) (m .says) in
       let v : s .value ≡ length l = ap (λ (x : Said). x .value) (m .says) in
       let t : take (s .value) listExit ≡ l = rw (v, m .leaves) (front-filled l list) in
-      let q : Opens (listOpening (i .manifest) l) line r exit = rw (planned-list (i .manifest) s listExit n, t) at p in
+      let q : OpensReport (listOpening (i .manifest) l) line r exit = rw (planned-list (i .manifest) s listExit n, t) at p in
       let b = list-written (i .manifest) l list line listExit k (m .leaves) j q in
       record { within = b .0; right = b .1 }
   plan-right (circular steps ts) e m =
       let n : s .number ≡ 14 = ap (λ (x : Said). x .number) (m .shown .says) in
       let v : s .value ≡ length (m .circle) = ap (λ (x : Said). x .value) (m .shown .says) in
       let t : take (s .value) listExit ≡ m .circle = rw (v, m .shown .leaves) (front-filled (m .circle) list) in
-      let q : Opens (refusing (circleOutput (m .circle))) line r exit = rw (planned-circle (i .manifest) s listExit n, t) at p in
+      let q : OpensReport (refusing (circleOutput (m .circle))) line r exit = rw (planned-circle (i .manifest) s listExit n, t) at p in
       let b = refusal-written (i .manifest) listExit (circleOutput (m .circle)) line j q in
       record { within = b .0; right = record { circle = m .circle; real = m .real; shown = b .1 } }
   plan-right (noPlan x) e m =
       let n : s .number ≡ numberOfRefusal x = ap (λ (y : Said). y .number) (m .says) in
       let a : s .number ≡ 0 → ⊥ = λ (z : s .number ≡ 0). not-0 x (sym n ∙ z) in
       let c : s .number ≡ 14 → ⊥ = λ (z : s .number ≡ 14). eqb-false (numberOfRefusal x) 14 (not-14 i room e) (sym n ∙ z) in
-      let q : Opens (refusing (refusedLine s)) line r exit = rw (planned-refused (i .manifest) s listExit a c) at p in
+      let q : OpensReport (refusing (refusedLine s)) line r exit = rw (planned-refused (i .manifest) s listExit a c) at p in
       let b = refusal-written (i .manifest) listExit (refusedLine s) line j q in
       record { within = b .0; right = b .1 ∙ ap refusedLine (m .says) }
 
 pub begins : (i : Inputs) (list line listExit : List ℕ) {r : Begun} {exit : List ℕ} (n : Two) (s : Said) → said n ≡ s → length listExit ≡ length list
     → length exit ≡ length line → PlanMeets (planAsk i (length list)) list s listExit
-    → Opens (planOpening (i .manifest) (said n) listExit) line r exit → Begins i list line r listExit exit
+    → OpensReport (planOpening (i .manifest) (said n) listExit) line r exit → BeginsReport i list line r listExit exit
 begins i list line listExit {r} {exit} n s e k j m p =
-    let q : Opens (planOpening (i .manifest) s listExit) line r exit = rw e at p in
+    let q : OpensReport (planOpening (i .manifest) s listExit) line r exit = rw e at p in
     let x = plan-right i (length list) list line listExit s k j q (planAsk i (length list)) refl m in
     record { says = s; planned = m; opens = q; within = x .within; right = x .right }
 
 -- What is to be read of the line and of the list lies within them.
-pub whole-within : {r : Begun} {n : ℕ} (list line : List ℕ) → r ≡ Whole n → Within r list line → n ≤ length line
+pub whole-within : {r : Begun} {n : ℕ} (list line : List ℕ) → r ≡ Whole n → BegunWithin r list line → n ≤ length line
 whole-within {r} {n} list line e w = rw e at w
 
-pub refusal-within : {r : Begun} {n : ℕ} (list line : List ℕ) → r ≡ Refusal n → Within r list line → n ≤ length line
+pub refusal-within : {r : Begun} {n : ℕ} (list line : List ℕ) → r ≡ Refusal n → BegunWithin r list line → n ≤ length line
 refusal-within {r} {n} list line e w = rw e at w
 
-pub steps-within : {r : Begun} {n : ℕ} (list line : List ℕ) → r ≡ Steps n → Within r list line → n ≤ length list
+pub steps-within : {r : Begun} {n : ℕ} (list line : List ℕ) → r ≡ Steps n → BegunWithin r list line → n ≤ length list
 steps-within {r} {n} list line e w = rw e at w

@@ -14,9 +14,9 @@ use Rattle.spec.specs.Limits.{maxText}
 use Rattle.spec.specs.Answers.{numberOfRefusal, Said}
 use Rattle.spec.specs.TextAsk.{TextOutcome, text, noText, textAsk}
 use Rattle.spec.specs.Promises.{filled, TextMeets}
-use Rattle.printing.specs.Lines.{refusedLine, headOf, lineOf}
+use Rattle.printing.specs.Lines.{refusedLine, headOf, stepLineOf}
 use Rattle.printing.specs.Writes.{PutsUpTo, LeavesOutput}
-use Rattle.report.specs.Output.{command, outcomeSays, Checks, fine, stopped, afterText, checkTexts, stepLine}
+use Rattle.report.specs.Output.{commandText, outcomeSays, Checks, fine, stopped, afterText, checkTexts, stepLine}
 use Rattle.report.proofs.Early.{not-0}
 
 -- What is filled begins with what it is filled with, which fits.
@@ -39,8 +39,8 @@ meets-says (noText r) lent exit s m = m .says
 
 -- by a buffer of 8,192 bytes
 pub says-command : (manifest : List ℕ) (step : ℕ) (lent exit : List ℕ) (s : Said) → length lent ≡ maxText
-    → TextMeets (textAsk manifest step Command (length lent)) lent s exit → s ≡ outcomeSays (command manifest step)
-unfolding command
+    → TextMeets (textAsk manifest step Command (length lent)) lent s exit → s ≡ outcomeSays (commandText manifest step)
+unfolding commandText
 says-command manifest step lent exit s k m = rw k at (meets-says (textAsk manifest step Command (length lent)) lent exit s m)
 
 -- ---- the check of all texts
@@ -65,23 +65,23 @@ pub checking-start : (manifest steps line : List ℕ) → Checking manifest step
 checking-start manifest steps line = record { within = omega arith; kept = refl; rest = refl }
 
 next-check : (manifest steps : List ℕ) (i : ℕ) → i < length steps
-    → checkTexts manifest (drop i steps) ≡ afterText (command manifest (getD steps i 0)) (checkTexts manifest (drop (i + 1) steps))
+    → checkTexts manifest (drop i steps) ≡ afterText (commandText manifest (getD steps i 0)) (checkTexts manifest (drop (i + 1) steps))
 unfolding checkTexts
 next-check manifest steps i h = rw (add-one, drop-cons steps i 0 h)
 
 module _ {manifest steps line₀ line : List ℕ} {i : ℕ} (s : ℕ) {n : Said} (h : i < length steps) (w : s ≡ getD steps i 0)
-    (e : n ≡ outcomeSays (command manifest s)) (c : Checking manifest steps line₀ line i) where
+    (e : n ≡ outcomeSays (commandText manifest s)) (c : Checking manifest steps line₀ line i) where
   pub checking-on : (line₁ : List ℕ) → length line₁ ≡ length line → n .number ≡ 0 → Checking manifest steps line₀ line₁ (i + 1)
   checking-on line₁ k z =
-      let o = command manifest (getD steps i 0) in
+      let o = commandText manifest (getD steps i 0) in
       let f : afterText o (checkTexts manifest (drop (i + 1) steps)) ≡ checkTexts manifest (drop (i + 1) steps) =
-      says-fine o _ (ap (λ (x : Said). x .number) (ap (λ (x : ℕ). outcomeSays (command manifest x)) (sym w)) ∙ ap (λ (x : Said). x .number) (sym e) ∙ z) in
+      says-fine o _ (ap (λ (x : Said). x .number) (ap (λ (x : ℕ). outcomeSays (commandText manifest x)) (sym w)) ∙ ap (λ (x : Said). x .number) (sym e) ∙ z) in
       record { within = omega arith; kept = k ∙ c .kept; rest = sym f ∙ sym (next-check manifest steps i h) ∙ c .rest }
 
   pub checking-stops : (n .number ≡ 0 → ⊥) → stopped n ≡ checkTexts manifest steps
   checking-stops z =
-      let o = command manifest (getD steps i 0) in
-      let q : n ≡ outcomeSays o = e ∙ ap (λ (x : ℕ). outcomeSays (command manifest x)) w in
+      let o = commandText manifest (getD steps i 0) in
+      let q : n ≡ outcomeSays o = e ∙ ap (λ (x : ℕ). outcomeSays (commandText manifest x)) w in
       let f : afterText o (checkTexts manifest (drop (i + 1) steps)) ≡ stopped (outcomeSays o) =
       says-stopped o _ (λ (y : outcomeSays o .number ≡ 0). z (ap (λ (x : Said). x .number) q ∙ y)) in
       ap stopped q ∙ sym f ∙ sym (next-check manifest steps i h) ∙ c .rest
@@ -145,8 +145,8 @@ module _ (manifest : List ℕ) (step from : ℕ) (line exit : List ℕ) (n : Two
   same-value : n .value ≡ s .value
   same-value = ap (λ (x : Said). x .value) e
 
-  found : n .number ≡ 0 → Text (command manifest step) (part line from (from + maxText)) s exit
-  unfolding command
+  found : n .number ≡ 0 → Text (commandText manifest step) (part line from (from + maxText)) s exit
+  unfolding commandText
   found z = text-of (textAsk manifest step Command maxText) (part line from (from + maxText)) exit s (zero-number z) (rw room at m)
 
   pub text-fits : n .number ≡ 0 → length exit ≡ length (part line from (from + maxText)) → n .value ≤ maxText
@@ -162,14 +162,14 @@ module _ (manifest : List ℕ) (step from : ℕ) (line exit : List ℕ) (n : Two
         (same-value ∙ t .counted) (t .shown)
 
     pub step-fine : {f : List ℕ} {r : ℕ} → n .number ≡ 0 → LeavesOutput (take (from + n .value) (take from line ++ (exit ++ rest)) ++ (10 ∷ [])) (take from line ++ (exit ++ rest)) r f
-        → LeavesOutput (stepLine place count (command manifest step)) lent r f
-    unfolding stepLine lineOf filled
+        → LeavesOutput (stepLine place count (commandText manifest step)) lent r f
+    unfolding stepLine stepLineOf filled
     step-fine z l =
         let t = found z in
         rw (t .outcome) (record { count = rw (front z) at (l .count); left = rw (front z, k) at (l .left) })
 
   pub step-refused : (place count : ℕ) (lent line₂ f : List ℕ) {r : ℕ} → length line₂ ≡ length lent → (n .number ≡ 0 → ⊥) → LeavesOutput (refusedLine (said n)) line₂ r f
-      → LeavesOutput (stepLine place count (command manifest step)) lent r f
+      → LeavesOutput (stepLine place count (commandText manifest step)) lent r f
   step-refused place count lent line₂ f k z l =
-      let q : said n ≡ outcomeSays (command manifest step) = e ∙ says-command manifest step (part line from (from + maxText)) exit s room m in
-      rw (refused-line place count (command manifest step) (said n) q z) at (leaves-as {lent = lent} k l)
+      let q : said n ≡ outcomeSays (commandText manifest step) = e ∙ says-command manifest step (part line from (from + maxText)) exit s room m in
+      rw (refused-line place count (commandText manifest step) (said n) q z) at (leaves-as {lent = lent} k l)

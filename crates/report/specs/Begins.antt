@@ -23,13 +23,13 @@ abbrev pub checkedSays : Checked → Checks
 checkedSays All = fine
 checkedSays (Refused x) = stopped (said x)
 
--- how the output begins: whole in the lent line, or with the lines of the steps still to come
+-- how the output begins: wholeOutput in the lent line, or with the lines of the steps still to come
 pub record Opening : Type 0 where
   pub begun : Begun
   pub bytes : List ℕ
 
-unfoldable pub whole : List ℕ → Opening
-whole out = record { begun = Whole (length out); bytes = out }
+unfoldable pub wholeOutput : List ℕ → Opening
+wholeOutput out = record { begun = Whole (length out); bytes = out }
 
 -- the same, of a refusal
 unfoldable pub refusing : List ℕ → Opening
@@ -41,8 +41,8 @@ checkedOpening n fine = record { begun = Steps n; bytes = [] }
 checkedOpening n (stopped s) = refusing (refusedLine s)
 
 unfoldable pub listOpening : List ℕ → List ℕ → Opening
-unfolding whole checkedOpening checkTexts
-listOpening manifest [] = whole noWork
+unfolding wholeOutput checkedOpening checkTexts
+listOpening manifest [] = wholeOutput noWork
 listOpening manifest (s ∷ l) = checkedOpening (length (s ∷ l)) (checkTexts manifest (s ∷ l))
 
 -- by what the plan's answer says and its list
@@ -53,7 +53,7 @@ planOpening manifest s list =
     ifB (eqb (s .number) 14) (λ _. refusing (circleOutput (take (s .value) list))) λ _.
     refusing (refusedLine s)
 
-pub record Opens (o : Opening) (lent : List ℕ) (r : Begun) (exit : List ℕ) : Type 0 where
+pub record OpensReport (o : Opening) (lent : List ℕ) (r : Begun) (exit : List ℕ) : Type 0 where
   pub begun : r ≡ o .begun
   pub left : exit ≡ filled (o .bytes) lent
 
@@ -65,10 +65,10 @@ writtenBy (Refusal n) manifest list line = take n line
 writtenBy (Steps n) manifest list line = stepLines manifest n 0 (take n list)
 
 -- how many of the line's bytes or of the list's numbers are to be read
-abbrev pub Within : Begun → List ℕ → List ℕ → Type 0
-Within (Whole n) list line = n ≤ length line
-Within (Refusal n) list line = n ≤ length line
-Within (Steps n) list line = n ≤ length list
+abbrev pub BegunWithin : Begun → List ℕ → List ℕ → Type 0
+BegunWithin (Whole n) list line = n ≤ length line
+BegunWithin (Refusal n) list line = n ≤ length line
+BegunWithin (Steps n) list line = n ≤ length list
 
 pub record Rooms (list line : List ℕ) : Type 0 where
   pub list-room : length list ≡ leastList
@@ -82,9 +82,9 @@ pub record Planned (s : Two) (list line : List ℕ) : Type 0 where
 
 -- the plan ask's inputs, list and line at entry, answer, list and line at exit: the list holds what the plan ask promises, the line what
 -- follows from that, and what is written in all is what the program may write
-pub record Begins (i : Inputs) (list line : List ℕ) (r : Begun) (listExit lineExit : List ℕ) : Type 0 where
+pub record BeginsReport (i : Inputs) (list line : List ℕ) (r : Begun) (listExit lineExit : List ℕ) : Type 0 where
   pub says : Said
   pub planned : PlanMeets (planAsk i (length list)) list says listExit
-  pub opens : Opens (planOpening (i .manifest) says listExit) line r lineExit
-  pub within : Within r listExit lineExit
+  pub opens : OpensReport (planOpening (i .manifest) says listExit) line r lineExit
+  pub within : BegunWithin r listExit lineExit
   pub right : Outputs (i .manifest) (planAsk i (length list)) (writtenBy r (i .manifest) listExit lineExit)

@@ -11,12 +11,12 @@ use Rattle.spec.specs.Words.{NeededCircle}
 use Rattle.spec.specs.PlanAsk.{PlanOutcome, listed, circular, noPlan}
 use Rattle.spec.specs.TextAsk.{TextOutcome, text, noText, textAsk}
 use Rattle.spec.specs.Promises.{counts}
-use Rattle.printing.specs.Lines.{noWork, refusedLine, circleOutput, lineOf}
+use Rattle.printing.specs.Lines.{noWork, refusedLine, circleOutput, stepLineOf}
 
--- the `command` text of a step
-unfoldable pub command : List ℕ → ℕ → TextOutcome
+-- the `commandText` text of a step
+unfoldable pub commandText : List ℕ → ℕ → TextOutcome
 unfolding textAsk
-command manifest s = textAsk manifest s Command maxText
+commandText manifest s = textAsk manifest s Command maxText
 
 -- what the text ask says of it
 unfoldable pub outcomeSays : TextOutcome → Said
@@ -35,21 +35,21 @@ afterText (text t) rest = rest
 afterText (noText r) rest = stopped (refusalSays r)
 
 unfoldable pub checkTexts : List ℕ → List ℕ → Checks
-unfolding afterText command
+unfolding afterText commandText
 checkTexts manifest [] = fine
-checkTexts manifest (s ∷ l) = afterText (command manifest s) (checkTexts manifest l)
+checkTexts manifest (s ∷ l) = afterText (commandText manifest s) (checkTexts manifest l)
 
 -- A step's line; where all texts are checked first, the second case is never met.
 unfoldable pub stepLine : ℕ → ℕ → TextOutcome → List ℕ
-unfolding lineOf refusedLine refusalSays
-stepLine k n (text t) = lineOf k n t
+unfolding stepLineOf refusedLine refusalSays
+stepLine k n (text t) = stepLineOf k n t
 stepLine k n (noText r) = refusedLine (refusalSays r)
 
 -- the lines of the steps of l, k of the list's n steps having gone before
 unfoldable pub stepLines : List ℕ → ℕ → ℕ → List ℕ → List ℕ
-unfolding stepLine command
+unfolding stepLine commandText
 stepLines manifest n k [] = []
-stepLines manifest n k (s ∷ l) = stepLine (suc k) n (command manifest s) ++ stepLines manifest n (suc k) l
+stepLines manifest n k (s ∷ l) = stepLine (suc k) n (commandText manifest s) ++ stepLines manifest n (suc k) l
 
 -- "before anything is written": a text that is refused gives its refusal alone
 unfoldable pub checkedOutput : List ℕ → List ℕ → Checks → List ℕ

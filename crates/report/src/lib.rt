@@ -6,8 +6,8 @@ ghost use Rattle.lists.specs.Lent.{Spare, Leaves};
 ghost use Rattle.spec.specs.PlanAsk.{inputsOf};
 ghost use Rattle.answers.specs.Numbers.{said};
 ghost use Rattle.printing.specs.Writes.{lineRoom, LeavesOutput};
-ghost use Rattle.report.specs.Output.{command, outcomeSays, checkTexts, stepLine};
-ghost use Rattle.report.specs.Begins.{checkedSays, listOpening, planOpening, Opens, Rooms, Planned, Begins};
+ghost use Rattle.report.specs.Output.{commandText, outcomeSays, checkTexts, stepLine};
+ghost use Rattle.report.specs.Begins.{checkedSays, listOpening, planOpening, OpensReport, Rooms, Planned, BeginsReport};
 use answers::Numbers;
 use answers::of_plan;
 use answers::of_text;
@@ -40,7 +40,7 @@ pub enum Begun {
 // What the text ask says of a step's command; the line is working space.
 fn check_text(manifest: &[u8], step: usize, line: &mut [u8]) -> Numbers
     requires { ⌜ lineRoom ≤ length (now line) ⌝ }
-    ensures { λ r. ⌜ Leaves (Spare (now (line .entry)) (now (line .exit))) (said r ≡ outcomeSays (command (now (manifest .entry)) step)) ⌝ }
+    ensures { λ r. ⌜ Leaves (Spare (now (line .entry)) (now (line .exit))) (said r ≡ outcomeSays (commandText (now (manifest .entry)) step)) ⌝ }
 {
     of_text(text(manifest, step, Wanted::Command, &mut line[..TEXT]))
 }
@@ -64,7 +64,7 @@ fn check_texts(manifest: &[u8], steps: &[u32], line: &mut [u8]) -> Checked
 // The start of the output for a list.
 fn begin_list(manifest: &[u8], steps: &[u32], line: &mut [u8]) -> Begun
     requires { ⌜ lineRoom ≤ length (now line) ⌝ }
-    ensures { λ r. ⌜ Opens (listOpening (now (manifest .entry)) (now (steps .entry))) (now (line .entry)) r (now (line .exit)) ⌝ }
+    ensures { λ r. ⌜ OpensReport (listOpening (now (manifest .entry)) (now (steps .entry))) (now (line .entry)) r (now (line .exit)) ⌝ }
 {
     if steps.len() == 0 {
         return Begun::Whole(say_no_work(line));
@@ -81,7 +81,7 @@ fn begin_list(manifest: &[u8], steps: &[u32], line: &mut [u8]) -> Begun
 // The start of the output for what the plan ask says and its list.
 fn begin_planned(manifest: &[u8], n: Numbers, list: &[u32], line: &mut [u8]) -> Begun
     requires { ⌜ Planned n (now list) (now line) ⌝ }
-    ensures { λ r. ⌜ Opens (planOpening (now (manifest .entry)) (said n) (now (list .entry))) (now (line .entry)) r (now (line .exit)) ⌝ }
+    ensures { λ r. ⌜ OpensReport (planOpening (now (manifest .entry)) (said n) (now (list .entry))) (now (line .entry)) r (now (line .exit)) ⌝ }
 {
     let count = n.value;
     if n.number == 0 {
@@ -102,7 +102,7 @@ pub fn begin(
     line: &mut [u8],
 ) -> Begun
     requires { ⌜ Rooms (now list) (now line) ⌝ }
-    ensures { λ r. ⌜ Begins (inputsOf (now (manifest .entry)) (now (card .entry)) (now (targets .entry))) (now (list .entry)) (now (line .entry)) r (now (list .exit)) (now (line .exit)) ⌝ }
+    ensures { λ r. ⌜ BeginsReport (inputsOf (now (manifest .entry)) (now (card .entry)) (now (targets .entry))) (now (list .entry)) (now (line .entry)) r (now (list .exit)) (now (line .exit)) ⌝ }
 {
     let n = of_plan(plan(manifest, card, targets, list));
     begin_planned(manifest, n, list, line)
@@ -111,7 +111,7 @@ pub fn begin(
 // "a line for each listed step, with its place in the list, the list's length and its `command` text"
 pub fn step_line(manifest: &[u8], step: usize, place: usize, count: usize, line: &mut [u8]) -> usize
     requires { ⌜ lineRoom ≤ length (now line) ⌝ }
-    ensures { λ r. ⌜ LeavesOutput (stepLine place count (command (now (manifest .entry)) step)) (now (line .entry)) r (now (line .exit)) ⌝ }
+    ensures { λ r. ⌜ LeavesOutput (stepLine place count (commandText (now (manifest .entry)) step)) (now (line .entry)) r (now (line .exit)) ⌝ }
 {
     let from = put_head(line, place, count);
     let to = from + TEXT;

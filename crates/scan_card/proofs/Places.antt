@@ -10,7 +10,7 @@ use lib.ListN.{length, take, drop, getD, length-drop}
 use lib.Seq.{drop-drop}
 use Rattle.lists.specs.Tests.{split, differ, and-left, and-right}
 use Rattle.spec.specs.Card.{CardRecord, numberAt, recordAt, recordsOf, soundRecord, soundRecords, Entry, entriesOf, rising, soundHeader, cardRecords, cardNames, cardEntries, soundNames, soundCard}
-use Rattle.scan_card.specs.Fields.{Headed, unlisted, entryAt, Listed}
+use Rattle.scan_card.specs.Fields.{Headed, unlisted, cardEntryAt, EntryListed}
 use Rattle.scan_card.proofs.Rules.{header, Fair, fair}
 
 -- ---- records
@@ -91,8 +91,8 @@ module _ (s : List ℕ) (h : soundCard s ≡ true) where
   unfolding soundNames
   card-rising = and-right (soundRecords 0 (length (cardNames s)) (cardRecords s)) (rising (cardEntries s)) card-names
 
-  card-lies : (k : ℕ) → k < numberAt 0 4 s → Lies (cardNames s) (recordAt (16 + 16 * k) s) (entryAt s k)
-  unfolding soundNames cardRecords cardEntries entryAt
+  card-lies : (k : ℕ) → k < numberAt 0 4 s → Lies (cardNames s) (recordAt (16 + 16 * k) s) (cardEntryAt s k)
+  unfolding soundNames cardRecords cardEntries cardEntryAt
   card-lies k l =
       entry-lies s 16 (numberAt 0 4 s) 0 (cardNames s) (and-left (soundRecords 0 (length (cardNames s)) (cardRecords s)) (rising (cardEntries s)) card-names) k l
 
@@ -103,7 +103,7 @@ pub length-card : (s : List ℕ) → length (cardEntries s) ≡ numberAt 0 4 s
 unfolding cardEntries cardRecords
 length-card s = length-entries (cardRecords s) (cardNames s) ∙ length-records (numberAt 0 4 s) (drop 16 s)
 
-pub listed : {s : List ℕ} → soundCard s ≡ true → (k : ℕ) → k < numberAt 0 4 s → Listed s k
+pub listed : {s : List ℕ} → soundCard s ≡ true → (k : ℕ) → k < numberAt 0 4 s → EntryListed s k
 unfolding recordAt cardNames
 listed {s} h k l =
     let f = header (card-header s h) in

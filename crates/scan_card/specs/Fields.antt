@@ -18,15 +18,15 @@ pub record Headed (s : List ℕ) (n : ℕ) : Type 0 where
 abbrev pub unlisted : Entry
 unlisted = record { name = []; time = 0 }
 
-unfoldable pub entryAt : List ℕ → ℕ → Entry
-entryAt s k = getD (cardEntries s) k unlisted
+unfoldable pub cardEntryAt : List ℕ → ℕ → Entry
+cardEntryAt s k = getD (cardEntries s) k unlisted
 
 -- the bytes of entry k: its name starts `offset` bytes after the names do
-pub record Listed (s : List ℕ) (k : ℕ) : Type 0 where
+pub record EntryListed (s : List ℕ) (k : ℕ) : Type 0 where
   pub within : k < numberAt 0 4 s
   pub few : numberAt 0 4 s ≤ maxRecords
   pub long : 16 + 16 * numberAt 0 4 s ≤ length s
   pub short : length s ≤ maxCard
   pub room : 16 + 16 * numberAt 0 4 s + numberAt (16 + 16 * k) 4 s + numberAt (16 + 16 * k + 4) 4 s ≤ length s
-  pub name : entryAt s k .name ≡ part s (16 + 16 * numberAt 0 4 s + numberAt (16 + 16 * k) 4 s) (16 + 16 * numberAt 0 4 s + numberAt (16 + 16 * k) 4 s + numberAt (16 + 16 * k + 4) 4 s)
-  pub time : entryAt s k .time ≡ numberAt (16 + 16 * k + 8) 8 s
+  pub name : cardEntryAt s k .name ≡ part s (16 + 16 * numberAt 0 4 s + numberAt (16 + 16 * k) 4 s) (16 + 16 * numberAt 0 4 s + numberAt (16 + 16 * k) 4 s + numberAt (16 + 16 * k + 4) 4 s)
+  pub time : cardEntryAt s k .time ≡ numberAt (16 + 16 * k + 8) 8 s

@@ -3,7 +3,7 @@ ghost use mathlib.Core.Path.{_≡_};
 ghost use mathlib.Core.Bool.{true};
 ghost use Rattle.lists.specs.Order.{orderBytes};
 ghost use Rattle.spec.specs.Card.{soundCard, cardEntries, timeIn};
-ghost use Rattle.scan_card.specs.Fields.{Listed, entryAt};
+ghost use Rattle.scan_card.specs.Fields.{EntryListed, cardEntryAt};
 use byteorder::compare;
 use lists::Order;
 use scan_numbers::long;
@@ -35,8 +35,8 @@ pub fn time_of(card: &[u8], name: &[u8]) -> u64
 
 // How a name compares with that of entry k.
 fn order_at(card: &[u8], k: usize, name: &[u8]) -> Order
-    requires { ⌜ Listed (now card) k ⌝ }
-    ensures { λ r. ⌜ r ≡ orderBytes (now (name .entry)) (entryAt (now (card .entry)) k .name) ⌝ }
+    requires { ⌜ EntryListed (now card) k ⌝ }
+    ensures { λ r. ⌜ r ≡ orderBytes (now (name .entry)) (cardEntryAt (now (card .entry)) k .name) ⌝ }
 {
     let names = 16 + 16 * word(card, 0);
     let at = 16 + 16 * k;
@@ -46,8 +46,8 @@ fn order_at(card: &[u8], k: usize, name: &[u8]) -> Order
 }
 
 fn time_at(card: &[u8], k: usize) -> u64
-    requires { ⌜ Listed (now card) k ⌝ }
-    ensures { λ r. ⌜ r ≡ entryAt (now (card .entry)) k .time ⌝ }
+    requires { ⌜ EntryListed (now card) k ⌝ }
+    ensures { λ r. ⌜ r ≡ cardEntryAt (now (card .entry)) k .time ⌝ }
 {
     long(card, 16 + 16 * k + 8)
 }

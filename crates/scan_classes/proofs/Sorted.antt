@@ -7,7 +7,7 @@ use borrow.Author.Tests.{ltb-true, ltb-false, le-leb, lt-leb, eq-eqb, eqb-true, 
 use lib.Dec.{eqb, ltb, lit<}
 use Rattle.lists.specs.Tests.{split}
 use Rattle.spec.specs.Bytes.{newline, space, hash, dollar, dot, colon, equals, openBrace, bar, closeBrace, between, letter, digit, shortByte, nameByte, forbidden, classOf}
-use Rattle.scan_classes.specs.Table.{classes, upTo}
+use Rattle.scan_classes.specs.Table.{classes, classUpTo}
 use Rattle.scan_classes.proofs.Entries.{every, every-at, table-right}
 
 -- ---- tests of bytes that are tests of their classes
@@ -63,8 +63,8 @@ agree f g t far none b =
 -- what class c says of byte b
 pub record Sorted (b c : ℕ) : Type 0 where
   pub short : shortByte b ≡ eqb c 1
-  pub shortRange : shortByte b ≡ upTo 1 c
-  pub nameRange : nameByte b ≡ upTo 2 c
+  pub shortRange : shortByte b ≡ classUpTo 1 c
+  pub nameRange : nameByte b ≡ classUpTo 2 c
   pub space : eqb b space ≡ eqb c 3
   pub newline : eqb b newline ≡ eqb c 4
   pub dollar : eqb b dollar ≡ eqb c 5
@@ -77,12 +77,12 @@ pub record Sorted (b c : ℕ) : Type 0 where
   pub forbidden : forbidden b ≡ eqb c 12
 
 pub sorted : (b : ℕ) → Sorted b (classOf b)
-unfolding classes every same upTo between letter digit shortByte nameByte forbidden
+unfolding classes every same classUpTo between letter digit shortByte nameByte forbidden
 sorted b =
     record {
       short = agree shortByte (λ c. eqb c 1) refl high-short refl b;
-      shortRange = agree shortByte (upTo 1) refl high-short refl b;
-      nameRange = agree nameByte (upTo 2) refl high-name refl b;
+      shortRange = agree shortByte (classUpTo 1) refl high-short refl b;
+      nameRange = agree nameByte (classUpTo 2) refl high-name refl b;
       space = one space 3 (lit< tt) refl refl;
       newline = one newline 4 (lit< tt) refl refl;
       dollar = one dollar 5 (lit< tt) refl refl;

@@ -24,5 +24,5 @@ classes =
     0 ∷ 0 ∷ 0 ∷ 0 ∷ 0 ∷ 0 ∷ 0 ∷ 0 ∷ 0 ∷ 0 ∷ 0 ∷ 0 ∷ 0 ∷ 0 ∷ 0 ∷ 0 ∷ []
 
 -- is c one of the classes from 1 to `last`: up to 1 the short-name bytes, up to 2 the name bytes
-unfoldable pub upTo : ℕ → ℕ → Bool
-upTo last c = leb 1 c && leb c last
+unfoldable pub classUpTo : ℕ → ℕ → Bool
+classUpTo last c = leb 1 c && leb c last

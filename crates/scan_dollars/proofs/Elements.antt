@@ -19,7 +19,7 @@ use Rattle.spec.specs.Forms.{nameOf, afterName}
 use Rattle.scan_classes.proofs.Sorted.{sorted}
 use Rattle.scan_dollars.specs.declared.Escape.{Escape}
 use Rattle.scan_dollars.specs.declared.Escape.the-variants.{Byte, Join, Name, Bad}
-use Rattle.scan_dollars.specs.Element.{restOf, FoundElement, FoundName, Tells, Passed}
+use Rattle.scan_dollars.specs.Element.{restOf, FoundElement, FoundName, TellsElement, DollarPassed}
 use Rattle.scan_tokens.proofs.Places.{at-cons, at-end, not-empty}
 use Rattle.scan_tokens.proofs.Names.{part-name}
 
@@ -70,8 +70,8 @@ element-class b s =
     rw (sorted b .dollar, sorted b .space, sorted b .colon, sorted b .newline, sorted b .openBrace, sorted b .short)
 
 -- An answer about what begins later.
-tells-from : (s : List ℕ) (i j : ℕ) (x y : Element) (r : Escape) → i ≤ j → y ≡ x → Tells s j x r → Tells s i y r
-unfolding Tells
+tells-from : (s : List ℕ) (i j : ℕ) (x y : Element) (r : Escape) → i ≤ j → y ≡ x → TellsElement s j x r → TellsElement s i y r
+unfolding TellsElement
 tells-from s i j x y (Byte b n) h e f = record { forward = le-trans h (f .forward); within = f .within; is = e ∙ f .is }
 tells-from s i j x y (Join n) h e f = record { forward = le-trans h (f .forward); within = f .within; is = e ∙ f .is }
 tells-from s i j x y (Name a b n) h e f =
@@ -104,7 +104,7 @@ module _ (s : List ℕ) {at k : ℕ} (h : at < length s) (c : k ≡ classOf (get
             };
       }
 
-  pub brace-begins : (r : Escape) → k ≡ 10 → Tells s (at + 1) (braced (nameOf (drop (at + 1) s)) (afterName (drop (at + 1) s))) r → Tells s at (element (drop at s)) r
+  pub brace-begins : (r : Escape) → k ≡ 10 → TellsElement s (at + 1) (braced (nameOf (drop (at + 1) s)) (afterName (drop (at + 1) s))) r → TellsElement s at (element (drop at s)) r
   unfolding byClass
   brace-begins r p f = tells-from s at (at + 1) _ _ r (omega arith) (here ∙ rw p) f
 
@@ -123,15 +123,15 @@ module _ (s : List ℕ) {at k : ℕ} (h : at < length s) (c : k ≡ classOf (get
 
 -- ---- what follows, whatever it is
 
-pub passed-byte : {s : List ℕ} {at b n : ℕ} → FoundElement s at n (element (drop at s)) (literal b (drop n s)) → Passed s at n
+pub passed-byte : {s : List ℕ} {at b n : ℕ} → FoundElement s at n (element (drop at s)) (literal b (drop n s)) → DollarPassed s at n
 unfolding restOf
 passed-byte f = record { forward = f .forward; within = f .within; rest = ap restOf (f .is) }
 
-pub passed-join : {s : List ℕ} {at n : ℕ} → FoundElement s at n (element (drop at s)) (joins (drop n s)) → Passed s at n
+pub passed-join : {s : List ℕ} {at n : ℕ} → FoundElement s at n (element (drop at s)) (joins (drop n s)) → DollarPassed s at n
 unfolding restOf
 passed-join f = record { forward = f .forward; within = f .within; rest = ap restOf (f .is) }
 
-pub passed-name : {s : List ℕ} {at a b n : ℕ} → FoundName s at a b n (element (drop at s)) → Passed s at n
+pub passed-name : {s : List ℕ} {at a b n : ℕ} → FoundName s at a b n (element (drop at s)) → DollarPassed s at n
 unfolding restOf
 passed-name f = record { forward = f .found .forward; within = f .found .within; rest = ap restOf (f .found .is) }
 

@@ -29,18 +29,18 @@ pub record FoundName (s : List ℕ) (at from to next : ℕ) (x : Element) : Type
   pub before : to ≤ next
   pub found : FoundElement s at next x (names (part s from to) (drop next s))
 
-unfoldable pub Tells : List ℕ → ℕ → Element → Escape → Type 0
-Tells s at x (Byte b next) = FoundElement s at next x (literal b (drop next s))
-Tells s at x (Join next) = FoundElement s at next x (joins (drop next s))
-Tells s at x (Name from to next) = FoundName s at from to next x
-Tells s at x Bad = x ≡ wrong
+unfoldable pub TellsElement : List ℕ → ℕ → Element → Escape → Type 0
+TellsElement s at x (Byte b next) = FoundElement s at next x (literal b (drop next s))
+TellsElement s at x (Join next) = FoundElement s at next x (joins (drop next s))
+TellsElement s at x (Name from to next) = FoundName s at from to next x
+TellsElement s at x Bad = x ≡ wrong
 
 -- where what follows it starts, if it is sound
-pub record Passed (s : List ℕ) (at next : ℕ) : Type 0 where
+pub record DollarPassed (s : List ℕ) (at next : ℕ) : Type 0 where
   pub forward : at ≤ next
   pub within : next ≤ length s
   pub rest : restOf (element (drop at s)) ≡ some (drop next s)
 
 unfoldable pub PastAt : List ℕ → ℕ → After → Type 0
-PastAt s at (To next) = Passed s at next
+PastAt s at (To next) = DollarPassed s at next
 PastAt s at Unsound = restOf (element (drop at s)) ≡ none

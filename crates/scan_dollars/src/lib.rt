@@ -5,7 +5,7 @@ ghost use lib.ListN.{length, drop};
 ghost use Rattle.spec.specs.Forms.{nameOf, afterName};
 ghost use Rattle.scan_classes.specs.Table.{classes};
 ghost use Rattle.spec.specs.Dollars.{element, braced};
-ghost use Rattle.scan_dollars.specs.Element.{Tells, PastAt};
+ghost use Rattle.scan_dollars.specs.Element.{TellsElement, PastAt};
 
 // What a `$` begins, and where the bytes after it start.
 pub enum Escape {
@@ -27,7 +27,7 @@ pub enum After {
 // The name and the closing brace that follow `${`.
 fn braced(t: &[u8; 256], s: &[u8], from: usize) -> Escape
     requires { ⌜ (now t ≡ classes) × (from ≤ length (now s)) ⌝ }
-    ensures { λ r. ⌜ Tells (now (s .entry)) from (braced (nameOf (drop from (now (s .entry)))) (afterName (drop from (now (s .entry))))) r ⌝ }
+    ensures { λ r. ⌜ TellsElement (now (s .entry)) from (braced (nameOf (drop from (now (s .entry)))) (afterName (drop from (now (s .entry))))) r ⌝ }
 {
     let end = scan_tokens::name_end(t, s, from);
     if s.len() <= end {
@@ -45,7 +45,7 @@ fn braced(t: &[u8; 256], s: &[u8], from: usize) -> Escape
 // What the `$` before `at` begins.
 pub fn dollar(t: &[u8; 256], s: &[u8], at: usize) -> Escape
     requires { ⌜ (now t ≡ classes) × (at ≤ length (now s)) ⌝ }
-    ensures { λ r. ⌜ Tells (now (s .entry)) at (element (drop at (now (s .entry)))) r ⌝ }
+    ensures { λ r. ⌜ TellsElement (now (s .entry)) at (element (drop at (now (s .entry)))) r ⌝ }
 {
     if s.len() <= at {
         return Escape::Bad;

@@ -8,7 +8,7 @@ use lib.ListN.{length, getD}
 use lib.Seq.{drop-cons}
 use Rattle.spec.specs.Card.{littleEndian, numberAt}
 use Rattle.windows.specs.Windows.{Byte}
-use Rattle.scan_numbers.specs.Numbers.{Number}
+use Rattle.scan_numbers.specs.Numbers.{NumberIs}
 
 pub number-cons : (s : List ℕ) (at size : ℕ) → at < length s → numberAt at (suc size) s ≡ getD s at 0 + 256 * numberAt (at + 1) size s
 unfolding numberAt littleEndian
@@ -32,11 +32,11 @@ module _ (s : List ℕ) (at : ℕ) (h : at + 4 ≤ length s) where
 
   -- four bytes as the code adds them up
   pub word-is : {b0 b1 b2 b3 : ℕ} → Byte (getD s at 0) b0 → Byte (getD s (at + 1) 0) b1 → Byte (getD s (at + 2) 0) b2 → Byte (getD s (at + 3) 0) b3 →
-      Number s at 4 (b0 + b1 * 256 + b2 * 65536 + b3 * 16777216)
+      NumberIs s at 4 (b0 + b1 * 256 + b2 * 65536 + b3 * 16777216)
   word-is p0 p1 p2 p3 =
       record { is = omega (arith, four-bytes 0, number-none s (at + 4), p0 .same, p1 .same, p2 .same, p3 .same); small = omega (arith, p0 .small, p1 .small, p2 .small, p3 .small) }
 
-pub long-is : (s : List ℕ) (at : ℕ) {l h : ℕ} → at + 8 ≤ length s → Number s at 4 l → Number s (at + 4) 4 h → Number s at 8 (l + h * 4294967296)
+pub long-is : (s : List ℕ) (at : ℕ) {l h : ℕ} → at + 8 ≤ length s → NumberIs s at 4 l → NumberIs s (at + 4) 4 h → NumberIs s at 8 (l + h * 4294967296)
 long-is s at {l} {h} b p q =
     record {
       is = omega (arith, four-bytes s at (omega arith) 0, number-none s (at + 4), four-bytes s at (omega arith) 4, p .is, q .is);

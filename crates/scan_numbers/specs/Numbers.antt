@@ -5,6 +5,6 @@ use mathlib.Core.Path.{_≡_}
 use Rattle.spec.specs.Card.{numberAt}
 
 -- r is the number in the `size` bytes at `at`
-pub record Number (s : List ℕ) (at size r : ℕ) : Type 0 where
+pub record NumberIs (s : List ℕ) (at size r : ℕ) : Type 0 where
   pub is : r ≡ numberAt at size s
   pub small : r < 256 ^ size

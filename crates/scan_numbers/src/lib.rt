@@ -2,12 +2,12 @@
 ghost use Prim.Native.Nat.{_+_, _≤_};
 ghost use lib.ListN.{length};
 ghost use Rattle.windows.specs.Windows.{Byte};
-ghost use Rattle.scan_numbers.specs.Numbers.{Number};
+ghost use Rattle.scan_numbers.specs.Numbers.{NumberIs};
 
 // The number in the four bytes at `at`.
 pub fn word(s: &[u8], at: usize) -> usize
     requires { ⌜ at + 4 ≤ length (now s) ⌝ }
-    ensures { λ r. ⌜ Number (now (s .entry)) at 4 r ⌝ }
+    ensures { λ r. ⌜ NumberIs (now (s .entry)) at 4 r ⌝ }
 {
     wide(s[at]) + wide(s[at + 1]) * 256 + wide(s[at + 2]) * 65536 + wide(s[at + 3]) * 16777216
 }
@@ -15,7 +15,7 @@ pub fn word(s: &[u8], at: usize) -> usize
 // The number in the eight bytes at `at`.
 pub fn long(s: &[u8], at: usize) -> u64
     requires { ⌜ at + 8 ≤ length (now s) ⌝ }
-    ensures { λ r. ⌜ Number (now (s .entry)) at 8 r ⌝ }
+    ensures { λ r. ⌜ NumberIs (now (s .entry)) at 8 r ⌝ }
 {
     let low = word(s, at);
     let high = word(s, at + 4);

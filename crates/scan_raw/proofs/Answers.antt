@@ -10,7 +10,7 @@ use Rattle.scan_raw.specs.declared.NextPath.{NextPath}
 use Rattle.scan_raw.specs.declared.NextPath.the-variants.{Stop, Path, BadDollar as WrongDollar}
 use Rattle.scan_raw.specs.declared.FirstBad.{FirstBad}
 use Rattle.scan_raw.specs.declared.FirstBad.the-variants.{Nowhere, At}
-use Rattle.scan_raw.specs.Texts.{PathEnds, PathBad, PathAt, PathsStop, PathNext, PathsBad, NextAt, ValueBad, ValueAt}
+use Rattle.scan_raw.specs.Texts.{PathEnds, PathBad, PathAt, PathsStop, PathNext, PathsBad, NextPathAt, ValueBad, ValueScanned}
 
 -- ---- `path`
 
@@ -25,26 +25,26 @@ module _ (s : List ℕ) (i : ℕ) (r : PathEnd) (p : PathAt s i r) where
 
 -- ---- `next_path`
 
-module _ (s : List ℕ) (i : ℕ) (r : NextPath) (p : NextAt s i r) where
+module _ (s : List ℕ) (i : ℕ) (r : NextPath) (p : NextPathAt s i r) where
   pub next-stop : {g : ℕ} → r ≡ Stop g → PathsStop s i g
-  unfolding NextAt
+  unfolding NextPathAt
   next-stop e = rw e at p
 
   pub next-path : {g e : ℕ} → r ≡ Path g e → PathNext s i g e
-  unfolding NextAt
+  unfolding NextPathAt
   next-path e = rw e at p
 
   pub next-bad : {at : ℕ} → r ≡ WrongDollar at → PathsBad s i at
-  unfolding NextAt
+  unfolding NextPathAt
   next-bad e = rw e at p
 
 -- ---- `bad_dollar`
 
-module _ (raw : List ℕ) (r : FirstBad) (p : ValueAt raw r) where
+module _ (raw : List ℕ) (r : FirstBad) (p : ValueScanned raw r) where
   pub value-sound : r ≡ Nowhere → badDollar raw ≡ none
-  unfolding ValueAt
+  unfolding ValueScanned
   value-sound e = rw e at p
 
   pub value-bad : {at : ℕ} → r ≡ At at → ValueBad raw at
-  unfolding ValueAt
+  unfolding ValueScanned
   value-bad e = rw e at p

@@ -12,7 +12,7 @@ use Rattle.spec.specs.Bytes.{dollar, classOf}
 use Rattle.spec.specs.Dollars.{element, badIn, badDollar}
 use Rattle.spec.specs.Forms.{pathStop}
 use Rattle.scan_classes.proofs.Sorted.{sorted}
-use Rattle.scan_dollars.specs.Element.{restOf, Passed}
+use Rattle.scan_dollars.specs.Element.{restOf, DollarPassed}
 use Rattle.scan_raw.specs.Texts.{PathEnds, PathBad, ValueBad}
 use Rattle.scan_tokens.proofs.Places.{Going, going-on, at-cons, at-end}
 use Rattle.scan_raw.proofs.Look.{look, look-end, look-stop, look-byte, look-past, look-wrong}
@@ -32,7 +32,7 @@ module _ (ends : ℕ → Bool) {s : List ℕ} {i j : ℕ} (a : Going (look ends)
       goes-on : ends (getD s j 0) ≡ false
       goes-on = rw d o
 
-      pub text-past : {n : ℕ} → Passed s (j + 1) n → Going (look ends) s i n
+      pub text-past : {n : ℕ} → DollarPassed s (j + 1) n → Going (look ends) s i n
       text-past f =
           going-on a (omega (arith, f .forward)) (f .within) (rw (at-cons s j h) (look-past ends _ _ goes-on (eq-eqb _ _ d) (f .rest)))
 

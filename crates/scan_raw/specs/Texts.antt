@@ -35,9 +35,9 @@ pub record ValueBad (raw : List ℕ) (p : ℕ) : Type 0 where
   pub within : p < length raw
   pub bad : badDollar raw ≡ some p
 
-unfoldable pub ValueAt : List ℕ → FirstBad → Type 0
-ValueAt raw Nowhere = badDollar raw ≡ none
-ValueAt raw (At p) = ValueBad raw p
+unfoldable pub ValueScanned : List ℕ → FirstBad → Type 0
+ValueScanned raw Nowhere = badDollar raw ≡ none
+ValueScanned raw (At p) = ValueBad raw p
 
 -- ---- lists of paths, from place i on
 
@@ -61,10 +61,10 @@ pub record PathsBad (s : List ℕ) (i p : ℕ) : Type 0 where
   pub within : p < length s
   pub is : paths (drop i s) ≡ fails (leftAtDollar (length s - p))
 
-unfoldable pub NextAt : List ℕ → ℕ → NextPath → Type 0
-NextAt s i (Stop g) = PathsStop s i g
-NextAt s i (Path g r) = PathNext s i g r
-NextAt s i (WrongDollar p) = PathsBad s i p
+unfoldable pub NextPathAt : List ℕ → ℕ → NextPath → Type 0
+NextPathAt s i (Stop g) = PathsStop s i g
+NextPathAt s i (Path g r) = PathNext s i g r
+NextPathAt s i (WrongDollar p) = PathsBad s i p
 
 -- ---- the check of a manifest
 

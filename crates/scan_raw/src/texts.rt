@@ -4,7 +4,7 @@ ghost use Prim.Native.Nat.{_≤_};
 ghost use lib.ListN.{length, drop};
 ghost use Rattle.spec.specs.Forms.{rawValue};
 ghost use Rattle.scan_classes.specs.Table.{classes};
-ghost use Rattle.scan_raw.specs.Texts.{PathAt, NextAt, ValueAt};
+ghost use Rattle.scan_raw.specs.Texts.{PathAt, NextPathAt, ValueScanned};
 use crate::FirstBad;
 use crate::NextPath;
 use crate::PathEnd;
@@ -49,7 +49,7 @@ pub fn path(t: &[u8; 256], s: &[u8], from: usize) -> PathEnd
 // The next path of a list, behind spaces and joins.
 pub fn next_path(t: &[u8; 256], s: &[u8], from: usize) -> NextPath
     requires { ⌜ (now t ≡ classes) × (from ≤ length (now s)) ⌝ }
-    ensures { λ r. ⌜ NextAt (now (s .entry)) from r ⌝ }
+    ensures { λ r. ⌜ NextPathAt (now (s .entry)) from r ⌝ }
 {
     let i = gap(s, from);
     if s.len() <= i {
@@ -71,7 +71,7 @@ pub fn next_path(t: &[u8; 256], s: &[u8], from: usize) -> NextPath
 // The first bad `$` of a raw value.
 pub fn bad_dollar(t: &[u8; 256], raw: &[u8]) -> FirstBad
     requires { ⌜ now t ≡ classes ⌝ }
-    ensures { λ r. ⌜ ValueAt (now (raw .entry)) r ⌝ }
+    ensures { λ r. ⌜ ValueScanned (now (raw .entry)) r ⌝ }
 {
     let mut i = 0;
     while i < raw.len() {

@@ -6,7 +6,7 @@ ghost use Rattle.lists.specs.Runs.{afterRun, Reads};
 ghost use Rattle.spec.specs.Bytes.{shortByte, classOf};
 ghost use Rattle.spec.specs.Lines.{isSpace};
 ghost use Rattle.spec.specs.Forms.{gap, afterName};
-ghost use Rattle.scan_classes.specs.Table.{classes, upTo};
+ghost use Rattle.scan_classes.specs.Table.{classes, classUpTo};
 
 pub fn spaces(s: &[u8], from: usize) -> usize
     requires { ⌜ from ≤ length (now s) ⌝ }
@@ -52,7 +52,7 @@ pub fn gap(s: &[u8], from: usize) -> usize
 // The longest run of bytes of the classes from SHORT to `last`.
 fn class_run(t: &[u8; 256], s: &[u8], from: usize, last: u8) -> usize
     requires { ⌜ (now t ≡ classes) × (from ≤ length (now s)) ⌝ }
-    ensures { λ r. ⌜ Reads (afterRun (λ b. upTo last (classOf b))) (now (s .entry)) from r ⌝ }
+    ensures { λ r. ⌜ Reads (afterRun (λ b. classUpTo last (classOf b))) (now (s .entry)) from r ⌝ }
 {
     let mut i = from;
     while i < s.len() {

@@ -19,36 +19,36 @@ use Rattle.answers.specs.Numbers.{said}
 use Rattle.scan_classes.specs.Table.{classes}
 use Rattle.apply_manifest.specs.Manifests.{Roomy}
 use Rattle.test_manifest.specs.declared.ReadNumbers.{ReadNumbers}
-use Rattle.test_manifest.specs.Numbers.{bare, inNumbers, Judges, Reads, ReadWhole}
+use Rattle.test_manifest.specs.Numbers.{bareNumbers, inNumbers, JudgesRoom, ReadsManifest, ReadWhole}
 use Rattle.hold_reading.specs.Buffers.{Buffers}
 
 module _ {bs : Buffers} {word : List ℕ} where
-  lacks : (Roomy classes bs word → ⊥) → Judges bs word false
+  lacks : (Roomy classes bs word → ⊥) → JudgesRoom bs word false
   lacks n = record { enough = λ e. differ e refl; lacking = λ e. n }
 
-  pub few-names : length (bs .names) < maxWritten → Judges bs word false
+  pub few-names : length (bs .names) < maxWritten → JudgesRoom bs word false
   few-names h = lacks (λ p. omega (arith, p .room .names-room))
 
-  pub many-names : 4294967295 < length (bs .names) → Judges bs word false
+  pub many-names : 4294967295 < length (bs .names) → JudgesRoom bs word false
   many-names h = lacks (λ p. omega (arith, p .names-small))
 
-  pub few-numbers : length (bs .index) < maxNumbers → Judges bs word false
+  pub few-numbers : length (bs .index) < maxNumbers → JudgesRoom bs word false
   few-numbers h = lacks (λ p. omega (arith, p .numbers-room))
 
-  pub few-texts : length (bs .texts) < maxTexts → Judges bs word false
+  pub few-texts : length (bs .texts) < maxTexts → JudgesRoom bs word false
   few-texts h = lacks (λ p. omega (arith, p .texts-room))
 
-  pub few-rows : length (bs .bind) < maxRows → Judges bs word false
+  pub few-rows : length (bs .bind) < maxRows → JudgesRoom bs word false
   few-rows h = lacks (λ p. omega (arith, p .bind-room))
 
-  pub few-columns : length (bs .graph) < columnsEnd + maxManifest → Judges bs word false
+  pub few-columns : length (bs .graph) < columnsEnd + maxManifest → JudgesRoom bs word false
   few-columns h = lacks (λ p. omega (arith, p .room .scratch))
 
-  pub short-word : length word < maxValue → Judges bs word false
+  pub short-word : length word < maxValue → JudgesRoom bs word false
   short-word h = lacks (λ p. omega (arith, p .room .word-room))
 
   pub has-room : maxWritten ≤ length (bs .names) → length (bs .names) ≤ 4294967295 → maxNumbers ≤ length (bs .index) → maxTexts ≤ length (bs .texts) → maxRows ≤ length (bs .bind) → columnsEnd + maxManifest ≤ length (bs .graph)
-      → maxValue ≤ length word → Judges bs word true
+      → maxValue ≤ length word → JudgesRoom bs word true
   has-room n s f x b g w = record {
     enough = λ e. record {
       table = refl;
@@ -61,15 +61,15 @@ module _ {bs : Buffers} {word : List ℕ} where
     lacking = λ e. differ refl e;
   }
 
-module _ {m : List ℕ} {bs : Buffers} {word : List ℕ} {b : Bool} (j : Judges bs word b) where
-  pub too-small : {r : ReadNumbers} → b ≡ false → r ≡ bare 255 0 → Reads m bs word r bs word
+module _ {m : List ℕ} {bs : Buffers} {word : List ℕ} {b : Bool} (j : JudgesRoom bs word b) where
+  pub too-small : {r : ReadNumbers} → b ≡ false → r ≡ bareNumbers 255 0 → ReadsManifest m bs word r bs word
   too-small e q = record {
     roomy = λ p. absurd (j .lacking e p);
     small = λ n. (q, record { names-stay = refl; index-stay = refl; texts-stay = refl; bind-stay = refl; graph-stay = refl; word-stay = refl });
   }
 
   pub has-read : (a : ReadAnswer) {r : ReadNumbers} {bs′ : Buffers} {word′ : List ℕ} → b ≡ true → ReadWhole m bs word a bs′ word′ → r ≡ inNumbers a
-      → Reads m bs word r bs′ word′
+      → ReadsManifest m bs word r bs′ word′
   has-read a e i q = record { roomy = λ p. record { answer = a; read = i; says = q }; small = λ n. absurd (n (j .enough e)) }
 
 -- the table that is lent is the table of classes
@@ -80,6 +80,6 @@ lent e r = record { table = e; room = r .room; names-small = r .names-small; num
 pub counted : {a b : ReadAnswer} → a ≡ b → inNumbers b ≡ inNumbers a
 counted e = ap inNumbers (sym e)
 
-pub refused-so : (r : Refusal) {a : ReadAnswer} {two : Two} {x : ReadNumbers} → a ≡ Refused r → said two ≡ refusalSays r → x ≡ bare (two .number) (two .value) → x ≡ inNumbers a
+pub refused-so : (r : Refusal) {a : ReadAnswer} {two : Two} {x : ReadNumbers} → a ≡ Refused r → said two ≡ refusalSays r → x ≡ bareNumbers (two .number) (two .value) → x ≡ inNumbers a
 unfolding inNumbers
-refused-so r e s q = q ∙ ap (λ (z : Said). bare (z .number) (z .value)) s ∙ counted e
+refused-so r e s q = q ∙ ap (λ (z : Said). bareNumbers (z .number) (z .value)) s ∙ counted e

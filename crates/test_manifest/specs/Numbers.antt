@@ -14,8 +14,8 @@ use Rattle.test_manifest.specs.declared.ReadNumbers.{ReadNumbers}
 use Rattle.hold_reading.specs.Buffers.{Buffers, SameRoom}
 
 -- a number and a place, and nothing counted
-abbrev pub bare : ℕ → ℕ → ReadNumbers
-bare n p =
+abbrev pub bareNumbers : ℕ → ℕ → ReadNumbers
+bareNumbers n p =
     record { number = n; place = p; files = 0; steps = 0; paths = 0; defaults = 0; entries = 0; rules = 0; bindings = 0; mentions = 0; written = 0 }
 
 unfoldable pub inNumbers : ReadAnswer → ReadNumbers
@@ -33,10 +33,10 @@ inNumbers (Accepted c) =
       mentions = c .mentions;
       written = c .written;
     }
-inNumbers (Refused r) = bare (refusalSays r .number) (refusalSays r .value)
+inNumbers (Refused r) = bareNumbers (refusalSays r .number) (refusalSays r .value)
 
 -- a test that is true exactly where the buffers have room for any manifest
-pub record Judges (bs : Buffers) (word : List ℕ) (r : Bool) : Type 0 where
+pub record JudgesRoom (bs : Buffers) (word : List ℕ) (r : Bool) : Type 0 where
   pub enough : r ≡ true → Roomy classes bs word
   pub lacking : r ≡ false → Roomy classes bs word → ⊥
 
@@ -75,6 +75,6 @@ pub record Untouched (bs : Buffers) (word : List ℕ) (bs′ : Buffers) (word′
   pub word-stay : word′ ≡ word
 
 -- What the reader answers; or, where a buffer has no room for some manifest, 255 and the buffers as they were.
-pub record Reads (m : List ℕ) (bs : Buffers) (word : List ℕ) (r : ReadNumbers) (bs′ : Buffers) (word′ : List ℕ) : Type 0 where
+pub record ReadsManifest (m : List ℕ) (bs : Buffers) (word : List ℕ) (r : ReadNumbers) (bs′ : Buffers) (word′ : List ℕ) : Type 0 where
   pub roomy : Roomy classes bs word → ReadAs m bs word r bs′ word′
-  pub small : (Roomy classes bs word → ⊥) → (r ≡ bare 255 0) × Untouched bs word bs′ word′
+  pub small : (Roomy classes bs word → ⊥) → (r ≡ bareNumbers 255 0) × Untouched bs word bs′ word′

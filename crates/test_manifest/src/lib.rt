@@ -1,7 +1,7 @@
 // The manifest reader for Rust: the buffers come from outside, so their room is checked first.
 ghost use mathlib.Core.Path.{_≡_};
 ghost use Rattle.apply_manifest.specs.Manifests.{Roomy};
-ghost use Rattle.test_manifest.specs.Numbers.{bare, inNumbers, Cleared, Judges, ReadWhole, Reads};
+ghost use Rattle.test_manifest.specs.Numbers.{bareNumbers, inNumbers, Cleared, JudgesRoom, ReadWhole, ReadsManifest};
 ghost use Rattle.hold_reading.specs.Buffers.{buffers};
 use answers::of_refusal;
 use apply_manifest::ReadAnswer;
@@ -39,7 +39,7 @@ fn is_roomy(
     graph: &[u32],
     word: &[u8],
 ) -> bool
-    ensures { λ r. ⌜ Judges (buffers (now (names .entry)) (now (index .entry)) (now (texts .entry)) (now (bind .entry)) (now (graph .entry))) (now (word .entry)) r ⌝ }
+    ensures { λ r. ⌜ JudgesRoom (buffers (now (names .entry)) (now (index .entry)) (now (texts .entry)) (now (bind .entry)) (now (graph .entry))) (now (word .entry)) r ⌝ }
 {
     if names.len() < WRITTEN {
         return false;
@@ -67,7 +67,7 @@ fn is_roomy(
 
 // A number and a place, and nothing counted.
 fn uncounted(number: usize, place: usize) -> ReadNumbers
-    ensures { λ r. ⌜ r ≡ bare number place ⌝ }
+    ensures { λ r. ⌜ r ≡ bareNumbers number place ⌝ }
 {
     ReadNumbers {
         number: number,
@@ -162,7 +162,7 @@ pub extern "C" fn kestrenyo_read(
     graph: &mut [u32],
     word: &mut [u8],
 ) -> ReadNumbers
-    ensures { λ r. ⌜ Reads (now (manifest .entry)) (buffers (now (names .entry)) (now (index .entry)) (now (texts .entry)) (now (bind .entry)) (now (graph .entry))) (now (word .entry)) r (buffers (now (names .exit)) (now (index .exit)) (now (texts .exit)) (now (bind .exit)) (now (graph .exit))) (now (word .exit)) ⌝ }
+    ensures { λ r. ⌜ ReadsManifest (now (manifest .entry)) (buffers (now (names .entry)) (now (index .entry)) (now (texts .entry)) (now (bind .entry)) (now (graph .entry))) (now (word .entry)) r (buffers (now (names .exit)) (now (index .exit)) (now (texts .exit)) (now (bind .exit)) (now (graph .exit))) (now (word .exit)) ⌝ }
 {
     if !is_roomy(names, index, texts, bind, graph, word) {
         return uncounted(255, 0);

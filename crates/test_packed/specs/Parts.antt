@@ -3,7 +3,7 @@ use Prim.Native.Nat.{ℕ, _≤_}
 use Rattle.test_packed.specs.declared.CaseHead.{CaseHead as Ends}
 
 -- the parts lie one behind another, in the first n bytes
-pub record Behind (h : Ends) (n : ℕ) : Type 0 where
+pub record PartsBehind (h : Ends) (n : ℕ) : Type 0 where
   pub manifest-behind : h .name ≤ h .manifest
   pub card-behind : h .manifest ≤ h .card
   pub targets-behind : h .card ≤ h .targets

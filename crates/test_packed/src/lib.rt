@@ -5,7 +5,7 @@ ghost use mathlib.Core.Bool.{true};
 ghost use Prim.Native.Nat.{_≤_};
 ghost use lib.ListN.{length};
 ghost use Rattle.lists.specs.Lent.{Spare};
-ghost use Rattle.test_packed.specs.Parts.{Behind};
+ghost use Rattle.test_packed.specs.Parts.{PartsBehind};
 use answers::Numbers;
 use byteorder::equal;
 use scan_numbers::word;
@@ -198,7 +198,7 @@ pub fn read_head(fd: i32) -> CaseHead {
 
 // Do the parts of a case lie one behind another.
 pub fn is_sound(h: CaseHead) -> bool
-    ensures { λ r. ⌜ (r ≡ true → Behind h (h .targets)) ⌝ }
+    ensures { λ r. ⌜ (r ≡ true → PartsBehind h (h .targets)) ⌝ }
 {
     if h.manifest < h.name {
         return false;

@@ -20,7 +20,7 @@ use Rattle.hold_names.specs.declared.Added.the-variants.{Old, New, Full}
 use Rattle.hold_names.specs.Table.{headsFrom, maxNumbers, HoldsNames, SoundNames, added, filesAfter, countAfter, AddsName}
 use Rattle.hold_names.proofs.Lies.{holds-none}
 use Rattle.test_scan.specs.Targets.{goodNames}
-use Rattle.test_scan.specs.Names.{addedNumber, AddsNumber, numbered, heldAfter, firstNames, AllAsked, AddsAll, Room, NumbersNames}
+use Rattle.test_scan.specs.Names.{addedNumber, AddsNumber, numbered, heldAfter, firstNames, NamesAsked, AddsAll, Room, NumbersNames}
 
 -- ---- the names of a list, one after another
 
@@ -83,7 +83,7 @@ pub record Adding (list : List ℕ) (room : ℕ) (start : List ℕ) (from count 
   pub all : numbered room [] (firstNames start list) ≡ done ++ numbered room files (left list (length start) from n)
   pub table : heldAfter room [] (firstNames start list) ≡ heldAfter room files (left list (length start) from n)
 
-pub adding-begin : {names index : List ℕ} (list start : List ℕ) → AllAsked names index → Adding list (length names) start 0 0 0 names index start
+pub adding-begin : {names index : List ℕ} (list start : List ℕ) → NamesAsked names index → Adding list (length names) start 0 0 0 names index start
 unfolding targetsOf
 adding-begin list start a =
     let z : length start - 0 ≡ length start = omega arith in
@@ -173,5 +173,5 @@ module _ {list names index numbers : List ℕ} where
   numbers-all s m {n = n} a = record { refuses = λ f. absurd (f (record { small = s; room = m })); adds = λ _. (n, refl, a) }
 
 -- the table of none
-pub empty-table : (names index : List ℕ) → length names < 2 ^ 32 → maxNumbers ≤ length index → {cleared : List ℕ} → cleared ≡ zeroed index headsFrom maxNumbers → AllAsked names cleared
+pub empty-table : (names index : List ℕ) → length names < 2 ^ 32 → maxNumbers ≤ length index → {cleared : List ℕ} → cleared ≡ zeroed index headsFrom maxNumbers → NamesAsked names cleared
 empty-table names index s m e = record { empty = rw e (holds-none names index s m) }

@@ -21,7 +21,7 @@ use Rattle.scan_raw.specs.declared.FirstBad.the-variants.{Nowhere, At}
 use Rattle.scan_lines.specs.declared.LineKind.{LineKind}
 use Rattle.scan_lines.specs.declared.LineKind.the-variants.{Comment, Blank, Indented, Statement}
 use Rattle.spec.specs.Dollars.{element}
-use Rattle.scan_dollars.specs.Element.{restOf, Passed}
+use Rattle.scan_dollars.specs.Element.{restOf, DollarPassed}
 use Rattle.scan_raw.specs.Texts.{PathEnds, PathBad, PathsStop, PathNext, PathsBad, placeOf}
 use Rattle.scan_lines.specs.Endings.{LineEnded, openLine, LineOpen, kindOf}
 use Rattle.scan_targets.specs.declared.NextTarget.{NextTarget}
@@ -51,7 +51,7 @@ module _ (s : List ℕ) (i : ℕ) {k : ℕ} (e : k ≡ min i (length s)) where
   token {f} a = reads-place a ∙ ap (λ (l : List ℕ). length s - length (f l)) drop-start
 
   -- a dollar
-  pub dollar-past : {n : ℕ} → Passed s k n → n + 1 ≡ dollarNumber s i
+  pub dollar-past : {n : ℕ} → DollarPassed s k n → n + 1 ≡ dollarNumber s i
   unfolding dollarNumber restNumber
   dollar-past {n} p =
       let z : length s - length (drop n s) ≡ n = omega (arith, length-drop n s, p .within) in

@@ -41,7 +41,7 @@ heldAfter room files (p ∷ ps) = heldAfter room (filesAfter (added room p files
 abbrev pub firstNames : List ℕ → List ℕ → List (List ℕ)
 firstNames numbers list = take (length numbers) (goodNames (targetsOf list))
 
-pub record AllAsked (names index : List ℕ) : Type 0 where
+pub record NamesAsked (names index : List ℕ) : Type 0 where
   pub empty : HoldsNames names index 0 []
 
 pub record AddsAll (list : List ℕ) (room : ℕ) (before : List ℕ) (n : ℕ) (names index after : List ℕ) : Type 0 where
@@ -57,12 +57,12 @@ pub record Room (names index : List ℕ) : Type 0 where
   pub room : maxNumbers ≤ length index
 
 -- 0, and all as it was
-pub record Untouched (names index numbers : List ℕ) (r : ℕ) (names′ index′ numbers′ : List ℕ) : Type 0 where
+pub record NumbersUntouched (names index numbers : List ℕ) (r : ℕ) (names′ index′ numbers′ : List ℕ) : Type 0 where
   pub none : r ≡ 0
   pub bytes : names′ ≡ names
   pub links : index′ ≡ index
   pub column : numbers′ ≡ numbers
 
 pub record NumbersNames (list names index numbers : List ℕ) (r : ℕ) (names′ index′ numbers′ : List ℕ) : Type 0 where
-  pub refuses : (Room names index → ⊥) → Untouched names index numbers r names′ index′ numbers′
+  pub refuses : (Room names index → ⊥) → NumbersUntouched names index numbers r names′ index′ numbers′
   pub adds : Room names index → (n : ℕ) × (r ≡ n + 1) × AddsAll list (length names) numbers n names′ index′ numbers′

@@ -2,7 +2,7 @@
 ghost use Prim.Native.Nat.{_+_};
 ghost use lib.ListN.{length};
 ghost use Rattle.hold_names.specs.Table.{SoundNames};
-ghost use Rattle.test_scan.specs.Names.{AddsNumber, AllAsked, AddsAll, NumbersNames};
+ghost use Rattle.test_scan.specs.Names.{AddsNumber, NamesAsked, AddsAll, NumbersNames};
 use hold_names::Added;
 use hold_names::NUMBERS;
 use hold_names::add;
@@ -38,7 +38,7 @@ fn add_name(names: &mut [u8], index: &mut [u32], count: usize, path: &[u8]) -> N
 
 // Adds the names of a list to a table of none, as long as there is room for their numbers. How many they are.
 fn add_all(list: &[u8], names: &mut [u8], index: &mut [u32], numbers: &mut [u32]) -> usize
-    requires { ⌜ AllAsked (now names) (now index) ⌝ }
+    requires { ⌜ NamesAsked (now names) (now index) ⌝ }
     ensures { λ r. ⌜ AddsAll (now (list .entry)) (length (now (names .entry))) (now (numbers .entry)) r (now (names .exit)) (now (index .exit)) (now (numbers .exit)) ⌝ }
 {
     let mut from = 0;

@@ -9,7 +9,7 @@ use lib.Seq.{drop-cons}
 use Rattle.spec.specs.Limits.{maxText}
 use Rattle.spec.specs.Text.{joinedBy}
 use Rattle.hold_names.specs.Table.{HoldsNames}
-use Rattle.text_buffer.specs.Puts.{Open, Puts, namesIn, headed, NameAsk, FilesAsk}
+use Rattle.text_buffer.specs.Puts.{Open, PutsText, namesIn, headed, FileNameAsk, FileNamesAsk}
 use Rattle.text_buffer.proofs.Parts.{puts-none, puts-over, puts-then, open-on}
 
 -- ---- one name
@@ -19,25 +19,25 @@ unfolding headed
 first c m zero z = refl
 first c m (suc j) z = absurd (omega arith)
 
-module _ {names index fs buffer : List ℕ} {count place i f : ℕ} (a : FilesAsk names index count fs buffer place) (b : i < length fs) (e : f ≡ getD fs i 0) where
-  pub name-ask : {now : List ℕ} {n : ℕ} → Open now n → NameAsk names index count f now n
+module _ {names index fs buffer : List ℕ} {count place i f : ℕ} (a : FileNamesAsk names index count fs buffer place) (b : i < length fs) (e : f ≡ getD fs i 0) where
+  pub name-ask : {now : List ℕ} {n : ℕ} → Open now n → FileNameAsk names index count f now n
   name-ask o = record { named = a .named; low = rw e (a .low i b); free = o }
 
-  pub head-first : (c : ℕ) {after : List ℕ} {r : ℕ} → i ≡ 0 → ((files : List (List ℕ)) → HoldsNames names index count files → Puts buffer place (getD files f []) after r)
-      → (files : List (List ℕ)) → HoldsNames names index count files → Puts buffer place (headed c i (getD files (getD fs i 0) [])) after r
+  pub head-first : (c : ℕ) {after : List ℕ} {r : ℕ} → i ≡ 0 → ((files : List (List ℕ)) → HoldsNames names index count files → PutsText buffer place (getD files f []) after r)
+      → (files : List (List ℕ)) → HoldsNames names index count files → PutsText buffer place (headed c i (getD files (getD fs i 0) [])) after r
   head-first c z p files h = rw (first c (getD files (getD fs i 0) []) i z, ← e) (p files h)
 
-  module _ (c : ℕ) (z : i ≡ 0 → ⊥) {middle : List ℕ} {n : ℕ} (p : Puts buffer place (c ∷ []) middle n) where
+  module _ (c : ℕ) (z : i ≡ 0 → ⊥) {middle : List ℕ} {n : ℕ} (p : PutsText buffer place (c ∷ []) middle n) where
     later : (m : List ℕ) (j : ℕ) → (j ≡ 0 → ⊥) → headed c j m ≡ c ∷ m
     unfolding headed
     later m zero w = absurd (w refl)
     later m (suc j) w = refl
 
-    pub head-over : maxText < n → (files : List (List ℕ)) → HoldsNames names index count files → Puts buffer place (headed c i (getD files (getD fs i 0) [])) middle n
+    pub head-over : maxText < n → (files : List (List ℕ)) → HoldsNames names index count files → PutsText buffer place (headed c i (getD files (getD fs i 0) [])) middle n
     head-over h files k = rw (later (getD files (getD fs i 0) []) i z) (puts-over p h (getD files (getD fs i 0) []))
 
-    pub head-on : {after : List ℕ} {r : ℕ} → n ≤ maxText → ((files : List (List ℕ)) → HoldsNames names index count files → Puts middle n (getD files f []) after r)
-        → (files : List (List ℕ)) → HoldsNames names index count files → Puts buffer place (headed c i (getD files (getD fs i 0) [])) after r
+    pub head-on : {after : List ℕ} {r : ℕ} → n ≤ maxText → ((files : List (List ℕ)) → HoldsNames names index count files → PutsText middle n (getD files f []) after r)
+        → (files : List (List ℕ)) → HoldsNames names index count files → PutsText buffer place (headed c i (getD files (getD fs i 0) [])) after r
     head-on h q files k = rw (later (getD files (getD fs i 0) []) i z, ← e) (puts-then p h (q files k))
 
 -- ---- one name after another
@@ -63,14 +63,14 @@ tail-first c (n ∷ m ∷ l) = ap (λ (r : List ℕ). n ++ r) (tail-later c 0 m 
 pub record Done (whole rest before : List ℕ) (place : ℕ) (now : List ℕ) (n : ℕ) : Type 0 where
   pub part : List ℕ
   pub adds : part ++ rest ≡ whole
-  pub puts : Puts before place part now n
+  pub puts : PutsText before place part now n
 
 pub record Joining (names index : List ℕ) (count : ℕ) (fs : List ℕ) (c : ℕ) (before : List ℕ) (place : ℕ) (now : List ℕ) (n i : ℕ) : Type 0 where
-  pub ask : FilesAsk names index count fs now n
+  pub ask : FileNamesAsk names index count fs now n
   pub long : length now ≡ length before
   pub done : (files : List (List ℕ)) → HoldsNames names index count files → Done (joinedBy c (namesIn files fs)) (tailFrom c i (namesIn files (drop i fs))) before place now n
 
-pub join-begin : {names index fs before : List ℕ} {count place : ℕ} (c : ℕ) → FilesAsk names index count fs before place → Joining names index count fs c before place before place 0
+pub join-begin : {names index fs before : List ℕ} {count place : ℕ} (c : ℕ) → FileNamesAsk names index count fs before place → Joining names index count fs c before place before place 0
 join-begin {fs = fs} c a =
     record {
       ask = a;
@@ -79,7 +79,7 @@ join-begin {fs = fs} c a =
     }
 
 module _ {names index fs before now : List ℕ} {count c place n i : ℕ} (x : Joining names index count fs c before place now n i) (b : i < length fs) {next : List ℕ} {r : ℕ}
-    (p : (files : List (List ℕ)) → HoldsNames names index count files → Puts now n (headed c i (getD files (getD fs i 0) [])) next r) where
+    (p : (files : List (List ℕ)) → HoldsNames names index count files → PutsText now n (headed c i (getD files (getD fs i 0) [])) next r) where
   left : (files : List (List ℕ)) → tailFrom c i (namesIn files (drop i fs)) ≡ headed c i (getD files (getD fs i 0) []) ++ tailFrom c (suc i) (namesIn files (drop (suc i) fs))
   unfolding tailFrom
   left files = rw (drop-cons fs i 0 b)
@@ -100,14 +100,14 @@ module _ {names index fs before now : List ℕ} {count c place n i : ℕ} (x : J
             };
       }
 
-  pub join-over : maxText < r → (files : List (List ℕ)) → HoldsNames names index count files → Puts before place (joinedBy c (namesIn files fs)) next r
+  pub join-over : maxText < r → (files : List (List ℕ)) → HoldsNames names index count files → PutsText before place (joinedBy c (namesIn files fs)) next r
   join-over h files k =
       let d = x .done files k in
       let u = tailFrom c (suc i) (namesIn files (drop (suc i) fs)) in
       rw (← (d .adds), left files, ← append-assoc) (puts-over (puts-then (d .puts) (x .ask .free .low) (p files k)) h u)
 
 pub join-end : {names index fs before now : List ℕ} {count c place n i : ℕ} → Joining names index count fs c before place now n i → length fs ≤ i
-    → (files : List (List ℕ)) → HoldsNames names index count files → Puts before place (joinedBy c (namesIn files fs)) now n
+    → (files : List (List ℕ)) → HoldsNames names index count files → PutsText before place (joinedBy c (namesIn files fs)) now n
 unfolding tailFrom
 join-end {fs = fs} {i = i} x h files k =
     let d = x .done files k in

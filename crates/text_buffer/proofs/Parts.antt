@@ -8,9 +8,9 @@ use native.Mathlib.Omega.{arith}
 use lib.ListN.{length, take, drop, set, length-append, length-set}
 use lib.Seq.{length-take-le, take-all, take-append-seam, take-suc-set, paste, length-paste}
 use Rattle.spec.specs.Limits.{maxText}
-use Rattle.text_buffer.specs.Puts.{Open, Puts}
+use Rattle.text_buffer.specs.Puts.{Open, PutsText}
 
-pub puts-none : {buffer : List ℕ} {place : ℕ} → Open buffer place → Puts buffer place [] buffer place
+pub puts-none : {buffer : List ℕ} {place : ℕ} → Open buffer place → PutsText buffer place [] buffer place
 puts-none {buffer} {place} o =
     record {
       long = refl;
@@ -20,11 +20,11 @@ puts-none {buffer} {place} o =
     }
 
 -- past the limit
-pub puts-long : (buffer : List ℕ) (place : ℕ) (s : List ℕ) → maxText < place + length s → Puts buffer place s buffer 8193
+pub puts-long : (buffer : List ℕ) (place : ℕ) (s : List ℕ) → maxText < place + length s → PutsText buffer place s buffer 8193
 puts-long buffer place s h =
     record { long = refl; low = le-refl 8193; fits = λ k. absurd (omega arith); over = λ k. h }
 
-pub puts-over : {before s middle : List ℕ} {place q : ℕ} → Puts before place s middle q → maxText < q → (u : List ℕ) → Puts before place (s ++ u) middle q
+pub puts-over : {before s middle : List ℕ} {place q : ℕ} → PutsText before place s middle q → maxText < q → (u : List ℕ) → PutsText before place (s ++ u) middle q
 puts-over {before} {s} {middle} {place} {q} p h u =
     record {
       long = p .long;
@@ -33,11 +33,11 @@ puts-over {before} {s} {middle} {place} {q} p h u =
       over = λ k. let b = p .over h in omega (arith, length-append s u);
     }
 
-module _ {before s middle : List ℕ} {place q : ℕ} (p : Puts before place s middle q) (h : q ≤ maxText) where
+module _ {before s middle : List ℕ} {place q : ℕ} (p : PutsText before place s middle q) (h : q ≤ maxText) where
   pub open-on : Open before place → Open middle q
   open-on o = record { room = rw (p .long) (o .room); low = h }
 
-  pub puts-then : {u after : List ℕ} {r : ℕ} → Puts middle q u after r → Puts before place (s ++ u) after r
+  pub puts-then : {u after : List ℕ} {r : ℕ} → PutsText middle q u after r → PutsText before place (s ++ u) after r
   puts-then {u} {after} {r} n =
       let f = p .fits h in
       record {
@@ -55,7 +55,7 @@ module _ {before s middle : List ℕ} {place q : ℕ} (p : Puts before place s m
 -- ---- bytes
 
 module _ (buffer : List ℕ) (place : ℕ) (o : Open buffer place) where
-  pub puts-bytes : (s : List ℕ) {after : List ℕ} → length s ≤ 8192 - place → after ≡ paste buffer place s (length s) → Puts buffer place s after (place + length s)
+  pub puts-bytes : (s : List ℕ) {after : List ℕ} → length s ≤ 8192 - place → after ≡ paste buffer place s (length s) → PutsText buffer place s after (place + length s)
   puts-bytes s {after} h e =
       let n : length (take place buffer) ≡ place = length-take-le place buffer (omega (arith, o .low, o .room)) in
       let w : place + length s ≤ length buffer = omega (arith, o .low, o .room) in
@@ -69,7 +69,7 @@ module _ (buffer : List ℕ) (place : ℕ) (o : Open buffer place) where
         over = λ b. omega (arith, o .low);
       }
 
-  pub puts-byte : (b : ℕ) → place < 8192 → Puts buffer place (b ∷ []) (set buffer place b) (place + 1)
+  pub puts-byte : (b : ℕ) → place < 8192 → PutsText buffer place (b ∷ []) (set buffer place b) (place + 1)
   puts-byte b h =
       record {
         long = length-set buffer place b;

@@ -12,15 +12,15 @@ pub record Open (buffer : List ℕ) (place : ℕ) : Type 0 where
   pub low : place ≤ maxText
 
 -- The bytes s stand behind the first `place` bytes, up to place r.
-pub record Fits (before : List ℕ) (place : ℕ) (s after : List ℕ) (r : ℕ) : Type 0 where
+pub record BytesBehind (before : List ℕ) (place : ℕ) (s after : List ℕ) (r : ℕ) : Type 0 where
   pub count : r ≡ place + length s
   pub bytes : take r after ≡ take place before ++ s
 
 -- They are written, or r is past the limit and so are they.
-pub record Puts (before : List ℕ) (place : ℕ) (s after : List ℕ) (r : ℕ) : Type 0 where
+pub record PutsText (before : List ℕ) (place : ℕ) (s after : List ℕ) (r : ℕ) : Type 0 where
   pub long : length after ≡ length before
   pub low : r ≤ maxText + 1
-  pub fits : r ≤ maxText → Fits before place s after r
+  pub fits : r ≤ maxText → BytesBehind before place s after r
   pub over : maxText < r → maxText < place + length s
 
 -- ------------------------------------------------------------------ files
@@ -35,13 +35,13 @@ headed c zero n = n
 headed c (suc i) n = c ∷ n
 
 -- what writing a file's name asks
-pub record NameAsk (names index : List ℕ) (count f : ℕ) (buffer : List ℕ) (place : ℕ) : Type 0 where
+pub record FileNameAsk (names index : List ℕ) (count f : ℕ) (buffer : List ℕ) (place : ℕ) : Type 0 where
   pub named : SoundNames names index count
   pub low : f < count
   pub free : Open buffer place
 
 -- what writing the names of a list of files asks
-pub record FilesAsk (names index : List ℕ) (count : ℕ) (fs buffer : List ℕ) (place : ℕ) : Type 0 where
+pub record FileNamesAsk (names index : List ℕ) (count : ℕ) (fs buffer : List ℕ) (place : ℕ) : Type 0 where
   pub named : SoundNames names index count
   pub low : (i : ℕ) → i < length fs → getD fs i 0 < count
   pub free : Open buffer place

@@ -5,7 +5,7 @@ ghost use Prim.Native.Nat.{ℕ, _<_};
 ghost use lib.ListN.{length, getD};
 ghost use Rattle.spec.specs.Text.{joinedBy};
 ghost use Rattle.hold_names.specs.Table.{HoldsNames};
-ghost use Rattle.text_buffer.specs.Puts.{Open, Puts, NameAsk, FilesAsk, headed, namesIn};
+ghost use Rattle.text_buffer.specs.Puts.{Open, PutsText, FileNameAsk, FileNamesAsk, headed, namesIn};
 use hold_names::file_name;
 use slices::bytes::copy_at;
 use slices::words::at;
@@ -14,7 +14,7 @@ use spec::limits::TEXT;
 // Writes s from a place on.
 pub fn put_bytes(buffer: &mut [u8], place: usize, s: &[u8]) -> usize
     requires { ⌜ Open (now buffer) place ⌝ }
-    ensures { λ r. ⌜ Puts (now (buffer .entry)) place (now (s .entry)) (now (buffer .exit)) r ⌝ }
+    ensures { λ r. ⌜ PutsText (now (buffer .entry)) place (now (s .entry)) (now (buffer .exit)) r ⌝ }
 {
     if TEXT - place < s.len() {
         return 8193;
@@ -25,7 +25,7 @@ pub fn put_bytes(buffer: &mut [u8], place: usize, s: &[u8]) -> usize
 
 pub fn put_byte(buffer: &mut [u8], place: usize, b: u8) -> usize
     requires { ⌜ Open (now buffer) place ⌝ }
-    ensures { λ r. ⌜ Puts (now (buffer .entry)) place (b ∷ []) (now (buffer .exit)) r ⌝ }
+    ensures { λ r. ⌜ PutsText (now (buffer .entry)) place (b ∷ []) (now (buffer .exit)) r ⌝ }
 {
     if TEXT <= place {
         return 8193;
@@ -43,8 +43,8 @@ fn put_name(
     buffer: &mut [u8],
     place: usize,
 ) -> usize
-    requires { ⌜ NameAsk (now names) (now index) count f (now buffer) place ⌝ }
-    ensures { λ r. ⌜ ((files : List (List ℕ)) → HoldsNames (now (names .entry)) (now (index .entry)) count files → Puts (now (buffer .entry)) place (getD files f []) (now (buffer .exit)) r) ⌝ }
+    requires { ⌜ FileNameAsk (now names) (now index) count f (now buffer) place ⌝ }
+    ensures { λ r. ⌜ ((files : List (List ℕ)) → HoldsNames (now (names .entry)) (now (index .entry)) count files → PutsText (now (buffer .entry)) place (getD files f []) (now (buffer .exit)) r) ⌝ }
 {
     put_bytes(buffer, place, file_name(names, index, count, f))
 }
@@ -60,8 +60,8 @@ fn put_next(
     buffer: &mut [u8],
     place: usize,
 ) -> usize
-    requires { ⌜ (i < length (now fs)) × FilesAsk (now names) (now index) count (now fs) (now buffer) place ⌝ }
-    ensures { λ r. ⌜ ((files : List (List ℕ)) → HoldsNames (now (names .entry)) (now (index .entry)) count files → Puts (now (buffer .entry)) place (headed separator i (getD files (getD (now (fs .entry)) i 0) [])) (now (buffer .exit)) r) ⌝ }
+    requires { ⌜ (i < length (now fs)) × FileNamesAsk (now names) (now index) count (now fs) (now buffer) place ⌝ }
+    ensures { λ r. ⌜ ((files : List (List ℕ)) → HoldsNames (now (names .entry)) (now (index .entry)) count files → PutsText (now (buffer .entry)) place (headed separator i (getD files (getD (now (fs .entry)) i 0) [])) (now (buffer .exit)) r) ⌝ }
 {
     let f = at(fs, i);
     if i == 0 {
@@ -84,8 +84,8 @@ pub fn put_files(
     buffer: &mut [u8],
     place: usize,
 ) -> usize
-    requires { ⌜ FilesAsk (now names) (now index) count (now fs) (now buffer) place ⌝ }
-    ensures { λ r. ⌜ ((files : List (List ℕ)) → HoldsNames (now (names .entry)) (now (index .entry)) count files → Puts (now (buffer .entry)) place (joinedBy separator (namesIn files (now (fs .entry)))) (now (buffer .exit)) r) ⌝ }
+    requires { ⌜ FileNamesAsk (now names) (now index) count (now fs) (now buffer) place ⌝ }
+    ensures { λ r. ⌜ ((files : List (List ℕ)) → HoldsNames (now (names .entry)) (now (index .entry)) count files → PutsText (now (buffer .entry)) place (joinedBy separator (namesIn files (now (fs .entry)))) (now (buffer .exit)) r) ⌝ }
 {
     let mut n = place;
     let mut i = 0;

@@ -11,24 +11,24 @@ use Rattle.hold_bindings.specs.Log.{Logged}
 use Rattle.text_lookup.specs.declared.Asked.{Asked}
 use Rattle.text_lookup.specs.declared.Source.{Source}
 use Rattle.text_lookup.specs.declared.Source.the-variants.{Inputs, InputLines, Outputs, Value, Text, Unset}
-use Rattle.text_lookup.specs.Scope.{InScope, meaning, Looks}
+use Rattle.text_lookup.specs.Scope.{InScope, meaning, LooksUp}
 use Rattle.text_lookup.proofs.Standing.{found-key, ValueOf}
 use Rattle.text_recursion.proofs.Depths.{not-zero, text-shallow, text-whole, text-as-is}
 use Rattle.text_memo.specs.declared.Span.{Span}
 use Rattle.text_memo.specs.declared.Draft.{Draft}
-use Rattle.text_memo.specs.Draft.{spanFor, Remembered, Behind, Remembers, Drafted, Writes}
+use Rattle.text_memo.specs.Draft.{spanFor, Remembered, WrittenPart, Remembers, Drafted, WritesDraft}
 use Rattle.text_memo.proofs.Spans.{drafted-name}
 use Rattle.text_expansion.specs.Here.{Here}
-use Rattle.text_expansion.specs.Asks.{PlainAsk, WritesPlain, TextAsk, WritesText, NameAsk, WritesName, KeyAsk}
+use Rattle.text_expansion.specs.Asks.{PlainAsk, WritesPlain, RawTextAsk, WritesText, NameTextAsk, WritesName, KeyAsk}
 use Rattle.hold_reading.specs.Buffers.{Buffers}
 
 -- ---- a name
 
-module _ {t : List ℕ} {bs : Buffers} {name before : List ℕ} {a : Asked} {depth : ℕ} {d : Draft} (w : NameAsk t bs a name depth before d) where
+module _ {t : List ℕ} {bs : Buffers} {name before : List ℕ} {a : Asked} {depth : ℕ} {d : Draft} (w : NameTextAsk t bs a name depth before d) where
   pub in-scope : InScope (bs .texts) (bs .bind) a
   in-scope = let q = w .asking in record { log = q .log; reading = q .reading; step = q .step; scope = q .here .scope }
 
-  module _ {source : Source} (l : Looks (bs .texts) (bs .bind) a (λ rd s. lookup rd s name) source) where
+  module _ {source : Source} (l : LooksUp (bs .texts) (bs .bind) a (λ rd s. lookup rd s name) source) where
     pub key-asked : {k : ℕ} → source ≡ Text k → KeyAsk t bs a name k depth before d
     unfolding meaning
     key-asked {k} e =
@@ -68,12 +68,12 @@ module _ {t : List ℕ} {bs : Buffers} {name before : List ℕ} {a : Asked} {k d
   -- where it stands already
 
   module _ {span : Span} (e : span ≡ spanFor d name) (b : span .from ≤ span .to) where
-    pub again-behind : Behind before (span .from) (span .to) (d .at)
+    pub again-behind : WrittenPart before (span .from) (span .to) (d .at)
     again-behind =
         let q = w .ask .asking .remembers in
         record { ordered = b; written = rw e (q .kept name (rw e at b) .written); free = q .free }
 
-    pub again-written : {after : List ℕ} {r : Draft} → Writes before d (part before (span .from) (span .to)) after r → WritesName bs a name depth before d after r
+    pub again-written : {after : List ℕ} {r : Draft} → WritesDraft before d (part before (span .from) (span .to)) after r → WritesName bs a name depth before d after r
     again-written {after} {r} p =
         record {
           writes = λ log rd s h c q.
@@ -93,7 +93,7 @@ module _ {t : List ℕ} {bs : Buffers} {name before : List ℕ} {a : Asked} {k d
     raw-found : {log : List Logged} {rd : Reading} {s : Step} → Here bs a log rd s → lookup rd s name ≡ ofRule raw
     raw-found {log} {rd} {s} h = w .found log rd s h ∙ ap ofRule (sym (v log (a .entries) (h .scope .bound) (w .there .low)))
 
-    pub text-asked : TextAsk t bs a raw (depth - 1) before d
+    pub text-asked : RawTextAsk t bs a raw (depth - 1) before d
     text-asked =
         let q = w .ask .asking in
         record {

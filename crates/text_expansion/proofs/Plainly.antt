@@ -17,16 +17,16 @@ use Rattle.text_lookup.proofs.Standing.{ValueOf}
 use Rattle.text_buffer.specs.Puts.{namesIn}
 use Rattle.text_buffer.specs.Puts as output
 use Rattle.text_memo.specs.declared.Draft.{Draft}
-use Rattle.text_memo.specs.Draft.{Writes}
+use Rattle.text_memo.specs.Draft.{WritesDraft}
 use Rattle.text_memo.proofs.Spans.{drafted-none}
-use Rattle.text_expansion.specs.Here.{Files, Here}
-use Rattle.text_expansion.specs.Asks.{FilesAsk, PlainAsk, WritesPlain}
+use Rattle.text_expansion.specs.Here.{StepFiles, Here}
+use Rattle.text_expansion.specs.Asks.{StepFilesAsk, PlainAsk, WritesPlain}
 use Rattle.hold_reading.specs.Buffers.{Buffers}
 
 -- ---- files
 
-pub part-ask : {names index graph buffer : List ℕ} {a : Asked} {from to : ℕ} {d : Draft} → FilesAsk names index graph a from to buffer d
-    → output.FilesAsk names index (a .files) (part graph from to) buffer (d .at)
+pub part-ask : {names index graph buffer : List ℕ} {a : Asked} {from to : ℕ} {d : Draft} → StepFilesAsk names index graph a from to buffer d
+    → output.FileNamesAsk names index (a .files) (part graph from to) buffer (d .at)
 part-ask {graph = graph} {from = from} {to = to} w =
     let f = w .files in
     record {
@@ -44,7 +44,7 @@ as-is-one e = cc
 
 module _ {bs : Buffers} {before after : List ℕ} {a : Asked} {source : Source} {d r : Draft} where
   plainly : (x : Reading → Step → List Logged → List ℕ) → ((rd : Reading) (s : Step) (log : List Logged) → meaning rd s log source ≡ asIs (x rd s log))
-      → ((log : List Logged) (rd : Reading) (s : Step) → Here bs a log rd s → Writes before d (x rd s log) after r)
+      → ((log : List Logged) (rd : Reading) (s : Step) → Here bs a log rd s → WritesDraft before d (x rd s log) after r)
       → WritesPlain bs a source before d after r
   plainly x e p =
       record {
@@ -55,28 +55,28 @@ module _ {bs : Buffers} {before after : List ℕ} {a : Asked} {source : Source} 
 
   -- files of the step between two places
   plain-files : (c from to : ℕ) (l : Step → List ℕ) → ((rd : Reading) (s : Step) (log : List Logged) → meaning rd s log source ≡ asIs (joinedBy c (namesOf rd (l s))))
-      → ((rd : Reading) (s : Step) → Files (bs .names) (bs .index) (bs .graph) a rd s → part (bs .graph) from to ≡ l s)
-      → ((files : List (List ℕ)) → HoldsNames (bs .names) (bs .index) (a .files) files → Writes before d (joinedBy c (namesIn files (part (bs .graph) from to))) after r)
+      → ((rd : Reading) (s : Step) → StepFiles (bs .names) (bs .index) (bs .graph) a rd s → part (bs .graph) from to ≡ l s)
+      → ((files : List (List ℕ)) → HoldsNames (bs .names) (bs .index) (a .files) files → WritesDraft before d (joinedBy c (namesIn files (part (bs .graph) from to))) after r)
       → WritesPlain bs a source before d after r
   unfolding namesOf
   plain-files c from to l e q w = plainly (λ rd s log. joinedBy c (namesOf rd (l s))) e (λ log rd s h. rw (← (q rd s (h .files))) (w (rd .files) (h .files .named)))
 
-  pub plain-inputs : source ≡ Inputs → ((files : List (List ℕ)) → HoldsNames (bs .names) (bs .index) (a .files) files → Writes before d (joinedBy space (namesIn files (part (bs .graph) (a .ins) (a .rest)))) after r)
+  pub plain-inputs : source ≡ Inputs → ((files : List (List ℕ)) → HoldsNames (bs .names) (bs .index) (a .files) files → WritesDraft before d (joinedBy space (namesIn files (part (bs .graph) (a .ins) (a .rest)))) after r)
       → WritesPlain bs a source before d after r
   unfolding meaning
   plain-inputs e = plain-files space (a .ins) (a .rest) (λ s. s .ins) (λ rd s log. ap (meaning rd s log) e) (λ rd s f. f .ins)
 
-  pub plain-lines : source ≡ InputLines → ((files : List (List ℕ)) → HoldsNames (bs .names) (bs .index) (a .files) files → Writes before d (joinedBy newline (namesIn files (part (bs .graph) (a .ins) (a .rest)))) after r)
+  pub plain-lines : source ≡ InputLines → ((files : List (List ℕ)) → HoldsNames (bs .names) (bs .index) (a .files) files → WritesDraft before d (joinedBy newline (namesIn files (part (bs .graph) (a .ins) (a .rest)))) after r)
       → WritesPlain bs a source before d after r
   unfolding meaning
   plain-lines e = plain-files newline (a .ins) (a .rest) (λ s. s .ins) (λ rd s log. ap (meaning rd s log) e) (λ rd s f. f .ins)
 
-  pub plain-outputs : source ≡ Outputs → ((files : List (List ℕ)) → HoldsNames (bs .names) (bs .index) (a .files) files → Writes before d (joinedBy space (namesIn files (part (bs .graph) (a .outs) (a .ins)))) after r)
+  pub plain-outputs : source ≡ Outputs → ((files : List (List ℕ)) → HoldsNames (bs .names) (bs .index) (a .files) files → WritesDraft before d (joinedBy space (namesIn files (part (bs .graph) (a .outs) (a .ins)))) after r)
       → WritesPlain bs a source before d after r
   unfolding meaning
   plain-outputs e = plain-files space (a .outs) (a .ins) (λ s. s .outs) (λ rd s log. ap (meaning rd s log) e) (λ rd s f. f .outs)
 
-  pub plain-value : {k : ℕ} {raw : List ℕ} → PlainAsk bs a source before d → source ≡ Value k → ValueOf (bs .texts) (bs .bind) k raw → Writes before d raw after r
+  pub plain-value : {k : ℕ} {raw : List ℕ} → PlainAsk bs a source before d → source ≡ Value k → ValueOf (bs .texts) (bs .bind) k raw → WritesDraft before d raw after r
       → WritesPlain bs a source before d after r
   unfolding meaning
   plain-value {k} {raw} w e v p =

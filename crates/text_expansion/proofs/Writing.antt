@@ -12,7 +12,7 @@ use Rattle.spec.specs.Reading.{Step, Reading}
 use Rattle.spec.specs.Text.{textOf, deep}
 use Rattle.scan_raw.proofs.Pieces.{pieces-end}
 use Rattle.hold_bindings.specs.Log.{Logged}
-use Rattle.text_references.specs.Begins.{Ready, plainly, Stands}
+use Rattle.text_references.specs.Begins.{ReferencesReady, plainly, PiecesStand}
 use Rattle.text_references.proofs.Turns.{expand-bytes, expand-name, refs-bytes, refs-name, ready-on}
 use Rattle.text_lookup.specs.declared.Asked.{Asked}
 use Rattle.text_recursion.specs.Depth.{goesDeep}
@@ -20,10 +20,10 @@ use Rattle.text_recursion.proofs.Depths.{none-first, none-later}
 use Rattle.text_buffer.specs.Puts.{Open}
 use Rattle.text_buffer.proofs.Parts.{open-on}
 use Rattle.text_memo.specs.declared.Draft.{Draft}
-use Rattle.text_memo.specs.Draft.{Remembers, Drafted, Writes}
+use Rattle.text_memo.specs.Draft.{Remembers, Drafted, WritesDraft}
 use Rattle.text_memo.proofs.Spans.{drafted-none, drafted-then, drafted-over}
 use Rattle.text_expansion.specs.Here.{Here}
-use Rattle.text_expansion.specs.Asks.{TextAsk, WritesText, NameAsk, WritesName}
+use Rattle.text_expansion.specs.Asks.{RawTextAsk, WritesText, NameTextAsk, WritesName}
 use Rattle.hold_reading.specs.Buffers.{Buffers}
 
 expand-none : (look : List ℕ → List ℕ) → expand look [] ≡ []
@@ -38,14 +38,14 @@ pub record Progress (rd : Reading) (s : Step) (raw : List ℕ) (depth : ℕ) (be
   pub shallow : any (goesDeep rd s depth) (refs (drop i raw)) ≡ false
 
 pub record Writing (t : List ℕ) (bs : Buffers) (a : Asked) (raw : List ℕ) (depth : ℕ) (before : List ℕ) (d : Draft) (now : List ℕ) (x : Draft) (i : ℕ) : Type 0 where
-  pub ask : TextAsk t bs a raw depth before d
-  pub ready : Ready t raw i
+  pub ask : RawTextAsk t bs a raw depth before d
+  pub ready : ReferencesReady t raw i
   pub free : Open now (x .at)
   pub long : length now ≡ length before
   pub done : (log : List Logged) (rd : Reading) (s : Step) → Here bs a log rd s → any (goesDeep rd s depth) (refs raw) ≡ false
       → Remembers (textOf rd s deep) before d → Progress rd s raw depth before d now x i
 
-pub write-begin : {t : List ℕ} {bs : Buffers} {raw before : List ℕ} {a : Asked} {depth : ℕ} {d : Draft} → TextAsk t bs a raw depth before d
+pub write-begin : {t : List ℕ} {bs : Buffers} {raw before : List ℕ} {a : Asked} {depth : ℕ} {d : Draft} → RawTextAsk t bs a raw depth before d
     → Writing t bs a raw depth before d before d 0
 write-begin w =
     record {
@@ -61,7 +61,7 @@ module _ {t : List ℕ} {bs : Buffers} {raw before now : List ℕ} {a : Asked} {
   asked : Progress (w .ask .asking .reading) (w .ask .asking .step) raw depth before d now x i
   asked = let q = w .ask .asking in w .done (q .log) (q .reading) (q .step) (q .here) (w .ask .shallow) (q .remembers)
 
-  module _ {next : ℕ} {after : List ℕ} {r : Draft} (ready : Ready t raw next) (u : Reading → Step → List ℕ)
+  module _ {next : ℕ} {after : List ℕ} {r : Draft} (ready : ReferencesReady t raw next) (u : Reading → Step → List ℕ)
       (e : (rd : Reading) (s : Step) → expand (textOf rd s deep) (drop i raw) ≡ u rd s ++ expand (textOf rd s deep) (drop next raw))
       (f : (log : List Logged) (rd : Reading) (s : Step) → Here bs a log rd s → any (goesDeep rd s depth) (refs (drop i raw)) ≡ false
       → Remembers (textOf rd s deep) now x → Drafted (textOf rd s deep) now x (u rd s) after r)
@@ -102,7 +102,7 @@ module _ {t : List ℕ} {bs : Buffers} {raw before now : List ℕ} {a : Asked} {
   module _ {from to next : ℕ} where
     -- ---- bytes of the text
 
-    module _ (b : Stands raw i from to next (plainly (part raw from to))) {after : List ℕ} {r : Draft} (p : Writes now x (part raw from to) after r) where
+    module _ (b : PiecesStand raw i from to next (plainly (part raw from to))) {after : List ℕ} {r : Draft} (p : WritesDraft now x (part raw from to) after r) where
       pub bytes-on : r .at ≤ maxText → Writing t bs a raw depth before d after r next
       bytes-on =
           turn-on (ready-on (w .ready) b) (λ rd s. part raw from to) (λ rd s. expand-bytes b (textOf rd s deep)) (λ log rd s h c k. p .drafts (textOf rd s deep) k)
@@ -115,14 +115,14 @@ module _ {t : List ℕ} {bs : Buffers} {raw before now : List ℕ} {a : Asked} {
 
     -- ---- a name
 
-    module _ (b : Stands raw i from to next (ref (part raw from to) ∷ [])) where
+    module _ (b : PiecesStand raw i from to next (ref (part raw from to) ∷ [])) where
       first : (rd : Reading) (s : Step) → any (goesDeep rd s depth) (refs (drop i raw)) ≡ false → goesDeep rd s depth (part raw from to) ≡ false
       first rd s c = none-first (goesDeep rd s depth) (part raw from to) (refs (drop next raw)) (rw (refs-name b) at c)
 
       later : (rd : Reading) (s : Step) → any (goesDeep rd s depth) (refs (drop i raw)) ≡ false → any (goesDeep rd s depth) (refs (drop next raw)) ≡ false
       later rd s c = none-later (goesDeep rd s depth) (part raw from to) (refs (drop next raw)) (rw (refs-name b) at c)
 
-      pub name-asked : NameAsk t bs a (part raw from to) depth now x
+      pub name-asked : NameTextAsk t bs a (part raw from to) depth now x
       name-asked =
           let q = w .ask .asking in
           record {

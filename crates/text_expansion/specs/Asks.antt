@@ -9,7 +9,7 @@ use Rattle.spec.specs.Reading.{Step, Reading}
 use Rattle.spec.specs.Text.{asIs, ofRule, lookup, textOf, deep}
 use Rattle.scan_classes.specs.Table.{classes}
 use Rattle.hold_bindings.specs.Log.{Logged, entryAt}
-use Rattle.text_references.specs.Begins.{Ready}
+use Rattle.text_references.specs.Begins.{ReferencesReady}
 use Rattle.text_lookup.specs.declared.Asked.{Asked}
 use Rattle.text_lookup.specs.declared.Source.{Source}
 use Rattle.text_lookup.specs.declared.Source.the-variants.{Value}
@@ -18,14 +18,14 @@ use Rattle.text_recursion.specs.Depth.{goesDeep}
 use Rattle.text_buffer.specs.Puts.{Open}
 use Rattle.text_memo.specs.declared.Draft.{Draft}
 use Rattle.text_memo.specs.Draft.{Remembers, Drafted}
-use Rattle.text_expansion.specs.Here.{Files, Here}
+use Rattle.text_expansion.specs.Here.{StepFiles, Here}
 use Rattle.hold_reading.specs.Buffers.{Buffers}
 
 -- files of the step, from a place of the mentions to another
-pub record FilesAsk (names index graph : List ℕ) (a : Asked) (from to : ℕ) (buffer : List ℕ) (d : Draft) : Type 0 where
+pub record StepFilesAsk (names index graph : List ℕ) (a : Asked) (from to : ℕ) (buffer : List ℕ) (d : Draft) : Type 0 where
   pub reading : Reading
   pub step : Step
-  pub files : Files names index graph a reading step
+  pub files : StepFiles names index graph a reading step
   pub first : a .outs ≤ from
   pub ordered : from ≤ to
   pub last : to ≤ a .rest
@@ -36,7 +36,7 @@ pub record FilesAsk (names index graph : List ℕ) (a : Asked) (from to : ℕ) (
 pub record PlainAsk (bs : Buffers) (a : Asked) (source : Source) (buffer : List ℕ) (d : Draft) : Type 0 where
   pub reading : Reading
   pub step : Step
-  pub files : Files (bs .names) (bs .index) (bs .graph) a reading step
+  pub files : StepFiles (bs .names) (bs .index) (bs .graph) a reading step
   pub free : Open buffer (d .at)
   pub value : (k : ℕ) → source ≡ Value k → There (bs .texts) (bs .bind) a k
 
@@ -55,8 +55,8 @@ pub record Asking (bs : Buffers) (a : Asked) (buffer : List ℕ) (d : Draft) : T
   pub remembers : Remembers (textOf reading step deep) buffer d
 
 -- a raw text
-pub record TextAsk (t : List ℕ) (bs : Buffers) (a : Asked) (raw : List ℕ) (depth : ℕ) (buffer : List ℕ) (d : Draft) : Type 0 where
-  pub ready : Ready t raw 0
+pub record RawTextAsk (t : List ℕ) (bs : Buffers) (a : Asked) (raw : List ℕ) (depth : ℕ) (buffer : List ℕ) (d : Draft) : Type 0 where
+  pub ready : ReferencesReady t raw 0
   pub low : depth ≤ deep
   pub asking : Asking bs a buffer d
   pub shallow : any (goesDeep (asking .reading) (asking .step) depth) (refs raw) ≡ false
@@ -66,7 +66,7 @@ pub record WritesText (bs : Buffers) (a : Asked) (raw : List ℕ) (depth : ℕ) 
       → Remembers (textOf rd s deep) before d → Drafted (textOf rd s deep) before d (expand (textOf rd s deep) raw) after r
 
 -- a name
-pub record NameAsk (t : List ℕ) (bs : Buffers) (a : Asked) (name : List ℕ) (depth : ℕ) (buffer : List ℕ) (d : Draft) : Type 0 where
+pub record NameTextAsk (t : List ℕ) (bs : Buffers) (a : Asked) (name : List ℕ) (depth : ℕ) (buffer : List ℕ) (d : Draft) : Type 0 where
   pub table : t ≡ classes
   pub low : depth ≤ deep
   pub asking : Asking bs a buffer d
@@ -78,7 +78,7 @@ pub record WritesName (bs : Buffers) (a : Asked) (name : List ℕ) (depth : ℕ)
 
 -- a rule's key, by its entry
 pub record KeyAsk (t : List ℕ) (bs : Buffers) (a : Asked) (name : List ℕ) (k depth : ℕ) (buffer : List ℕ) (d : Draft) : Type 0 where
-  pub ask : NameAsk t bs a name depth buffer d
+  pub ask : NameTextAsk t bs a name depth buffer d
   pub there : There (bs .texts) (bs .bind) a k
   pub found : (log : List Logged) (rd : Reading) (s : Step) → Here bs a log rd s → lookup rd s name ≡ ofRule (entryAt k log .value)
 

@@ -12,7 +12,7 @@ use Rattle.text_lookup.specs.Scope.{Scope}
 use Rattle.hold_reading.specs.Buffers.{Buffers}
 
 -- its files: outputs, and behind them the explicit inputs, in the column of mentions that begins the graph
-pub record Files (names index graph : List ℕ) (a : Asked) (rd : Reading) (s : Step) : Type 0 where
+pub record StepFiles (names index graph : List ℕ) (a : Asked) (rd : Reading) (s : Step) : Type 0 where
   pub named : HoldsNames names index (a .files) (rd .files)
   pub outs-ordered : a .outs ≤ a .ins
   pub ins-ordered : a .ins ≤ a .rest
@@ -23,4 +23,4 @@ pub record Files (names index graph : List ℕ) (a : Asked) (rd : Reading) (s : 
 
 pub record Here (bs : Buffers) (a : Asked) (log : List Logged) (rd : Reading) (s : Step) : Type 0 where
   pub scope : Scope (bs .texts) (bs .bind) a log rd s
-  pub files : Files (bs .names) (bs .index) (bs .graph) a rd s
+  pub files : StepFiles (bs .names) (bs .index) (bs .graph) a rd s

@@ -1,5 +1,5 @@
 // A step's text written into the lent buffer: a name's text as it is, or a rule's text expanded by the same lookup. Each rule key is expanded once.
-ghost use Rattle.text_expansion.specs.Asks.{TextAsk, NameAsk, KeyAsk, WritesText, WritesName, WritesKey};
+ghost use Rattle.text_expansion.specs.Asks.{RawTextAsk, NameTextAsk, KeyAsk, WritesText, WritesName, WritesKey};
 ghost use Rattle.hold_reading.specs.Buffers.{buffers};
 use hold_bindings::value;
 use plain::write_plain;
@@ -31,7 +31,7 @@ fn write_text(
     buffer: &mut [u8],
     d: Draft,
 ) -> Draft
-    requires { ⌜ TextAsk (now t) (buffers (now names) (now index) (now texts) (now bind) (now graph)) a (now raw) depth (now buffer) d ⌝ }
+    requires { ⌜ RawTextAsk (now t) (buffers (now names) (now index) (now texts) (now bind) (now graph)) a (now raw) depth (now buffer) d ⌝ }
     ensures { λ r. ⌜ WritesText (buffers (now (names .entry)) (now (index .entry)) (now (texts .entry)) (now (bind .entry)) (now (graph .entry))) a (now (raw .entry)) depth (now (buffer .entry)) d (now (buffer .exit)) r ⌝ }
 {
     let mut x = d;
@@ -83,7 +83,7 @@ pub fn write_name(
     buffer: &mut [u8],
     d: Draft,
 ) -> Draft
-    requires { ⌜ NameAsk (now t) (buffers (now names) (now index) (now texts) (now bind) (now graph)) a (now name) depth (now buffer) d ⌝ }
+    requires { ⌜ NameTextAsk (now t) (buffers (now names) (now index) (now texts) (now bind) (now graph)) a (now name) depth (now buffer) d ⌝ }
     ensures { λ r. ⌜ WritesName (buffers (now (names .entry)) (now (index .entry)) (now (texts .entry)) (now (bind .entry)) (now (graph .entry))) a (now (name .entry)) depth (now (buffer .entry)) d (now (buffer .exit)) r ⌝ }
 {
     let source = lookup(texts, bind, a, name);

@@ -5,8 +5,8 @@ ghost use Rattle.lists.specs.Parts.{part};
 ghost use Rattle.spec.specs.Text.{joinedBy};
 ghost use Rattle.hold_names.specs.Table.{HoldsNames};
 ghost use Rattle.text_buffer.specs.Puts.{namesIn};
-ghost use Rattle.text_memo.specs.Draft.{Writes};
-ghost use Rattle.text_expansion.specs.Asks.{FilesAsk, PlainAsk, WritesPlain};
+ghost use Rattle.text_memo.specs.Draft.{WritesDraft};
+ghost use Rattle.text_expansion.specs.Asks.{StepFilesAsk, PlainAsk, WritesPlain};
 ghost use Rattle.hold_reading.specs.Buffers.{buffers};
 use hold_bindings::value;
 use text_buffer::put_files;
@@ -28,8 +28,8 @@ fn write_files(
     buffer: &mut [u8],
     d: Draft,
 ) -> Draft
-    requires { ⌜ FilesAsk (now names) (now index) (now graph) a from to (now buffer) d ⌝ }
-    ensures { λ r. ⌜ ((files : List (List ℕ)) → HoldsNames (now (names .entry)) (now (index .entry)) (a .files) files → Writes (now (buffer .entry)) d (joinedBy separator (namesIn files (part (now (graph .entry)) from to))) (now (buffer .exit)) r) ⌝ }
+    requires { ⌜ StepFilesAsk (now names) (now index) (now graph) a from to (now buffer) d ⌝ }
+    ensures { λ r. ⌜ ((files : List (List ℕ)) → HoldsNames (now (names .entry)) (now (index .entry)) (a .files) files → WritesDraft (now (buffer .entry)) d (joinedBy separator (namesIn files (part (now (graph .entry)) from to))) (now (buffer .exit)) r) ⌝ }
 {
     let n = put_files(
         names,

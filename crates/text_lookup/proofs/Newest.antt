@@ -13,13 +13,13 @@ use Rattle.spec.specs.Reading.{boundTo, fileVar}
 use Rattle.spec.specs.Text.{asIs, ofRule, ofStep, lookup}
 use Rattle.hold_bindings.specs.declared.FoundEntry.{FoundEntry}
 use Rattle.hold_bindings.specs.declared.FoundEntry.the-variants.{At, Missing}
-use Rattle.hold_bindings.specs.Log.{Logged, ofFile, ofKeys, ofStep as ofBlock, entryAt, newest, valueOf, boundBy}
+use Rattle.hold_bindings.specs.Log.{Logged, ofFile, ofKeys, ofBlock, entryAt, newest, valueOf, boundBy}
 use Rattle.hold_bindings.specs.Held.{HoldsBindings}
 use Rattle.hold_bindings.proofs.Lookups.{newest-below, find-newest, orEmpty}
 use Rattle.text_lookup.specs.declared.Asked.{Asked}
 use Rattle.text_lookup.specs.declared.Source.{Source}
 use Rattle.text_lookup.specs.declared.Source.the-variants.{Inputs, InputLines, Outputs, Value, Text, Unset}
-use Rattle.text_lookup.specs.Scope.{InScope, meaning, fromFile, fromRule, fromBlock, There, Looks}
+use Rattle.text_lookup.specs.Scope.{InScope, meaning, fromFile, fromRule, fromBlock, There, LooksUp}
 
 -- f is the newest entry of a name for an owner
 module _ (o : ℕ) (n : List ℕ) (a : Asked) {texts bind : List ℕ} {f : FoundEntry} (q : (log : List Logged) → HoldsBindings log texts bind (a .entries) → f ≡ newest o n log) where
@@ -39,7 +39,7 @@ module _ (o : ℕ) (n : List ℕ) (a : Asked) {texts bind : List ℕ} {f : Found
 
 module _ (n : List ℕ) {texts bind : List ℕ} {a : Asked} {f : FoundEntry} where
   module _ (q : (log : List Logged) → HoldsBindings log texts bind (a .entries) → f ≡ newest ofFile n log) where
-    pub file-found : {k : ℕ} → InScope texts bind a → f ≡ At k → Looks texts bind a (fromFile n) (Value k)
+    pub file-found : {k : ℕ} → InScope texts bind a → f ≡ At k → LooksUp texts bind a (fromFile n) (Value k)
     unfolding meaning fileVar
     file-found {k} w e =
         record {
@@ -48,7 +48,7 @@ module _ (n : List ℕ) {texts bind : List ℕ} {a : Asked} {f : FoundEntry} whe
           text = λ j d. let z : _≡_ {A = ℕ} 0 1 = cc in absurd (omega arith);
         }
 
-    pub file-unset : f ≡ Missing → Looks texts bind a (fromFile n) Unset
+    pub file-unset : f ≡ Missing → LooksUp texts bind a (fromFile n) Unset
     unfolding meaning fileVar
     file-unset e =
         record {
@@ -58,7 +58,7 @@ module _ (n : List ℕ) {texts bind : List ℕ} {a : Asked} {f : FoundEntry} whe
         }
 
   module _ (q : (log : List Logged) → HoldsBindings log texts bind (a .entries) → f ≡ newest (ofKeys (a .rule)) n log) where
-    pub rule-found : {k : ℕ} → InScope texts bind a → f ≡ At k → Looks texts bind a (fromRule n) (Text k)
+    pub rule-found : {k : ℕ} → InScope texts bind a → f ≡ At k → LooksUp texts bind a (fromRule n) (Text k)
     unfolding meaning
     rule-found {k} w e =
         record {
@@ -67,7 +67,7 @@ module _ (n : List ℕ) {texts bind : List ℕ} {a : Asked} {f : FoundEntry} whe
           text = λ j d. let z : k ≡ j = cc in rw (← z) (entry-there (ofKeys (a .rule)) n a q w e);
         }
 
-    pub rule-missing : {r : Source} → f ≡ Missing → Looks texts bind a (fromFile n) r → Looks texts bind a (fromRule n) r
+    pub rule-missing : {r : Source} → f ≡ Missing → LooksUp texts bind a (fromFile n) r → LooksUp texts bind a (fromRule n) r
     rule-missing {r} e l =
         record {
           means = λ log rd s c.
@@ -77,7 +77,7 @@ module _ (n : List ℕ) {texts bind : List ℕ} {a : Asked} {f : FoundEntry} whe
         }
 
   module _ (q : (log : List Logged) → HoldsBindings log texts bind (a .entries) → f ≡ newest (ofBlock (a .step)) n log) where
-    pub block-found : {k : ℕ} → InScope texts bind a → f ≡ At k → Looks texts bind a (fromBlock n) (Value k)
+    pub block-found : {k : ℕ} → InScope texts bind a → f ≡ At k → LooksUp texts bind a (fromBlock n) (Value k)
     unfolding meaning
     block-found {k} w e =
         record {
@@ -86,7 +86,7 @@ module _ (n : List ℕ) {texts bind : List ℕ} {a : Asked} {f : FoundEntry} whe
           text = λ j d. let z : _≡_ {A = ℕ} 0 1 = cc in absurd (omega arith);
         }
 
-    pub block-missing : {r : Source} → f ≡ Missing → Looks texts bind a (fromRule n) r → Looks texts bind a (fromBlock n) r
+    pub block-missing : {r : Source} → f ≡ Missing → LooksUp texts bind a (fromRule n) r → LooksUp texts bind a (fromBlock n) r
     block-missing {r} e l =
         record {
           means = λ log rd s c.
@@ -98,7 +98,7 @@ module _ (n : List ℕ) {texts bind : List ℕ} {a : Asked} {f : FoundEntry} whe
 -- ---- the step's own names
 
 module _ (n : List ℕ) {texts bind : List ℕ} (a : Asked) where
-  pub looks-inputs : eqBytes n (bytes "in") ≡ true → Looks texts bind a (λ rd s. lookup rd s n) Inputs
+  pub looks-inputs : eqBytes n (bytes "in") ≡ true → LooksUp texts bind a (λ rd s. lookup rd s n) Inputs
   unfolding lookup ofStep meaning
   looks-inputs e =
       record {
@@ -108,7 +108,7 @@ module _ (n : List ℕ) {texts bind : List ℕ} (a : Asked) where
       }
 
   module _ (p : eqBytes n (bytes "in") ≡ false) where
-    pub looks-lines : eqBytes n (bytes "in_newline") ≡ true → Looks texts bind a (λ rd s. lookup rd s n) InputLines
+    pub looks-lines : eqBytes n (bytes "in_newline") ≡ true → LooksUp texts bind a (λ rd s. lookup rd s n) InputLines
     unfolding lookup ofStep meaning
     looks-lines e =
         record {
@@ -118,7 +118,7 @@ module _ (n : List ℕ) {texts bind : List ℕ} (a : Asked) where
         }
 
     module _ (q : eqBytes n (bytes "in_newline") ≡ false) where
-      pub looks-outputs : eqBytes n (bytes "out") ≡ true → Looks texts bind a (λ rd s. lookup rd s n) Outputs
+      pub looks-outputs : eqBytes n (bytes "out") ≡ true → LooksUp texts bind a (λ rd s. lookup rd s n) Outputs
       unfolding lookup ofStep meaning
       looks-outputs e =
           record {
@@ -127,7 +127,7 @@ module _ (n : List ℕ) {texts bind : List ℕ} (a : Asked) where
             text = λ j d. let z : _≡_ {A = ℕ} 0 1 = cc in absurd (omega arith);
           }
 
-      pub looks-on : {r : Source} → eqBytes n (bytes "out") ≡ false → Looks texts bind a (fromBlock n) r → Looks texts bind a (λ rd s. lookup rd s n) r
+      pub looks-on : {r : Source} → eqBytes n (bytes "out") ≡ false → LooksUp texts bind a (fromBlock n) r → LooksUp texts bind a (λ rd s. lookup rd s n) r
       unfolding lookup ofStep
       looks-on e l =
           record {

@@ -10,11 +10,11 @@ use Rattle.spec.specs.Text.{asIs, ofRule, ofStep, lookup}
 use Rattle.scan_classes.specs.Table.{classes}
 use Rattle.hold_bindings.specs.Log.{Logged, entryAt}
 use Rattle.hold_bindings.specs.Held.{HoldsBindings}
-use Rattle.text_references.specs.Begins.{Ready}
+use Rattle.text_references.specs.Begins.{ReferencesReady}
 use Rattle.text_lookup.specs.declared.Asked.{Asked}
 use Rattle.text_lookup.specs.declared.Source.{Source}
 use Rattle.text_lookup.specs.declared.Source.the-variants.{Text}
-use Rattle.text_lookup.specs.Scope.{Scope, InScope, meaning, fromBlock, There, Looks}
+use Rattle.text_lookup.specs.Scope.{Scope, InScope, meaning, fromBlock, There, LooksUp}
 
 module _ (rd : Reading) (s : Step) (n : List ℕ) where
   rule-text : (o b k : Option (List ℕ)) (raw : List ℕ) → (orElse o asIs λ _. fromBlock n rd s) ≡ ofRule raw → b ≡ boundTo n (s .block) → k ≡ boundTo n (keysOf (s .rule) (rd .rules)) → k ≡ some raw
@@ -36,14 +36,14 @@ module _ {texts bind : List ℕ} {a : Asked} {k : ℕ} (h : There texts bind a k
   is-raw : {log : List Logged} {rd : Reading} {s : Step} → Scope texts bind a log rd s → raw ≡ entryAt k log .value
   is-raw {log} {rd} {s} c = v log (a .entries) (c .bound) (h .low)
 
-module _ (n : List ℕ) {texts bind : List ℕ} {a : Asked} {r : Source} (l : Looks texts bind a (λ rd s. lookup rd s n) r) where
+module _ (n : List ℕ) {texts bind : List ℕ} {a : Asked} {r : Source} (l : LooksUp texts bind a (λ rd s. lookup rd s n) r) where
   module _ {k : ℕ} {raw : List ℕ} (v : ValueOf texts bind k raw) {log : List Logged} {rd : Reading} {s : Step} (c : Scope texts bind a log rd s) where
     pub stands-text : r ≡ Text k → lookup rd s n ≡ ofRule raw
     unfolding meaning
     stands-text e = l .means log rd s c ∙ rw (e, is-raw (l .text k e) v c)
 
   -- a rule's text has no bad `$`
-  pub text-ready : {t raw : List ℕ} {k : ℕ} → t ≡ classes → InScope texts bind a → r ≡ Text k → ValueOf texts bind k raw → Ready t raw 0
+  pub text-ready : {t raw : List ℕ} {k : ℕ} → t ≡ classes → InScope texts bind a → r ≡ Text k → ValueOf texts bind k raw → ReferencesReady t raw 0
   text-ready {raw = raw} q w e v =
       record {
         table = q;

@@ -8,7 +8,7 @@ use Rattle.spec.specs.Basics.{orElse}
 use Rattle.spec.specs.Reading.{Step, Reading, boundTo, fileVar, keysOf}
 use Rattle.spec.specs.Sound.{SoundKeys}
 use Rattle.spec.specs.Text.{joinedBy, namesOf, Found, asIs, ofRule}
-use Rattle.hold_bindings.specs.Log.{Logged, ofFile, ofKeys, ofStep, entryAt, boundBy}
+use Rattle.hold_bindings.specs.Log.{Logged, ofFile, ofKeys, ofBlock, entryAt, boundBy}
 use Rattle.hold_bindings.specs.Held.{maxEntries, HoldsBindings, HasEntry}
 use Rattle.text_lookup.specs.declared.Asked.{Asked}
 use Rattle.text_lookup.specs.declared.Source.{Source}
@@ -18,7 +18,7 @@ use Rattle.text_lookup.specs.declared.Source.the-variants.{Inputs, Input
 pub record Scope (texts bind : List ℕ) (a : Asked) (log : List Logged) (rd : Reading) (s : Step) : Type 0 where
   pub bound : HoldsBindings log texts bind (a .entries)
   pub vars : rd .vars ≡ boundBy ofFile log
-  pub block : s .block ≡ boundBy (ofStep (a .step)) log
+  pub block : s .block ≡ boundBy (ofBlock (a .step)) log
   pub keys : keysOf (s .rule) (rd .rules) ≡ boundBy (ofKeys (a .rule)) log
   pub sound : SoundKeys (keysOf (s .rule) (rd .rules))
   pub step-low : a .step < maxSteps
@@ -57,7 +57,7 @@ pub record There (texts bind : List ℕ) (a : Asked) (k : ℕ) : Type 0 where
   pub low : k < a .entries
 
 -- The answer means what is found, whatever scope is held, and its entry is there.
-pub record Looks (texts bind : List ℕ) (a : Asked) (found : Reading → Step → Found) (r : Source) : Type 0 where
+pub record LooksUp (texts bind : List ℕ) (a : Asked) (found : Reading → Step → Found) (r : Source) : Type 0 where
   pub means : (log : List Logged) (rd : Reading) (s : Step) → Scope texts bind a log rd s → found rd s ≡ meaning rd s log r
   pub value : (k : ℕ) → r ≡ Value k → There texts bind a k
   pub text : (k : ℕ) → r ≡ Text k → There texts bind a k

@@ -1,6 +1,6 @@
 // A step's lookup: what a name in its text stands for.
 ghost use Rattle.spec.specs.Text.{lookup};
-ghost use Rattle.text_lookup.specs.Scope.{InScope, Looks, fromFile, fromRule, fromBlock};
+ghost use Rattle.text_lookup.specs.Scope.{InScope, LooksUp, fromFile, fromRule, fromBlock};
 use byteorder::equal;
 use hold_bindings::FoundEntry;
 use hold_bindings::newest;
@@ -33,7 +33,7 @@ pub enum Source {
 // A name that neither the step nor its rule binds.
 fn of_file(texts: &[u8], bind: &[u32], a: Asked, name: &[u8]) -> Source
     requires { ⌜ InScope (now texts) (now bind) a ⌝ }
-    ensures { λ r. ⌜ Looks (now (texts .entry)) (now (bind .entry)) a (fromFile (now (name .entry))) r ⌝ }
+    ensures { λ r. ⌜ LooksUp (now (texts .entry)) (now (bind .entry)) a (fromFile (now (name .entry))) r ⌝ }
 {
     match newest(texts, bind, a.entries, 0, name) {
         FoundEntry::At(k) => Source::Value(k),
@@ -44,7 +44,7 @@ fn of_file(texts: &[u8], bind: &[u32], a: Asked, name: &[u8]) -> Source
 // A name that the step does not bind.
 fn of_rule(texts: &[u8], bind: &[u32], a: Asked, name: &[u8]) -> Source
     requires { ⌜ InScope (now texts) (now bind) a ⌝ }
-    ensures { λ r. ⌜ Looks (now (texts .entry)) (now (bind .entry)) a (fromRule (now (name .entry))) r ⌝ }
+    ensures { λ r. ⌜ LooksUp (now (texts .entry)) (now (bind .entry)) a (fromRule (now (name .entry))) r ⌝ }
 {
     match newest(texts, bind, a.entries, 2 + 2 * a.rule, name) {
         FoundEntry::At(k) => Source::Text(k),
@@ -55,7 +55,7 @@ fn of_rule(texts: &[u8], bind: &[u32], a: Asked, name: &[u8]) -> Source
 // A name that is none of the step's files.
 fn of_block(texts: &[u8], bind: &[u32], a: Asked, name: &[u8]) -> Source
     requires { ⌜ InScope (now texts) (now bind) a ⌝ }
-    ensures { λ r. ⌜ Looks (now (texts .entry)) (now (bind .entry)) a (fromBlock (now (name .entry))) r ⌝ }
+    ensures { λ r. ⌜ LooksUp (now (texts .entry)) (now (bind .entry)) a (fromBlock (now (name .entry))) r ⌝ }
 {
     match newest(texts, bind, a.entries, 3 + 2 * a.step, name) {
         FoundEntry::At(k) => Source::Value(k),
@@ -66,7 +66,7 @@ fn of_block(texts: &[u8], bind: &[u32], a: Asked, name: &[u8]) -> Source
 // "looked up as: `in`, `in_newline`, `out`; the block; the rule ..; the file"
 pub fn lookup(texts: &[u8], bind: &[u32], a: Asked, name: &[u8]) -> Source
     requires { ⌜ InScope (now texts) (now bind) a ⌝ }
-    ensures { λ r. ⌜ Looks (now (texts .entry)) (now (bind .entry)) a (λ rd s. lookup rd s (now (name .entry))) r ⌝ }
+    ensures { λ r. ⌜ LooksUp (now (texts .entry)) (now (bind .entry)) a (λ rd s. lookup rd s (now (name .entry))) r ⌝ }
 {
     if equal(name, b"in") {
         return Source::Inputs;

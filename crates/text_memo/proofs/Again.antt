@@ -7,19 +7,19 @@ use lib.ListN.{length, take, getD, List·getD-append}
 use lib.Seq.{length-take-le, getD-take}
 use Rattle.lists.specs.Parts.{part, part-none, part-snoc, part-append}
 use Rattle.spec.specs.Limits.{maxText}
-use Rattle.text_buffer.specs.Puts.{Open, Puts}
+use Rattle.text_buffer.specs.Puts.{Open, PutsText}
 use Rattle.text_buffer.proofs.Parts.{puts-none, puts-over, puts-then, open-on}
-use Rattle.text_memo.specs.Draft.{Behind}
+use Rattle.text_memo.specs.Draft.{WrittenPart}
 
 pub record Copying (before : List ℕ) (from to place : ℕ) (now : List ℕ) (i n : ℕ) : Type 0 where
-  pub behind : Behind before from to place
+  pub behind : WrittenPart before from to place
   pub forward : from ≤ i
   pub within : i ≤ to
   pub free : Open now n
   pub long : length now ≡ length before
-  pub puts : Puts before place (part before from i) now n
+  pub puts : PutsText before place (part before from i) now n
 
-pub copy-begin : {before : List ℕ} {from to place : ℕ} → Behind before from to place → Copying before from to place before from place
+pub copy-begin : {before : List ℕ} {from to place : ℕ} → WrittenPart before from to place → Copying before from to place before from place
 copy-begin {before} {from} {to} {place} b =
     record {
       behind = b;
@@ -43,8 +43,8 @@ module _ {before now : List ℕ} {from to place i n : ℕ} (x : Copying before f
       ∙ List·getD-append (take place before) (part before from i) 0 i (omega arith)
       ∙ getD-take place before i 0 (omega arith)
 
-  module _ {b : ℕ} (e : b ≡ getD now i 0) {next : List ℕ} {r : ℕ} (p : Puts now n (b ∷ []) next r) where
-    on : Puts before place (part before from (i + 1)) next r
+  module _ {b : ℕ} (e : b ≡ getD now i 0) {next : List ℕ} {r : ℕ} (p : PutsText now n (b ∷ []) next r) where
+    on : PutsText before place (part before from (i + 1)) next r
     on =
         let o = x .behind .free in
         let q : part before from (i + 1) ≡ part before from i ++ (b ∷ []) =
@@ -62,8 +62,8 @@ module _ {before now : List ℕ} {from to place i n : ℕ} (x : Copying before f
           puts = on;
         }
 
-    pub copy-over : maxText < r → Puts before place (part before from to) next r
+    pub copy-over : maxText < r → PutsText before place (part before from to) next r
     copy-over k = rw (← (part-append before from (i + 1) to (omega (arith, x .forward)) (omega arith))) (puts-over on k (part before (i + 1) to))
 
-pub copy-end : {before now : List ℕ} {from to place i n : ℕ} → Copying before from to place now i n → to ≤ i → Puts before place (part before from to) now n
+pub copy-end : {before now : List ℕ} {from to place i n : ℕ} → Copying before from to place now i n → to ≤ i → PutsText before place (part before from to) now n
 copy-end {before} {now} {from} {to} {place} {i} {n} x h = let z : to ≡ i = omega (arith, x .within) in rw z (x .puts)

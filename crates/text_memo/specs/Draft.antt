@@ -9,7 +9,7 @@ use Rattle.lists.specs.Tests.{ifB}
 use Rattle.lists.specs.Parts.{part}
 use Rattle.spec.specs.Limits.{maxText}
 use Rattle.spec.specs.Text.{ruleKeys, keyNumber}
-use Rattle.text_buffer.specs.Puts.{Open, Puts}
+use Rattle.text_buffer.specs.Puts.{Open, PutsText}
 use Rattle.text_memo.specs.declared.Span.{Span}
 use Rattle.text_memo.specs.declared.Draft.{Draft}
 
@@ -30,23 +30,23 @@ pub record Remembered (d : Draft) (name : List ℕ) (from : ℕ) (r : Draft) : T
   pub spans : (n : List ℕ) → ((n ≡ name) × (spanFor r n ≡ span from (d .at))) ⊎ (spanFor r n ≡ spanFor d n)
 
 -- The part lies in what is written.
-pub record Behind (buffer : List ℕ) (from to place : ℕ) : Type 0 where
+pub record WrittenPart (buffer : List ℕ) (from to place : ℕ) : Type 0 where
   pub ordered : from ≤ to
   pub written : to ≤ place
   pub free : Open buffer place
 
 -- The spans of a draft hold the texts of their names.
-pub record Kept (text : List ℕ → List ℕ) (buffer : List ℕ) (d : Draft) (n : List ℕ) : Type 0 where
+pub record SpanKept (text : List ℕ → List ℕ) (buffer : List ℕ) (d : Draft) (n : List ℕ) : Type 0 where
   pub written : spanFor d n .to ≤ d .at
   pub is : part buffer (spanFor d n .from) (spanFor d n .to) ≡ text n
 
 pub record Remembers (text : List ℕ → List ℕ) (buffer : List ℕ) (d : Draft) : Type 0 where
   pub free : Open buffer (d .at)
-  pub kept : (n : List ℕ) → spanFor d n .from ≤ spanFor d n .to → Kept text buffer d n
+  pub kept : (n : List ℕ) → spanFor d n .from ≤ spanFor d n .to → SpanKept text buffer d n
 
 -- s is written behind a draft, and the draft then remembers.
 pub record Drafted (text : List ℕ → List ℕ) (before : List ℕ) (d : Draft) (s after : List ℕ) (r : Draft) : Type 0 where
-  pub puts : Puts before (d .at) s after (r .at)
+  pub puts : PutsText before (d .at) s after (r .at)
   pub remembers : r .at ≤ maxText → Remembers text after r
 
 -- another place and the same spans
@@ -55,5 +55,5 @@ pub record Moved (d : Draft) (at : ℕ) (r : Draft) : Type 0 where
   pub same : (n : List ℕ) → spanFor r n ≡ spanFor d n
 
 -- s is written behind the draft, whatever it remembers.
-pub record Writes (before : List ℕ) (d : Draft) (s after : List ℕ) (r : Draft) : Type 0 where
+pub record WritesDraft (before : List ℕ) (d : Draft) (s after : List ℕ) (r : Draft) : Type 0 where
   pub drafts : (text : List ℕ → List ℕ) → Remembers text before d → Drafted text before d s after r

@@ -1,8 +1,8 @@
 // A text being written, with where in it the texts of the rule's keys already stand: each of them is expanded once, and copied where it comes again.
 ghost use mathlib.Core.Path.{_≡_};
 ghost use Rattle.lists.specs.Parts.{part};
-ghost use Rattle.text_buffer.specs.Puts.{Open, Puts};
-ghost use Rattle.text_memo.specs.Draft.{nothing, spanFor, Remembered, Behind, Moved, Writes};
+ghost use Rattle.text_buffer.specs.Puts.{Open, PutsText};
+ghost use Rattle.text_memo.specs.Draft.{nothing, spanFor, Remembered, WrittenPart, Moved, WritesDraft};
 use hold_keys::RULE_KEYS;
 use hold_keys::key_number;
 use spec::limits::TEXT;
@@ -59,8 +59,8 @@ pub fn remember(d: Draft, name: &[u8], from: usize) -> Draft
 
 // A part of the text again, from a place on.
 fn put_again(buffer: &mut [u8], from: usize, to: usize, place: usize) -> usize
-    requires { ⌜ Behind (now buffer) from to place ⌝ }
-    ensures { λ r. ⌜ Puts (now (buffer .entry)) place (part (now (buffer .entry)) from to) (now (buffer .exit)) r ⌝ }
+    requires { ⌜ WrittenPart (now buffer) from to place ⌝ }
+    ensures { λ r. ⌜ PutsText (now (buffer .entry)) place (part (now (buffer .entry)) from to) (now (buffer .exit)) r ⌝ }
 {
     let mut i = from;
     let mut n = place;
@@ -87,15 +87,15 @@ pub fn draft_at(d: Draft, at: usize) -> Draft
 // Writes bytes.
 pub fn write(buffer: &mut [u8], d: Draft, s: &[u8]) -> Draft
     requires { ⌜ Open (now buffer) (d .at) ⌝ }
-    ensures { λ r. ⌜ Writes (now (buffer .entry)) d (now (s .entry)) (now (buffer .exit)) r ⌝ }
+    ensures { λ r. ⌜ WritesDraft (now (buffer .entry)) d (now (s .entry)) (now (buffer .exit)) r ⌝ }
 {
     draft_at(d, put_bytes(buffer, d.at, s))
 }
 
 // Writes a part of the text again.
 pub fn write_again(buffer: &mut [u8], d: Draft, from: usize, to: usize) -> Draft
-    requires { ⌜ Behind (now buffer) from to (d .at) ⌝ }
-    ensures { λ r. ⌜ Writes (now (buffer .entry)) d (part (now (buffer .entry)) from to) (now (buffer .exit)) r ⌝ }
+    requires { ⌜ WrittenPart (now buffer) from to (d .at) ⌝ }
+    ensures { λ r. ⌜ WritesDraft (now (buffer .entry)) d (part (now (buffer .entry)) from to) (now (buffer .exit)) r ⌝ }
 {
     draft_at(d, put_again(buffer, from, to, d.at))
 }

@@ -11,22 +11,22 @@ use Rattle.spec.specs.Reading.{Step, Reading}
 use Rattle.spec.specs.Text.{asIs, lookup}
 use Rattle.scan_raw.proofs.Pieces.{pieces-end}
 use Rattle.hold_bindings.specs.Log.{Logged}
-use Rattle.text_references.specs.Begins.{Ready, plainly, Stands}
+use Rattle.text_references.specs.Begins.{ReferencesReady, plainly, PiecesStand}
 use Rattle.text_references.proofs.Turns.{refs-bytes, refs-name, ready-on}
 use Rattle.text_lookup.specs.declared.Asked.{Asked}
 use Rattle.text_lookup.specs.declared.Source.{Source}
 use Rattle.text_lookup.specs.declared.Source.the-variants.{Inputs, InputLines, Outputs, Value, Text, Unset}
-use Rattle.text_lookup.specs.Scope.{Scope, meaning, Looks}
+use Rattle.text_lookup.specs.Scope.{Scope, meaning, LooksUp}
 use Rattle.text_lookup.proofs.Standing.{ValueOf, stands-text}
 use Rattle.text_recursion.specs.Depth.{leadsTo}
 
 -- ---- the loop
 
 pub record Referring (t raw : List ℕ) (p : List ℕ → Bool) (i : ℕ) : Type 0 where
-  pub ready : Ready t raw i
+  pub ready : ReferencesReady t raw i
   pub rest : any p (refs raw) ≡ any p (refs (drop i raw))
 
-pub refer-begin : {t raw : List ℕ} (p : List ℕ → Bool) → Ready t raw 0 → Referring t raw p 0
+pub refer-begin : {t raw : List ℕ} (p : List ℕ → Bool) → ReferencesReady t raw 0 → Referring t raw p 0
 refer-begin p r = record { ready = r; rest = refl }
 
 refs-none : refs [] ≡ []
@@ -35,10 +35,10 @@ refs-none = ap refsOf pieces-end
 
 module _ {t raw : List ℕ} {p : List ℕ → Bool} {i : ℕ} (x : Referring t raw p i) where
   module _ {from to next : ℕ} where
-    pub refer-bytes : Stands raw i from to next (plainly (part raw from to)) → Referring t raw p next
+    pub refer-bytes : PiecesStand raw i from to next (plainly (part raw from to)) → Referring t raw p next
     refer-bytes b = record { ready = ready-on (x .ready) b; rest = x .rest ∙ ap (any p) (refs-bytes b) }
 
-    module _ (b : Stands raw i from to next (ref (part raw from to) ∷ [])) where
+    module _ (b : PiecesStand raw i from to next (ref (part raw from to) ∷ [])) where
       pub refer-name : p (part raw from to) ≡ false → Referring t raw p next
       unfolding any
       refer-name e = record { ready = ready-on (x .ready) b; rest = x .rest ∙ ap (any p) (refs-name b) ∙ rw e }
@@ -53,7 +53,7 @@ module _ {t raw : List ℕ} {p : List ℕ → Bool} {i : ℕ} (x : Referring t r
 
 -- ---- what a name leads to
 
-module _ {texts bind : List ℕ} {a : Asked} (n : List ℕ) {r : Source} (l : Looks texts bind a (λ rd s. lookup rd s n) r) (p : List ℕ → Bool) where
+module _ {texts bind : List ℕ} {a : Asked} (n : List ℕ) {r : Source} (l : LooksUp texts bind a (λ rd s. lookup rd s n) r) (p : List ℕ → Bool) where
   nowhere : (rd : Reading) (s : Step) {v : List ℕ} → lookup rd s n ≡ asIs v → false ≡ leadsTo rd s p n
   unfolding leadsTo
   nowhere rd s e = sym (rw e)

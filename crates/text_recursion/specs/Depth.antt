@@ -30,7 +30,7 @@ unfoldable pub marks : List Bool → List ℕ → Bool
 unfolding keyNumber
 marks d n = getD d (keyNumber n) false
 
-pub record Asks (t texts bind : List ℕ) (a : Asked) : Type 0 where
+pub record RecursionAsks (t texts bind : List ℕ) (a : Asked) : Type 0 where
   pub table : t ≡ classes
   pub within : InScope texts bind a
 

@@ -6,9 +6,9 @@ ghost use Rattle.spec.specs.Dollars.{refs};
 ghost use Rattle.spec.specs.Reading.{Step, Reading};
 ghost use Rattle.spec.specs.Text.{keyName, leadsBack, deep};
 ghost use Rattle.hold_bindings.specs.Log.{Logged};
-ghost use Rattle.text_references.specs.Begins.{Ready};
+ghost use Rattle.text_references.specs.Begins.{ReferencesReady};
 ghost use Rattle.text_lookup.specs.Scope.{Scope};
-ghost use Rattle.text_recursion.specs.Depth.{marks, leadsTo, Asks, Deeper};
+ghost use Rattle.text_recursion.specs.Depth.{marks, leadsTo, RecursionAsks, Deeper};
 use hold_bindings::value;
 use hold_keys::RULE_KEYS;
 use hold_keys::key_name;
@@ -37,7 +37,7 @@ fn marked(d: [bool; MARKS], name: &[u8]) -> bool
 
 // Whether a raw text refers to a marked name.
 fn refers(t: &[u8; 256], raw: &[u8], d: [bool; MARKS]) -> bool
-    requires { ⌜ Ready (now t) (now raw) 0 ⌝ }
+    requires { ⌜ ReferencesReady (now t) (now raw) 0 ⌝ }
     ensures { λ r. ⌜ r ≡ any (marks d) (refs (now (raw .entry))) ⌝ }
 {
     let mut i = 0;
@@ -59,7 +59,7 @@ fn refers(t: &[u8; 256], raw: &[u8], d: [bool; MARKS]) -> bool
 
 // Whether a name stands for a rule's text that refers to a marked name.
 fn leads(t: &[u8; 256], texts: &[u8], bind: &[u32], a: Asked, name: &[u8], d: [bool; MARKS]) -> bool
-    requires { ⌜ Asks (now t) (now texts) (now bind) a ⌝ }
+    requires { ⌜ RecursionAsks (now t) (now texts) (now bind) a ⌝ }
     ensures { λ r. ⌜ ((log : List Logged) (rd : Reading) (s : Step) → Scope (now (texts .entry)) (now (bind .entry)) a log rd s → r ≡ leadsTo rd s (marks d) (now (name .entry))) ⌝ }
 {
     match lookup(texts, bind, a, name) {
@@ -74,7 +74,7 @@ fn leads(t: &[u8; 256], texts: &[u8], bind: &[u32], a: Asked, name: &[u8], d: [b
 
 // The names that go one rule text deeper.
 fn deeper(t: &[u8; 256], texts: &[u8], bind: &[u32], a: Asked, d: [bool; MARKS]) -> [bool; MARKS]
-    requires { ⌜ Asks (now t) (now texts) (now bind) a ⌝ }
+    requires { ⌜ RecursionAsks (now t) (now texts) (now bind) a ⌝ }
     ensures { λ r. ⌜ Deeper (now (texts .entry)) (now (bind .entry)) a d r ⌝ }
 {
     let names = key_names();
@@ -88,7 +88,7 @@ fn deeper(t: &[u8; 256], texts: &[u8], bind: &[u32], a: Asked, d: [bool; MARKS])
 }
 
 pub fn leads_back(t: &[u8; 256], texts: &[u8], bind: &[u32], a: Asked, key: Key) -> bool
-    requires { ⌜ Asks (now t) (now texts) (now bind) a ⌝ }
+    requires { ⌜ RecursionAsks (now t) (now texts) (now bind) a ⌝ }
     ensures { λ r. ⌜ ((log : List Logged) (rd : Reading) (s : Step) → Scope (now (texts .entry)) (now (bind .entry)) a log rd s → r ≡ leadsBack rd s deep [] (keyName key)) ⌝ }
 {
     let n = number_of(key);

@@ -20,7 +20,7 @@ use Rattle.scan_raw.proofs.Pieces.{pieces-byte, pieces-literal, pieces-join, pi
 use Rattle.expand_parts.proofs.Raw.{sound-run, literal-here, plain-forward, dollar-here, sound-here, sound-next}
 use Rattle.text_references.specs.declared.Piece.{Piece}
 use Rattle.text_references.specs.declared.Piece.the-variants.{Bytes, Name}
-use Rattle.text_references.specs.Begins.{plainly, Begins}
+use Rattle.text_references.specs.Begins.{plainly, BeginsPiece}
 
 -- the bytes up to the first `$`
 pieces-run : (s : List ℕ) → pieces s ≡ plainly (run (isNot dollar) s) ++ pieces (afterRun (isNot dollar) s)
@@ -32,8 +32,8 @@ pieces-run (b ∷ s) =
     (λ (e : eqb b dollar ≡ false). rw e (pieces-byte b s (eqb-false b dollar e) ∙ ap (λ (l : List rules.Piece). byte b ∷ l) (pieces-run s)))
 
 module _ (raw : List ℕ) (i : ℕ) (h : i < length raw) (s : badDollar (drop i raw) ≡ none) where
-  pub plain-begins : {e : ℕ} → (getD raw i 0 ≡ dollar → ⊥) → Reads (afterRun (isNot dollar)) raw i e → Begins raw i (Bytes i e e)
-  unfolding Begins
+  pub plain-begins : {e : ℕ} → (getD raw i 0 ≡ dollar → ⊥) → Reads (afterRun (isNot dollar)) raw i e → BeginsPiece raw i (Bytes i e e)
+  unfolding BeginsPiece
   plain-begins {e} d r =
       let f = plain-forward raw i h s e d r in
       record {
@@ -48,8 +48,8 @@ module _ (raw : List ℕ) (i : ℕ) (h : i < length raw) (s : badDollar (drop i 
   -- ---- what a `$` begins
 
   module _ (d : getD raw i 0 ≡ dollar) where
-    pub literal-begins : {b n : ℕ} → FoundElement raw (i + 1) n (element (drop (i + 1) raw)) (literal b (drop n raw)) → Begins raw i (Bytes (i + 1) (i + 2) n)
-    unfolding Begins plainly restOf
+    pub literal-begins : {b n : ℕ} → FoundElement raw (i + 1) n (element (drop (i + 1) raw)) (literal b (drop n raw)) → BeginsPiece raw i (Bytes (i + 1) (i + 2) n)
+    unfolding BeginsPiece plainly restOf
     literal-begins {b} {n} f =
         let l : drop (i + 1) raw ≡ b ∷ drop n raw = literal-here (drop (i + 1) raw) (f .is) in
         let m : length raw - (i + 1) ≡ suc (length (drop n raw)) = sym (length-drop (i + 1) raw) ∙ ap length l in
@@ -65,8 +65,8 @@ module _ (raw : List ℕ) (i : ℕ) (h : i < length raw) (s : badDollar (drop i 
           gives = ap pieces (dollar-here raw i h s d) ∙ pieces-literal (drop (i + 1) raw) (f .is) ∙ sym (rw p);
         }
 
-    pub join-begins : {n : ℕ} → FoundElement raw (i + 1) n (element (drop (i + 1) raw)) (joins (drop n raw)) → Begins raw i (Bytes n n n)
-    unfolding Begins plainly restOf
+    pub join-begins : {n : ℕ} → FoundElement raw (i + 1) n (element (drop (i + 1) raw)) (joins (drop n raw)) → BeginsPiece raw i (Bytes n n n)
+    unfolding BeginsPiece plainly restOf
     join-begins {n} f =
         record {
           ordered = le-refl n;
@@ -77,8 +77,8 @@ module _ (raw : List ℕ) (i : ℕ) (h : i < length raw) (s : badDollar (drop i 
           gives = ap pieces (dollar-here raw i h s d) ∙ pieces-join (drop (i + 1) raw) (f .is) ∙ sym (rw (part-none raw n n (le-refl n)));
         }
 
-    pub name-begins : {a e n : ℕ} → FoundName raw (i + 1) a e n (element (drop (i + 1) raw)) → Begins raw i (Name a e n)
-    unfolding Begins restOf
+    pub name-begins : {a e n : ℕ} → FoundName raw (i + 1) a e n (element (drop (i + 1) raw)) → BeginsPiece raw i (Name a e n)
+    unfolding BeginsPiece restOf
     name-begins {a} {e} {n} f =
         record {
           ordered = f .ordered;
@@ -89,6 +89,6 @@ module _ (raw : List ℕ) (i : ℕ) (h : i < length raw) (s : badDollar (drop i 
           gives = ap pieces (dollar-here raw i h s d) ∙ pieces-name (drop (i + 1) raw) (f .found .is);
         }
 
-    pub none-begins : (p : Piece) → element (drop (i + 1) raw) ≡ wrong → Begins raw i p
+    pub none-begins : (p : Piece) → element (drop (i + 1) raw) ≡ wrong → BeginsPiece raw i p
     unfolding restOf
     none-begins p e = absurd (sound-not-bad (drop (i + 1) raw) (sound-here raw i h s d) (ap restOf e))

@@ -8,7 +8,7 @@ use Rattle.spec.specs.Dollars.{ref, fill, expand, refsOf, refs, pieces}
 use Rattle.spec.specs.Dollars as rules
 use Rattle.text_references.specs.declared.Piece.{Piece}
 use Rattle.text_references.specs.declared.Piece.the-variants.{Bytes, Name}
-use Rattle.text_references.specs.Begins.{Ready, plainly, Stands, Begins}
+use Rattle.text_references.specs.Begins.{ReferencesReady, plainly, PiecesStand, BeginsPiece}
 
 fill-plainly : (look : List ℕ → List ℕ) (s : List ℕ) (l : List rules.Piece) → fill look (plainly s ++ l) ≡ s ++ fill look l
 unfolding fill plainly
@@ -21,16 +21,16 @@ refs-plainly [] l = refl
 refs-plainly (b ∷ s) l = refs-plainly s l
 
 module _ {raw : List ℕ} {i : ℕ} {p : Piece} {from to next : ℕ} where
-  pub as-bytes : Begins raw i p → p ≡ Bytes from to next → Stands raw i from to next (plainly (part raw from to))
-  unfolding Begins
+  pub as-bytes : BeginsPiece raw i p → p ≡ Bytes from to next → PiecesStand raw i from to next (plainly (part raw from to))
+  unfolding BeginsPiece
   as-bytes b e = rw e at b
 
-  pub as-name : Begins raw i p → p ≡ Name from to next → Stands raw i from to next (ref (part raw from to) ∷ [])
-  unfolding Begins
+  pub as-name : BeginsPiece raw i p → p ≡ Name from to next → PiecesStand raw i from to next (ref (part raw from to) ∷ [])
+  unfolding BeginsPiece
   as-name b e = rw e at b
 
 module _ {raw : List ℕ} {i from to next : ℕ} where
-  module _ (b : Stands raw i from to next (plainly (part raw from to))) where
+  module _ (b : PiecesStand raw i from to next (plainly (part raw from to))) where
     pub expand-bytes : (look : List ℕ → List ℕ) → expand look (drop i raw) ≡ part raw from to ++ expand look (drop next raw)
     unfolding expand
     expand-bytes look = ap (fill look) (b .gives) ∙ fill-plainly look (part raw from to) (pieces (drop next raw))
@@ -39,7 +39,7 @@ module _ {raw : List ℕ} {i from to next : ℕ} where
     unfolding refs
     refs-bytes = ap refsOf (b .gives) ∙ refs-plainly (part raw from to) (pieces (drop next raw))
 
-  module _ (b : Stands raw i from to next (ref (part raw from to) ∷ [])) where
+  module _ (b : PiecesStand raw i from to next (ref (part raw from to) ∷ [])) where
     pub expand-name : (look : List ℕ → List ℕ) → expand look (drop i raw) ≡ look (part raw from to) ++ expand look (drop next raw)
     unfolding expand fill
     expand-name look = ap (fill look) (b .gives)
@@ -49,5 +49,5 @@ module _ {raw : List ℕ} {i from to next : ℕ} where
     refs-name = ap refsOf (b .gives)
 
 -- After a piece the text can be read on.
-pub ready-on : {t raw : List ℕ} {i from to next : ℕ} {l : List rules.Piece} → Ready t raw i → Stands raw i from to next l → Ready t raw next
+pub ready-on : {t raw : List ℕ} {i from to next : ℕ} {l : List rules.Piece} → ReferencesReady t raw i → PiecesStand raw i from to next l → ReferencesReady t raw next
 ready-on r b = record { table = r .table; within = b .within; sound = b .sound }

@@ -12,7 +12,7 @@ use Rattle.text_references.specs.declared.Piece.{Piece}
 use Rattle.text_references.specs.declared.Piece.the-variants.{Bytes, Name}
 
 -- What reading a raw text from place i on asks: no bad `$` follows.
-pub record Ready (t raw : List ℕ) (i : ℕ) : Type 0 where
+pub record ReferencesReady (t raw : List ℕ) (i : ℕ) : Type 0 where
   pub table : t ≡ classes
   pub within : i ≤ length raw
   pub sound : badDollar (drop i raw) ≡ none
@@ -23,7 +23,7 @@ plainly [] = []
 plainly (b ∷ s) = byte b ∷ plainly s
 
 -- From place i up to place `next` the text gives these pieces; they are about its part from place to place.
-pub record Stands (raw : List ℕ) (i from to next : ℕ) (l : List rules.Piece) : Type 0 where
+pub record PiecesStand (raw : List ℕ) (i from to next : ℕ) (l : List rules.Piece) : Type 0 where
   pub ordered : from ≤ to
   pub inside : to ≤ length raw
   pub forward : i < next
@@ -31,7 +31,7 @@ pub record Stands (raw : List ℕ) (i from to next : ℕ) (l : List rules.Piece)
   pub sound : badDollar (drop next raw) ≡ none
   pub gives : pieces (drop i raw) ≡ l ++ pieces (drop next raw)
 
-unfoldable pub Begins : List ℕ → ℕ → Piece → Type 0
+unfoldable pub BeginsPiece : List ℕ → ℕ → Piece → Type 0
 unfolding plainly
-Begins raw i (Bytes from to next) = Stands raw i from to next (plainly (part raw from to))
-Begins raw i (Name from to next) = Stands raw i from to next (ref (part raw from to) ∷ [])
+BeginsPiece raw i (Bytes from to next) = PiecesStand raw i from to next (plainly (part raw from to))
+BeginsPiece raw i (Name from to next) = PiecesStand raw i from to next (ref (part raw from to) ∷ [])

@@ -1,7 +1,7 @@
 // The pieces of a raw text, one after another: bytes of its own, and references to names.
 ghost use Prim.Native.Nat.{_<_};
 ghost use lib.ListN.{length};
-ghost use Rattle.text_references.specs.Begins.{Ready, Begins};
+ghost use Rattle.text_references.specs.Begins.{ReferencesReady, BeginsPiece};
 use scan_dollars::Escape;
 use scan_dollars::dollar;
 use slices::bytes::find;
@@ -14,8 +14,8 @@ pub enum Piece {
 
 // The piece that begins at place i.
 pub fn piece_at(t: &[u8; 256], raw: &[u8], i: usize) -> Piece
-    requires { ⌜ (i < length (now raw)) × Ready (now t) (now raw) i ⌝ }
-    ensures { λ r. ⌜ Begins (now (raw .entry)) i r ⌝ }
+    requires { ⌜ (i < length (now raw)) × ReferencesReady (now t) (now raw) i ⌝ }
+    ensures { λ r. ⌜ BeginsPiece (now (raw .entry)) i r ⌝ }
 {
     if raw[i] != b'$' {
         let end = find(raw, i, b'$');

@@ -25,12 +25,12 @@ use Rattle.spec.specs.TextAsk.{text, noText, wantedKey, wantedName, nameOutcome
 use Rattle.spec.specs.Sound.{SoundRules}
 use Rattle.hold_bindings.specs.Log.{Logged}
 use Rattle.hold_reading.specs.declared.Counts.{Counts}
-use Rattle.hold_reading.specs.Held.{Bound, Graphed, HoldsReading}
+use Rattle.hold_reading.specs.Held.{HoldsBound, Graphed, HoldsReading}
 use Rattle.text_lookup.specs.declared.Asked.{Asked}
 use Rattle.text_lookup.specs.Scope.{Scope}
-use Rattle.text_buffer.specs.Puts.{Puts}
+use Rattle.text_buffer.specs.Puts.{PutsText}
 use Rattle.text_expansion.specs.Here.{Here}
-use Rattle.text_step.specs.Steps.{Picks, Reads}
+use Rattle.text_step.specs.Steps.{Picks, ReadingHeld}
 use Rattle.text_step.proofs.One.{sound-any}
 use Rattle.text_step.specs.Asks.{StepAsk, WholeAsk, WritesWhole, TextAt, TextAsk, TextOf}
 use Rattle.hold_reading.specs.Buffers.{Buffers}
@@ -63,7 +63,7 @@ module _ (k : ℕ) (before after : List ℕ) {exit : List ℕ} (l : length after
   unfolding TextMeets textSays refusalSays leftBy numberOfRefusal placeOfRefusal
   meets-none = record { says = refl; leaves = all-zero before after exit l e }
 
-meets-text : {before after exit s : List ℕ} {n : ℕ} → Puts before 0 s after n → n ≤ maxText → exit ≡ zeroed after n (length after) → TextMeets (text s) before (textSays (Written n)) exit
+meets-text : {before after exit s : List ℕ} {n : ℕ} → PutsText before 0 s after n → n ≤ maxText → exit ≡ zeroed after n (length after) → TextMeets (text s) before (textSays (Written n)) exit
 unfolding TextMeets textSays
 meets-text {before} {after} {exit} {s} {n} p h e =
     let f = p .fits h in
@@ -111,11 +111,11 @@ module _ {t : List ℕ} {bs : Buffers} {before : List ℕ} {a : Asked} (key : Ke
 -- ---- the ask
 
 module _ {t : List ℕ} {bs : Buffers} {before : List ℕ} {c : Counts} (w : TextAsk t bs c before) where
-  pub reads : Reads (bs .texts) (bs .bind) (bs .graph) c
+  pub reads : ReadingHeld (bs .texts) (bs .bind) (bs .graph) c
   reads = record { log = w .log; reading = w .reading; bound = w .holds .bound; graphed = w .holds .graphed }
 
   pub no-command : {step : ℕ} (wanted : Wanted) {exit : List ℕ}
-      → ((log : List Logged) (rd : Reading) → Bound log (bs .texts) (bs .bind) c rd → Graphed log (bs .graph) c rd → leb (length (rd .steps)) step || isPhony (stepAt (rd .steps) step .rule) ≡ true)
+      → ((log : List Logged) (rd : Reading) → HoldsBound log (bs .texts) (bs .bind) c rd → Graphed log (bs .graph) c rd → leb (length (rd .steps)) step || isPhony (stepAt (rd .steps) step .rule) ≡ true)
       → exit ≡ zeroed before 0 (length before) → TextOf bs c step wanted before exit (Refused (NoCommand step))
   unfolding textOfStep
   no-command {step} wanted q z =

@@ -11,7 +11,7 @@ use Rattle.hold_bindings.specs.Log.{Logged, noEntry, entryAt, rulesOf}
 use Rattle.hold_bindings.specs.Held.{HoldsBindings}
 use Rattle.hold_bindings.proofs.Entries.{row-at}
 use Rattle.hold_reading.specs.declared.Counts.{Counts}
-use Rattle.hold_reading.specs.Held.{Bound}
+use Rattle.hold_reading.specs.Held.{HoldsBound}
 
 same-logged : (a b : Logged) → a .owner ≡ b .owner → a .name ≡ b .name → a .value ≡ b .value → a ≡ b
 same-logged a b p q r = λ i. record { owner = p i; name = q i; value = r i }
@@ -34,7 +34,7 @@ module _ {texts bind : List ℕ} {count : ℕ} {l m : List Logged} (a : HoldsBin
       let q : length m - suc (length l - suc i) ≡ i = omega arith in
       ap (λ (j : ℕ). getD l j noEntry) (sym p) ∙ e ∙ ap (λ (j : ℕ). getD m j noEntry) q)
 
-pub sound-any : {texts bind : List ℕ} {c : Counts} {l m : List Logged} {rd other : Reading} → Bound l texts bind c rd → SoundRules rd → Bound m texts bind c other → SoundRules other
+pub sound-any : {texts bind : List ℕ} {c : Counts} {l m : List Logged} {rd other : Reading} → HoldsBound l texts bind c rd → SoundRules rd → HoldsBound m texts bind c other → SoundRules other
 sound-any {rd = rd} {other = other} a s b n =
     let e : other .rules ≡ rd .rules = b .rules ∙ ap rulesOf (one-log (b .held) (a .held)) ∙ sym (a .rules) in
     rw e (s n)

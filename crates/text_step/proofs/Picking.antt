@@ -16,7 +16,7 @@ use Rattle.lists.specs.Parts.{part}
 use Rattle.spec.specs.Reading.{Reading, isPhony, keysOf}
 use Rattle.spec.specs.Graph.{stepAt}
 use Rattle.arena.proofs.Laws.{lies-column, lies-read}
-use Rattle.hold_columns.specs.Columns.{outsEnd, insEnd, implicitEnd, lastEnd, endPlace, endAt, startIn, outsIn, insIn}
+use Rattle.hold_columns.specs.Columns.{outsEnd, insEnd, implicitEnd, lastEnd, endPlace, endAt, stepStart, outsIn, insIn}
 use Rattle.hold_columns.proofs.Places.{start-zero, start-suc, read-ins, read-ins-placed}
 use Rattle.hold_columns.proofs.Held.{held-outs, held-sound}
 use Rattle.hold_bindings.specs.declared.FoundEntry.{FoundEntry}
@@ -25,12 +25,12 @@ use Rattle.hold_bindings.specs.Log.{Logged, ofRules, ofKeys, entryAt, isNamed, 
 use Rattle.hold_bindings.specs.Held.{HoldsBindings, HasEntry, SoundBindings}
 use Rattle.hold_bindings.proofs.Lookups.{newest-below, entry-kept, entry-newest, keys-newest}
 use Rattle.hold_reading.specs.declared.Counts.{Counts}
-use Rattle.hold_reading.specs.Held.{capacities, endIn, ruleStart, defaultsStart, Ruled, phony, declared, Bound, Graphed}
+use Rattle.hold_reading.specs.Held.{capacities, endIn, ruleStart, defaultsStart, Ruled, phony, declared, HoldsBound, Graphed}
 use Rattle.text_lookup.specs.declared.Asked.{Asked}
 use Rattle.text_memo.proofs.Spans.{part-front}
 use Rattle.text_step.specs.declared.StepAsked.{StepAsked}
 use Rattle.text_step.specs.declared.StepAsked.the-variants.{NoCommand, Step}
-use Rattle.text_step.specs.Steps.{HasRule, Declares, InGraph, outputsFrom, Picked, Picks, PickAsk, Reads, Asks}
+use Rattle.text_step.specs.Steps.{HasRule, Declares, InGraph, outputsFrom, Picked, Picks, PickAsk, ReadingHeld, AsksStep}
 
 -- ---- the rule
 
@@ -95,7 +95,7 @@ ruled-phony (declared {k = k} b o n e) z = absurd (omega arith)
 
 -- ---- the columns
 
-module _ {log : List Logged} {texts bind graph : List ℕ} {c : Counts} {rd : Reading} (b : Bound log texts bind c rd) (g : Graphed log graph c rd) where
+module _ {log : List Logged} {texts bind graph : List ℕ} {c : Counts} {rd : Reading} (b : HoldsBound log texts bind c rd) (g : Graphed log graph c rd) where
   columns : List (List ℕ)
   columns = g .mentions ∷ g .ends ∷ g .phony ∷ g .made ∷ g .ruleOf ∷ rd .defaults ∷ []
 
@@ -126,7 +126,7 @@ module _ {log : List Logged} {texts bind graph : List ℕ} {c : Counts} {rd : Re
         let l = held-sound (g .tables) .placed s there .within in
         lies-read capacities graph columns 1 (g .lies) (omega arith) (endPlace j k) (omega arith)
 
-    outs-start : outputsFrom graph s ≡ startIn (g .ends) s
+    outs-start : outputsFrom graph s ≡ stepStart (g .ends) s
     unfolding outputsFrom
     outs-start = elim (ℕ-discrete s 0) [
       | yes z ↦ rw (eq-eqb s 0 z) (start-zero (g .ends) s z)
@@ -141,7 +141,7 @@ module _ {log : List Logged} {texts bind graph : List ℕ} {c : Counts} {rd : Re
     ins-placed : (endAt (g .ends) s outsEnd ≤ endAt (g .ends) s insEnd) × (endAt (g .ends) s insEnd ≤ endAt (g .ends) s implicitEnd)
     ins-placed = rw (g .tables .ended) (read-ins-placed (rd .steps) s there)
 
-    outs-held : part (g .mentions) (startIn (g .ends) s) (endAt (g .ends) s outsEnd) ≡ stepAt (rd .steps) s .outs
+    outs-held : part (g .mentions) (stepStart (g .ends) s) (endAt (g .ends) s outsEnd) ≡ stepAt (rd .steps) s .outs
     unfolding outsIn
     outs-held = held-outs (g .tables) s
 
@@ -169,7 +169,7 @@ unfolding outputsFrom
 outputs-later graph s z = sym (rw (ne-eqb s 0 z))
 
 module _ {texts bind graph : List ℕ} {c : Counts} {step k : ℕ} (w : PickAsk texts bind graph c step k) where
-  rules-of : {log : List Logged} {rd : Reading} → Bound log texts bind c rd → Graphed log graph c rd → Rules log (stepAt (rd .steps) step .rule) k
+  rules-of : {log : List Logged} {rd : Reading} → HoldsBound log texts bind c rd → Graphed log graph c rd → Rules log (stepAt (rd .steps) step .rule) k
   rules-of b g = rw (w .entry) (ruled-by (ruled b g (w .there)) (w .ruled))
 
   pub pick-rule : HasRule texts bind (c .entries) k
@@ -182,7 +182,7 @@ module _ {texts bind graph : List ℕ} {c : Counts} {step k : ℕ} (w : PickAsk 
 
   module _ {rule outs ins rest : ℕ} (d : Declares texts bind (c .entries) k rule) (o : outs ≡ outputsFrom graph step) (i : ins ≡ endIn graph step outsEnd)
       (e : rest ≡ endIn graph step insEnd) where
-    module _ {log : List Logged} {rd : Reading} (b : Bound log texts bind c rd) (g : Graphed log graph c rd) where
+    module _ {log : List Logged} {rd : Reading} (b : HoldsBound log texts bind c rd) (g : Graphed log graph c rd) where
       rule-found : newest ofRules (stepAt (rd .steps) step .rule) log ≡ At rule
       rule-found = let r = rules-of b g in rw (← (r .name)) (d .newest log (b .held) (r .owner))
 
@@ -195,7 +195,7 @@ module _ {texts bind graph : List ℕ} {c : Counts} {step k : ℕ} (w : PickAsk 
           let h = w .there in
           let p = held-sound (g .tables) .placed step (there b g h) in
           let q = ins-placed b g h in
-          let x : outs ≡ startIn (g .ends) step = o ∙ outs-start b g h in
+          let x : outs ≡ stepStart (g .ends) step = o ∙ outs-start b g h in
           let y : ins ≡ endAt (g .ends) step outsEnd = i ∙ end-read b g h step outsEnd (omega arith) in
           let z : rest ≡ endAt (g .ends) step insEnd = e ∙ end-read b g h step insEnd (omega arith) in
           let m : rest ≤ length (g .mentions) = omega (arith, p .inputs, p .mentioned, q .1) in
@@ -225,31 +225,31 @@ or-right-true true = refl
 or-right-true false = refl
 
 module _ (texts bind graph : List ℕ) (c : Counts) (step : ℕ) where
-  pub step-missing : c .steps ≤ step → Asks texts bind graph c step NoCommand
-  unfolding Asks
+  pub step-missing : c .steps ≤ step → AsksStep texts bind graph c step NoCommand
+  unfolding AsksStep
   step-missing h log rd b g = rw (le-leb (length (rd .steps)) step (omega (arith, b .steps-counted)))
 
-  pub step-picked : {a : Asked} → Picks texts bind graph c step a → Asks texts bind graph c step (Step a)
-  unfolding Asks
+  pub step-picked : {a : Asked} → Picks texts bind graph c step a → AsksStep texts bind graph c step (Step a)
+  unfolding AsksStep
   step-picked p = p
 
   -- what the answer says
-  pub asked-none : {r : StepAsked} → Asks texts bind graph c step r → r ≡ NoCommand
-      → (log : List Logged) (rd : Reading) → Bound log texts bind c rd → Graphed log graph c rd → leb (length (rd .steps)) step || isPhony (stepAt (rd .steps) step .rule) ≡ true
-  unfolding Asks
+  pub asked-none : {r : StepAsked} → AsksStep texts bind graph c step r → r ≡ NoCommand
+      → (log : List Logged) (rd : Reading) → HoldsBound log texts bind c rd → Graphed log graph c rd → leb (length (rd .steps)) step || isPhony (stepAt (rd .steps) step .rule) ≡ true
+  unfolding AsksStep
   asked-none p e = rw e at p
 
-  pub asked-step : {r : StepAsked} {a : Asked} → Asks texts bind graph c step r → r ≡ Step a → Picks texts bind graph c step a
-  unfolding Asks
+  pub asked-step : {r : StepAsked} {a : Asked} → AsksStep texts bind graph c step r → r ≡ Step a → Picks texts bind graph c step a
+  unfolding AsksStep
   asked-step p e = rw e at p
 
 module _ {texts bind graph : List ℕ} {c : Counts} {step : ℕ} where
-  module _ (w : Reads texts bind graph c) (h : step < c .steps) where
+  module _ (w : ReadingHeld texts bind graph c) (h : step < c .steps) where
     pub rule-place : ruleStart + step < length graph
     rule-place = let k = in-graph (w .bound) (w .graphed) h in omega (arith, k .low, k .long)
 
-    pub step-phony : {m : ℕ} → m ≡ getD graph (ruleStart + step) 0 → m ≡ 0 → Asks texts bind graph c step NoCommand
-    unfolding Asks
+    pub step-phony : {m : ℕ} → m ≡ getD graph (ruleStart + step) 0 → m ≡ 0 → AsksStep texts bind graph c step NoCommand
+    unfolding AsksStep
     step-phony e z log rd b g = rw (is-phony b g h (sym e ∙ z)) (or-right-true (leb (length (rd .steps)) step))
 
     pub pick-asked : {m : ℕ} → m ≡ getD graph (ruleStart + step) 0 → (m ≡ 0 → ⊥) → PickAsk texts bind graph c step (m - 1)

@@ -16,7 +16,7 @@ use Rattle.text_recursion.proofs.Circles.{leads-back-deep}
 use Rattle.text_memo.specs.declared.Draft.{Draft}
 use Rattle.text_memo.specs.Draft.{nothing}
 use Rattle.text_memo.proofs.Spans.{nothing-remembers}
-use Rattle.text_expansion.specs.Asks.{NameAsk, WritesName}
+use Rattle.text_expansion.specs.Asks.{NameTextAsk, WritesName}
 use Rattle.text_step.specs.Asks.{StepAsk, WholeAsk, WritesWhole}
 use Rattle.hold_reading.specs.Buffers.{Buffers}
 
@@ -25,7 +25,7 @@ shallow rd s n e = sym (leads-back-deep rd s n) ∙ e
 
 module _ {t : List ℕ} {bs : Buffers} {name buffer : List ℕ} {a : Asked} (w : WholeAsk t bs a name buffer) where
   module _ {d : Draft} (z : d ≡ nothing) where
-    pub whole-asked : NameAsk t bs a name deep buffer d
+    pub whole-asked : NameTextAsk t bs a name deep buffer d
     whole-asked =
         let q = w .asked in
         record {
@@ -62,5 +62,5 @@ module _ (key : Key) {k : ℕ} (e : k ≡ keyNumber (keyName key)) where
 -- ---- what the functions ask
 
 module _ {t : List ℕ} {bs : Buffers} {buffer : List ℕ} {a : Asked} (w : StepAsk t bs a buffer) where
-  pub leads-asked : depth.Asks t (bs .texts) (bs .bind) a
+  pub leads-asked : depth.RecursionAsks t (bs .texts) (bs .bind) a
   leads-asked = record { table = w .table; within = record { log = w .log; reading = w .reading; step = w .step; scope = w .here .scope } }

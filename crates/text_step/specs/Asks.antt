@@ -20,7 +20,7 @@ use Rattle.hold_bindings.specs.Log.{Logged}
 use Rattle.hold_reading.specs.declared.Counts.{Counts}
 use Rattle.hold_reading.specs.Held.{HoldsReading}
 use Rattle.text_lookup.specs.declared.Asked.{Asked}
-use Rattle.text_buffer.specs.Puts.{Puts}
+use Rattle.text_buffer.specs.Puts.{PutsText}
 use Rattle.text_expansion.specs.Here.{Here}
 use Rattle.hold_reading.specs.Buffers.{Buffers}
 
@@ -41,7 +41,7 @@ pub record WholeAsk (t : List ℕ) (bs : Buffers) (a : Asked) (name buffer : Lis
 
 pub record WritesWhole (bs : Buffers) (a : Asked) (name before after : List ℕ) (r : ℕ) : Type 0 where
   pub writes : (log : List Logged) (rd : Reading) (s : Step) → Here bs a log rd s → leadsBack rd s deep [] name ≡ false
-      → Puts before 0 (textOf rd s deep name) after r
+      → PutsText before 0 (textOf rd s deep name) after r
 
 -- 16, 17 or the text of a key, and the whole buffer, for the step of this number in any reading that has it there
 pub record TextAt (bs : Buffers) (a : Asked) (step : ℕ) (key : Key) (before after : List ℕ) (r : TextAnswer) : Type 0 where

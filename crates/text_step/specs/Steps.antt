@@ -15,7 +15,7 @@ use Rattle.hold_bindings.specs.declared.FoundEntry.the-variants.{At}
 use Rattle.hold_bindings.specs.Log.{Logged, ofRules, ofKeys, entryAt, newest, boundBy}
 use Rattle.hold_bindings.specs.Held.{maxEntries, HoldsBindings}
 use Rattle.hold_reading.specs.declared.Counts.{Counts}
-use Rattle.hold_reading.specs.Held.{Bound, endIn, ruleStart, defaultsStart, Graphed}
+use Rattle.hold_reading.specs.Held.{HoldsBound, endIn, ruleStart, defaultsStart, Graphed}
 use Rattle.text_lookup.specs.declared.Asked.{Asked}
 use Rattle.text_step.specs.declared.StepAsked.{StepAsked}
 use Rattle.text_step.specs.declared.StepAsked.the-variants.{NoCommand, Step}
@@ -62,27 +62,27 @@ pub record Picked (graph : List ℕ) (c : Counts) (step : ℕ) (a : Asked) (log 
   pub low : (i : ℕ) → a .outs ≤ i → i < a .rest → getD graph i 0 < length (rd .files)
 
 pub record Picks (texts bind graph : List ℕ) (c : Counts) (step : ℕ) (a : Asked) : Type 0 where
-  pub picked : (log : List Logged) (rd : Reading) → Bound log texts bind c rd → Graphed log graph c rd → Picked graph c step a log rd
+  pub picked : (log : List Logged) (rd : Reading) → HoldsBound log texts bind c rd → Graphed log graph c rd → Picked graph c step a log rd
 
 -- some reading is held, and this is the entry of the step's rule
 pub record PickAsk (texts bind graph : List ℕ) (c : Counts) (step k : ℕ) : Type 0 where
   pub log : List Logged
   pub reading : Reading
-  pub bound : Bound log texts bind c reading
+  pub bound : HoldsBound log texts bind c reading
   pub graphed : Graphed log graph c reading
   pub there : step < c .steps
   pub ruled : (getD graph (ruleStart + step) 0 ≡ 0) → ⊥
   pub entry : k ≡ getD graph (ruleStart + step) 0 - 1
 
 -- some reading is held
-pub record Reads (texts bind graph : List ℕ) (c : Counts) : Type 0 where
+pub record ReadingHeld (texts bind graph : List ℕ) (c : Counts) : Type 0 where
   pub log : List Logged
   pub reading : Reading
-  pub bound : Bound log texts bind c reading
+  pub bound : HoldsBound log texts bind c reading
   pub graphed : Graphed log graph c reading
 
 -- "no such step, or it is phony" (18), or the step
-unfoldable pub Asks : List ℕ → List ℕ → List ℕ → Counts → ℕ → StepAsked → Type 0
-Asks texts bind graph c step NoCommand =
-    (log : List Logged) (rd : Reading) → Bound log texts bind c rd → Graphed log graph c rd → leb (length (rd .steps)) step || isPhony (stepAt (rd .steps) step .rule) ≡ true
-Asks texts bind graph c step (Step a) = Picks texts bind graph c step a
+unfoldable pub AsksStep : List ℕ → List ℕ → List ℕ → Counts → ℕ → StepAsked → Type 0
+AsksStep texts bind graph c step NoCommand =
+    (log : List Logged) (rd : Reading) → HoldsBound log texts bind c rd → Graphed log graph c rd → leb (length (rd .steps)) step || isPhony (stepAt (rd .steps) step .rule) ≡ true
+AsksStep texts bind graph c step (Step a) = Picks texts bind graph c step a

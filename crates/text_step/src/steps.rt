@@ -1,6 +1,6 @@
 // The step that a text is asked of: its rule and its files.
 ghost use mathlib.Core.Path.{_≡_};
-ghost use Rattle.text_step.specs.Steps.{HasRule, Declares, outputsFrom, InGraph, PickAsk, Picks, Reads, Asks};
+ghost use Rattle.text_step.specs.Steps.{HasRule, Declares, outputsFrom, InGraph, PickAsk, Picks, ReadingHeld, AsksStep};
 use crate::StepAsked;
 use hold_bindings::FoundEntry;
 use hold_bindings::entry_name;
@@ -57,8 +57,8 @@ fn picked(texts: &[u8], bind: &[u32], graph: &[u32], c: Counts, step: usize, k: 
 }
 
 pub fn asked(texts: &[u8], bind: &[u32], graph: &[u32], c: Counts, step: usize) -> StepAsked
-    requires { ⌜ Reads (now texts) (now bind) (now graph) c ⌝ }
-    ensures { λ r. ⌜ Asks (now (texts .entry)) (now (bind .entry)) (now (graph .entry)) c step r ⌝ }
+    requires { ⌜ ReadingHeld (now texts) (now bind) (now graph) c ⌝ }
+    ensures { λ r. ⌜ AsksStep (now (texts .entry)) (now (bind .entry)) (now (graph .entry)) c step r ⌝ }
 {
     if c.steps <= step {
         return StepAsked::NoCommand;

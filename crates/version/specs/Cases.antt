@@ -3,7 +3,7 @@ use mathlib.Core.Bool.{true, false}
 use mathlib.Core.Path.{_≡_, refl}
 use Rattle.lists.specs.Text.{bytes}
 use Rattle.version.specs.declared.ReadVersion.the-variants.{Read, Malformed}
-use Rattle.version.specs.Version.{version, digit, inRange, numberFrom, number, patchFrom, minorFrom, majorFrom, readVersion, above, tooNew, refusedVersion}
+use Rattle.version.specs.Version.{version, versionDigit, inRange, numberFrom, number, patchFrom, minorFrom, majorFrom, readVersion, above, tooNew, refusedVersion}
 
 -- What is read.
 reads :
@@ -18,7 +18,7 @@ reads :
     × (readVersion (bytes ".5") ≡ Malformed)
     × (readVersion (bytes "1..5") ≡ Malformed)
     × (readVersion (bytes "1.5 ") ≡ Malformed)
-unfolding digit inRange numberFrom number patchFrom minorFrom majorFrom readVersion
+unfolding versionDigit inRange numberFrom number patchFrom minorFrom majorFrom readVersion
 reads = (refl, refl, refl, refl, refl, refl, refl, refl, refl, refl, refl)
 
 -- What is refused.
@@ -28,5 +28,5 @@ refusals :
     × (refusedVersion (bytes "1.4.9") ≡ false)
     × (refusedVersion (bytes "2") ≡ true)
     × (refusedVersion (bytes "1.x") ≡ true)
-unfolding digit inRange numberFrom number patchFrom minorFrom majorFrom readVersion above tooNew refusedVersion
+unfolding versionDigit inRange numberFrom number patchFrom minorFrom majorFrom readVersion above tooNew refusedVersion
 refusals = (refl, refl, refl, refl, refl)

@@ -10,12 +10,12 @@ use Rattle.version.specs.declared.Version.{Version}
 use Rattle.version.specs.declared.ReadVersion.{ReadVersion}
 use Rattle.version.specs.declared.ReadVersion.the-variants.{Read, Malformed}
 
-abbrev pub dot : ℕ
-dot = 46
+abbrev pub versionDot : ℕ
+versionDot = 46
 
 -- The bytes '0' to '9'.
-unfoldable pub digit : ℕ → Bool
-digit b = leb 48 b && leb b 57
+unfoldable pub versionDigit : ℕ → Bool
+versionDigit b = leb 48 b && leb b 57
 
 -- What reading a number gives: its value and the bytes after it, or nothing.
 pub data Number : Type 0 where
@@ -26,26 +26,26 @@ pub data Number : Type 0 where
 unfoldable pub inRange : ℕ → List ℕ → Number
 inRange n s = ifB (leb n 65535) (λ _. value n s) (λ _. none)
 
--- The rest of a decimal number whose digits so far give n. It ends at a dot or at the end. "leading zeros allowed": only
+-- The rest of a decimal number whose digits so far give n. It ends at a versionDot or at the end. "leading zeros allowed": only
 -- the value is limited.
 unfoldable pub numberFrom : ℕ → List ℕ → Number
-unfolding digit inRange
+unfolding versionDigit inRange
 numberFrom n [] = inRange n []
 numberFrom n (b ∷ s) =
-    ifB (eqb b dot)
+    ifB (eqb b versionDot)
     (λ _. inRange n (b ∷ s))
-    (λ _. ifB (digit b) (λ _. numberFrom (n * 10 + (b - 48)) s) (λ _. none))
+    (λ _. ifB (versionDigit b) (λ _. numberFrom (n * 10 + (b - 48)) s) (λ _. none))
 
--- A decimal number has one digit at least.
+-- A decimal number has one versionDigit at least.
 unfoldable pub number : List ℕ → Number
-unfolding digit numberFrom
+unfolding versionDigit numberFrom
 number [] = none
-number (b ∷ s) = ifB (digit b) (λ _. numberFrom 0 (b ∷ s)) (λ _. none)
+number (b ∷ s) = ifB (versionDigit b) (λ _. numberFrom 0 (b ∷ s)) (λ _. none)
 
 abbrev pub version : ℕ → ℕ → ℕ → Version
 version a b c = record { major = a; minor = b; patch = c }
 
--- A version by what was read as its third number, then its second, then its first. A number ends at the end or at a dot,
+-- A version by what was read as its third number, then its second, then its first. A number ends at the end or at a versionDot,
 -- after which the next one begins; after the third nothing may stand.
 unfoldable pub patchFrom : ℕ → ℕ → Number → ReadVersion
 patchFrom a b none = Malformed

@@ -1,7 +1,7 @@
 // The version that a manifest asks for: read from bytes, and compared.
 ghost use mathlib.Core.Path.{_≡_};
 ghost use lib.ListN.{drop};
-ghost use Rattle.version.specs.Version.{digit, number, minorFrom, patchFrom, readVersion, above, refusedVersion};
+ghost use Rattle.version.specs.Version.{versionDigit, number, minorFrom, patchFrom, readVersion, above, refusedVersion};
 ghost use Rattle.version.specs.Part.{partOf};
 
 pub struct Version {
@@ -22,7 +22,7 @@ pub enum Part {
 }
 
 fn is_digit(b: u8) -> bool
-    ensures { λ r. ⌜ r ≡ digit b ⌝ }
+    ensures { λ r. ⌜ r ≡ versionDigit b ⌝ }
 {
     48 <= b && b <= 57
 }

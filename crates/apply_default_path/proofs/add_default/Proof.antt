@@ -5,14 +5,14 @@ use native.Mathlib.Omega.{arith}
 use borrow.Author.Needs.{needs}
 use denote.Ref.{now}
 use Rattle.apply_path_checks.proofs.Makers.{word-counted, files-held}
-use Rattle.apply_files.specs.Path.{overCounted}
+use Rattle.apply_files.specs.Path.{pathOver}
 use Rattle.apply_files.proofs.Limits.{path-within}
 use Rattle.apply_default_path.proofs.Putting.{default-over, default-added}
 use Rattle.apply_default_path.proofs.add_default.Statement.{statement}
 use Rattle.apply_default_path.proofs.add_default.Tie as tie
 
 -- past the limits
-inside : (s : tie.Else1) → overCounted (s .before .before .before .before .expand .result) (s .before .before .before .before .before .before .before .before .before .before .before .before .before .args .c) ≡ false
+inside : (s : tie.Else1) → pathOver (s .before .before .before .before .expand .result) (s .before .before .before .before .before .before .before .before .before .before .before .before .before .args .c) ≡ false
 inside s = sym (s .before .path-over .ensures) ∙ s .if1 .left
 
 expand-requires : tie.Need-expand-requires

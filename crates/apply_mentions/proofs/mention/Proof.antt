@@ -3,13 +3,13 @@ use mathlib.Core.Bool.{false}
 use mathlib.Core.Path.{_≡_, sym, _∙_}
 use native.Mathlib.Omega.{arith}
 use borrow.Author.Needs.{needs}
-use Rattle.apply_files.specs.Path.{overCounted}
+use Rattle.apply_files.specs.Path.{pathOver}
 use Rattle.apply_mentions.proofs.Mentioning.{mention-over, path-fits, path-counted, mention-fits, mention-marked}
 use Rattle.apply_mentions.proofs.mention.Statement.{statement}
 use Rattle.apply_mentions.proofs.mention.Tie as tie
 
 -- past the limits
-inside : (s : tie.Else1) → overCounted (s .before .before .before .before .expand .result) (s .before .before .before .before .before .before .before .before .before .before .before .before .before .args .c) ≡ false
+inside : (s : tie.Else1) → pathOver (s .before .before .before .before .expand .result) (s .before .before .before .before .before .before .before .before .before .before .before .before .before .args .c) ≡ false
 inside s = sym (s .before .path-over .ensures) ∙ s .if1 .left
 
 expand-requires : tie.Need-expand-requires

@@ -3,7 +3,7 @@ use mathlib.Core.Path.{subst}
 use native.Mathlib.Omega.{arith}
 use borrow.Author.Needs.{needs}
 use Rattle.scan_classes.proofs.Sorted.{sorted, in-class, not-in-class}
-use Rattle.scan_raw.specs.Texts.{ValueBad, ValueAt}
+use Rattle.scan_raw.specs.Texts.{ValueBad, ValueScanned}
 use Rattle.cut_forms.specs.Statements.{AssignmentAt}
 use Rattle.cut_forms.proofs.Faults.{no-form}
 use Rattle.cut_forms.proofs.Words.{value-none, value-other, value-short, value-sound, value-bad}
@@ -46,18 +46,18 @@ sub-t20 : tie.Need-sub-t20
 sub-t20 c = omega (arith, value-short (c .before .before .before .before .before .before .before .before .before .gap .ensures) (c .before .before .before .before .raw-value .ensures))
 
 add-t21 : tie.Need-add-t21
-unfolding ValueAt
+unfolding ValueScanned
 add-t21 c =
-    let b : ValueBad _ _ = subst (ValueAt _) (c .before .p .given .1) (c .before .before .before .bad-dollar .ensures) in
+    let b : ValueBad _ _ = subst (ValueScanned _) (c .before .p .given .1) (c .before .before .before .bad-dollar .ensures) in
     omega (arith, value-short (c .before .before .before .before .before .before .before .before .before .gap .ensures) (c .before .before .before .before .raw-value .ensures), b .within)
 
 returns-3 : tie.Need-returns-3
-unfolding AssignmentAt ValueAt
-returns-3 c = value-sound (c .before .before .before .before .before .before .before .before .gap .ensures) (c .before .before .before .before .before .before .before .if1 .left) (in-class (sorted _ .equals) (c .before .before .before .before .before .class-in .ensures) (c .before .before .before .before .if2 .left)) (c .before .before .before .raw-value .ensures) (c .before .before .before .before .before .before .before .before .before .before .pre .1) (subst (ValueAt _) (c .enum-told .given .1) (c .before .before .bad-dollar .ensures))
+unfolding AssignmentAt ValueScanned
+returns-3 c = value-sound (c .before .before .before .before .before .before .before .before .gap .ensures) (c .before .before .before .before .before .before .before .if1 .left) (in-class (sorted _ .equals) (c .before .before .before .before .before .class-in .ensures) (c .before .before .before .before .if2 .left)) (c .before .before .before .raw-value .ensures) (c .before .before .before .before .before .before .before .before .before .before .pre .1) (subst (ValueScanned _) (c .enum-told .given .1) (c .before .before .bad-dollar .ensures))
 
 returns-4 : tie.Need-returns-4
-unfolding AssignmentAt ValueAt
-returns-4 c = value-bad (c .before .before .before .before .before .before .before .before .before .gap .ensures) (c .before .before .before .before .before .before .before .before .if1 .left) (in-class (sorted _ .equals) (c .before .before .before .before .before .before .class-in .ensures) (c .before .before .before .before .before .if2 .left)) (c .before .before .before .before .raw-value .ensures) _ (subst (ValueAt _) (c .before .p .given .1) (c .before .before .before .bad-dollar .ensures))
+unfolding AssignmentAt ValueScanned
+returns-4 c = value-bad (c .before .before .before .before .before .before .before .before .before .gap .ensures) (c .before .before .before .before .before .before .before .before .if1 .left) (in-class (sorted _ .equals) (c .before .before .before .before .before .before .class-in .ensures) (c .before .before .before .before .before .if2 .left)) (c .before .before .before .before .raw-value .ensures) _ (subst (ValueScanned _) (c .before .p .given .1) (c .before .before .before .bad-dollar .ensures))
 
 pub cut-value-spec : {M : Type 1} → statement M
 cut-value-spec =

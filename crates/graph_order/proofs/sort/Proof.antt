@@ -2,7 +2,7 @@
 use Prim.Native.Nat.{_-_}
 use native.Mathlib.Omega.{arith}
 use lib.ListN.{length}
-use Rattle.graph_order.specs.Walk.{Sorted}
+use Rattle.graph_order.specs.Walk.{FindsOrder}
 use Rattle.graph_order.proofs.Roots.{Rooting, asked-lengths, roots-begin, roots-ask, roots-more, roots-circle, roots-end}
 use borrow.Author.Needs.{needs}
 use Rattle.graph_order.proofs.sort.Statement.{statement}
@@ -48,7 +48,7 @@ same-length-4 : tie.Need-same-length-4 Inv-loop μ-loop
 same-length-4 c = omega (arith, c .before .before .before .before .before .before .before .before .before .before .before .explore-root .kept, c .before .before .before .before .before .before .before .before .before .before .before .before .before .before .before .before .before .loop .inv .state .visited)
 
 returns : tie.Need-returns Inv-loop μ-loop
-unfolding Sorted
+unfolding FindsOrder
 returns c = record { space = (record { long = same-length c }, record { long = same-length-2 c }); promise = roots-circle (c .before .before .before .before .before .before .before .before .before .before .before .before .before .before .before .before .before .before .before .before .before .before .before .before .before .before .pre .sound) (c .before .before .before .before .before .before .before .before .before .before .before .before .before .before .before .before .before .before .before .before .before .before .before .before .before .before .pre .files) (c .before .before .before .before .before .before .before .before .before .before .before .before .before .before .before .before .before .loop .inv) _ _ _ _ (c .before .before .before .before .before .before .before .before .before .before .before .explore-root .ensures) (c .before .from .given .1) }
 
 same-length-5 : tie.Need-same-length-5 Inv-loop μ-loop
@@ -64,7 +64,7 @@ same-length-8 : tie.Need-same-length-8 Inv-loop μ-loop
 same-length-8 c = search needs
 
 returns-2 : tie.Need-returns-2 Inv-loop μ-loop
-unfolding Sorted
+unfolding FindsOrder
 returns-2 c = record { space = (record { long = same-length-5 c }, record { long = same-length-6 c }); promise = roots-end (c .before .before .before .before .before .before .before .before .before .before .pre .sound) (c .before .before .before .before .before .before .before .before .before .before .pre .files) (c .before .loop .inv) (c .loop-test .left) }
 
 pub sort-spec : {M : Type 1} → statement M

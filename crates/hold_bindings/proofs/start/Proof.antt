@@ -3,12 +3,12 @@ use mathlib.Core.Path.{_∙_}
 use borrow.Author.Needs.{needs}
 use denote.Ref.{now}
 use Rattle.hold_bindings.proofs.Entries.{start-later}
-use Rattle.hold_bindings.specs.Held.{startIn}
+use Rattle.hold_bindings.specs.Held.{entryStart}
 use Rattle.hold_bindings.proofs.start.Statement.{statement}
 use Rattle.hold_bindings.proofs.start.Tie as tie
 
 returns : tie.Need-returns
-unfolding startIn
+unfolding entryStart
 returns c = rw (c .if1 .taken)
 
 mul-at : tie.Need-mul-at

@@ -9,7 +9,7 @@ use Rattle.spec.specs.Card.{cardEntries}
 use Rattle.scan_card.proofs.Places.{card-header, card-rising, length-card, listed}
 use Rattle.scan_card.proofs.Rules.{header}
 use Rattle.scan_card_lookup.proofs.Search.{Searching, search-begin, search-end, search-found, search-lower, search-higher}
-use Rattle.scan_card.specs.Fields.{entryAt}
+use Rattle.scan_card.specs.Fields.{cardEntryAt}
 use Rattle.scan_card_lookup.proofs.time_of.Statement.{statement}
 use Rattle.scan_card_lookup.proofs.time_of.Tie as tie
 
@@ -41,7 +41,7 @@ loop-less : tie.Need-loop-less Inv-loop μ-loop
 loop-less c = search needs
 
 loop-again : tie.Need-loop-again Inv-loop μ-loop
-unfolding entryAt
+unfolding cardEntryAt
 loop-again c = search-lower (c .before .before .before .before .loop .inv) (card-rising _ (c .before .before .before .before .before .before .before .before .pre)) _ (omega arith) (order-less _ _ (sym (c .before .before .order-at .ensures) ∙ c .enum-told .given .1))
 
 enum-told-2 : tie.Need-enum-told-2 Inv-loop μ-loop
@@ -54,7 +54,7 @@ loop-less-2 : tie.Need-loop-less-2 Inv-loop μ-loop
 loop-less-2 c = search needs
 
 loop-again-2 : tie.Need-loop-again-2 Inv-loop μ-loop
-unfolding entryAt
+unfolding cardEntryAt
 loop-again-2 c = search-higher (c .before .before .before .before .loop .inv) (card-rising _ (c .before .before .before .before .before .before .before .before .pre)) _ (omega arith) (order-greater _ _ (sym (c .before .before .order-at .ensures) ∙ c .enum-told2 .given .1))
 
 enum-told-3 : tie.Need-enum-told-3 Inv-loop μ-loop
@@ -64,7 +64,7 @@ time-at-requires : tie.Need-time-at-requires Inv-loop μ-loop
 time-at-requires c κs = listed (c .before .before .before .before .before .before .before .before .pre) _ (omega (arith, length-card (now (c .before .before .before .before .before .before .before .before .args .card))))
 
 returns : tie.Need-returns Inv-loop μ-loop
-unfolding entryAt
+unfolding cardEntryAt
 returns c = c .time-at .ensures ∙ search-found (c .before .before .before .before .before .loop .inv) (card-rising _ (c .before .before .before .before .before .before .before .before .before .pre)) _ (omega arith) (order-equal _ _ (sym (c .before .before .before .order-at .ensures) ∙ c .before .enum-told3 .given .1))
 
 returns-2 : tie.Need-returns-2 Inv-loop μ-loop

@@ -4,13 +4,13 @@ use borrow.Author.Needs.{needs}
 use lib.ListN.{length}
 use Rattle.lists.specs.Runs.{Scanning, scan-begin, scan-more, scan-stop, scan-end}
 use Rattle.spec.specs.Bytes.{classOf}
-use Rattle.scan_classes.specs.Table.{upTo}
+use Rattle.scan_classes.specs.Table.{classUpTo}
 use Rattle.scan_tokens.proofs.Names.{range-below, range-above, range-in}
 use Rattle.scan_tokens.proofs.class_run.Statement.{statement}
 use Rattle.scan_tokens.proofs.class_run.Tie as tie
 
 abbrev Inv-loop : tie.InvT-loop
-Inv-loop t s from last i₀ i = Scanning (λ b. upTo last (classOf b)) s from i
+Inv-loop t s from last i₀ i = Scanning (λ b. classUpTo last (classOf b)) s from i
 
 abbrev μ-loop : tie.MeasureT-loop
 μ-loop t s from last i₀ i = length s - i

@@ -1,15 +1,15 @@
 -- `version::is_digit` meets its contract.
 use borrow.Author.Tests.{le-leb, lt-leb}
-use Rattle.version.specs.Version.{digit}
+use Rattle.version.specs.Version.{versionDigit}
 use Rattle.version.proofs.is_digit.Statement.{statement}
 use Rattle.version.proofs.is_digit.Tie as tie
 
 returns : tie.Need-returns
-unfolding digit
+unfolding versionDigit
 returns c = rw (le-leb _ _ (c .if1 .taken))
 
 returns-2 : tie.Need-returns-2
-unfolding digit
+unfolding versionDigit
 returns-2 c = rw (lt-leb _ _ (c .if1 .left))
 
 pub is-digit-spec : {M : Type 1} → statement M

@@ -8,7 +8,7 @@ use borrow.Author.Tests.{not-true, not-false}
 use denote.Ref.{now}
 use lib.ListN.{length, getD}
 use Rattle.version.specs.Part.{partOf}
-use Rattle.version.specs.Version.{digit}
+use Rattle.version.specs.Version.{versionDigit}
 use Rattle.version.proofs.Steps.{Reading, digit-range, no-byte, no-digit, begin, at-end, at-dot, no-number, over, more}
 use Rattle.version.proofs.number.Statement.{statement}
 use Rattle.version.proofs.number.Tie as tie
@@ -54,7 +54,7 @@ returns-4 c =
     no-number (c .before .before .before .before .before .loop .inv) (c .before .before .before .before .loop-test .taken) (c .before .before .if3 .left)
     (sym (c .before .is-digit2 .ensures) ∙ not-true _ (c .if4 .taken))
 
-digit-here : (c : tie.Else4 Inv-loop μ-loop) → digit (getD (now (c .before .before .before .before .before .before .before .before .before .before .before .args .s)) (c .before .before .before .before .before .loop .i) 0) ≡ true
+digit-here : (c : tie.Else4 Inv-loop μ-loop) → versionDigit (getD (now (c .before .before .before .before .before .before .before .before .before .before .before .args .s)) (c .before .before .before .before .before .loop .i) 0) ≡ true
 digit-here c = sym (c .before .is-digit2 .ensures) ∙ not-false _ (c .if4 .left)
 
 mul-n : tie.Need-mul-n Inv-loop μ-loop

@@ -1,7 +1,7 @@
 -- `cut_forms::paths::next_listed` meets its contract.
 use borrow.Author.Needs.{needs}
 use Rattle.scan_raw.proofs.Answers.{next-stop, next-path, next-bad}
-use Rattle.cut_forms.specs.Paths.{NextAt}
+use Rattle.cut_forms.specs.Paths.{NextListed}
 use Rattle.cut_forms.proofs.Walks.{walk-stop, walk-bad}
 use Rattle.cut_forms.proofs.paths.next_listed.Statement.{statement}
 use Rattle.cut_forms.proofs.paths.next_listed.Tie as tie
@@ -19,15 +19,15 @@ enum-told-2 : tie.Need-enum-told-2
 enum-told-2 c = search needs
 
 returns : tie.Need-returns
-unfolding NextAt
+unfolding NextListed
 returns c = next-path _ _ _ (c .before .before .before .next-path .ensures) (c .before .from .given .1)
 
 returns-2 : tie.Need-returns-2
-unfolding NextAt
+unfolding NextListed
 returns-2 c = λ ps w. walk-stop (next-stop _ _ _ (c .before .before .next-path .ensures) (c .enum-told .given .1)) w
 
 returns-3 : tie.Need-returns-3
-unfolding NextAt
+unfolding NextListed
 returns-3 c = λ ps w. walk-bad (next-bad _ _ _ (c .before .before .next-path .ensures) (c .enum-told2 .given .1)) w
 
 pub next-listed-spec : {M : Type 1} → statement M

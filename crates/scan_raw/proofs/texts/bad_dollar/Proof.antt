@@ -6,7 +6,7 @@ use native.Mathlib.Omega.{arith}
 use borrow.Author.Tests.{ne-eqb}
 use borrow.Author.Needs.{needs}
 use lib.ListN.{length}
-use Rattle.scan_raw.specs.Texts.{ValueAt}
+use Rattle.scan_raw.specs.Texts.{ValueScanned}
 use Rattle.scan_tokens.proofs.Places.{Going, going-begin}
 use Rattle.scan_dollars.proofs.Answers.{past-to, past-bad}
 use Rattle.scan_raw.proofs.Look.{look}
@@ -45,7 +45,7 @@ enum-told : tie.Need-enum-told Inv-loop μ-loop
 enum-told c = search needs
 
 returns : tie.Need-returns Inv-loop μ-loop
-unfolding ValueAt
+unfolding ValueScanned
 returns c = value-bad _ _ (c .before .before .before .before .before .loop-test .taken) (text-bad (λ b. false) (c .before .before .before .before .before .before .loop .inv) (c .before .before .before .before .before .loop-test .taken) refl (c .before .before .before .if1 .taken) (past-bad _ _ _ (c .before .before .past .ensures) (c .enum-told .given .1)))
 
 add-i : tie.Need-add-i Inv-loop μ-loop
@@ -58,7 +58,7 @@ loop-again-2 : tie.Need-loop-again-2 Inv-loop μ-loop
 loop-again-2 c = text-byte (λ b. false) (c .before .before .before .loop .inv) (c .before .before .loop-test .taken) refl (ne-eqb _ _ (c .if1 .left))
 
 returns-2 : tie.Need-returns-2 Inv-loop μ-loop
-unfolding ValueAt
+unfolding ValueScanned
 returns-2 c = value-ends _ (c .before .loop .i) (text-end (λ b. false) (c .before .loop .inv) (c .loop-test .left))
 
 pub bad-dollar-spec : {M : Type 1} → statement M
