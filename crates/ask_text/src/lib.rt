@@ -1,11 +1,8 @@
 // The text ask: the manifest is read into buffers of the ask's own, and the step's text is written from them.
 ghost use Prim.Native.Nat.{_≤_};
 ghost use lib.ListN.{length};
-ghost use Rattle.lists.specs.Lent.{Spare, Leaves};
 ghost use Rattle.spec.specs.Limits.{maxText};
 ghost use Rattle.spec.specs.Promises.{TextPromise};
-ghost use Rattle.ask_text.specs.Asked.{TextAsked};
-ghost use Rattle.hold_reading.specs.Buffers.{buffers, SameRoom};
 use apply_manifest::ReadAnswer;
 use apply_manifest::read_manifest;
 use hold_bindings::ROWS;
@@ -20,50 +17,6 @@ use spec::limits::VALUE;
 use spec::limits::WRITTEN;
 use text_step::text_of;
 
-// What is asked for.
-struct Request {
-    step: usize,
-    wanted: Wanted,
-}
-
-// With the reader's buffers lent: they are working space.
-fn text_in(
-    t: &[u8; 256],
-    manifest: &[u8],
-    request: Request,
-    names: &mut [u8],
-    index: &mut [u32],
-    texts: &mut [u8],
-    bind: &mut [u32],
-    graph: &mut [u32],
-    word: &mut [u8],
-    buffer: &mut [u8],
-) -> TextAnswer
-    requires { ⌜ TextAsked (now t) (buffers (now names) (now index) (now texts) (now bind) (now graph)) (now word) (now buffer) ⌝ }
-    ensures { λ r. ⌜ Leaves (SameRoom (buffers (now (names .entry)) (now (index .entry)) (now (texts .entry)) (now (bind .entry)) (now (graph .entry))) (buffers (now (names .exit)) (now (index .exit)) (now (texts .exit)) (now (bind .exit)) (now (graph .exit))) × Spare (now (word .entry)) (now (word .exit))) (TextPromise (now (manifest .entry)) (request .step) (request .wanted) (now (buffer .entry)) r (now (buffer .exit))) ⌝ }
-{
-    let step = request.step;
-    let wanted = request.wanted;
-    match read_manifest(t, manifest, names, index, texts, bind, graph, word) {
-        ReadAnswer::Accepted(c) => text_of(
-            t,
-            names,
-            index,
-            texts,
-            bind,
-            graph,
-            c,
-            step,
-            wanted,
-            buffer,
-        ),
-        ReadAnswer::Refused(r) => {
-            zero_from(buffer, 0);
-            TextAnswer::Refused(r)
-        }
-    }
-}
-
 // With a text buffer of 8,192 bytes at least.
 pub fn text_buffered(manifest: &[u8], step: usize, wanted: Wanted, buffer: &mut [u8]) -> TextAnswer
     requires { ⌜ maxText ≤ length (now buffer) ⌝ }
@@ -76,17 +29,31 @@ pub fn text_buffered(manifest: &[u8], step: usize, wanted: Wanted, buffer: &mut 
     let mut bind = [0u32; ROWS];
     let mut graph = [0u32; COLUMNS_ROOM];
     let mut word = [0u8; VALUE];
-    let request = Request { step, wanted };
-    text_in(
+    match read_manifest(
         &t,
         manifest,
-        request,
         &mut names,
         &mut index,
         &mut texts,
         &mut bind,
         &mut graph,
         &mut word,
-        buffer,
-    )
+    ) {
+        ReadAnswer::Accepted(c) => text_of(
+            &t,
+            &names,
+            &index,
+            &texts,
+            &bind,
+            &graph,
+            c,
+            step,
+            wanted,
+            buffer,
+        ),
+        ReadAnswer::Refused(r) => {
+            zero_from(buffer, 0);
+            TextAnswer::Refused(r)
+        }
+    }
 }

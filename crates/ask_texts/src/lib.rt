@@ -2,10 +2,7 @@
 ghost use Prim.Native.Nat.{_≤_};
 ghost use lib.ListN.{length};
 ghost use Rattle.spec.specs.Limits.{maxText};
-ghost use Rattle.lists.specs.Lent.{Spare, Leaves};
-ghost use Rattle.hold_reading.specs.Buffers.{buffers, SameRoom};
 ghost use Rattle.text_batch.specs.TextsPromise.{TextsPromise};
-ghost use Rattle.ask_texts.specs.Asked.{TextsAsked};
 use apply_manifest::ReadAnswer;
 use apply_manifest::read_manifest;
 use hold_bindings::ROWS;
@@ -18,46 +15,6 @@ use spec::limits::VALUE;
 use spec::limits::WRITTEN;
 use text_batch::TextsAnswer;
 use text_batch::texts_of;
-
-// With the reader's buffers lent.
-fn texts_in(
-    t: &[u8; 256],
-    manifest: &[u8],
-    steps: &[u32],
-    wanted: Wanted,
-    names: &mut [u8],
-    index: &mut [u32],
-    texts: &mut [u8],
-    bind: &mut [u32],
-    graph: &mut [u32],
-    word: &mut [u8],
-    bytes: &mut [u8],
-    ends: &mut [u32],
-) -> TextsAnswer
-    requires { ⌜ TextsAsked (now t) (buffers (now names) (now index) (now texts) (now bind) (now graph)) (now word) (now bytes) ⌝ }
-    ensures { λ r. ⌜ Leaves (SameRoom (buffers (now (names .entry)) (now (index .entry)) (now (texts .entry)) (now (bind .entry)) (now (graph .entry))) (buffers (now (names .exit)) (now (index .exit)) (now (texts .exit)) (now (bind .exit)) (now (graph .exit))) × Spare (now (word .entry)) (now (word .exit))) (TextsPromise (now (manifest .entry)) (now (steps .entry)) wanted (now (bytes .entry)) (now (ends .entry)) r (now (bytes .exit)) (now (ends .exit))) ⌝ }
-{
-    match read_manifest(t, manifest, names, index, texts, bind, graph, word) {
-        ReadAnswer::Accepted(c) => texts_of(
-            t,
-            names,
-            index,
-            texts,
-            bind,
-            graph,
-            c,
-            steps,
-            wanted,
-            bytes,
-            ends,
-        ),
-        ReadAnswer::Refused(r) => {
-            slices::bytes::zero_from(bytes, 0);
-            slices::words::zero_from(ends, 0);
-            TextsAnswer::Refused(r)
-        }
-    }
-}
 
 // With a buffer of 8,192 bytes at least.
 pub fn texts_buffered(
@@ -77,18 +34,33 @@ pub fn texts_buffered(
     let mut bind = [0u32; ROWS];
     let mut graph = [0u32; COLUMNS_ROOM];
     let mut word = [0u8; VALUE];
-    texts_in(
+    match read_manifest(
         &t,
         manifest,
-        steps,
-        wanted,
         &mut names,
         &mut index,
         &mut texts,
         &mut bind,
         &mut graph,
         &mut word,
-        bytes,
-        ends,
-    )
+    ) {
+        ReadAnswer::Accepted(c) => texts_of(
+            &t,
+            &names,
+            &index,
+            &texts,
+            &bind,
+            &graph,
+            c,
+            steps,
+            wanted,
+            bytes,
+            ends,
+        ),
+        ReadAnswer::Refused(r) => {
+            slices::bytes::zero_from(bytes, 0);
+            slices::words::zero_from(ends, 0);
+            TextsAnswer::Refused(r)
+        }
+    }
 }

@@ -1,57 +1,114 @@
--- `ask_texts::texts_buffered` meets its contract.
-use Prim.Native.Nat.{ℕ}
-use mathlib.Core.Path.{sym}
+-- `ask_texts::texts_buffered` meets its contract. Where the arrays are at hand nothing is searched for: that would compute them.
+use Prim.Native.Nat.{ℕ, _+_}
+use mathlib.Core.Path.{sym, _∙_}
 use lib.ListN.{length-replicate}
+use Rattle.spec.specs.Limits.{maxWritten, maxValue, maxManifest}
+use Rattle.hold_names.specs.Table.{maxNumbers}
+use Rattle.hold_bindings.specs.Held.{maxTexts, maxRows}
+use Rattle.hold_reading.specs.Held.{columnsEnd}
+use Rattle.apply_manifest.proofs.Answers.{read-accepted, read-refused}
 use Rattle.apply_manifest.proofs.Buffers.{roomy}
-use borrow.Author.Needs.{needs}
+use Rattle.ask_texts.proofs.Written.{unread, askable, written}
 use Rattle.ask_texts.proofs.texts_buffered.Statement.{statement}
 use Rattle.ask_texts.proofs.texts_buffered.Tie as tie
 
 table-requires : tie.Need-table-requires
-table-requires c κs = search needs
+table-requires c κs = tt
 
-slice-aggregate-texts-in : tie.Need-slice-aggregate-texts-in
-slice-aggregate-texts-in c = sym (length-replicate {A = ℕ} 60000 0)
+slice-aggregate-read-manifest : tie.Need-slice-aggregate-read-manifest
+slice-aggregate-read-manifest c = sym (length-replicate {A = ℕ} maxWritten 0)
 
-slice-aggregate-texts-in-2 : tie.Need-slice-aggregate-texts-in-2
-slice-aggregate-texts-in-2 c = sym (length-replicate {A = ℕ} 3072 0)
+slice-aggregate-read-manifest-2 : tie.Need-slice-aggregate-read-manifest-2
+slice-aggregate-read-manifest-2 c = sym (length-replicate {A = ℕ} maxNumbers 0)
 
-slice-aggregate-texts-in-3 : tie.Need-slice-aggregate-texts-in-3
-slice-aggregate-texts-in-3 c = sym (length-replicate {A = ℕ} 133728 0)
+slice-aggregate-read-manifest-3 : tie.Need-slice-aggregate-read-manifest-3
+slice-aggregate-read-manifest-3 c = sym (length-replicate {A = ℕ} maxTexts 0)
 
-slice-aggregate-texts-in-4 : tie.Need-slice-aggregate-texts-in-4
-slice-aggregate-texts-in-4 c = sym (length-replicate {A = ℕ} 4608 0)
+slice-aggregate-read-manifest-4 : tie.Need-slice-aggregate-read-manifest-4
+slice-aggregate-read-manifest-4 c = sym (length-replicate {A = ℕ} maxRows 0)
 
-slice-aggregate-texts-in-5 : tie.Need-slice-aggregate-texts-in-5
-slice-aggregate-texts-in-5 c = sym (length-replicate {A = ℕ} 61440 0)
+slice-aggregate-read-manifest-5 : tie.Need-slice-aggregate-read-manifest-5
+slice-aggregate-read-manifest-5 c = sym (length-replicate {A = ℕ} (columnsEnd + maxManifest) 0)
 
-slice-aggregate-texts-in-6 : tie.Need-slice-aggregate-texts-in-6
-slice-aggregate-texts-in-6 c = sym (length-replicate {A = ℕ} 2048 0)
+slice-aggregate-read-manifest-6 : tie.Need-slice-aggregate-read-manifest-6
+slice-aggregate-read-manifest-6 c = sym (length-replicate {A = ℕ} maxValue 0)
 
-texts-in-requires : tie.Need-texts-in-requires
-texts-in-requires c κs = record { roomy = roomy (c .before .before .before .before .before .before .before .before .before .table .ensures) (length-replicate {A = ℕ} 60000 0) (length-replicate {A = ℕ} 3072 0) (length-replicate {A = ℕ} 133728 0) (length-replicate {A = ℕ} 4608 0) (length-replicate {A = ℕ} 61440 0) (length-replicate {A = ℕ} 2048 0); room = c .before .before .before .before .before .before .before .before .before .before .before .before .before .before .pre }
+read-manifest-requires : tie.Need-read-manifest-requires
+read-manifest-requires c κs = roomy (c .before .before .before .before .before .before .before .table .ensures) (length-replicate {A = ℕ} maxWritten 0) (length-replicate {A = ℕ} maxNumbers 0) (length-replicate {A = ℕ} maxTexts 0) (length-replicate {A = ℕ} maxRows 0) (length-replicate {A = ℕ} (columnsEnd + maxManifest) 0) (length-replicate {A = ℕ} maxValue 0)
+
+enum-known-c : tie.Need-enum-known-c
+enum-known-c c = c .match .keys1
+
+slice-aggregate-texts-of : tie.Need-slice-aggregate-texts-of
+slice-aggregate-texts-of c = sym (c .before .before .before .before .before .before .before .before .before .before .before .read-manifest .kept .1 .1 .0 ∙ length-replicate {A = ℕ} maxWritten 0)
+
+slice-aggregate-texts-of-2 : tie.Need-slice-aggregate-texts-of-2
+slice-aggregate-texts-of-2 c = sym (c .before .before .before .before .before .before .before .before .before .before .before .before .read-manifest .kept .1 .1 .1 .0 ∙ length-replicate {A = ℕ} maxNumbers 0)
+
+slice-aggregate-texts-of-3 : tie.Need-slice-aggregate-texts-of-3
+slice-aggregate-texts-of-3 c = sym (c .before .before .before .before .before .before .before .before .before .before .before .before .before .read-manifest .kept .1 .1 .1 .1 .0 ∙ length-replicate {A = ℕ} maxTexts 0)
+
+slice-aggregate-texts-of-4 : tie.Need-slice-aggregate-texts-of-4
+slice-aggregate-texts-of-4 c = sym (c .before .before .before .before .before .before .before .before .before .before .before .before .before .before .read-manifest .kept .1 .1 .1 .1 .1 .0 ∙ length-replicate {A = ℕ} maxRows 0)
+
+slice-aggregate-texts-of-5 : tie.Need-slice-aggregate-texts-of-5
+slice-aggregate-texts-of-5 c = sym (c .before .before .before .before .before .before .before .before .before .before .before .before .before .before .before .read-manifest .kept .1 .1 .1 .1 .1 .1 .0 ∙ length-replicate {A = ℕ} (columnsEnd + maxManifest) 0)
+
+texts-of-requires : tie.Need-texts-of-requires
+texts-of-requires c κs = askable (read-accepted _ _ (c .before .before .before .before .before .before .before .before .before .before .before .before .before .before .before .before .before .read-manifest .ensures .promise) (c .before .before .before .before .before .before .before .before .before .c .given .1)) (c .before .before .before .before .before .before .before .before .before .before .before .before .before .before .before .before .before .before .before .before .before .before .before .before .before .table .ensures)
+
+enum-known-r : tie.Need-enum-known-r
+enum-known-r c = c .match .keys2
+
+zero-from-requires : tie.Need-zero-from-requires
+zero-from-requires c κs = tt
+
+zero-from-requires-2 : tie.Need-zero-from-requires-2
+zero-from-requires-2 c κs = tt
 
 same-length : tie.Need-same-length
-same-length c = search needs
+same-length c = c .before .before .before .before .texts-of .kept .1 .1 .1 .1 .1 .1 .1 .1 .1 .0
 
 same-length-2 : tie.Need-same-length-2
-same-length-2 c = search needs
+same-length-2 c = c .before .before .before .before .texts-of .kept .1 .1 .1 .1 .1 .1 .1 .1 .1 .1 .0
 
 returns : tie.Need-returns
-returns c = search needs
+returns c = written _ _ _ (c .before .before .before .before .before .before .before .before .before .before .before .before .before .before .before .before .before .before .before .before .before .before .before .before .before .before .before .before .before .before .before .before .before .before .before .pre) (read-accepted _ _ (c .before .before .before .before .before .before .before .before .before .before .before .before .before .before .before .before .before .before .before .before .before .before .read-manifest .ensures .promise) (c .before .before .before .before .before .before .before .before .before .before .before .before .before .before .c .given .1)) (c .before .before .before .before .texts-of .ensures)
+
+same-length-3 : tie.Need-same-length-3
+same-length-3 c = c .before .before .before .before .before .before .zero-from .kept .0
+
+same-length-4 : tie.Need-same-length-4
+same-length-4 c = c .before .before .zero-from2 .kept .0
+
+returns-2 : tie.Need-returns-2
+returns-2 c = unread _ _ _ (c .before .before .before .before .before .before .before .before .before .before .before .before .before .before .before .before .before .before .before .before .before .before .before .before .before .before .before .before .before .before .pre) _ _ (read-refused _ _ (c .before .before .before .before .before .before .before .before .before .before .before .before .before .before .before .before .before .read-manifest .ensures .promise) (c .before .before .before .before .before .before .before .before .before .r .given .1)) (c .before .before .before .before .before .before .zero-from .ensures) (c .before .before .zero-from2 .ensures)
 
 pub texts-buffered-spec : {M : Type 1} → statement M
 texts-buffered-spec =
     tie.close
     (tie.spec
     table-requires
-    slice-aggregate-texts-in
-    slice-aggregate-texts-in-2
-    slice-aggregate-texts-in-3
-    slice-aggregate-texts-in-4
-    slice-aggregate-texts-in-5
-    slice-aggregate-texts-in-6
-    texts-in-requires
+    slice-aggregate-read-manifest
+    slice-aggregate-read-manifest-2
+    slice-aggregate-read-manifest-3
+    slice-aggregate-read-manifest-4
+    slice-aggregate-read-manifest-5
+    slice-aggregate-read-manifest-6
+    read-manifest-requires
+    enum-known-c
+    slice-aggregate-texts-of
+    slice-aggregate-texts-of-2
+    slice-aggregate-texts-of-3
+    slice-aggregate-texts-of-4
+    slice-aggregate-texts-of-5
+    texts-of-requires
+    enum-known-r
+    zero-from-requires
+    zero-from-requires-2
     same-length
     same-length-2
-    returns)
+    returns
+    same-length-3
+    same-length-4
+    returns-2)
