@@ -23,8 +23,8 @@ use Rattle.spec.proofs.Promises.{cleared}
 use Rattle.hold_bindings.specs.Log.{Logged}
 use Rattle.hold_names.specs.Table.{SoundNames}
 use Rattle.ask_file_times.specs.Times.{timesOf, Timed}
-use Rattle.ask_target_files.specs.declared.Numbered.{Numbered}
-use Rattle.ask_target_files.specs.declared.Numbered.the-variants.{All, Bad}
+use Rattle.ask_target_files.specs.declared.NumberedTargets.{NumberedTargets}
+use Rattle.ask_target_files.specs.declared.NumberedTargets.the-variants.{All, Bad}
 use Rattle.ask_target_files.specs.Numbered.{targetNumbersOf, TargetsNumbered, Says, NumbersTargets}
 use Rattle.hold_reading.specs.declared.Counts.{Counts}
 use Rattle.hold_reading.specs.Held.{HoldsReading}
@@ -58,7 +58,7 @@ module _ {card targets names index graph : List ℕ} {c : Counts} {list exit : L
 -- ---- 12
 
 pub bad-target : {card targets names index graph : List ℕ} {c : Counts} {list exit : List ℕ} → exit ≡ zeroed list 0 (length list)
-    → {numbers : List ℕ} {r : Numbered} {place : ℕ} → NumbersTargets targets names index (c .files) numbers r → r ≡ Bad place
+    → {numbers : List ℕ} {r : NumberedTargets} {place : ℕ} → NumbersTargets targets names index (c .files) numbers r → r ≡ Bad place
     → PlansTargets card targets names index graph c list (Refused (BadTarget place)) exit
 unfolding planTargets PlanMeets planSays leftBy numberOfRefusal
 bad-target {targets = targets} {list = list} z {numbers} {place = place} n e =
@@ -77,7 +77,7 @@ time-at g (x ∷ l) (suc f) b = time-at g l f (le-of-suc-le-suc b)
 
 -- the times and the targets' numbers, as far as they are filled
 module _ {card targets names index graph : List ℕ} {c : Counts} (s : soundCard card ≡ true)
-    {numbers : List ℕ} {r : Numbered} {k : ℕ} (n : NumbersTargets targets names index (c .files) numbers r) (e : r ≡ All k)
+    {numbers : List ℕ} {r : NumberedTargets} {k : ℕ} (n : NumbersTargets targets names index (c .files) numbers r) (e : r ≡ All k)
     {before times : List ℕ} (t : Timed card names index (c .files) before times) where
   module _ {log : List Logged} {texts bind : List ℕ} {rd : Reading} (h : HoldsReading log (buffers names index texts bind graph) c rd) where
     numbered : TargetsNumbered targets numbers (rd .files) k

@@ -3,7 +3,7 @@ ghost use Rattle.lists.specs.Lent.{Spare, Leaves};
 ghost use Rattle.ask_plan_reading.specs.Asked.{ReadAsked, TargetsAsked, TimesSpaceAsked, PlansTargets, PlansRead};
 use ask_file_times::fill_times;
 use ask_plan_columns::plan_columns;
-use ask_target_files::Numbered;
+use ask_target_files::NumberedTargets;
 use ask_target_files::number_targets;
 use hold_reading::Counts;
 use scan_card::sound;
@@ -30,11 +30,11 @@ fn number_then_plan(
 {
     let files = c.files;
     match number_targets(targets, names, index, files, numbers) {
-        Numbered::Bad(place) => {
+        NumberedTargets::Bad(place) => {
             zero_from(list, 0);
             PlanAnswer::Refused(Refusal::BadTarget(place))
         }
-        Numbered::All(n) => {
+        NumberedTargets::All(n) => {
             fill_times(card, names, index, files, times);
             plan_columns(graph, c, &times[..files], &numbers[..n], list)
         }

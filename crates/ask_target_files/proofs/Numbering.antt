@@ -21,7 +21,7 @@ use Rattle.scan_targets.specs.declared.NextTarget.{NextTarget}
 use Rattle.scan_targets.specs.declared.NextTarget.the-variants.{End, Bad as BadName, Name}
 use Rattle.scan_targets.specs.Next.{nextIn}
 use Rattle.scan_targets.proofs.Walk.{namesFrom, Turn, Walking, walk-malformed, walk-begin, walk-end, walk-bad, walk-turn, walk-missing, walk-more}
-use Rattle.ask_target_files.specs.declared.Numbered.the-variants.{All, Bad}
+use Rattle.ask_target_files.specs.declared.NumberedTargets.the-variants.{All, Bad}
 use Rattle.ask_target_files.specs.Numbered.{Asked, targetNumbersOf, NumbersTargets}
 
 -- the numbers of the names up to a place are there, whatever names are held

@@ -8,8 +8,8 @@ use Rattle.spec.specs.Limits.{maxTargets}
 use Rattle.spec.specs.Reading.{numberOf}
 use Rattle.spec.specs.Targets.{Target, targetsOf, badTarget}
 use Rattle.hold_names.specs.Table.{HoldsNames, SoundNames}
-use Rattle.ask_target_files.specs.declared.Numbered.{Numbered}
-use Rattle.ask_target_files.specs.declared.Numbered.the-variants.{All, Bad}
+use Rattle.ask_target_files.specs.declared.NumberedTargets.{NumberedTargets}
+use Rattle.ask_target_files.specs.declared.NumberedTargets.the-variants.{All, Bad}
 
 pub record Asked (names index : List ℕ) (count : ℕ) (out : List ℕ) : Type 0 where
   pub named : SoundNames names index count
@@ -29,9 +29,9 @@ pub record TargetsNumbered (targets out : List ℕ) (files : List (List ℕ)) (n
   pub numbers : take n out ≡ targetNumbersOf files targets
   pub low : (i : ℕ) → i < n → getD out i 0 < length files
 
-abbrev pub Says : List ℕ → List ℕ → List (List ℕ) → Numbered → Type 0
+abbrev pub Says : List ℕ → List ℕ → List (List ℕ) → NumberedTargets → Type 0
 Says targets out files (All n) = TargetsNumbered targets out files n
 Says targets out files (Bad place) = badTarget files targets ≡ some place
 
-pub record NumbersTargets (targets names index : List ℕ) (count : ℕ) (out : List ℕ) (r : Numbered) : Type 0 where
+pub record NumbersTargets (targets names index : List ℕ) (count : ℕ) (out : List ℕ) (r : NumberedTargets) : Type 0 where
   pub says : (files : List (List ℕ)) → HoldsNames names index count files → Says targets out files r

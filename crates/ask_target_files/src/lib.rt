@@ -1,4 +1,5 @@
 // The names of a target list as numbers of files, or 12.
+ghost use Rattle.lists.specs.Lent.{Spare, Leaves};
 ghost use Rattle.ask_target_files.specs.Numbered.{Asked, NumbersTargets};
 use hold_names::FoundName;
 use hold_names::find_name;
@@ -6,7 +7,7 @@ use scan_targets::NextTarget;
 use scan_targets::bad_form;
 use scan_targets::name_at;
 
-pub enum Numbered {
+pub enum NumberedTargets {
     // So many numbers stand at the front of the buffer.
     All(usize),
     // The list is bad at this place.
@@ -20,27 +21,27 @@ pub fn number_targets(
     index: &[u32],
     count: usize,
     out: &mut [u32],
-) -> Numbered
+) -> NumberedTargets
     requires { ⌜ Asked (now names) (now index) count (now out) ⌝ }
-    ensures { λ r. ⌜ NumbersTargets (now (targets .entry)) (now (names .entry)) (now (index .entry)) count (now (out .exit)) r ⌝ }
+    ensures { λ r. ⌜ Leaves (Spare (now (out .entry)) (now (out .exit))) (NumbersTargets (now (targets .entry)) (now (names .entry)) (now (index .entry)) count (now (out .exit)) r) ⌝ }
 {
     if bad_form(targets) {
-        return Numbered::Bad(0);
+        return NumberedTargets::Bad(0);
     }
     let mut from = 0;
     let mut n = 0;
     loop {
         match name_at(targets, from) {
             NextTarget::End => {
-                return Numbered::All(n);
+                return NumberedTargets::All(n);
             }
             NextTarget::Bad => {
-                return Numbered::Bad(from);
+                return NumberedTargets::Bad(from);
             }
             NextTarget::Name(end) => {
                 match find_name(names, index, count, &targets[from..end]) {
                     FoundName::Missing => {
-                        return Numbered::Bad(from);
+                        return NumberedTargets::Bad(from);
                     }
                     FoundName::At(k) => {
                         out[n] = k as u32;

@@ -29,34 +29,34 @@ slice-aggregate-plan-columns : tie.Need-slice-aggregate-plan-columns
 slice-aggregate-plan-columns c = sym (length-take-le _ _ (omega (arith, few-files (c .before .before .before .before .before .before .before .before .before .before .before .before .before .before .before .before .before .before .before .before .pre .asked .asked), c .before .before .before .before .before .before .before .before .before .before .before .before .before .before .before .before .before .before .before .before .pre .times-room, c .before .before .before .fill-times .kept)))
 
 slice-reshare-prefix-plan-columns-2 : tie.Need-slice-reshare-prefix-plan-columns-2
-slice-reshare-prefix-plan-columns-2 c = omega (arith, numbers-within (c .before .before .before .before .before .before .before .before .before .before .before .before .before .before .before .before .before .before .before .before .pre .asked .sound) (c .before .before .before .before .before .before .before .before .before .before .number-targets .ensures) (c .before .before .before .before .before .before .n .given .1) (c .before .before .before .fill-times .ensures) (c .before .before .before .before .before .before .before .before .before .before .before .before .before .before .before .before .before .before .before .before .pre .asked .asked))
+slice-reshare-prefix-plan-columns-2 c = omega (arith, numbers-within (c .before .before .before .before .before .before .before .before .before .before .before .before .before .before .before .before .before .before .before .before .pre .asked .sound) (c .before .before .before .before .before .before .before .before .before .before .number-targets .ensures .promise) (c .before .before .before .before .before .before .n .given .1) (c .before .before .before .fill-times .ensures) (c .before .before .before .before .before .before .before .before .before .before .before .before .before .before .before .before .before .before .before .before .pre .asked .asked))
 
 slice-aggregate-plan-columns-2 : tie.Need-slice-aggregate-plan-columns-2
-slice-aggregate-plan-columns-2 c = sym (length-take-le _ _ (numbers-within (c .before .before .before .before .before .before .before .before .before .before .before .before .before .before .before .before .before .before .before .before .before .pre .asked .sound) (c .before .before .before .before .before .before .before .before .before .before .before .number-targets .ensures) (c .before .before .before .before .before .before .before .n .given .1) (c .before .before .before .before .fill-times .ensures) (c .before .before .before .before .before .before .before .before .before .before .before .before .before .before .before .before .before .before .before .before .before .pre .asked .asked)))
+slice-aggregate-plan-columns-2 c = sym (length-take-le _ _ (numbers-within (c .before .before .before .before .before .before .before .before .before .before .before .before .before .before .before .before .before .before .before .before .before .pre .asked .sound) (c .before .before .before .before .before .before .before .before .before .before .before .number-targets .ensures .promise) (c .before .before .before .before .before .before .before .n .given .1) (c .before .before .before .before .fill-times .ensures) (c .before .before .before .before .before .before .before .before .before .before .before .before .before .before .before .before .before .before .before .before .before .pre .asked .asked)))
 
 plan-columns-requires : tie.Need-plan-columns-requires
-plan-columns-requires c κs = columns (c .before .before .before .before .before .before .before .before .before .before .before .before .before .before .before .before .before .before .before .before .before .before .pre .asked .sound) (c .before .before .before .before .before .before .before .before .before .before .before .before .number-targets .ensures) (c .before .before .before .before .before .before .before .before .n .given .1) (c .before .before .before .before .before .fill-times .ensures) (c .before .before .before .before .before .before .before .before .before .before .before .before .before .before .before .before .before .before .before .before .before .before .pre .asked .asked)
+plan-columns-requires c κs = columns (c .before .before .before .before .before .before .before .before .before .before .before .before .before .before .before .before .before .before .before .before .before .before .pre .asked .sound) (c .before .before .before .before .before .before .before .before .before .before .before .before .number-targets .ensures .promise) (c .before .before .before .before .before .before .before .before .n .given .1) (c .before .before .before .before .before .fill-times .ensures) (c .before .before .before .before .before .before .before .before .before .before .before .before .before .before .before .before .before .before .before .before .before .before .pre .asked .asked)
 
 same-length : tie.Need-same-length
-same-length c = search needs
+same-length c = c .before .before .before .before .before .before .before .before .before .number-targets .kept .1 .1 .1 .1 .0
 
 same-length-2 : tie.Need-same-length-2
-same-length-2 c = search needs
+same-length-2 c = c .before .before .zero-from .kept .0
 
 returns : tie.Need-returns
-returns c = record { space = (record { long = refl }, record { long = same-length c }); promise = bad-target (c .before .before .zero-from .ensures) (c .before .before .before .before .before .before .before .before .before .number-targets .ensures) (c .before .before .before .before .before .place .given .1) }
+returns c = record { space = (record { long = refl }, record { long = same-length c }); promise = bad-target (c .before .before .zero-from .ensures) (c .before .before .before .before .before .before .before .before .before .number-targets .ensures .promise) (c .before .before .before .before .before .place .given .1) }
 
 same-length-3 : tie.Need-same-length-3
-same-length-3 c = search needs
+same-length-3 c = c .before .before .before .before .before .before .before .before .fill-times .kept .1 .1 .1 .1 .0
 
 same-length-4 : tie.Need-same-length-4
-same-length-4 c = search needs
+same-length-4 c = c .before .before .before .before .before .before .before .before .before .before .before .before .before .before .before .number-targets .kept .1 .1 .1 .1 .0
 
 same-length-5 : tie.Need-same-length-5
-same-length-5 c = search needs
+same-length-5 c = c .before .before .plan-columns .kept .1 .1 .1 .1 .0
 
 returns-2 : tie.Need-returns-2
-returns-2 c = record { space = (record { long = same-length-3 c }, record { long = same-length-4 c }); promise = good-targets (c .before .before .before .before .before .before .before .before .before .before .before .before .before .before .before .before .before .before .before .before .before .before .before .before .before .pre .asked .sound) (c .before .before .before .before .before .before .before .before .before .before .before .before .before .before .before .number-targets .ensures) (c .before .before .before .before .before .before .before .before .before .before .before .n .given .1) (c .before .before .before .before .before .before .before .before .fill-times .ensures) (c .before .before .plan-columns .ensures) }
+returns-2 c = record { space = (record { long = same-length-3 c }, record { long = same-length-4 c }); promise = good-targets (c .before .before .before .before .before .before .before .before .before .before .before .before .before .before .before .before .before .before .before .before .before .before .before .before .before .pre .asked .sound) (c .before .before .before .before .before .before .before .before .before .before .before .before .before .before .before .number-targets .ensures .promise) (c .before .before .before .before .before .before .before .before .before .before .before .n .given .1) (c .before .before .before .before .before .before .before .before .fill-times .ensures) (c .before .before .plan-columns .ensures) }
 
 pub number-then-plan-spec : {M : Type 1} → statement M
 number-then-plan-spec =

@@ -13,7 +13,7 @@ zero-from-requires : tie.Need-zero-from-requires
 zero-from-requires c κs = search needs
 
 same-length : tie.Need-same-length
-same-length c = search needs
+same-length c = c .before .before .zero-from .kept .0
 
 returns : tie.Need-returns
 returns c = bad-card (sym (c .before .before .before .before .before .sound .ensures) ∙ not-true _ (c .before .before .before .before .if1 .taken)) (c .before .before .zero-from .ensures)
@@ -22,7 +22,7 @@ plan-targets-requires : tie.Need-plan-targets-requires
 plan-targets-requires c κs = record { asked = c .before .before .before .before .before .before .before .before .before .pre; sound = sym (c .before .before .sound .ensures) ∙ not-false _ (c .before .if1 .left) }
 
 same-length-2 : tie.Need-same-length-2
-same-length-2 c = search needs
+same-length-2 c = c .before .before .plan-targets .kept .1 .1 .1 .1 .1 .1 .0
 
 returns-2 : tie.Need-returns-2
 returns-2 c = good-card (sym (c .before .before .before .before .before .sound .ensures) ∙ not-false _ (c .before .before .before .before .if1 .left)) (c .before .before .plan-targets .ensures)

@@ -1,5 +1,5 @@
 -- `ask_target_files::number_targets` meets its contract.
-use mathlib.Core.Path.{sym, _∙_}
+use mathlib.Core.Path.{refl, sym, _∙_}
 use native.Mathlib.Omega.{arith}
 use Prim.Native.Nat.{_+_, _-_}
 use lib.ListN.{length}
@@ -18,7 +18,7 @@ bad-form-requires : tie.Need-bad-form-requires Inv-loop μ-loop
 bad-form-requires c κs = search needs
 
 returns : tie.Need-returns Inv-loop μ-loop
-returns c = form-bad (sym (c .before .bad-form .ensures) ∙ c .if1 .taken)
+returns c = record { space = record { long = refl }; promise = form-bad (sym (c .before .bad-form .ensures) ∙ c .if1 .taken) }
 
 loop-holds : tie.Need-loop-holds Inv-loop μ-loop
 loop-holds c = begin (c .before .before .before .before .before .before .pre) (sym (c .before .bad-form .ensures) ∙ c .if1 .left)
@@ -33,7 +33,7 @@ same-length : tie.Need-same-length Inv-loop μ-loop
 same-length c = search needs
 
 returns-2 : tie.Need-returns-2 Inv-loop μ-loop
-returns-2 c = ended (c .before .before .before .loop .inv) (c .before .before .name-at .ensures) (c .enum-told .given .1)
+returns-2 c = record { space = record { long = same-length c }; promise = ended (c .before .before .before .loop .inv) (c .before .before .name-at .ensures) (c .enum-told .given .1) }
 
 enum-told-2 : tie.Need-enum-told-2 Inv-loop μ-loop
 enum-told-2 c = search needs
@@ -42,7 +42,7 @@ same-length-2 : tie.Need-same-length-2 Inv-loop μ-loop
 same-length-2 c = search needs
 
 returns-3 : tie.Need-returns-3 Inv-loop μ-loop
-returns-3 c = bad (c .before .before .before .loop .inv) (c .before .before .name-at .ensures) (c .enum-told2 .given .1)
+returns-3 c = record { space = record { long = same-length-2 c }; promise = bad (c .before .before .before .loop .inv) (c .before .before .name-at .ensures) (c .enum-told2 .given .1) }
 
 enum-known-end : tie.Need-enum-known-end Inv-loop μ-loop
 enum-known-end c = search needs
@@ -66,7 +66,7 @@ same-length-3 : tie.Need-same-length-3 Inv-loop μ-loop
 same-length-3 c = search needs
 
 returns-4 : tie.Need-returns-4 Inv-loop μ-loop
-returns-4 c = unknown (c .before .before .before .before .before .before .before .before .loop .inv) (c .before .before .before .before .before .before .before .name-at .ensures) (c .before .before .before .before .before .end .given .1) (c .before .before .find-name .ensures) (c .enum-told3 .given .1)
+returns-4 c = record { space = record { long = same-length-3 c }; promise = unknown (c .before .before .before .before .before .before .before .before .loop .inv) (c .before .before .before .before .before .before .before .name-at .ensures) (c .before .before .before .before .before .end .given .1) (c .before .before .find-name .ensures) (c .enum-told3 .given .1) }
 
 enum-known-k : tie.Need-enum-known-k Inv-loop μ-loop
 enum-known-k c = search needs
