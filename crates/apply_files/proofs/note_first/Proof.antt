@@ -30,7 +30,7 @@ add-t15 : tie.Need-add-t15
 add-t15 c = search needs
 
 same-length : tie.Need-same-length
-same-length c = search needs
+same-length c = c .before .before .before .before .put2 .kept .0 ∙ c .before .before .before .before .before .before .before .before .put .kept .0
 
 returns : tie.Need-returns
 returns c = record { stored = (let a = c .before .before .before .before .before .before .before .before .before .before .before .args in c .before .before .before .before .put2 .ensures ∙ ap (λ (g : List ℕ). set g (madeStart + a .c .files) 0) (c .before .before .before .before .before .before .before .before .put .ensures)); counted = refl }

@@ -29,7 +29,7 @@ next-listed-requires : tie.Need-next-listed-requires Inv-loop μ-loop
 next-listed-requires c κs = search needs
 
 enum-known-from : tie.Need-enum-known-from Inv-loop μ-loop
-enum-known-from c = search needs
+enum-known-from c = c .match .keys1
 
 sub-is-wrong : tie.Need-sub-is-wrong Inv-loop μ-loop
 sub-is-wrong c = omega (arith, next c .longer)
@@ -49,7 +49,7 @@ same-length : tie.Need-same-length Inv-loop μ-loop
 same-length c = search needs
 
 returns : tie.Need-returns Inv-loop μ-loop
-returns c = record { space = search needs; promise = look-found (c .before .before .before .before .before .before .before .before .before .before .loop .inv .1) (next (c .before .before .before .before .before .before)) (c .before .before .before .is-wrong .ensures .promise) (c .if1 .taken) }
+returns c = record { space = record { long = same-length c }; promise = look-found (c .before .before .before .before .before .before .before .before .before .before .loop .inv .1) (next (c .before .before .before .before .before .before)) (c .before .before .before .is-wrong .ensures .promise) (c .if1 .taken) }
 
 loop-less : tie.Need-loop-less Inv-loop μ-loop
 loop-less c = omega (arith, next (c .before .before .before .before .before .before) .longer, next (c .before .before .before .before .before .before) .within, next (c .before .before .before .before .before .before) .forward)
@@ -58,13 +58,13 @@ loop-again : tie.Need-loop-again Inv-loop μ-loop
 loop-again c = (search needs, look-more (c .before .before .before .before .before .before .before .before .before .before .loop .inv .1) (next (c .before .before .before .before .before .before)) (c .before .before .before .is-wrong .ensures .promise) (c .if1 .left))
 
 enum-told : tie.Need-enum-told Inv-loop μ-loop
-enum-told c = search needs
+enum-told c = c .match .keys2
 
 same-length-2 : tie.Need-same-length-2 Inv-loop μ-loop
 same-length-2 c = search needs
 
 returns-2 : tie.Need-returns-2 Inv-loop μ-loop
-returns-2 c = record { space = search needs; promise = look-end (c .before .before .before .loop .inv .1) (stops _ _ _ (c .before .before .next-listed .ensures) (c .enum-told .given .1)) }
+returns-2 c = record { space = record { long = same-length-2 c }; promise = look-end (c .before .before .before .loop .inv .1) (stops _ _ _ (c .before .before .next-listed .ensures) (c .enum-told .given .1)) }
 
 pub has-wrong-spec : {M : Type 1} → statement M
 has-wrong-spec =

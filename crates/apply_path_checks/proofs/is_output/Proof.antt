@@ -9,7 +9,7 @@ find-name-requires : tie.Need-find-name-requires
 find-name-requires c κs = search needs
 
 enum-known-k : tie.Need-enum-known-k
-enum-known-k c = search needs
+enum-known-k c = c .match .keys1
 
 add-at : tie.Need-add-at
 add-at c = let p = c .before .before .before .before .before .before .before .before .pre in record { fits = omega (arith, entry-low (p .filed) (c .before .before .before .find-name .ensures) (c .before .k .given .1)) }
@@ -18,7 +18,7 @@ at-requires : tie.Need-at-requires
 at-requires c κs = let p = c .before .before .before .before .before .before .before .before .pre in entry-within (p .filed) (c .before .before .before .find-name .ensures) (c .before .k .given .1)
 
 enum-told : tie.Need-enum-told
-enum-told c = search needs
+enum-told c = c .match .keys2
 
 returns : tie.Need-returns
 returns c = λ log rd h. found-made h (c .before .before .before .before .find-name .ensures) (c .before .before .k .given .1) (c .at .ensures)

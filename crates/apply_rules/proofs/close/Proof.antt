@@ -1,6 +1,5 @@
 -- `apply_rules::close` meets its contract.
 use mathlib.Core.Path.{subst}
-use borrow.Author.Needs.{needs}
 use denote.Ref.{now}
 use Rattle.hold_reading.specs.Binds.{SoundBlock}
 use Rattle.hold_reading.specs.declared.Open.{Open}
@@ -9,10 +8,10 @@ use Rattle.apply_rules.proofs.close.Statement.{statement}
 use Rattle.apply_rules.proofs.close.Tie as tie
 
 enum-told : tie.Need-enum-told
-enum-told c = search needs
+enum-told c = c .match .keys1
 
 enum-known-block : tie.Need-enum-known-block
-enum-known-block c = search needs
+enum-known-block c = c .match .keys2
 
 has-command-requires : tie.Need-has-command-requires
 has-command-requires c κs =
@@ -20,7 +19,7 @@ has-command-requires c κs =
     of-rule (subst (λ (o : Open). SoundBlock (now (a .texts)) (now (a .bind)) (a .c) o) (c .before .block .given .1) (c .before .before .before .before .before .pre))
 
 enum-told-2 : tie.Need-enum-told-2
-enum-told-2 c = search needs
+enum-told-2 c = c .match .keys3
 
 returns : tie.Need-returns
 returns c = rw (c .enum-told .given .1) closed-none

@@ -1,6 +1,6 @@
 -- `apply_variables::add_to_block` meets its contract.
 use mathlib.Core.Bool.{false}
-use mathlib.Core.Path.{_≡_, sym, _∙_}
+use mathlib.Core.Path.{_≡_, sym, _∙_, refl}
 use borrow.Author.Needs.{needs}
 use denote.Ref.{now}
 use lib.ListN.{length}
@@ -25,17 +25,17 @@ binding-over-requires : tie.Need-binding-over-requires
 binding-over-requires c κs = search needs
 
 same-length : tie.Need-same-length
-same-length c = search needs
+same-length c = refl
 
 same-length-2 : tie.Need-same-length-2
-same-length-2 c = search needs
+same-length-2 c = refl
 
 same-length-3 : tie.Need-same-length-3
-same-length-3 c = search needs
+same-length-3 c = c .before .before .before .before .expand .kept .1 .1 .1 .1 .1 .0
 
 returns : tie.Need-returns
 returns c = record {
-  space = search needs;
+  space = (record { long = same-length c }, record { long = same-length-2 c }, record { long = same-length-3 c });
   promise = let a = c .before .before .before .before .before .before .before .before .before .before .before .before .before .args in
       line-over (a .start) (now (a .name)) (now (a .raw)) (c .before .before .before .before .expand .ensures) (sym (c .before .binding-over .ensures) ∙ c .if1 .taken);
 }
@@ -61,17 +61,17 @@ push-binding-requires c κs =
     line-ready (begin s .pre .sound) (now (begin s .args .name)) _ (rw (value-counted (begin s .pre) _ _ (inside s) (s .before .before .before .before .before .before .before .expand .ensures)) (inside s))
 
 same-length-4 : tie.Need-same-length-4
-same-length-4 c = search needs
+same-length-4 c = c .before .before .before .before .push-binding .kept .0
 
 same-length-5 : tie.Need-same-length-5
-same-length-5 c = search needs
+same-length-5 c = c .before .before .before .before .push-binding .kept .1 .0
 
 same-length-6 : tie.Need-same-length-6
 same-length-6 c = search needs
 
 returns-2 : tie.Need-returns-2
 returns-2 c = record {
-  space = search needs;
+  space = (record { long = same-length-4 c }, record { long = same-length-5 c }, record { long = same-length-6 c });
   promise = let s = c .before .before .before .before .before .before in
       let a = begin s .args in
       line-goes (a .start) (now (a .name)) (now (a .raw)) (s .before .before .before .before .before .before .before .expand .ensures) (value-fits (begin s .pre) _ _ (inside s)) (rw (value-counted (begin s .pre) _ _ (inside s) (s .before .before .before .before .before .before .before .expand .ensures)) (inside s)) (c .before .before .before .before .push-binding .ensures);

@@ -6,19 +6,19 @@ use Rattle.test_manifest.proofs.clear_all.Statement.{statement}
 use Rattle.test_manifest.proofs.clear_all.Tie as tie
 
 zero-from-requires : tie.Need-zero-from-requires
-zero-from-requires c κs = search needs
+zero-from-requires c κs = tt
 
 zero-from-requires-2 : tie.Need-zero-from-requires-2
-zero-from-requires-2 c κs = search needs
+zero-from-requires-2 c κs = tt
 
 zero-from-requires-3 : tie.Need-zero-from-requires-3
-zero-from-requires-3 c κs = search needs
+zero-from-requires-3 c κs = tt
 
 zero-from-requires-4 : tie.Need-zero-from-requires-4
-zero-from-requires-4 c κs = search needs
+zero-from-requires-4 c κs = tt
 
 zero-from-requires-5 : tie.Need-zero-from-requires-5
-zero-from-requires-5 c κs = search needs
+zero-from-requires-5 c κs = tt
 
 same-length : tie.Need-same-length
 same-length c = search needs

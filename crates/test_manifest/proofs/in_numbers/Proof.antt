@@ -1,21 +1,20 @@
 -- `test_manifest::in_numbers` meets its contract.
 use Rattle.test_manifest.specs.Numbers.{inNumbers}
 use Rattle.test_manifest.proofs.Judging.{counted, refused-so}
-use borrow.Author.Needs.{needs}
 use Rattle.test_manifest.proofs.in_numbers.Statement.{statement}
 use Rattle.test_manifest.proofs.in_numbers.Tie as tie
 
 enum-known-a : tie.Need-enum-known-a
-enum-known-a c = search needs
+enum-known-a c = c .match .keys1
 
 enum-known-a-2 : tie.Need-enum-known-a-2
-enum-known-a-2 c = search needs
+enum-known-a-2 c = c .match .keys2
 
 of-refusal-requires : tie.Need-of-refusal-requires
-of-refusal-requires c κs = search needs
+of-refusal-requires c κs = tt
 
 uncounted-requires : tie.Need-uncounted-requires
-uncounted-requires c κs = search needs
+uncounted-requires c κs = tt
 
 returns : tie.Need-returns
 unfolding inNumbers
