@@ -1,6 +1,6 @@
 -- `apply_mentions::mention` meets its contract.
 use mathlib.Core.Bool.{false}
-use mathlib.Core.Path.{_≡_, sym, _∙_}
+use mathlib.Core.Path.{_≡_, sym, _∙_, refl}
 use native.Mathlib.Omega.{arith}
 use borrow.Author.Needs.{needs}
 use Rattle.apply_files.specs.Path.{pathOver}
@@ -19,10 +19,10 @@ path-over-requires : tie.Need-path-over-requires
 path-over-requires c κs = search needs
 
 same-length : tie.Need-same-length
-same-length c = search needs
+same-length c = c .before .before .before .before .expand .kept .1 .1 .1 .1 .1 .0
 
 returns : tie.Need-returns
-returns c = record { space = search needs; promise = mention-over (c .before .before .before .before .before .before .before .before .before .before .before .before .before .pre) (c .before .before .before .before .expand .ensures) (sym (c .before .path-over .ensures) ∙ c .if1 .taken) }
+returns c = record { space = (record { names = record { long = refl }; index = record { long = refl }; texts = record { long = refl }; bind = record { long = refl }; graph = record { long = refl } }, record { long = same-length c }); promise = mention-over (c .before .before .before .before .before .before .before .before .before .before .before .before .before .pre) (c .before .before .before .before .expand .ensures) (sym (c .before .path-over .ensures) ∙ c .if1 .taken) }
 
 slice-reshare-prefix-add-path : tie.Need-slice-reshare-prefix-add-path
 slice-reshare-prefix-add-path c = omega (arith, path-fits (c .before .before .before .before .before .before .before .before .before .before .before .before .before .pre) (c .before .before .before .before .expand .ensures) (inside c))
@@ -34,19 +34,19 @@ add-path-requires : tie.Need-add-path-requires
 add-path-requires c κs = mention-fits (c .before .before .before .before .before .before .before .before .before .before .before .before .before .before .before .before .before .pre) (c .before .before .before .before .before .before .before .before .expand .ensures) (inside (c .before .before .before .before))
 
 same-length-2 : tie.Need-same-length-2
-same-length-2 c = search needs
+same-length-2 c = c .before .before .before .before .before .before .add-path .kept .1 .0
 
 same-length-3 : tie.Need-same-length-3
-same-length-3 c = search needs
+same-length-3 c = c .before .before .before .before .before .before .add-path .kept .1 .1 .0
 
 same-length-4 : tie.Need-same-length-4
-same-length-4 c = search needs
+same-length-4 c = c .before .before .before .before .before .before .add-path .kept .1 .1 .1 .0
 
 same-length-5 : tie.Need-same-length-5
-same-length-5 c = search needs
+same-length-5 c = c .before .before .before .before .before .before .before .before .before .before .before .before .before .before .before .expand .kept .1 .1 .1 .1 .1 .0
 
 returns-2 : tie.Need-returns-2
-returns-2 c = record { space = search needs; promise = mention-marked (c .before .before .before .before .before .before .before .before .before .before .before .before .before .before .before .before .before .before .before .before .before .before .before .before .pre) (c .before .before .before .before .before .before .before .before .before .before .before .before .before .before .before .expand .ensures) (inside (c .before .before .before .before .before .before .before .before .before .before .before)) (c .before .before .before .before .before .before .add-path .ensures .promise) }
+returns-2 c = record { space = (record { names = record { long = same-length-2 c }; index = record { long = same-length-3 c }; texts = record { long = refl }; bind = record { long = refl }; graph = record { long = same-length-4 c } }, record { long = same-length-5 c }); promise = mention-marked (c .before .before .before .before .before .before .before .before .before .before .before .before .before .before .before .before .before .before .before .before .before .before .before .before .pre) (c .before .before .before .before .before .before .before .before .before .before .before .before .before .before .before .expand .ensures) (inside (c .before .before .before .before .before .before .before .before .before .before .before)) (c .before .before .before .before .before .before .add-path .ensures .promise) }
 
 pub mention-spec : {M : Type 1} → statement M
 mention-spec =

@@ -1,4 +1,5 @@
 -- `apply_mentions::mention_all` meets its contract.
+use mathlib.Core.Path.{refl}
 use Prim.Native.Nat.{_-_}
 use native.Mathlib.Omega.{arith}
 use lib.ListN.{length}
@@ -62,7 +63,7 @@ same-length-4 : tie.Need-same-length-4 Inv-loop μ-loop
 same-length-4 c = search needs
 
 returns : tie.Need-returns Inv-loop μ-loop
-returns c = record { space = search needs; promise = pass-over (c .before .before .before .before .before .before .before .before .before .before .before .before .before .before .before .before .before .before .before .before .loop .inv) (goes-on _ _ _ (c .before .before .before .before .before .before .before .before .before .before .before .before .before .before .before .before .before .before .before .next-listed .ensures) (c .before .before .before .before .before .before .before .before .before .before .before .before .before .before .before .before .before .from .given .1)) (rw (c .enum-told .given .1) at (c .before .before .before .before .before .before .before .before .before .before .mention .ensures .promise)) }
+returns c = record { space = (record { names = record { long = same-length c }; index = record { long = same-length-2 c }; texts = record { long = refl }; bind = record { long = refl }; graph = record { long = same-length-3 c } }, record { long = same-length-4 c }); promise = pass-over (c .before .before .before .before .before .before .before .before .before .before .before .before .before .before .before .before .before .before .before .before .loop .inv) (goes-on _ _ _ (c .before .before .before .before .before .before .before .before .before .before .before .before .before .before .before .before .before .before .before .next-listed .ensures) (c .before .before .before .before .before .before .before .before .before .before .before .before .before .before .before .before .before .from .given .1)) (rw (c .enum-told .given .1) at (c .before .before .before .before .before .before .before .before .before .before .mention .ensures .promise)) }
 
 enum-told-2 : tie.Need-enum-told-2 Inv-loop μ-loop
 enum-told-2 c = search needs
@@ -80,7 +81,7 @@ same-length-8 : tie.Need-same-length-8 Inv-loop μ-loop
 same-length-8 c = search needs
 
 returns-2 : tie.Need-returns-2 Inv-loop μ-loop
-returns-2 c = record { space = search needs; promise = pass-end (c .before .before .before .loop .inv) (stops _ _ _ (c .before .before .next-listed .ensures) (c .enum-told2 .given .1)) }
+returns-2 c = record { space = (record { names = record { long = same-length-5 c }; index = record { long = same-length-6 c }; texts = record { long = refl }; bind = record { long = refl }; graph = record { long = same-length-7 c } }, record { long = same-length-8 c }); promise = pass-end (c .before .before .before .loop .inv) (stops _ _ _ (c .before .before .next-listed .ensures) (c .enum-told2 .given .1)) }
 
 pub mention-all-spec : {M : Type 1} → statement M
 mention-all-spec =

@@ -1,4 +1,5 @@
 -- `apply_statements::read_statement` meets its contract.
+use mathlib.Core.Path.{refl}
 use native.Mathlib.Omega.{arith}
 use Rattle.scan_cursor.specs.Spans.{lineOf}
 use Rattle.cut_refusals.proofs.Cut.{rule-told, build-told, default-told, binding-told, refused-told}
@@ -11,7 +12,7 @@ cut-file-line-requires : tie.Need-cut-file-line-requires
 cut-file-line-requires c κs = search needs
 
 enum-known-from : tie.Need-enum-known-from
-enum-known-from c = search needs
+enum-known-from c = c .match .keys1
 
 sub-start-rule : tie.Need-sub-start-rule
 sub-start-rule c = let s = rule-told (lineOf _ _ _) (c .before .before .before .cut-file-line .ensures) (c .before .from .given .1) in omega (arith, s .1 .ordered)
@@ -26,19 +27,19 @@ start-rule-requires : tie.Need-start-rule-requires
 start-rule-requires c κs = between-sound (c .before .before .before .before .before .before .before .before .before .before .before .before .before .before .pre .between)
 
 enum-known-p : tie.Need-enum-known-p
-enum-known-p c = search needs
+enum-known-p c = c .match .keys2
 
 add-step-requires : tie.Need-add-step-requires
 add-step-requires c κs = build-asks (lineOf _ _ _) (c .before .before .before .before .before .before .before .before .before .before .before .before .before .before .before .before .before .pre) (build-told (lineOf _ _ _) (c .before .before .before .before .before .before .before .before .before .cut-file-line .ensures) (c .before .before .before .before .before .before .before .p .given .1))
 
 enum-known-at : tie.Need-enum-known-at
-enum-known-at c = search needs
+enum-known-at c = c .match .keys3
 
 add-defaults-requires : tie.Need-add-defaults-requires
 add-defaults-requires c κs = default-asks (lineOf _ _ _) (c .before .before .before .before .before .before .before .before .before .before .before .before .before .before .before .before .before .pre) (default-told (lineOf _ _ _) (c .before .before .before .before .before .before .before .before .before .cut-file-line .ensures) (c .before .before .before .before .before .before .before .at .given .1))
 
 enum-known-from-2 : tie.Need-enum-known-from-2
-enum-known-from-2 c = search needs
+enum-known-from-2 c = c .match .keys4
 
 raw-value-requires : tie.Need-raw-value-requires
 raw-value-requires c κs = let s = binding-told (lineOf _ _ _) (c .before .before .before .cut-file-line .ensures) (c .before .from2 .given .1) in s .places .starts
@@ -56,73 +57,73 @@ add-var-requires : tie.Need-add-var-requires
 add-var-requires c κs = value-asks (lineOf _ _ _) (c .before .before .before .before .before .before .before .before .before .before .before .before .before .before .before .before .pre) (binding-told (lineOf _ _ _) (c .before .before .before .before .before .before .before .before .cut-file-line .ensures) (c .before .before .before .before .before .before .from2 .given .1)) (c .before .before .before .before .raw-value .ensures)
 
 enum-known-r : tie.Need-enum-known-r
-enum-known-r c = search needs
+enum-known-r c = c .match .keys5
 
 same-length : tie.Need-same-length
-same-length c = search needs
+same-length c = c .before .before .before .before .start-rule .kept .1 .1 .0
 
 same-length-2 : tie.Need-same-length-2
-same-length-2 c = search needs
+same-length-2 c = c .before .before .before .before .start-rule .kept .1 .1 .1 .0
 
 returns : tie.Need-returns
-returns c = record { space = search needs; promise = rule-read (lineOf _ _ _) (rule-told (lineOf _ _ _) (c .before .before .before .before .before .before .before .before .before .before .before .cut-file-line .ensures) (c .before .before .before .before .before .before .before .before .before .from .given .1)) (c .before .before .before .before .start-rule .ensures .promise) }
+returns c = record { space = (record { names = record { long = refl }; index = record { long = refl }; texts = record { long = same-length c }; bind = record { long = same-length-2 c }; graph = record { long = refl } }, record { long = refl }); promise = rule-read (lineOf _ _ _) (rule-told (lineOf _ _ _) (c .before .before .before .before .before .before .before .before .before .before .before .cut-file-line .ensures) (c .before .before .before .before .before .before .before .before .before .from .given .1)) (c .before .before .before .before .start-rule .ensures .promise) }
 
 same-length-3 : tie.Need-same-length-3
-same-length-3 c = search needs
+same-length-3 c = c .before .before .before .before .before .before .before .before .add-step .kept .1 .1 .1 .0
 
 same-length-4 : tie.Need-same-length-4
-same-length-4 c = search needs
+same-length-4 c = c .before .before .before .before .before .before .before .before .add-step .kept .1 .1 .1 .1 .0
 
 same-length-5 : tie.Need-same-length-5
-same-length-5 c = search needs
+same-length-5 c = refl
 
 same-length-6 : tie.Need-same-length-6
-same-length-6 c = search needs
+same-length-6 c = refl
 
 same-length-7 : tie.Need-same-length-7
-same-length-7 c = search needs
+same-length-7 c = c .before .before .before .before .before .before .before .before .add-step .kept .1 .1 .1 .1 .1 .1 .1 .0
 
 same-length-8 : tie.Need-same-length-8
-same-length-8 c = search needs
+same-length-8 c = c .before .before .before .before .before .before .before .before .add-step .kept .1 .1 .1 .1 .1 .1 .1 .1 .0
 
 returns-2 : tie.Need-returns-2
-returns-2 c = record { space = search needs; promise = build-read (lineOf _ _ _) (build-told (lineOf _ _ _) (c .before .before .before .before .before .before .before .before .before .before .before .before .before .before .before .before .before .before .cut-file-line .ensures) (c .before .before .before .before .before .before .before .before .before .before .before .before .before .before .before .before .p .given .1)) (c .before .before .before .before .before .before .before .before .add-step .ensures .promise) }
+returns-2 c = record { space = (record { names = record { long = same-length-3 c }; index = record { long = same-length-4 c }; texts = record { long = same-length-5 c }; bind = record { long = same-length-6 c }; graph = record { long = same-length-7 c } }, record { long = same-length-8 c }); promise = build-read (lineOf _ _ _) (build-told (lineOf _ _ _) (c .before .before .before .before .before .before .before .before .before .before .before .before .before .before .before .before .before .before .cut-file-line .ensures) (c .before .before .before .before .before .before .before .before .before .before .before .before .before .before .before .before .p .given .1)) (c .before .before .before .before .before .before .before .before .add-step .ensures .promise) }
 
 same-length-9 : tie.Need-same-length-9
-same-length-9 c = search needs
+same-length-9 c = refl
 
 same-length-10 : tie.Need-same-length-10
-same-length-10 c = search needs
+same-length-10 c = refl
 
 same-length-11 : tie.Need-same-length-11
-same-length-11 c = search needs
+same-length-11 c = refl
 
 same-length-12 : tie.Need-same-length-12
-same-length-12 c = search needs
+same-length-12 c = refl
 
 same-length-13 : tie.Need-same-length-13
-same-length-13 c = search needs
+same-length-13 c = c .before .before .before .before .add-defaults .kept .1 .1 .1 .1 .1 .1 .1 .0
 
 same-length-14 : tie.Need-same-length-14
-same-length-14 c = search needs
+same-length-14 c = c .before .before .before .before .add-defaults .kept .1 .1 .1 .1 .1 .1 .1 .1 .0
 
 returns-3 : tie.Need-returns-3
-returns-3 c = record { space = search needs; promise = default-read (lineOf _ _ _) (default-told (lineOf _ _ _) (c .before .before .before .before .before .before .before .before .before .before .before .before .before .before .cut-file-line .ensures) (c .before .before .before .before .before .before .before .before .before .before .before .before .at .given .1)) (c .before .before .before .before .add-defaults .ensures .promise) }
+returns-3 c = record { space = (record { names = record { long = same-length-9 c }; index = record { long = same-length-10 c }; texts = record { long = same-length-11 c }; bind = record { long = same-length-12 c }; graph = record { long = same-length-13 c } }, record { long = same-length-14 c }); promise = default-read (lineOf _ _ _) (default-told (lineOf _ _ _) (c .before .before .before .before .before .before .before .before .before .before .before .before .before .before .cut-file-line .ensures) (c .before .before .before .before .before .before .before .before .before .before .before .before .at .given .1)) (c .before .before .before .before .add-defaults .ensures .promise) }
 
 same-length-15 : tie.Need-same-length-15
-same-length-15 c = search needs
+same-length-15 c = c .before .before .before .before .before .before .add-var .kept .1 .1 .1 .1 .0
 
 same-length-16 : tie.Need-same-length-16
-same-length-16 c = search needs
+same-length-16 c = c .before .before .before .before .before .before .add-var .kept .1 .1 .1 .1 .1 .0
 
 same-length-17 : tie.Need-same-length-17
-same-length-17 c = search needs
+same-length-17 c = c .before .before .before .before .before .before .add-var .kept .1 .1 .1 .1 .1 .1 .0
 
 returns-4 : tie.Need-returns-4
-returns-4 c = record { space = search needs; promise = var-read (lineOf _ _ _) (binding-told (lineOf _ _ _) (c .before .before .before .before .before .before .before .before .before .before .before .before .before .before .before .cut-file-line .ensures) (c .before .before .before .before .before .before .before .before .before .before .before .before .before .from2 .given .1)) (c .before .before .before .before .before .before .before .before .before .before .before .raw-value .ensures) (c .before .before .before .before .before .before .add-var .ensures .promise) }
+returns-4 c = record { space = (record { names = record { long = refl }; index = record { long = refl }; texts = record { long = same-length-15 c }; bind = record { long = same-length-16 c }; graph = record { long = refl } }, record { long = same-length-17 c }); promise = var-read (lineOf _ _ _) (binding-told (lineOf _ _ _) (c .before .before .before .before .before .before .before .before .before .before .before .before .before .before .before .cut-file-line .ensures) (c .before .before .before .before .before .before .before .before .before .before .before .before .before .from2 .given .1)) (c .before .before .before .before .before .before .before .before .before .before .before .raw-value .ensures) (c .before .before .before .before .before .before .add-var .ensures .promise) }
 
 returns-5 : tie.Need-returns-5
-returns-5 c = record { space = search needs; promise = wrong-read (lineOf _ _ _) (refused-told (lineOf _ _ _) (c .before .before .before .cut-file-line .ensures) (c .before .r .given .1)) }
+returns-5 c = record { space = (record { names = record { long = refl }; index = record { long = refl }; texts = record { long = refl }; bind = record { long = refl }; graph = record { long = refl } }, record { long = refl }); promise = wrong-read (lineOf _ _ _) (refused-told (lineOf _ _ _) (c .before .before .before .cut-file-line .ensures) (c .before .r .given .1)) }
 
 pub read-statement-spec : {M : Type 1} → statement M
 read-statement-spec =
