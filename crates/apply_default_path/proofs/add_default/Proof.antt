@@ -1,6 +1,6 @@
 -- `apply_default_path::add_default` meets its contract.
 use mathlib.Core.Bool.{false}
-use mathlib.Core.Path.{_≡_, sym, _∙_}
+use mathlib.Core.Path.{_≡_, sym, _∙_, refl}
 use native.Mathlib.Omega.{arith}
 use borrow.Author.Needs.{needs}
 use denote.Ref.{now}
@@ -22,10 +22,10 @@ path-over-requires : tie.Need-path-over-requires
 path-over-requires c κs = let h = c .before .before .before .before .before .before .before .before .before .before .before .pre .whole .holds in (h .graphed .mentions-low, h .bound .few-written)
 
 same-length : tie.Need-same-length
-same-length c = search needs
+same-length c = c .before .before .before .before .expand .kept .1 .1 .1 .1 .1 .0
 
 returns : tie.Need-returns
-returns c = record { space = search needs; promise = default-over (now (c .before .before .before .before .before .before .before .before .before .before .before .before .before .args .raw)) (c .before .before .before .before .expand .ensures) (sym (c .before .path-over .ensures) ∙ c .if1 .taken) }
+returns c = record { space = (record { long = refl }, record { long = same-length c }); promise = default-over (now (c .before .before .before .before .before .before .before .before .before .before .before .before .before .args .raw)) (c .before .before .before .before .expand .ensures) (sym (c .before .path-over .ensures) ∙ c .if1 .taken) }
 
 slice-reshare-prefix-put-default : tie.Need-slice-reshare-prefix-put-default
 slice-reshare-prefix-put-default c = let w = path-within _ _ (inside (c .before)) in omega (arith, w .short, c .before .before .before .before .before .before .before .before .before .before .before .before .before .before .pre .room)
@@ -44,14 +44,14 @@ put-default-requires c κs =
     }
 
 same-length-2 : tie.Need-same-length-2
-same-length-2 c = search needs
+same-length-2 c = c .before .before .put-default .kept .1 .1 .0
 
 same-length-3 : tie.Need-same-length-3
-same-length-3 c = search needs
+same-length-3 c = c .before .before .before .before .before .before .before .before .before .expand .kept .1 .1 .1 .1 .1 .0
 
 returns-2 : tie.Need-returns-2
 returns-2 c = record {
-  space = search needs;
+  space = (record { long = same-length-2 c }, record { long = same-length-3 c });
   promise = let w = path-within _ _ (inside (c .before .before .before .before .before)) in
       default-added (now (c .before .before .before .before .before .before .before .before .before .before .before .before .before .before .before .before .before .before .args .raw)) (c .before .before .before .before .before .before .before .before .before .expand .ensures) (omega (arith, w .short, c .before .before .before .before .before .before .before .before .before .before .before .before .before .before .before .before .before .before .pre .room)) (inside (c .before .before .before .before .before)) (c .before .before .put-default .ensures);
 }

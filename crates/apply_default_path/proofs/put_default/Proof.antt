@@ -18,7 +18,7 @@ find-name-requires : tie.Need-find-name-requires
 find-name-requires c κs = search needs
 
 enum-known-k : tie.Need-enum-known-k
-enum-known-k c = search needs
+enum-known-k c = c .match .keys1
 
 add-put : tie.Need-add-put
 add-put c = let s = c .before .before .before .before .before .before .before .before .before .before in omega (arith, default-room (s .pre .files .filed .graphed) (limits s .few))
@@ -38,10 +38,10 @@ add-t15 : tie.Need-add-t15
 add-t15 c = let s = c .before .before .before .before .before .before .before .before .before .before .before .before .before .before .before .before in omega (arith, limits s .low)
 
 enum-told : tie.Need-enum-told
-enum-told c = search needs
+enum-told c = c .match .keys2
 
 same-length : tie.Need-same-length
-same-length c = search needs
+same-length c = c .before .before .before .before .before .put .kept .0
 
 returns : tie.Need-returns
 returns c = rw (c .before .before .before .before .before .put .ensures) (put-found (c .before .before .before .before .before .before .before .before .before .before .before .find-name .ensures) (c .before .before .before .before .before .before .before .before .before .k .given .1) (c .before .before .before .before .before .before .before .before .before .before .before .before .before .before .before .before .pre .within))
