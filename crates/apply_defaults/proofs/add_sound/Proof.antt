@@ -66,7 +66,7 @@ same-length-2 : tie.Need-same-length-2 Inv-loop μ-loop
 same-length-2 c = search needs
 
 returns : tie.Need-returns Inv-loop μ-loop
-returns c = record { space = search needs; promise = λ ps w. add-over (c .before .before .before .before .before .before .before .before .before .before .before .before .before .before .loop .inv .2) (next (c .before .before .before .before .before .before .before .before .before .before)) (c .before .before .before .before .before .before .add-default .ensures .promise) (c .enum-told .given .1) w }
+returns c = record { space = (record { long = same-length c }, record { long = same-length-2 c }); promise = λ ps w. add-over (c .before .before .before .before .before .before .before .before .before .before .before .before .before .before .loop .inv .2) (next (c .before .before .before .before .before .before .before .before .before .before)) (c .before .before .before .before .before .before .add-default .ensures .promise) (c .enum-told .given .1) w }
 
 enum-told-2 : tie.Need-enum-told-2 Inv-loop μ-loop
 enum-told-2 c = search needs
@@ -78,7 +78,7 @@ same-length-4 : tie.Need-same-length-4 Inv-loop μ-loop
 same-length-4 c = search needs
 
 returns-2 : tie.Need-returns-2 Inv-loop μ-loop
-returns-2 c = record { space = search needs; promise = λ ps w. add-end (c .before .before .before .loop .inv .2) (stops _ _ _ (c .before .before .next-listed .ensures) (c .enum-told2 .given .1)) w }
+returns-2 c = record { space = (record { long = same-length-3 c }, record { long = same-length-4 c }); promise = λ ps w. add-end (c .before .before .before .loop .inv .2) (stops _ _ _ (c .before .before .next-listed .ensures) (c .enum-told2 .given .1)) w }
 
 pub add-sound-spec : {M : Type 1} → statement M
 add-sound-spec =

@@ -11,16 +11,16 @@ text-of-requires : tie.Need-text-of-requires
 text-of-requires c κs = search needs
 
 enum-known-n : tie.Need-enum-known-n
-enum-known-n c = search needs
+enum-known-n c = c .match .keys1
 
 sub-if1 : tie.Need-sub-if1
 sub-if1 c = search needs
 
 same-length : tie.Need-same-length
-same-length c = search needs
+same-length c = c .before .before .before .before .before .before .text-of .kept .1 .1 .1 .1 .1 .1 .1 .1 .1 .0
 
 returns : tie.Need-returns
-returns c = record { space = search needs; promise = put-long (c .before .before .before .before .before .before .text-of .ensures) (c .before .before .n .given .1) (c .if1 .taken) }
+returns c = record { space = record { long = same-length c }; promise = put-long (c .before .before .before .before .before .before .text-of .ensures) (c .before .before .n .given .1) (c .if1 .taken) }
 
 slice-reshare-prefix-copy-at : tie.Need-slice-reshare-prefix-copy-at
 slice-reshare-prefix-copy-at c = omega (arith, text-short (c .before .before .before .before .before .before .before .text-of .ensures) (c .before .before .before .n .given .1) (c .before .before .before .before .before .before .before .before .before .before .before .before .before .before .before .before .pre .asked), c .before .before .before .before .before .before .before .before .before .before .before .before .before .before .before .before .pre .asked .room, c .before .before .before .before .before .before .before .text-of .kept)
@@ -35,22 +35,22 @@ add-t20 : tie.Need-add-t20
 add-t20 c = search needs
 
 enum-known-r : tie.Need-enum-known-r
-enum-known-r c = search needs
+enum-known-r c = c .match .keys2
 
 same-length-2 : tie.Need-same-length-2
-same-length-2 c = search needs
+same-length-2 c = c .before .before .before .before .before .before .before .before .before .before .before .text-of .kept .1 .1 .1 .1 .1 .1 .1 .1 .1 .0
 
 same-length-3 : tie.Need-same-length-3
-same-length-3 c = search needs
+same-length-3 c = c .before .before .copy-at .kept .0
 
 returns-2 : tie.Need-returns-2
-returns-2 c = record { space = search needs; promise = put-ends (c .before .before .before .before .before .before .before .before .before .before .before .text-of .ensures) (c .before .before .before .before .before .before .before .n .given .1) (c .before .before .before .before .before .before .before .before .before .before .before .before .before .before .before .before .before .before .before .before .pre .before) (c .before .before .before .before .before .before .before .before .before .before .before .before .before .before .before .before .before .before .before .before .pre .within) (c .before .before .before .before .before .if1 .left) (text-part (c .before .before .before .before .before .before .before .before .before .before .before .text-of .ensures) (c .before .before .before .before .before .before .before .n .given .1) (c .before .before .before .before .before .before .before .before .before .before .before .before .before .before .before .before .before .before .before .before .pre .asked) (omega (arith, c .before .before .before .before .before .before .before .before .before .before .before .before .before .before .before .before .before .before .before .before .pre .asked .room, c .before .before .before .before .before .before .before .before .before .before .before .text-of .kept))) (c .before .before .copy-at .ensures) }
+returns-2 c = record { space = record { long = same-length-2 c }; promise = put-ends (c .before .before .before .before .before .before .before .before .before .before .before .text-of .ensures) (c .before .before .before .before .before .before .before .n .given .1) (c .before .before .before .before .before .before .before .before .before .before .before .before .before .before .before .before .before .before .before .before .pre .before) (c .before .before .before .before .before .before .before .before .before .before .before .before .before .before .before .before .before .before .before .before .pre .within) (c .before .before .before .before .before .if1 .left) (text-part (c .before .before .before .before .before .before .before .before .before .before .before .text-of .ensures) (c .before .before .before .before .before .before .before .n .given .1) (c .before .before .before .before .before .before .before .before .before .before .before .before .before .before .before .before .before .before .before .before .pre .asked) (omega (arith, c .before .before .before .before .before .before .before .before .before .before .before .before .before .before .before .before .before .before .before .before .pre .asked .room, c .before .before .before .before .before .before .before .before .before .before .before .text-of .kept))) (c .before .before .copy-at .ensures) }
 
 same-length-4 : tie.Need-same-length-4
-same-length-4 c = search needs
+same-length-4 c = c .before .before .before .before .before .text-of .kept .1 .1 .1 .1 .1 .1 .1 .1 .1 .0
 
 returns-3 : tie.Need-returns-3
-returns-3 c = record { space = search needs; promise = put-refused (c .before .before .before .before .before .text-of .ensures) (c .before .r .given .1) }
+returns-3 c = record { space = record { long = same-length-4 c }; promise = put-refused (c .before .before .before .before .before .text-of .ensures) (c .before .r .given .1) }
 
 pub put-text-spec : {M : Type 1} → statement M
 put-text-spec =

@@ -30,7 +30,7 @@ put-text-requires : tie.Need-put-text-requires Inv-loop μ-loop
 put-text-requires c κs = walk-asks (c .before .before .before .before .before .before .before .before .before .before .before .before .before .before .pre) (c .before .before .before .before .loop .inv .2) (c .before .before .before .before .loop .inv .0) (c .before .before .before .before .loop .inv .1)
 
 enum-known-e : tie.Need-enum-known-e Inv-loop μ-loop
-enum-known-e c = search needs
+enum-known-e c = c .match .keys1
 
 same-length : tie.Need-same-length Inv-loop μ-loop
 same-length c = search needs
@@ -42,7 +42,7 @@ same-length-3 : tie.Need-same-length-3 Inv-loop μ-loop
 same-length-3 c = search needs
 
 returns : tie.Need-returns Inv-loop μ-loop
-returns c = record { space = search needs; promise = walk-full (c .before .before .before .before .before .before .before .before .before .before .before .before .before .loop .inv .2) (c .before .before .before .before .before .before .before .before .before .before .before .before .loop-test .taken) (c .before .before .before .before .before .before .before .before .before .before .before .at .ensures) (rw (c .before .before .e .given .1) at (c .before .before .before .before .before .before .before .before .put-text .ensures .promise)) (c .if1 .taken) }
+returns c = record { space = record { long = same-length c }; promise = walk-full (c .before .before .before .before .before .before .before .before .before .before .before .before .before .loop .inv .2) (c .before .before .before .before .before .before .before .before .before .before .before .before .loop-test .taken) (c .before .before .before .before .before .before .before .before .before .before .before .at .ensures) (rw (c .before .before .e .given .1) at (c .before .before .before .before .before .before .before .before .put-text .ensures .promise)) (c .if1 .taken) }
 
 cast-ends : tie.Need-cast-ends Inv-loop μ-loop
 cast-ends c = omega (arith, low c, c .before .before .before .before .before .before .before .before .before .before .before .before .before .before .before .before .before .before .before .before .before .before .before .pre .low)
@@ -63,7 +63,7 @@ loop-again : tie.Need-loop-again Inv-loop μ-loop
 loop-again c = (omega (arith, c .before .before .before .before .before .before .before .before .before .before .before .before .before .loop .inv .0, c .before .before .before .before .before .before .before .before .put-text .kept), omega (arith, c .before .before .before .before .before .before .before .before .before .before .before .before .before .loop .inv .1, c .before .before .before .before .before .before .before .before .put-text .kept), walk-on (c .before .before .before .before .before .before .before .before .before .before .before .before .before .loop .inv .2) (c .before .before .before .before .before .before .before .before .before .before .before .before .loop-test .taken) (c .before .before .before .before .before .before .before .before .before .before .before .at .ensures) (rw (c .before .before .e .given .1) at (c .before .before .before .before .before .before .before .before .put-text .ensures .promise)) (low c) (c .if1 .left))
 
 enum-told : tie.Need-enum-told Inv-loop μ-loop
-enum-told c = search needs
+enum-told c = c .match .keys2
 
 same-length-4 : tie.Need-same-length-4 Inv-loop μ-loop
 same-length-4 c = search needs
@@ -75,10 +75,10 @@ same-length-6 : tie.Need-same-length-6 Inv-loop μ-loop
 same-length-6 c = search needs
 
 returns-2 : tie.Need-returns-2 Inv-loop μ-loop
-returns-2 c = record { space = search needs; promise = walk-long (c .before .before .before .before .before .before .before .before .before .before .before .loop .inv .2) (c .before .before .before .before .before .before .before .before .before .before .loop-test .taken) (c .before .before .before .before .before .before .before .before .before .at .ensures) (rw (c .enum-told .given .1) at (c .before .before .before .before .before .before .put-text .ensures .promise)) }
+returns-2 c = record { space = record { long = same-length-4 c }; promise = walk-long (c .before .before .before .before .before .before .before .before .before .before .before .loop .inv .2) (c .before .before .before .before .before .before .before .before .before .before .loop-test .taken) (c .before .before .before .before .before .before .before .before .before .at .ensures) (rw (c .enum-told .given .1) at (c .before .before .before .before .before .before .put-text .ensures .promise)) }
 
 enum-known-r : tie.Need-enum-known-r Inv-loop μ-loop
-enum-known-r c = search needs
+enum-known-r c = c .match .keys3
 
 same-length-7 : tie.Need-same-length-7 Inv-loop μ-loop
 same-length-7 c = search needs
@@ -90,7 +90,7 @@ same-length-9 : tie.Need-same-length-9 Inv-loop μ-loop
 same-length-9 c = search needs
 
 returns-3 : tie.Need-returns-3 Inv-loop μ-loop
-returns-3 c = record { space = search needs; promise = walk-refused (c .before .before .before .before .before .before .before .before .before .before .before .before .loop .inv .2) (c .before .before .before .before .before .before .before .before .before .before .before .loop-test .taken) (c .before .before .before .before .before .before .before .before .before .before .at .ensures) (rw (c .before .r .given .1) at (c .before .before .before .before .before .before .before .put-text .ensures .promise)) }
+returns-3 c = record { space = record { long = same-length-7 c }; promise = walk-refused (c .before .before .before .before .before .before .before .before .before .before .before .before .loop .inv .2) (c .before .before .before .before .before .before .before .before .before .before .before .loop-test .taken) (c .before .before .before .before .before .before .before .before .before .before .at .ensures) (rw (c .before .r .given .1) at (c .before .before .before .before .before .before .before .put-text .ensures .promise)) }
 
 same-length-10 : tie.Need-same-length-10 Inv-loop μ-loop
 same-length-10 c = search needs
@@ -102,7 +102,7 @@ same-length-12 : tie.Need-same-length-12 Inv-loop μ-loop
 same-length-12 c = search needs
 
 returns-4 : tie.Need-returns-4 Inv-loop μ-loop
-returns-4 c = record { space = search needs; promise = walk-end (c .before .loop .inv .2) (c .loop-test .left) }
+returns-4 c = record { space = record { long = same-length-10 c }; promise = walk-end (c .before .loop .inv .2) (c .loop-test .left) }
 
 pub walk-spec : {M : Type 1} → statement M
 walk-spec =
