@@ -1,4 +1,5 @@
 -- `apply_lines::read_line` meets its contract.
+use mathlib.Core.Path.{refl}
 use Rattle.scan_cursor.specs.Spans.{lineOf}
 use Rattle.apply_statements.proofs.Outcomes.{between-sound}
 use Rattle.apply_lines.proofs.ByKind.{comment-read, blank-read, indented-read, statement-read, indented-asks}
@@ -10,28 +11,28 @@ line-kind-requires : tie.Need-line-kind-requires
 line-kind-requires c κs = c .before .before .before .before .before .before .before .before .pre .cut .table
 
 enum-told : tie.Need-enum-told
-enum-told c = search needs
+enum-told c = c .match .keys1
 
 enum-told-2 : tie.Need-enum-told-2
-enum-told-2 c = search needs
+enum-told-2 c = c .match .keys2
 
 close-requires : tie.Need-close-requires
 close-requires c κs = between-sound (c .before .before .before .before .before .before .before .before .before .before .before .before .before .pre .between)
 
 enum-told-3 : tie.Need-enum-told-3
-enum-told-3 c = search needs
+enum-told-3 c = c .match .keys3
 
 read-indented-requires : tie.Need-read-indented-requires
 read-indented-requires c κs = indented-asks (c .before .before .before .before .before .before .before .before .before .before .before .before .before .before .pre)
 
 enum-told-4 : tie.Need-enum-told-4
-enum-told-4 c = search needs
+enum-told-4 c = c .match .keys4
 
 read-file-line-requires : tie.Need-read-file-line-requires
 read-file-line-requires c κs = search needs
 
 returns : tie.Need-returns
-returns c = record { space = search needs; promise = comment-read (lineOf _ _ _) (c .before .before .line-kind .ensures) (c .enum-told .given .1) }
+returns c = record { space = (record { names = record { long = refl }; index = record { long = refl }; texts = record { long = refl }; bind = record { long = refl }; graph = record { long = refl } }, record { long = refl }); promise = comment-read (lineOf _ _ _) (c .before .before .line-kind .ensures) (c .enum-told .given .1) }
 
 same-length : tie.Need-same-length
 same-length c = search needs
@@ -43,37 +44,37 @@ returns-2 : tie.Need-returns-2
 returns-2 c = record { space = search needs; promise = blank-read (lineOf _ _ _) (c .before .before .before .before .before .line-kind .ensures) (c .before .before .before .enum-told2 .given .1) (c .close .ensures) }
 
 same-length-3 : tie.Need-same-length-3
-same-length-3 c = search needs
+same-length-3 c = c .before .before .before .before .before .before .read-indented .kept .1 .1 .1 .1 .0
 
 same-length-4 : tie.Need-same-length-4
-same-length-4 c = search needs
+same-length-4 c = c .before .before .before .before .before .before .read-indented .kept .1 .1 .1 .1 .1 .0
 
 same-length-5 : tie.Need-same-length-5
-same-length-5 c = search needs
+same-length-5 c = c .before .before .before .before .before .before .read-indented .kept .1 .1 .1 .1 .1 .1 .0
 
 returns-3 : tie.Need-returns-3
-returns-3 c = record { space = search needs; promise = indented-read (lineOf _ _ _) (c .before .before .before .before .before .before .before .before .before .before .before .before .line-kind .ensures) (c .before .before .before .before .before .before .before .before .before .before .enum-told3 .given .1) (c .before .before .before .before .before .before .read-indented .ensures .promise) }
+returns-3 c = record { space = (record { names = record { long = refl }; index = record { long = refl }; texts = record { long = same-length-3 c }; bind = record { long = same-length-4 c }; graph = record { long = refl } }, record { long = same-length-5 c }); promise = indented-read (lineOf _ _ _) (c .before .before .before .before .before .before .before .before .before .before .before .before .line-kind .ensures) (c .before .before .before .before .before .before .before .before .before .before .enum-told3 .given .1) (c .before .before .before .before .before .before .read-indented .ensures .promise) }
 
 same-length-6 : tie.Need-same-length-6
-same-length-6 c = search needs
+same-length-6 c = c .before .before .before .before .before .before .before .before .before .before .before .before .read-file-line .kept .1 .1 .1 .0
 
 same-length-7 : tie.Need-same-length-7
-same-length-7 c = search needs
+same-length-7 c = c .before .before .before .before .before .before .before .before .before .before .before .before .read-file-line .kept .1 .1 .1 .1 .0
 
 same-length-8 : tie.Need-same-length-8
-same-length-8 c = search needs
+same-length-8 c = c .before .before .before .before .before .before .before .before .before .before .before .before .read-file-line .kept .1 .1 .1 .1 .1 .0
 
 same-length-9 : tie.Need-same-length-9
-same-length-9 c = search needs
+same-length-9 c = c .before .before .before .before .before .before .before .before .before .before .before .before .read-file-line .kept .1 .1 .1 .1 .1 .1 .0
 
 same-length-10 : tie.Need-same-length-10
-same-length-10 c = search needs
+same-length-10 c = c .before .before .before .before .before .before .before .before .before .before .before .before .read-file-line .kept .1 .1 .1 .1 .1 .1 .1 .0
 
 same-length-11 : tie.Need-same-length-11
-same-length-11 c = search needs
+same-length-11 c = c .before .before .before .before .before .before .before .before .before .before .before .before .read-file-line .kept .1 .1 .1 .1 .1 .1 .1 .1 .0
 
 returns-4 : tie.Need-returns-4
-returns-4 c = record { space = search needs; promise = statement-read (lineOf _ _ _) (c .before .before .before .before .before .before .before .before .before .before .before .before .before .before .before .before .before .before .before .before .before .line-kind .ensures) (c .before .before .before .before .before .before .before .before .before .before .before .before .before .before .before .before .before .before .before .enum-told4 .given .1) (c .before .before .before .before .before .before .before .before .before .before .before .before .read-file-line .ensures .promise) }
+returns-4 c = record { space = (record { names = record { long = same-length-6 c }; index = record { long = same-length-7 c }; texts = record { long = same-length-8 c }; bind = record { long = same-length-9 c }; graph = record { long = same-length-10 c } }, record { long = same-length-11 c }); promise = statement-read (lineOf _ _ _) (c .before .before .before .before .before .before .before .before .before .before .before .before .before .before .before .before .before .before .before .before .before .line-kind .ensures) (c .before .before .before .before .before .before .before .before .before .before .before .before .before .before .before .before .before .before .before .enum-told4 .given .1) (c .before .before .before .before .before .before .before .before .before .before .before .before .read-file-line .ensures .promise) }
 
 pub read-line-spec : {M : Type 1} → statement M
 read-line-spec =
