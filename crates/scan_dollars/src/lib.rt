@@ -53,25 +53,22 @@ pub fn dollar(t: &[u8; 256], s: &[u8], at: usize) -> Escape
     let b = s[at];
     let next = at + 1;
     let k = scan_classes::class_in(t, b);
-    if k == scan_classes::SHORT {
-        let end = scan_tokens::short_name(t, s, at);
-        return Escape::Name(at, end, end);
+    if k < scan_classes::SPACE {
+        if k == scan_classes::SHORT {
+            let end = scan_tokens::short_name(t, s, at);
+            return Escape::Name(at, end, end);
+        }
+        return Escape::Bad;
+    }
+    if k <= scan_classes::COLON {
+        if k == scan_classes::NEWLINE {
+            let end = scan_tokens::spaces(s, next);
+            return Escape::Join(end);
+        }
+        return Escape::Byte(b, next);
     }
     if k == scan_classes::OPEN_BRACE {
         return braced(t, s, next);
-    }
-    if k == scan_classes::NEWLINE {
-        let end = scan_tokens::spaces(s, next);
-        return Escape::Join(end);
-    }
-    if k == scan_classes::DOLLAR {
-        return Escape::Byte(b, next);
-    }
-    if k == scan_classes::SPACE {
-        return Escape::Byte(b, next);
-    }
-    if k == scan_classes::COLON {
-        return Escape::Byte(b, next);
     }
     Escape::Bad
 }
