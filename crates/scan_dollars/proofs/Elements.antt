@@ -1,15 +1,15 @@
 -- What a `$` begins, at places of a slice.
 use Prim.Native.Nat.{ℕ, _+_, _≤_, _<_}
-use mathlib.Core.Bool.{true, false, _||_}
+use mathlib.Core.Bool.{true, _||_}
 use mathlib.Core.List.{List, _∷_}
 use mathlib.Core.Option.{none}
 use mathlib.Core.Path.{_≡_, sym, _∙_, ap}
 use native.Mathlib.Omega.{arith}
 use native.Mathlib.Nat.{le-refl, le-trans}
-use borrow.Author.Tests.{eq-eqb, eqb-false, ne-eqb}
+use borrow.Author.Tests.{ne-eqb}
 use lib.Dec.{eqb}
 use lib.ListN.{length, drop, getD}
-use Rattle.lists.specs.Tests.{ifB, split}
+use Rattle.lists.specs.Tests.{ifB}
 use Rattle.lists.specs.Parts.{part, part-none, length-part}
 use Rattle.lists.specs.Runs.{Reads, run, afterRun, part-run}
 use Rattle.spec.specs.Bytes.{closeBrace, shortByte, classOf}
@@ -69,15 +69,6 @@ unfolding element escaped byClass nameOf afterName
 element-class b s =
     rw (sorted b .dollar, sorted b .space, sorted b .colon, sorted b .newline, sorted b .openBrace, sorted b .short)
 
-escaped-class : (k : ℕ) → 3 ≤ k → k ≤ 6 → (k ≡ 4 → ⊥) → eqb k 5 || eqb k 3 || eqb k 6 ≡ true
-escaped-class k l m n =
-    split (eqb k 5)
-    (λ (e : eqb k 5 ≡ true). rw e)
-    (λ (e : eqb k 5 ≡ false).
-    split (eqb k 3)
-    (λ (f : eqb k 3 ≡ true). rw (e, f))
-    (λ (f : eqb k 3 ≡ false). rw (e, f, eq-eqb k 6 (omega (arith, n, eqb-false k 5 e, eqb-false k 3 f)))))
-
 -- An answer about what begins later.
 tells-from : (s : List ℕ) (i j : ℕ) (x y : Element) (r : Escape) → i ≤ j → y ≡ x → TellsElement s j x r → TellsElement s i y r
 unfolding TellsElement
@@ -122,20 +113,13 @@ module _ (s : List ℕ) {at k : ℕ} (h : at < length s) (c : k ≡ classOf (get
   join-begins p a =
       record { forward = omega (arith, a .forward); within = a .within; is = here ∙ rw (p, a .rest) }
 
-  -- a class of the range of `$ `, newline, `$$` and `$:`, and no newline
-  pub byte-begins : 3 ≤ k → k ≤ 6 → (k ≡ 4 → ⊥) → FoundElement s at (at + 1) (element (drop at s)) (literal (getD s at 0) (drop (at + 1) s))
+  pub byte-begins : eqb k 5 || eqb k 3 || eqb k 6 ≡ true → FoundElement s at (at + 1) (element (drop at s)) (literal (getD s at 0) (drop (at + 1) s))
   unfolding byClass
-  byte-begins l m n = record { forward = omega arith; within = omega arith; is = here ∙ rw (escaped-class k l m n) }
+  byte-begins p = record { forward = omega arith; within = omega arith; is = here ∙ rw p }
 
-  other-begins : (k ≡ 1 → ⊥) → (k ≡ 10 → ⊥) → (k ≡ 4 → ⊥) → (k ≡ 5 → ⊥) → (k ≡ 3 → ⊥) → (k ≡ 6 → ⊥) → element (drop at s) ≡ wrong
+  pub other-begins : (k ≡ 1 → ⊥) → (k ≡ 10 → ⊥) → (k ≡ 4 → ⊥) → (k ≡ 5 → ⊥) → (k ≡ 3 → ⊥) → (k ≡ 6 → ⊥) → element (drop at s) ≡ wrong
   unfolding byClass
   other-begins a b c d e f = here ∙ rw (ne-eqb k 5 d, ne-eqb k 3 e, ne-eqb k 6 f, ne-eqb k 4 c, ne-eqb k 10 b, ne-eqb k 1 a)
-
-  pub low-begins : k < 3 → (k ≡ 1 → ⊥) → element (drop at s) ≡ wrong
-  low-begins l n = other-begins n (λ e. omega arith) (λ e. omega arith) (λ e. omega arith) (λ e. omega arith) (λ e. omega arith)
-
-  pub high-begins : 6 < k → (k ≡ 10 → ⊥) → element (drop at s) ≡ wrong
-  high-begins l n = other-begins (λ e. omega arith) n (λ e. omega arith) (λ e. omega arith) (λ e. omega arith) (λ e. omega arith)
 
 -- ---- what follows, whatever it is
 
