@@ -54,19 +54,17 @@ past-comments (l ∷ ls) ks rd b e =
 from-next : {m : List ℕ} {i : ℕ} {s : LineBounds} (n : NextLine m i s) (rd : Reading) (b : Block) → readLines (linesFrom (s .start) (drop (s .start) m)) rd b ≡ readLines (linesFrom i (drop i m)) rd b
 from-next n rd b = rw (n .lines) (sym (past-comments (n .passed) _ rd b (n .comments)))
 
--- before the line s
-pub record Turning (m : List ℕ) (bs : Buffers) (c : Counts) (o : Open) (s : LineBounds) : Type 0 where
-  pub within : s .start ≤ length m
-  pub here : LineHere m (s .start) s
+-- before the lines from place i on
+pub record Reached (m : List ℕ) (bs : Buffers) (c : Counts) (o : Open) (i : ℕ) : Type 0 where
+  pub within : i ≤ length m
   pub between : BetweenLines bs c o
-  pub left : readLines (linesFrom (s .start) (drop (s .start) m)) (between .reading) (between .block) ≡ readLines (linesOf m) nothingRead noBlock
+  pub left : readLines (linesFrom i (drop i m)) (between .reading) (between .block) ≡ readLines (linesOf m) nothingRead noBlock
 
-pub turn-begin : {t m : List ℕ} {bs : Buffers} {word : List ℕ} {s : LineBounds} → TopAsk t m bs word → NextLine m 0 s → Turning m bs noCounts Nothing s
+pub turn-begin : {t m : List ℕ} {bs : Buffers} {word : List ℕ} → TopAsk t m bs word → Reached m bs noCounts Nothing 0
 unfolding sum
-turn-begin {m = m} {bs = bs} a n =
+turn-begin {m = m} {bs = bs} a =
     record {
-      within = n .within;
-      here = n .here;
+      within = omega arith;
       between =
           record {
             log = [];
@@ -75,12 +73,45 @@ turn-begin {m = m} {bs = bs} a n =
             holds = start-held bs (a .empty) (a .roomy .texts-room) (a .roomy .bind-room) (omega (arith, a .roomy .room .scratch));
             opens = nothing;
           };
-      left = from-next n nothingRead noBlock ∙ ap (λ (ls : List Line). readLines ls nothingRead noBlock) (sym (lines-begin m));
+      left = ap (λ (ls : List Line). readLines ls nothingRead noBlock) (sym (lines-begin m));
     }
+
+-- before the line s
+pub record Turning (m : List ℕ) (bs : Buffers) (c : Counts) (o : Open) (s : LineBounds) : Type 0 where
+  pub reached : Reached m bs c o (s .start)
+  pub here : LineHere m (s .start) s
+
+module _ {m : List ℕ} {bs : Buffers} {c : Counts} {o : Open} {i : ℕ} (g : Reached m bs c o i) where
+  pub turn-line : {s : LineBounds} → NextLine m i s → Turning m bs c o s
+  turn-line n =
+      record {
+        reached =
+            record {
+              within = n .within;
+              between = g .between;
+              left = from-next n (g .between .reading) (g .between .block) ∙ g .left;
+            };
+        here = n .here;
+      }
+
+  -- the manifest's end
+  pub turn-sound : SoundBlock (bs .texts) (bs .bind) c o
+  turn-sound = sound (g .between .reading) (g .between .holds) (g .between .opens)
+
+  pub turn-end : {r : LineAnswer} → length m ≤ i → Meets (bs .texts) (bs .bind) c o close (bs .texts) (bs .bind) r → LinesRead m bs r
+  unfolding readLines
+  turn-end {r} h k =
+      let e : close (g .between .reading) (g .between .block) ≡ readLines (linesOf m) nothingRead noBlock = rw (lines-end m i h) at (g .left) in
+      record {
+        agrees = subst (λ (out : Outcome). Agrees bs out r) e (met (g .between .reading) (g .between .holds) (g .between .opens) k);
+      }
 
 module _ {m : List ℕ} {bs : Buffers} {c : Counts} {o : Open} {s : LineBounds} (w : Turning m bs c o s) where
   abbrev i : ℕ
   i = s .start
+
+  abbrev b : BetweenLines bs c o
+  b = w .reached .between
 
   -- what a line asks
   pub turn-asks : {t : List ℕ} {bs₀ : Buffers} {word₀ word : List ℕ} → TopAsk t m bs₀ word₀
@@ -97,7 +128,7 @@ module _ {m : List ℕ} {bs : Buffers} {c : Counts} {o : Open} {s : LineBounds} 
               scratch = rw (e .graph-same) (r .scratch);
               word-room = rw (e .word-same) (r .word-room);
             };
-        between = w .between;
+        between = b;
       }
 
   -- the first of the lines that are left, and those behind it
@@ -105,23 +136,21 @@ module _ {m : List ℕ} {bs : Buffers} {c : Counts} {o : Open} {s : LineBounds} 
     pub turn-span : LineSpan m (s .start) s
     turn-span = w .here .span h
 
-    turn-left : andThen (readLine (lineOf i (part m i (s .end)) (s .ended)) (w .between .reading) (w .between .block)) (readLines (linesFrom (s .next) (drop (s .next) m)))
+    turn-left : andThen (readLine (lineOf i (part m i (s .end)) (s .ended)) (b .reading) (b .block)) (readLines (linesFrom (s .next) (drop (s .next) m)))
         ≡ readLines (linesOf m) nothingRead noBlock
     unfolding readLines
-    turn-left = rw (turn-span .lines) at (w .left)
+    turn-left = rw (turn-span .lines) at (w .reached .left)
 
-    pub turn-on : {bs′ : Buffers} {d : Counts} {q : Open} {r : LineBounds}
+    pub turn-on : {bs′ : Buffers} {d : Counts} {q : Open}
         → LineMeets bs c o (readLine (lineOf i (part m i (s .end)) (s .ended))) bs′ (Goes d q)
-        → NextLine m (s .next) r
-        → Turning m bs′ d q r
+        → Reached m bs′ d q (s .next)
     unfolding andThen
-    turn-on k n =
-        let g = agreed-on (k .agrees (w .between .log) (w .between .reading) (w .between .block) (w .between .holds) (w .between .opens)) in
+    turn-on k =
+        let g = agreed-on (k .agrees (b .log) (b .reading) (b .block) (b .holds) (b .opens)) in
         record {
-          within = n .within;
-          here = n .here;
+          within = turn-span .most;
           between = record { log = g .log; reading = g .reading; block = g .block; holds = g .holds; opens = g .opens };
-          left = from-next n (g .reading) (g .block) ∙ (rw (g .outcome) at turn-left);
+          left = rw (g .outcome) at turn-left;
         }
 
     pub turn-refused : {bs′ : Buffers} {r : Refusal}
@@ -129,17 +158,5 @@ module _ {m : List ℕ} {bs : Buffers} {c : Counts} {o : Open} {s : LineBounds} 
         → LinesRead m bs′ (Refused r)
     unfolding andThen
     turn-refused k =
-        let e = agreed-refused (k .agrees (w .between .log) (w .between .reading) (w .between .block) (w .between .holds) (w .between .opens)) in
+        let e = agreed-refused (k .agrees (b .log) (b .reading) (b .block) (b .holds) (b .opens)) in
         record { agrees = rw (← turn-left, e) refuses }
-
-  -- the manifest's end
-  pub turn-sound : SoundBlock (bs .texts) (bs .bind) c o
-  turn-sound = sound (w .between .reading) (w .between .holds) (w .between .opens)
-
-  pub turn-end : {r : LineAnswer} → length m ≤ s .start → Meets (bs .texts) (bs .bind) c o close (bs .texts) (bs .bind) r → LinesRead m bs r
-  unfolding readLines
-  turn-end {r} h k =
-      let e : close (w .between .reading) (w .between .block) ≡ readLines (linesOf m) nothingRead noBlock = rw (lines-end m i h) at (w .left) in
-      record {
-        agrees = subst (λ (out : Outcome). Agrees bs out r) e (met (w .between .reading) (w .between .holds) (w .between .opens) k);
-      }

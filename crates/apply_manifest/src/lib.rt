@@ -48,37 +48,42 @@ fn read_from_top(
         written: 0,
     };
     let mut block = Open::Nothing;
-    let mut s = line_from(m, 0);
-    while s.start < m.len() {
+    let mut from = 0;
+    while from < m.len() {
+        let s = line_from(m, from);
         let start = s.start;
-        let end = s.end;
-        let line = Line {
-            start,
-            ended: s.ended,
-        };
-        let kept = State {
-            counts: c,
-            open: block,
-        };
-        match read_line(
-            t,
-            line,
-            &m[start..end],
-            names,
-            index,
-            texts,
-            bind,
-            graph,
-            word,
-            kept,
-        ) {
-            LineAnswer::Goes(d, o) => {
-                c = d;
-                block = o;
-                s = line_from(m, s.next);
-            }
-            LineAnswer::Refused(r) => {
-                return LineAnswer::Refused(r);
+        if m.len() <= start {
+            from = start;
+        } else {
+            let end = s.end;
+            let line = Line {
+                start,
+                ended: s.ended,
+            };
+            let kept = State {
+                counts: c,
+                open: block,
+            };
+            match read_line(
+                t,
+                line,
+                &m[start..end],
+                names,
+                index,
+                texts,
+                bind,
+                graph,
+                word,
+                kept,
+            ) {
+                LineAnswer::Goes(d, o) => {
+                    c = d;
+                    block = o;
+                    from = s.next;
+                }
+                LineAnswer::Refused(r) => {
+                    return LineAnswer::Refused(r);
+                }
             }
         }
     }
