@@ -37,8 +37,14 @@ loop-less c = search needs
 loop-again : tie.Need-loop-again Inv-loop μ-loop
 loop-again c = sum-on (c .before .before .before .loop .inv) (c .before .before .loop-test .taken) (c .wide .ensures)
 
+sub-lesser : tie.Need-sub-lesser Inv-loop μ-loop
+sub-lesser c = search needs
+
+lesser-requires : tie.Need-lesser-requires Inv-loop μ-loop
+lesser-requires c κs = search needs
+
 returns : tie.Need-returns Inv-loop μ-loop
-returns c = sum-end (c .before .loop .inv) (c .loop-test .left)
+returns c = sum-end (c .before .before .loop .inv) (c .before .loop-test .left) (c .lesser .ensures)
 
 pub bucket-spec : {M : Type 1} → statement M
 bucket-spec =
@@ -54,4 +60,6 @@ bucket-spec =
     add-i
     loop-less
     loop-again
+    sub-lesser
+    lesser-requires
     returns)
