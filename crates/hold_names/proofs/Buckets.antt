@@ -1,9 +1,9 @@
 -- The bucket of a path, a name more, and where a path first stands.
-use Prim.Native.Nat.{ℕ, zero, suc, _+_, _*_, _-_, _%_, _≤_, _<_, min}
+use Prim.Native.Nat.{ℕ, zero, suc, _+_, _*_, _-_, _/_, _%_, _≤_, _<_, min}
 use mathlib.Core.Bool.{true, false}
 use mathlib.Core.List.{List, [], _∷_, _++_}
 use mathlib.Core.Path.{_≡_, refl, sym, _∙_, ap}
-use native.Mathlib.Nat.{not-suc-le-zero, le-of-suc-le-suc}
+use native.Mathlib.Nat.{not-suc-le-zero, le-of-suc-le-suc, add-mul-mod-self-right}
 use native.Mathlib.Numerals.{add-one}
 use native.Mathlib.Omega.{arith}
 use lib.ListN.{length, drop, getD, drop-of-length-le, List·getD-append}
@@ -13,30 +13,50 @@ use Rattle.lists.specs.Bytes.{eqBytes, eq-eqBytes, ne-eqBytes}
 use Rattle.spec.specs.Basics.{among}
 use Rattle.spec.specs.Reading.{numberOf}
 use Rattle.spec.specs.Limits.{maxFiles}
-use Rattle.hold_names.specs.Table.{buckets, bucketFrom, bucketOf}
+use Rattle.hold_names.specs.Table.{buckets, bucketFrom, Summed, bucketOf}
 use Rattle.hold_names.proofs.Numbers.{among-none, among-here, among-there, number-here, number-there}
 
 -- ---- the bucket of a path
 
-pub record Summing (s : List ℕ) (h i : ℕ) : Type 0 where
-  pub small : h < maxFiles
-  pub rest : bucketFrom 0 s ≡ bucketFrom h (drop i s)
+pub sum-begin : (s : List ℕ) {h i : ℕ} → h < maxFiles → Summed s h i h i
+sum-begin s b = record { small = b; rest = refl }
 
-pub sum-begin : (s : List ℕ) → Summing s 0 0
-sum-begin s = record { small = omega arith; rest = refl }
-
-module _ {s : List ℕ} {h i : ℕ} (x : Summing s h i) where
-  pub sum-on : i < length s → {b : ℕ} → b ≡ getD s i 0 → Summing s ((h * 403 + b) % maxFiles) (i + 1)
+module _ {s : List ℕ} {g k h i : ℕ} (x : Summed s g k h i) where
+  pub sum-on : i < length s → {b : ℕ} → b ≡ getD s i 0 → Summed s g k ((h * 403 + b) % maxFiles) (i + 1)
   unfolding bucketFrom
-  sum-on k e = record { small = omega arith; rest = x .rest ∙ rw (e, add-one, drop-cons s i 0 k) }
+  sum-on l e = record { small = omega arith; rest = x .rest ∙ rw (e, add-one, drop-cons s i 0 l) }
 
-  summed : length s ≤ i → h ≡ bucketFrom 0 s
+  pub sum-then : {r j : ℕ} → Summed s h i r j → Summed s g k r j
+  sum-then y = record { small = y .small; rest = x .rest ∙ y .rest }
+
+  pub sum-end : length s ≤ i → h ≡ bucketFrom g (drop k s)
   unfolding bucketFrom
-  summed k = sym (x .rest ∙ rw (drop-of-length-le s {i = i} k))
+  sum-end l = sym (x .rest ∙ rw (drop-of-length-le s {i = i} l))
 
-  pub sum-end : length s ≤ i → {r : ℕ} → r ≡ min h (buckets - 1) → r ≡ bucketOf s
-  unfolding bucketOf
-  sum-end k e = e ∙ ap (λ (y : ℕ). min y (buckets - 1)) (summed k)
+once-less : (x y : ℕ) → (x % maxFiles * 403 + y) % maxFiles ≡ (x * 403 + y) % maxFiles
+once-less x y =
+    let z : x * 403 + y ≡ x % maxFiles * 403 + y + x / maxFiles * 403 * maxFiles = omega arith in
+    sym (ap (λ (k : ℕ). k % maxFiles) z ∙ add-mul-mod-self-right (x % maxFiles * 403 + y) (x / maxFiles * 403) maxFiles)
+
+four-sum : (h a b c d : ℕ)
+    → (a * 65450827 + b * 162409 + c * 403 + d + h * 26376683281) % maxFiles ≡ ((((h * 403 + a) % maxFiles * 403 + b) % maxFiles * 403 + c) % maxFiles * 403 + d) % maxFiles
+four-sum h a b c d =
+    let z : a * 65450827 + b * 162409 + c * 403 + d + h * 26376683281 ≡ (((h * 403 + a) * 403 + b) * 403 + c) * 403 + d = omega arith in
+    rw (once-less (h * 403 + a) b, once-less ((h * 403 + a) * 403 + b) c, once-less (((h * 403 + a) * 403 + b) * 403 + c) d) (ap (λ (y : ℕ). y % maxFiles) z)
+
+pub sum-four : (s : List ℕ) (i h : ℕ) → i + 4 ≤ length s → h < maxFiles → {a b c d : ℕ} → a ≡ getD s i 0 → b ≡ getD s (i + 1) 0 → c ≡ getD s (i + 2) 0 → d ≡ getD s (i + 3) 0
+    → Summed s h i ((a * 65450827 + b * 162409 + c * 403 + d + h * 26376683281) % maxFiles) (i + 4)
+sum-four s i h l m {a} {b} {c} {d} p q r t =
+    let e : i + 1 + 1 ≡ i + 2 = omega arith in
+    let f : i + 2 + 1 ≡ i + 3 = omega arith in
+    let g : i + 3 + 1 ≡ i + 4 = omega arith in
+    let x : Summed s h i (((h * 403 + a) % maxFiles * 403 + b) % maxFiles) (i + 2) = rw e at (sum-on (sum-on (sum-begin s m) (omega arith) p) (omega arith) q) in
+    let y : Summed s h i ((((h * 403 + a) % maxFiles * 403 + b) % maxFiles * 403 + c) % maxFiles) (i + 3) = rw f at (sum-on x (omega arith) r) in
+    rw (four-sum h a b c d) (rw g at (sum-on y (omega arith) t))
+
+pub bucket-is : (s : List ℕ) {h i : ℕ} → Summed s 0 0 h i → {r q : ℕ} → r ≡ bucketFrom h (drop i s) → q ≡ min r (buckets - 1) → q ≡ bucketOf s
+unfolding bucketOf
+bucket-is s x e f = f ∙ ap (λ (y : ℕ). min y (buckets - 1)) (e ∙ sym (x .rest))
 
 pub bucket-small : (p : List ℕ) → bucketOf p < buckets
 unfolding bucketOf

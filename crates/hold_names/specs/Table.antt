@@ -52,6 +52,11 @@ unfoldable pub bucketFrom : ℕ → List ℕ → ℕ
 bucketFrom h [] = h
 bucketFrom h (b ∷ s) = bucketFrom ((h * 403 + b) % maxFiles) s
 
+-- The sum h of the bytes before place i is r with those before place j.
+pub record Summed (s : List ℕ) (h i r j : ℕ) : Type 0 where
+  pub small : r < maxFiles
+  pub rest : bucketFrom h (drop i s) ≡ bucketFrom r (drop j s)
+
 unfoldable pub bucketOf : List ℕ → ℕ
 unfolding bucketFrom
 bucketOf p = min (bucketFrom 0 p) (buckets - 1)

@@ -2,10 +2,10 @@
 // then, sorted, the numbers of those that found no room in their bucket; then for each bucket two names, as one number.
 ghost use mathlib.Core.Path.{_≡_};
 ghost use Prim.Native.Nat.{_+_, _^_, _≤_, _<_};
-ghost use lib.ListN.{length};
+ghost use lib.ListN.{length, drop};
 ghost use Rattle.lists.specs.Fill.{zeroed};
 ghost use Rattle.spec.specs.Limits.{maxFiles};
-ghost use Rattle.hold_names.specs.Table.{buckets, bucketOf, headsFrom, maxNumbers, sparesIn, SoundNames, FindsName, AddsName, NamesFile, nameStart, comparedOf, ComparesName, Halves, SeeksSecond, SeeksName, Spared, Entered};
+ghost use Rattle.hold_names.specs.Table.{buckets, bucketFrom, Summed, bucketOf, headsFrom, maxNumbers, sparesIn, SoundNames, FindsName, AddsName, NamesFile, nameStart, comparedOf, ComparesName, Halves, SeeksSecond, SeeksName, Spared, Entered};
 use arena::insert;
 use arena::put;
 use byteorder::compare;
@@ -59,9 +59,35 @@ pub struct Sought {
 }
 
 fn wide(b: u8) -> usize
-    ensures { λ r. ⌜ r ≡ b ⌝ }
+    ensures { λ r. ⌜ (r ≡ b) × (r < 256) ⌝ }
 {
     b as usize
+}
+
+// The sum of a path's bytes behind one of those before place i, four more of them at once: that sum is multiplied once where it would be four times.
+fn sum_four(path: &[u8], i: usize, h: usize) -> usize
+    requires { ⌜ (i + 4 ≤ length (now path)) × (h < maxFiles) ⌝ }
+    ensures { λ r. ⌜ Summed (now (path .entry)) h i r (i + 4) ⌝ }
+{
+    let a = wide(path[i]);
+    let b = wide(path[i + 1]);
+    let c = wide(path[i + 2]);
+    let d = wide(path[i + 3]);
+    (a * 65450827 + b * 162409 + c * 403 + d + h * 26376683281) % FILES
+}
+
+// The same of all bytes from place `from` on, one by one.
+fn sum_rest(path: &[u8], from: usize, sum: usize) -> usize
+    requires { ⌜ sum < maxFiles ⌝ }
+    ensures { λ r. ⌜ r ≡ bucketFrom sum (drop from (now (path .entry))) ⌝ }
+{
+    let mut h = sum;
+    let mut i = from;
+    while i < path.len() {
+        h = (h * 403 + wide(path[i])) % FILES;
+        i += 1;
+    }
+    h
 }
 
 // The bucket of a path.
@@ -70,11 +96,11 @@ fn bucket(path: &[u8]) -> usize
 {
     let mut h = 0;
     let mut i = 0;
-    while i < path.len() {
-        h = (h * 403 + wide(path[i])) % FILES;
-        i += 1;
+    while i + 4 <= path.len() {
+        h = sum_four(path, i, h);
+        i += 4;
     }
-    lesser(h, BUCKETS - 1)
+    lesser(sum_rest(path, i, h), BUCKETS - 1)
 }
 
 // Makes the table one of no names.
