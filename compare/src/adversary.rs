@@ -1,6 +1,7 @@
 //! Asks that are meant to be slow: what a manifest of 49,152 bytes can make a reader or a planner
 //! do most often.
 
+use crate::names::{bucket, one_bucket};
 use second::{card, limits, shapes, Ask, Lent, Question, Wanted};
 
 /// A slow ask and what makes it so.
@@ -94,16 +95,6 @@ fn bindings() -> Vec<Slow> {
     ]
 }
 
-/// The bucket that the proved table of names keeps a path in.
-fn bucket(path: &[u8]) -> u32 {
-    path.iter().fold(0, |h, &b| (h * 403 + u32::from(b)) % 1_024)
-}
-
-/// Paths of one bucket.
-fn one_bucket() -> Vec<Vec<u8>> {
-    strings(4).filter(|path| bucket(path) == 0).take(limits::FILES).collect()
-}
-
 /// The strings of so many letters and digits.
 fn strings(length: u32) -> impl Iterator<Item = Vec<u8>> {
     const LETTERS: &[u8] = b"abcdefghijklmnopqrstuvwxyz0123456789ABCDEFGHIJKLMNOPQRSTUVWXYZ";
@@ -114,7 +105,7 @@ fn strings(length: u32) -> impl Iterator<Item = Vec<u8>> {
 }
 
 fn files() -> Vec<Slow> {
-    let paths = one_bucket();
+    let paths = one_bucket(limits::FILES);
     let borrowed = || paths.iter().map(Vec::as_slice);
     let mut sorted: Vec<(&[u8], u64)> = borrowed().map(|path| (path, 5)).collect();
     sorted.sort();

@@ -14,6 +14,31 @@ extern "C" {
     ) -> usize;
 }
 
+/// The bucket that the proved table of names keeps a path in.
+pub fn bucket(path: &[u8]) -> u32 {
+    path.iter().fold(0, |h, &b| (h * 403 + u32::from(b)) % 1_024).min(1_022)
+}
+
+/// So many paths of four bytes, all in one bucket.
+pub fn one_bucket(count: usize) -> Vec<Vec<u8>> {
+    const LETTERS: &[u8] = b"abcdefghijklmnopqrstuvwxyz0123456789ABCDEFGHIJKLMNOPQRSTUVWXYZ";
+    let letter = |number: usize, place| LETTERS[number / 62_usize.pow(place) % 62];
+    let path = |number| (0..4).map(|place| letter(number, place)).collect::<Vec<u8>>();
+    (0..62_usize.pow(4)).map(path).filter(|path| bucket(path) == 0).take(count).collect()
+}
+
+/// Names rising, falling and shuffled, always in the same way.
+pub fn orders(names: &[Vec<u8>]) -> [(&'static str, Vec<Vec<u8>>); 3] {
+    let mut rising = names.to_vec();
+    rising.sort();
+    let falling = rising.iter().rev().cloned().collect();
+    let mut shuffled = rising.clone();
+    shuffled.sort_by_key(|name| {
+        name.iter().fold(7_u32, |h, &b| (h ^ u32::from(b)).wrapping_mul(0x9e37_79b1))
+    });
+    [("rising", rising), ("falling", falling), ("shuffled", shuffled)]
+}
+
 /// What adding a path answers.
 #[derive(Debug, Clone, Copy, PartialEq, Eq)]
 pub enum Added {

@@ -1,6 +1,6 @@
 //! The proved table of names against a map, as the second planner has one.
 
-use compare::names::{Added, Names};
+use compare::names::{one_bucket, orders, Added, Names};
 use second::rng::Rng;
 use std::collections::HashMap;
 
@@ -53,6 +53,25 @@ fn tables_agree() {
         }
     }
     assert!(old > 50_000 && new > 50_000 && full > 20_000, "{old} {new} {full}");
+}
+
+/// 1,024 names and one too many, then all of them again: in a bucket of their own, and in all buckets.
+#[test]
+fn full_tables_in_any_order() {
+    let spread: Vec<Vec<u8>> = (0..1_025).map(|k| format!("src/{k:05}.c").into_bytes()).collect();
+    for names in [one_bucket(1_025), spread] {
+        for (order, names) in orders(&names) {
+            let list: Vec<u8> =
+                names.iter().chain(&names).flat_map(|name| [name, &b"\n"[..]].concat()).collect();
+            let mut table = Names::new(60_000, 2_050);
+            assert_eq!(table.add(&list), Some(2_050), "{order}");
+            for k in 0..1_024 {
+                assert_eq!(table.answer(k), Added::New(k), "{order}: name {k}");
+                assert_eq!(table.answer(1_025 + k), Added::Old(k), "{order}: name {k} again");
+            }
+            assert_eq!([1_024, 2_049].map(|k| table.answer(k)), [Added::Full; 2], "{order}");
+        }
+    }
 }
 
 #[test]

@@ -4,6 +4,7 @@
 
 use compare::manifest::Buffers;
 use compare::measure::{rounds, row};
+use compare::names::bucket;
 use second::manifest;
 use std::fmt::Write;
 use std::time::{Duration, Instant};
@@ -169,18 +170,13 @@ fn doubling() -> Vec<u8> {
     filled(&format!("{front}build o:phony "), "\n", |_| "$a10".to_string())
 }
 
-/// The bucket of a name in the table of names.
-fn bucket(name: &str) -> usize {
-    name.bytes().fold(0, |h, byte| (h * 403 + usize::from(byte)) % 1_024)
-}
-
 /// Texts of four bytes that are, behind fifty others, all in one bucket.
 fn one_bucket() -> Vec<String> {
     let digit = |k: usize| DIGITS[k % 64] as char;
     let texts = (0..40 << 18).map(|k| {
         [digit(k), digit(k >> 6), digit(k >> 12), digit(k >> 18)].iter().collect::<String>()
     });
-    texts.filter(|text| bucket(&format!("{}{text}", "x".repeat(50))) == 0).collect()
+    texts.filter(|text| bucket(format!("{}{text}", "x".repeat(50)).as_bytes()) == 0).collect()
 }
 
 /// A step with so many outputs in one bucket, each of them with a long front, and another step with

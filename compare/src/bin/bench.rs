@@ -6,7 +6,7 @@
 
 use compare::card;
 use compare::measure::{both, row};
-use compare::names::{Added, Names};
+use compare::names::{one_bucket, orders, Added, Names};
 use compare::scan;
 use second::bytes::{class, Class};
 use second::line::{self, Opening, Statement};
@@ -166,6 +166,26 @@ fn names() {
     let (ours, theirs) = both(|| table.add(&twice), || mapped(&twice));
     assert_eq!(table.answer(2_047), Added::Old(1_023));
     row("names: a list of 1,024 added, then found", ours, theirs);
+
+    // ordinary paths of 3 to 30 bytes, and paths that are all in one bucket of the proved table
+    for (kind, names) in [("", ordinary()), (" of one bucket", one_bucket(1_024))] {
+        for (order, names) in orders(&names) {
+            let once = listing(&names);
+            let (ours, theirs) = both(|| table.add(&once), || mapped(&once));
+            assert_eq!(table.answer(1_023), Added::New(1_023));
+            row(&format!("names{kind}: 1,024 {order} added"), ours, theirs);
+            let twice = [once.clone(), once].concat();
+            let (ours, theirs) = both(|| table.add(&twice), || mapped(&twice));
+            assert_eq!(table.answer(2_047), Added::Old(1_023));
+            row(&format!("names{kind}: 1,024 {order} added, then found"), ours, theirs);
+        }
+    }
+}
+
+fn ordinary() -> Vec<Vec<u8>> {
+    let front = ["", "src/", "out/lib/", "gen/include/detail/"];
+    let name = |k: usize| format!("{}{k:03x}{}", front[k % 4], [".o", ".cpp", ""][k % 3]);
+    (0..1_024).map(|k| name(k).into_bytes()).collect()
 }
 
 fn cards() {

@@ -1,87 +1,66 @@
--- Buckets: the last name of one, the names behind it, and what a name more changes.
-use Prim.Native.Nat.{ℕ, zero, suc, _+_, _*_, _-_, _%_, _≤_, _<_}
+-- The bucket of a path, a name more, and where a path first stands.
+use Prim.Native.Nat.{ℕ, zero, suc, _+_, _*_, _-_, _/_, _%_, _≤_, _<_, min}
 use mathlib.Core.Bool.{true, false}
 use mathlib.Core.List.{List, [], _∷_, _++_}
 use mathlib.Core.Path.{_≡_, refl, sym, _∙_, ap}
-use native.Mathlib.Nat.{not-suc-le-zero, le-of-suc-le-suc}
+use native.Mathlib.Nat.{not-suc-le-zero, le-of-suc-le-suc, add-mul-mod-self-right}
 use native.Mathlib.Numerals.{add-one}
-use native.Mathlib.Decide.{decLt}
 use native.Mathlib.Omega.{arith}
-use borrow.Author.Tests.{eqb-true, eqb-false, eq-eqb, ne-eqb}
-use lib.Dec.{eqb}
 use lib.ListN.{length, drop, getD, drop-of-length-le, List·getD-append}
 use lib.Seq.{drop-cons, getD-append-seam}
 use Rattle.lists.specs.Tests.{split, differ}
 use Rattle.lists.specs.Bytes.{eqBytes, eq-eqBytes, ne-eqBytes}
 use Rattle.spec.specs.Basics.{among}
 use Rattle.spec.specs.Reading.{numberOf}
-use Rattle.hold_names.specs.Table.{buckets, bucketFrom, bucketOf, lastIn}
+use Rattle.spec.specs.Limits.{maxFiles}
+use Rattle.hold_names.specs.Table.{buckets, bucketFrom, Summed, bucketOf}
 use Rattle.hold_names.proofs.Numbers.{among-none, among-here, among-there, number-here, number-there}
 
 -- ---- the bucket of a path
 
-pub record Summing (s : List ℕ) (h i : ℕ) : Type 0 where
-  pub small : h < buckets
-  pub rest : bucketOf s ≡ bucketFrom h (drop i s)
+pub sum-begin : (s : List ℕ) {h i : ℕ} → h < maxFiles → Summed s h i h i
+sum-begin s b = record { small = b; rest = refl }
 
-pub sum-begin : (s : List ℕ) → Summing s 0 0
+module _ {s : List ℕ} {g k h i : ℕ} (x : Summed s g k h i) where
+  pub sum-on : i < length s → {b : ℕ} → b ≡ getD s i 0 → Summed s g k ((h * 403 + b) % maxFiles) (i + 1)
+  unfolding bucketFrom
+  sum-on l e = record { small = omega arith; rest = x .rest ∙ rw (e, add-one, drop-cons s i 0 l) }
+
+  pub sum-then : {r j : ℕ} → Summed s h i r j → Summed s g k r j
+  sum-then y = record { small = y .small; rest = x .rest ∙ y .rest }
+
+  pub sum-end : length s ≤ i → h ≡ bucketFrom g (drop k s)
+  unfolding bucketFrom
+  sum-end l = sym (x .rest ∙ rw (drop-of-length-le s {i = i} l))
+
+once-less : (x y : ℕ) → (x % maxFiles * 403 + y) % maxFiles ≡ (x * 403 + y) % maxFiles
+once-less x y =
+    let z : x * 403 + y ≡ x % maxFiles * 403 + y + x / maxFiles * 403 * maxFiles = omega arith in
+    sym (ap (λ (k : ℕ). k % maxFiles) z ∙ add-mul-mod-self-right (x % maxFiles * 403 + y) (x / maxFiles * 403) maxFiles)
+
+four-sum : (h a b c d : ℕ)
+    → (a * 65450827 + b * 162409 + c * 403 + d + h * 26376683281) % maxFiles ≡ ((((h * 403 + a) % maxFiles * 403 + b) % maxFiles * 403 + c) % maxFiles * 403 + d) % maxFiles
+four-sum h a b c d =
+    let z : a * 65450827 + b * 162409 + c * 403 + d + h * 26376683281 ≡ (((h * 403 + a) * 403 + b) * 403 + c) * 403 + d = omega arith in
+    rw (once-less (h * 403 + a) b, once-less ((h * 403 + a) * 403 + b) c, once-less (((h * 403 + a) * 403 + b) * 403 + c) d) (ap (λ (y : ℕ). y % maxFiles) z)
+
+pub sum-four : (s : List ℕ) (i h : ℕ) → i + 4 ≤ length s → h < maxFiles → {a b c d : ℕ} → a ≡ getD s i 0 → b ≡ getD s (i + 1) 0 → c ≡ getD s (i + 2) 0 → d ≡ getD s (i + 3) 0
+    → Summed s h i ((a * 65450827 + b * 162409 + c * 403 + d + h * 26376683281) % maxFiles) (i + 4)
+sum-four s i h l m {a} {b} {c} {d} p q r t =
+    let e : i + 1 + 1 ≡ i + 2 = omega arith in
+    let f : i + 2 + 1 ≡ i + 3 = omega arith in
+    let g : i + 3 + 1 ≡ i + 4 = omega arith in
+    let x : Summed s h i (((h * 403 + a) % maxFiles * 403 + b) % maxFiles) (i + 2) = rw e at (sum-on (sum-on (sum-begin s m) (omega arith) p) (omega arith) q) in
+    let y : Summed s h i ((((h * 403 + a) % maxFiles * 403 + b) % maxFiles * 403 + c) % maxFiles) (i + 3) = rw f at (sum-on x (omega arith) r) in
+    rw (four-sum h a b c d) (rw g at (sum-on y (omega arith) t))
+
+pub bucket-is : (s : List ℕ) {h i : ℕ} → Summed s 0 0 h i → {r q : ℕ} → r ≡ bucketFrom h (drop i s) → q ≡ min r (buckets - 1) → q ≡ bucketOf s
 unfolding bucketOf
-sum-begin s = record { small = omega arith; rest = refl }
-
-module _ {s : List ℕ} {h i : ℕ} (x : Summing s h i) where
-  pub sum-on : i < length s → {b : ℕ} → b ≡ getD s i 0 → Summing s ((h * 403 + b) % buckets) (i + 1)
-  unfolding bucketFrom
-  sum-on k e = record { small = omega arith; rest = x .rest ∙ rw (e, add-one, drop-cons s i 0 k) }
-
-  pub sum-end : length s ≤ i → h ≡ bucketOf s
-  unfolding bucketFrom
-  sum-end k = sym (x .rest ∙ rw (drop-of-length-le s {i = i} k))
-
-from-small : (h : ℕ) (s : List ℕ) → h < buckets → bucketFrom h s < buckets
-unfolding bucketFrom
-from-small h [] b = b
-from-small h (x ∷ s) b = from-small ((h * 403 + x) % buckets) s (omega arith)
+bucket-is s x e f = f ∙ ap (λ (y : ℕ). min y (buckets - 1)) (e ∙ sym (x .rest))
 
 pub bucket-small : (p : List ℕ) → bucketOf p < buckets
 unfolding bucketOf
-bucket-small p = from-small 0 p (omega arith)
-
--- ---- the last name of a bucket
-
-module _ (b : ℕ) (files : List (List ℕ)) where
-  last-here : (n : ℕ) → eqb (bucketOf (getD files n [])) b ≡ true → lastIn b files (suc n) ≡ suc n
-  unfolding lastIn
-  last-here n e = rw e
-
-  last-there : (n : ℕ) → eqb (bucketOf (getD files n [])) b ≡ false → lastIn b files (suc n) ≡ lastIn b files n
-  unfolding lastIn
-  last-there n e = rw e
-
-  pub last-none : lastIn b files 0 ≡ 0
-  unfolding lastIn
-  last-none = refl
-
-  pub last-low : (n : ℕ) → lastIn b files n ≤ n
-  last-low zero = omega (arith, last-none)
-  last-low (suc n) =
-      split (eqb (bucketOf (getD files n [])) b) (λ (e : eqb (bucketOf (getD files n [])) b ≡ true). omega (arith, last-here n e))
-      (λ (e : eqb (bucketOf (getD files n [])) b ≡ false). omega (arith, last-there n e, last-low n))
-
-  pub last-is : (n : ℕ) → 0 < lastIn b files n → bucketOf (getD files (lastIn b files n - 1) []) ≡ b
-  last-is zero h = absurd (omega (arith, last-none))
-  last-is (suc n) h =
-      split (eqb (bucketOf (getD files n [])) b)
-      (λ (e : eqb (bucketOf (getD files n [])) b ≡ true). let z : suc n - 1 ≡ n = omega arith in rw (last-here n e, z) (eqb-true (bucketOf (getD files n [])) b e))
-      (λ (e : eqb (bucketOf (getD files n [])) b ≡ false). rw (last-there n e) (last-is n (omega (arith, last-there n e))))
-
-  pub last-behind : (n k : ℕ) → lastIn b files n ≤ k → k < n → bucketOf (getD files k []) ≡ b → ⊥
-  last-behind zero k l h q = not-suc-le-zero h
-  last-behind (suc n) k l h q =
-      split (eqb (bucketOf (getD files n [])) b) (λ (e : eqb (bucketOf (getD files n [])) b ≡ true). omega (arith, last-here n e))
-      (λ (e : eqb (bucketOf (getD files n [])) b ≡ false). elim (decLt k n) [
-        | yes d ↦ last-behind n k (omega (arith, last-there n e)) d q
-        | no d ↦ (let z : k ≡ n = omega arith in eqb-false (bucketOf (getD files n [])) b e (rw z at q))
-      ])
+bucket-small p = omega arith
 
 -- ---- a name more
 
@@ -91,19 +70,6 @@ module _ (files : List (List ℕ)) (p : List ℕ) where
 
   pub name-new : getD (files ++ (p ∷ [])) (length files) [] ≡ p
   name-new = getD-append-seam files p [] []
-
-  pub last-old : (b n : ℕ) → n ≤ length files → lastIn b (files ++ (p ∷ [])) n ≡ lastIn b files n
-  unfolding lastIn
-  last-old b zero l = refl
-  last-old b (suc n) l = rw (name-old n l, last-old b n (omega arith))
-
-  pub last-new : (b : ℕ) → bucketOf p ≡ b → lastIn b (files ++ (p ∷ [])) (length files + 1) ≡ length files + 1
-  unfolding lastIn
-  last-new b e = rw (add-one (length files), name-new, eq-eqb (bucketOf p) b e)
-
-  pub last-other : (b : ℕ) → (bucketOf p ≡ b → ⊥) → lastIn b (files ++ (p ∷ [])) (length files + 1) ≡ lastIn b files (length files)
-  unfolding lastIn
-  last-other b e = rw (add-one (length files), name-new, ne-eqb (bucketOf p) b e, last-old b (length files) (omega arith))
 
 -- ---- where a path first stands
 

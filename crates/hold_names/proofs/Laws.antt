@@ -17,7 +17,8 @@ use Rattle.hold_names.specs.declared.Added.{Added}
 use Rattle.hold_names.specs.declared.Added.the-variants.{Old, New, Full}
 use Rattle.hold_names.specs.Table.{HoldsNames, fits, added, filesAfter, countAfter, FindsName, AddsName}
 use Rattle.hold_names.proofs.Numbers.{number-below, number-new, mention-old, mention-new, mention-none}
-use Rattle.hold_names.proofs.Steps.{clash, found-at, found-missing}
+use Rattle.hold_names.proofs.Halving.{clash}
+use Rattle.hold_names.proofs.Steps.{found-at, found-missing}
 
 -- ---- after `find`
 

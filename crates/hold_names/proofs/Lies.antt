@@ -6,15 +6,16 @@ use mathlib.Core.Path.{_≡_, refl, sym, _∙_, ap}
 use native.Mathlib.Nat.{not-suc-le-zero, le-of-suc-le-suc}
 use native.Mathlib.Decide.{decLt}
 use native.Mathlib.Omega.{arith}
-use lib.ListN.{length, take, drop, getD, set, length-append, length-set}
+use lib.ListN.{length, take, drop, getD, length-append}
 use native.Mathlib.Numerals.{add-one}
-use lib.Seq.{take-append-seam, drop-append-add, take-take, take-all, getD-take, ext-getD, paste, take-suc-set, take-set-le, getD-set-same, getD-set-other, length-paste, take-paste, take-length}
-use Rattle.lists.specs.Fill.{zeroed, length-zeroed, getD-zeroed-in}
+use lib.Seq.{take-append-seam, drop-append-add, take-take, take-all, getD-take, ext-getD, paste, length-paste, take-paste, take-length}
+use Rattle.lists.specs.Fill.{zeroed, length-zeroed}
 use Rattle.lists.specs.Parts.{part, drop-take}
 use Rattle.spec.specs.Limits.{maxFiles}
 use Rattle.spec.specs.Basics.{among, concat}
-use Rattle.hold_names.specs.Table.{nameEndsFrom, buckets, bucketOf, lastIn, linksFrom, headsFrom, maxNumbers, HoldsNames, NamesFile, nameStart, linked}
-use Rattle.hold_names.proofs.Buckets.{bucket-small, name-old, name-new, last-none, last-old, last-new, last-other, nowhere}
+use Rattle.hold_names.specs.Table.{nameEndsFrom, headsFrom, maxNumbers, Searched, HoldsNames, NamesFile, nameStart}
+use Rattle.hold_names.proofs.Buckets.{name-old, name-new, nowhere}
+use Rattle.hold_names.proofs.Entering.{searched-none}
 
 -- ---- names end to end
 
@@ -149,85 +150,32 @@ holds-none names index h r =
       bytes = refl;
       column = refl;
       once = λ i j l k. absurd (not-suc-le-zero k);
-      links = λ k l. absurd (not-suc-le-zero l);
-      heads = λ b l.
-          getD-zeroed-in index headsFrom maxNumbers (omega arith) (omega (arith, r)) (headsFrom + b) (omega arith) (omega (arith, l)) ∙ sym (last-none b []);
+      search = searched-none index r;
     }
 
-module _ {names index : List ℕ} {count : ℕ} {files : List (List ℕ)} (p : List ℕ) (h : HoldsNames names index count files) (a : count < maxFiles) (b : ℕ) (to : ℕ) where
-  -- the numbers that are as they were
-  kept : (i : ℕ) → (i ≡ count → ⊥) → (i ≡ linksFrom + count → ⊥) → (i ≡ headsFrom + b → ⊥) → getD (linked index count b to) i 0 ≡ getD index i 0
-  unfolding linked
-  kept i x y z =
-      getD-set-other (set (set index count to) (linksFrom + count) (getD index (headsFrom + b) 0)) (headsFrom + b) i (count + 1) 0 z
-      ∙ getD-set-other (set index count to) (linksFrom + count) i (getD index (headsFrom + b) 0) 0 y ∙ getD-set-other index count i to 0 x
-
-  length-linked : length (linked index count b to) ≡ length index
-  unfolding linked
-  length-linked = simp length-set refl
-
-  head-now : b < buckets → getD (linked index count b to) (headsFrom + b) 0 ≡ count + 1
-  unfolding linked
-  head-now l = getD-set-same (set (set index count to) (linksFrom + count) (getD index (headsFrom + b) 0)) (headsFrom + b) (count + 1) 0 (simp length-set (omega (arith, h .room)))
-
-  link-now : b < buckets → getD (linked index count b to) (linksFrom + count) 0 ≡ getD index (headsFrom + b) 0
-  unfolding linked
-  link-now l =
-      getD-set-other (set (set index count to) (linksFrom + count) (getD index (headsFrom + b) 0)) (headsFrom + b) (linksFrom + count) (count + 1) 0 (λ (q : linksFrom + count ≡ headsFrom + b). omega (arith, q))
-      ∙ getD-set-same (set index count to) (linksFrom + count) (getD index (headsFrom + b) 0) 0 (simp length-set (omega (arith, h .room)))
-
-  column-now : take (suc count) (linked index count b to) ≡ take count index ++ (to ∷ [])
-  unfolding linked
-  column-now =
-      take-set-le (suc count) (set (set index count to) (linksFrom + count) (getD index (headsFrom + b) 0)) (headsFrom + b) (count + 1) (omega arith)
-      ∙ take-set-le (suc count) (set index count to) (linksFrom + count) (getD index (headsFrom + b) 0) (omega arith) ∙ take-suc-set index count to (omega (arith, h .room))
-
--- the head of another bucket
-other : {names index : List ℕ} {count : ℕ} {files : List (List ℕ)} (p : List ℕ) (h : HoldsNames names index count files) (a : count < maxFiles) (to b : ℕ) → b < buckets
-    → (bucketOf p ≡ b → ⊥) → getD (linked index count (bucketOf p) to) (headsFrom + b) 0 ≡ lastIn b (files ++ (p ∷ [])) (count + 1)
-other {count = count} {files = files} p h a to b l d =
-    let f : count ≡ length files = h .counted in
-    let s = bucket-small p in
-    kept p h a (bucketOf p) to (headsFrom + b) (λ (q : headsFrom + b ≡ count). omega (arith, q)) (λ (q : headsFrom + b ≡ linksFrom + count). omega (arith, q)) (λ (q : headsFrom + b ≡ headsFrom + bucketOf p). d (omega arith))
-    ∙ h .heads b l ∙ rw f (sym (last-other files p b d))
-
+-- The bytes of the name and its end are put down, and it is found by the new index.
 pub holds-more : {names index : List ℕ} {count : ℕ} {files : List (List ℕ)} (p : List ℕ) → HoldsNames names index count files → count < maxFiles → among p files ≡ false
-    → length (concat files) + length p ≤ length names
-    → HoldsNames (paste names (length (concat files)) p (length p)) (linked index count (bucketOf p) (length (concat files) + length p)) (count + 1) (files ++ (p ∷ []))
-holds-more {names} {index} {count} {files} p h a m c =
+    → length (concat files) + length p ≤ length names → {index′ : List ℕ} → length index′ ≡ length index
+    → take (suc count) index′ ≡ take count index ++ ((length (concat files) + length p) ∷ []) → Searched index′ (count + 1) (files ++ (p ∷ []))
+    → HoldsNames (paste names (length (concat files)) p (length p)) index′ (count + 1) (files ++ (p ∷ []))
+holds-more {names} {index} {count} {files} p h a m c {index′} y v x =
     let n = length (concat files) in
     let e : length (concat (files ++ (p ∷ []))) ≡ n + length p = ap length (concat-snoc files p) ∙ length-append (concat files) p in
     let z : 0 + (n + length p) ≡ n + length p = omega arith in
     let w : length (paste names n p (length p)) ≡ length names = length-paste names n p (length p) c (omega arith) in
-    let s = bucket-small p in
     let f : count ≡ length files = h .counted in
     record {
       counted = omega (arith, length-append files (p ∷ []), h .counted);
       few = omega arith;
-      room = rw (length-linked p h a (bucketOf p) (n + length p)) (h .room);
+      room = rw y (h .room);
       small = omega (arith, h .small);
       within = omega arith;
       bytes = rw (e, take-paste names n p (length p) (h .within) (omega arith), h .bytes, take-length p) (sym (concat-snoc files p));
-      column = rw (add-one count, column-now p h a (bucketOf p) (n + length p), h .column) (sym (rw z at (ends-snoc 0 files p)));
+      column = rw (add-one count, v, h .column) (sym (rw z at (ends-snoc 0 files p)));
       once = λ i j l k q. elim (decLt j count) [
         | yes d ↦ h .once i j l d (sym (name-old files p i (omega (arith, f))) ∙ q ∙ name-old files p j (omega (arith, f)))
-        | no d ↦ (let v : j ≡ length files = omega (arith, f) in
-            nowhere p files m i (omega (arith, f)) (sym (name-old files p i (omega (arith, f))) ∙ q ∙ rw v (name-new files p)))
+        | no d ↦ (let u : j ≡ length files = omega (arith, f) in
+            nowhere p files m i (omega (arith, f)) (sym (name-old files p i (omega (arith, f))) ∙ q ∙ rw u (name-new files p)))
       ];
-      links = λ k l. elim (decLt k count) [
-        | yes d ↦
-            rw (name-old files p k (omega (arith, f)), last-old files p (bucketOf (getD files k [])) k (omega (arith, f)))
-            (kept p h a (bucketOf p) (n + length p) (linksFrom + k) (λ (q : linksFrom + k ≡ count). omega (arith, q)) (λ (q : linksFrom + k ≡ linksFrom + count). omega (arith, q)) (λ (q : linksFrom + k ≡ headsFrom + bucketOf p). omega (arith, q)) ∙ h .links k d)
-        | no d ↦ (let v : k ≡ count = omega arith in
-            rw (v, f, name-new files p, last-old files p (bucketOf p) (length files) (omega arith), ← f)
-            (link-now p h a (bucketOf p) (n + length p) s ∙ h .heads (bucketOf p) s))
-      ];
-      heads = λ b l. elim (decLt b (bucketOf p)) [
-        | yes d ↦ other p h a (n + length p) b l (λ (q : bucketOf p ≡ b). omega (arith, q))
-        | no d ↦ elim (decLt (bucketOf p) b) [
-          | yes g ↦ other p h a (n + length p) b l (λ (q : bucketOf p ≡ b). omega (arith, q))
-          | no g ↦ (let v : b ≡ bucketOf p = omega arith in
-              rw (v, f, last-new files p (bucketOf p) refl, ← f) (head-now p h a (bucketOf p) (n + length p) s))
-        ]
-      ];
+      search = x;
     }

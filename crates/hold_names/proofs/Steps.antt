@@ -1,100 +1,49 @@
--- A turn of the search through the names, and what each way out of a function gives.
-use Prim.Native.Nat.{ℕ, _+_, _-_, _≤_, _<_}
+-- What each way out of `find_name` and `add` gives.
+use Prim.Native.Nat.{ℕ, suc, _+_, _*_, _-_, _≤_, _<_}
 use mathlib.Core.Bool.{true, false}
-use mathlib.Core.List.{List, []}
-use mathlib.Core.Path.{_≡_, sym, _∙_, ap}
+use mathlib.Core.List.{List, [], _∷_, _++_}
+use mathlib.Core.Path.{_≡_, refl, sym, _∙_, ap}
 use native.Mathlib.Decide.{decLt}
 use native.Mathlib.Omega.{arith}
 use borrow.Author.Tests.{lt-ltb, le-ltb, le-leb, lt-leb}
-use lib.ListN.{length, getD}
+use lib.ListN.{length, take}
 use lib.Seq.{paste}
 use Rattle.lists.specs.Tests.{split}
-use Rattle.lists.specs.Bytes.{eqBytes, eqBytes-true, eqBytes-false}
 use Rattle.spec.specs.Limits.{maxFiles}
 use Rattle.spec.specs.Basics.{among, concat}
 use Rattle.spec.specs.Reading.{numberOf}
 use Rattle.hold_names.specs.declared.FoundName.{FoundName}
 use Rattle.hold_names.specs.declared.FoundName.the-variants.{At, Missing}
 use Rattle.hold_names.specs.declared.Added.the-variants.{Old, New, Full}
-use Rattle.hold_names.specs.Table.{buckets, bucketOf, lastIn, linksFrom, headsFrom, HoldsNames, SoundNames, found, fits, added, filesAfter, countAfter, FindsName, AddsName, NamesFile, nameStart, linked}
-use Rattle.hold_names.proofs.Buckets.{bucket-small, last-low, last-is, last-behind, first-stands, among-nowhere}
-use Rattle.hold_names.proofs.Lies.{holds-one, holds-more, used-held}
+use Rattle.hold_names.specs.declared.Sought.{Sought}
+use Rattle.hold_names.specs.Table.{bucketOf, pairBase, pairAt, secondIn, sparesIn, sparesOf, Searched, HoldsNames, found, fits, added, filesAfter, countAfter, FindsName, AddsName, nameStart, Between, SeeksName, Entered}
+use Rattle.hold_names.proofs.Numbers.{number-below, number-missing}
+use Rattle.hold_names.proofs.Entering.{column-now, searched-first, searched-second, searched-spare, column-spare}
+use Rattle.hold_names.proofs.Lies.{holds-more, used-held}
+use Rattle.hold_names.proofs.Halving.{clash}
 
--- ---- the search
+-- ---- the answer of a lookup
 
--- the state of the search: no name from j on is the path, and the one before j is in its bucket
-pub record Finding (names index : List ℕ) (count : ℕ) (path : List ℕ) (j : ℕ) : Type 0 where
-  pub files : List (List ℕ)
-  pub holds : HoldsNames names index count files
-  pub within : j ≤ count
-  pub bucket : 0 < j → bucketOf (getD files (j - 1) []) ≡ bucketOf path
-  pub passed : (k : ℕ) → j ≤ k → k < count → getD files k [] ≡ path → ⊥
-
-module _ {names index : List ℕ} {count : ℕ} {path : List ℕ} where
-  pub find-begin : {b : ℕ} → SoundNames names index count → b ≡ bucketOf path → Finding names index count path (getD index (headsFrom + b) 0)
-  find-begin {b} s e =
-      let q : b < buckets = rw e (bucket-small path) in
-      let h : getD index (headsFrom + b) 0 ≡ lastIn b (s .files) count = s .holds .heads b q in
+module _ {names index : List ℕ} {count : ℕ} {p : List ℕ} {r : Sought} (f : SeeksName names index count p r) where
+  pub sought-at : r .number < count → FindsName names index count p (At (r .number))
+  unfolding found
+  sought-at l =
       record {
-        files = s .files;
-        holds = s .holds;
-        within = rw h (last-low b (s .files) count);
-        bucket = λ d. rw h (last-is b (s .files) count (rw h at d)) ∙ e;
-        passed = λ k l d f. last-behind b (s .files) count k (rw h at l) d (ap bucketOf f ∙ sym e);
+        answer = λ files h. split (among p files)
+            (λ (a : among p files ≡ true). rw (a, f .number files h))
+            (λ (a : among p files ≡ false). absurd (omega (arith, f .number files h, number-missing p files a, h .counted)));
       }
 
-  module _ {j : ℕ} (r : Finding names index count path j) where
-    -- whatever they hold, it is what the search goes through
-    finds : {a : FoundName} → found path (r .files) ≡ a → FindsName names index count path a
-    finds e = record { answer = λ files h. rw (← holds-one (r .holds) h) (sym e) }
-
-    pub find-end : j ≤ 0 → FindsName names index count path Missing
-    unfolding found
-    find-end l =
-        finds (rw (among-nowhere path (r .files) (λ k d. r .passed k (omega arith) (omega (arith, r .holds .counted)))))
-
-    module _ (l : 0 < j) {n : List ℕ} (a : NamesFile names index count (j - 1) n) where
-      name : n ≡ getD (r .files) (j - 1) []
-      name = a .answer (r .files) (r .holds)
-
-      pub find-here : eqBytes path n ≡ true → FindsName names index count path (At (j - 1))
-      unfolding found
-      find-here e =
-          let q : getD (r .files) (j - 1) [] ≡ path = sym (eqBytes-true path n e ∙ name) in
-          let w : j - 1 < count = omega (arith, r .within) in
-          let (x, y) = first-stands path (r .files) (j - 1) (omega (arith, r .holds .counted)) q (λ i d f. r .holds .once i (j - 1) d w (f ∙ sym q)) in
-          finds (rw (x, y))
-
-      pub find-more : eqBytes path n ≡ false → Finding names index count path (getD index (linksFrom + (j - 1)) 0)
-      find-more e =
-          let w : j - 1 < count = omega (arith, r .within) in
-          let b = bucketOf (getD (r .files) (j - 1) []) in
-          let h : getD index (linksFrom + (j - 1)) 0 ≡ lastIn b (r .files) (j - 1) = r .holds .links (j - 1) w in
-          let u : b ≡ bucketOf path = r .bucket l in
-          record {
-            files = r .files;
-            holds = r .holds;
-            within = omega (arith, h, last-low b (r .files) (j - 1));
-            bucket = λ d. rw h (last-is b (r .files) (j - 1) (rw h at d)) ∙ u;
-            passed = λ k g d f. elim (decLt k (j - 1)) [
-              | yes v ↦ last-behind b (r .files) (j - 1) k (rw h at g) v (ap bucketOf f ∙ sym u)
-              | no v ↦ elim (decLt (j - 1) k) [
-                | yes x ↦ r .passed k (omega arith) d f
-                | no x ↦ (let z : k ≡ j - 1 = omega arith in eqBytes-false e (sym (name ∙ (rw z at f))))
-              ]
-            ];
-          }
-
-      pub less : getD index (linksFrom + (j - 1)) 0 < j
-      less =
-          let h = r .holds .links (j - 1) (omega (arith, r .within)) in
-          omega (arith, h, last-low (bucketOf (getD (r .files) (j - 1) [])) (r .files) (j - 1))
+  pub sought-none : count ≤ r .number → FindsName names index count p Missing
+  unfolding found
+  sought-none l =
+      record {
+        answer = λ files h. split (among p files)
+            (λ (a : among p files ≡ true). absurd (omega (arith, f .number files h, number-below p files a, h .counted)))
+            (λ (a : among p files ≡ false). rw a);
+      }
 
 -- ---- what the answers of `find` say
-
--- Two answers that differ are never equal.
-pub clash : {A : Type 0} → _≡_ {A = ℕ} 0 1 → A
-clash z = absurd (omega arith)
 
 pub found-at : (p : List ℕ) (files : List (List ℕ)) (k : ℕ) → At k ≡ found p files → (among p files ≡ true) × (k ≡ numberOf p files)
 unfolding found
@@ -141,13 +90,50 @@ module _ {names index : List ℕ} {count : ℕ} {p : List ℕ} {r : FoundName} (
           (λ files h.
           rw (lt-ltb (length files) maxFiles (omega (arith, h .counted)), lt-leb (length (concat files) + length p) (length names) (omega (arith, used-held h))))
 
-      pub add-new : length p ≤ length names - from → {b : ℕ} → b ≡ bucketOf p
-          → AddsName names index count p (paste names from p (length p)) (linked index count b (from + length p)) (New count)
-      unfolding added fits countAfter filesAfter
-      add-new l e =
-          record {
-            answer = λ files h.
-                rw
-                (absent files h, lt-ltb (length files) maxFiles (omega (arith, h .counted)), le-leb (length (concat files) + length p) (length names) (omega (arith, used-held h, h .within)), h .counted);
-            after = λ files h. rw (e, s ∙ used-held h) (holds-more p h a (absent files h) (omega (arith, used-held h, h .within)));
-          }
+      -- the index has a name more
+      module _ (l : length p ≤ length names - from) {names′ index′ : List ℕ} where
+        added-name : ((files : List (List ℕ)) → HoldsNames names index count files → HoldsNames names′ index′ (count + 1) (files ++ (p ∷ [])))
+            → AddsName names index count p names′ index′ (New count)
+        unfolding added fits countAfter filesAfter
+        added-name n =
+            record {
+              answer = λ files h.
+                  rw
+                  (absent files h, lt-ltb (length files) maxFiles (omega (arith, h .counted)), le-leb (length (concat files) + length p) (length names) (omega (arith, used-held h, h .within)), h .counted);
+              after = n;
+            }
+
+-- The index with the name more, whichever room it found.
+searched-more : {names index : List ℕ} {count : ℕ} {files : List (List ℕ)} → HoldsNames names index count files → count < maxFiles → (p : List ℕ) → {to place : ℕ} {index′ : List ℕ}
+    → Entered index count (bucketOf p) to place index′ → place ≤ sparesIn index → (0 < secondIn index (bucketOf p) → Between files (sparesOf index) p place place)
+    → Searched index′ (count + 1) (files ++ (p ∷ [])) × (take (suc count) index′ ≡ take count index ++ (to ∷ []))
+searched-more {index = index} {count = count} h a p {to = to} g w z =
+    elim (decLt 0 (pairAt index (bucketOf p))) [
+      | no d ↦ (
+          let e : pairAt index (bucketOf p) ≡ 0 = omega arith in
+          rw (g .first e) (searched-first (h .search) (h .room) (h .counted) a p to e, column-now (h .search) (h .room) (h .counted) a p to (count + 1))
+          )
+      | yes d ↦ elim (decLt (pairAt index (bucketOf p)) pairBase) [
+        | yes e ↦
+            rw (g .second d e) (searched-second (h .search) (h .room) (h .counted) a p to d e, column-now (h .search) (h .room) (h .counted) a p to (pairAt index (bucketOf p) + (count + 1) * pairBase))
+        | no e ↦ (
+            let k : pairBase ≤ pairAt index (bucketOf p) = omega arith in
+            let y : 0 < secondIn index (bucketOf p) = omega arith in
+            (searched-spare (h .search) (h .room) (h .counted) a p to (g .spare k) w (z y) y, column-spare (h .search) (h .room) (h .counted) a p to (g .spare k) w (z y) y)
+            )
+      ]
+    ]
+
+module _ {names index : List ℕ} {count : ℕ} {p : List ℕ} {r : Sought} (f : SeeksName names index count p r) (m : FindsName names index count p Missing) (a : count < maxFiles) {from : ℕ}
+    (s : from ≡ nameStart index count) (l : length p ≤ length names - from) {b : ℕ} (e : b ≡ bucketOf p) {index′ : List ℕ}
+    (g : Entered index count b (from + length p) (r .place) index′) (y : length index′ ≡ length index) where
+  entered : (files : List (List ℕ)) → HoldsNames names index count files → HoldsNames (paste names from p (length p)) index′ (count + 1) (files ++ (p ∷ []))
+  entered files h =
+      let u : from ≡ length (concat files) = s ∙ used-held h in
+      let q : among p files ≡ false = absent m refl files h in
+      let w : length (concat files) + length p ≤ length names = omega (arith, used-held h, h .within, s) in
+      let (t, c) = searched-more h a p (rw (u, e) at g) (f .within) (f .place files h q) in
+      rw u (holds-more p h a q w y c t)
+
+  pub add-new : AddsName names index count p (paste names from p (length p)) index′ (New count)
+  add-new = added-name m refl a s l entered

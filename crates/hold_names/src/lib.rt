@@ -1,25 +1,34 @@
-// The table of file names: a number for each path, by first mention. The bytes of the names lie end to end in `names`; `index` has where each
-// ends, then a link for each to the one before it in its bucket, then the last name of each bucket.
+// The table of file names: a number for each path, by first mention. The bytes of the names lie end to end in `names`. `index` has where each ends;
+// then, sorted, the numbers of those that found no room in their bucket; then for each bucket two names, as one number.
 ghost use mathlib.Core.Path.{_≡_};
-ghost use Prim.Native.Nat.{_^_, _≤_, _<_};
-ghost use lib.ListN.{length};
+ghost use Prim.Native.Nat.{_+_, _^_, _≤_, _<_};
+ghost use lib.ListN.{length, drop};
 ghost use Rattle.lists.specs.Fill.{zeroed};
 ghost use Rattle.spec.specs.Limits.{maxFiles};
-ghost use Rattle.hold_names.specs.Table.{buckets, bucketOf, headsFrom, maxNumbers, SoundNames, FindsName, AddsName, NamesFile, nameStart, linked};
-use byteorder::equal;
+ghost use Rattle.hold_names.specs.Table.{buckets, bucketFrom, Summed, bucketOf, headsFrom, maxNumbers, sparesIn, SoundNames, FindsName, AddsName, NamesFile, nameStart, comparedOf, ComparesName, Halves, SeeksSecond, SeeksName, Spared, Entered};
+use arena::insert;
+use arena::put;
+use byteorder::compare;
+use byteorder::lesser;
+use lists::Order;
 use slices::bytes::copy_at;
 use slices::words::at;
 use slices::words::zero_part;
 use spec::limits::FILES;
 
-// The numbers lie in three parts: where each name ends, the next name of its bucket, the first name of each bucket.
-const LINKS: usize = FILES;
+// The numbers lie in three parts: where each name ends, the sorted names, the names of each bucket.
+const SORTED: usize = FILES;
 
-const HEADS: usize = LINKS + FILES;
-// as many buckets as files
-const BUCKETS: usize = FILES;
+const HEADS: usize = SORTED + FILES;
 
-pub const NUMBERS: usize = HEADS + BUCKETS;
+const BUCKETS: usize = FILES - 1;
+// the last number: how many names are sorted
+const SPARES: usize = HEADS + BUCKETS;
+
+pub const NUMBERS: usize = HEADS + FILES;
+
+// A bucket's number has its first name below this, its second above.
+const PAIR: usize = 65536;
 
 pub enum FoundName {
     At(usize),
@@ -35,10 +44,50 @@ pub enum Added {
     Full,
 }
 
+// How a path compares with a name: it stands before it, is the same, or stands behind it. Each has how many compares were made with this one.
+pub enum Compared {
+    Before(usize),
+    Same(usize),
+    Behind(usize),
+}
+
+// The end of a lookup: the number of the path, or the count of names; how many compares were made; the place of a new path among the sorted ones.
+pub struct Sought {
+    pub number: usize,
+    pub compares: usize,
+    pub place: usize,
+}
+
 fn wide(b: u8) -> usize
-    ensures { λ r. ⌜ r ≡ b ⌝ }
+    ensures { λ r. ⌜ (r ≡ b) × (r < 256) ⌝ }
 {
     b as usize
+}
+
+// The sum of a path's bytes behind one of those before place i, four more of them at once: that sum is multiplied once where it would be four times.
+fn sum_four(path: &[u8], i: usize, h: usize) -> usize
+    requires { ⌜ (i + 4 ≤ length (now path)) × (h < maxFiles) ⌝ }
+    ensures { λ r. ⌜ Summed (now (path .entry)) h i r (i + 4) ⌝ }
+{
+    let a = wide(path[i]);
+    let b = wide(path[i + 1]);
+    let c = wide(path[i + 2]);
+    let d = wide(path[i + 3]);
+    (a * 65450827 + b * 162409 + c * 403 + d + h * 26376683281) % FILES
+}
+
+// The same of all bytes from place `from` on, one by one.
+fn sum_rest(path: &[u8], from: usize, sum: usize) -> usize
+    requires { ⌜ sum < maxFiles ⌝ }
+    ensures { λ r. ⌜ r ≡ bucketFrom sum (drop from (now (path .entry))) ⌝ }
+{
+    let mut h = sum;
+    let mut i = from;
+    while i < path.len() {
+        h = (h * 403 + wide(path[i])) % FILES;
+        i += 1;
+    }
+    h
 }
 
 // The bucket of a path.
@@ -47,11 +96,11 @@ fn bucket(path: &[u8]) -> usize
 {
     let mut h = 0;
     let mut i = 0;
-    while i < path.len() {
-        h = (h * 403 + wide(path[i])) % BUCKETS;
-        i += 1;
+    while i + 4 <= path.len() {
+        h = sum_four(path, i, h);
+        i += 4;
     }
-    h
+    lesser(sum_rest(path, i, h), BUCKETS - 1)
 }
 
 // Makes the table one of no names.
@@ -62,31 +111,176 @@ pub fn clear(index: &mut [u32])
     zero_part(index, HEADS, NUMBERS);
 }
 
-// The number of a path, by the names of its bucket from the last to the first.
+// One compare more than n.
+fn counted(order: Order, n: usize) -> Compared
+    requires { ⌜ n < 2 ^ 32 ⌝ }
+    ensures { λ r. ⌜ r ≡ comparedOf (n + 1) order ⌝ }
+{
+    match order {
+        Order::Less => Compared::Before(n + 1),
+        Order::Equal => Compared::Same(n + 1),
+        Order::Greater => Compared::Behind(n + 1),
+    }
+}
+
+// One compare of a path with name k. Nothing else in this table compares names.
+fn compare_name(
+    names: &[u8],
+    index: &[u32],
+    count: usize,
+    k: usize,
+    path: &[u8],
+    n: usize,
+) -> Compared
+    requires { ⌜ SoundNames (now names) (now index) count ⌝ }
+    requires { ⌜ (k < count) × (n < 2 ^ 32) ⌝ }
+    ensures { λ r. ⌜ ComparesName (now (names .entry)) (now (index .entry)) count k (now (path .entry)) n r ⌝ }
+{
+    counted(compare(path, file_name(names, index, count, k)), n)
+}
+
+// A step of the lookup: one compare, whatever it tells.
+fn step(names: &[u8], index: &[u32], count: usize, k: usize, path: &[u8], n: usize) -> Compared
+    requires { ⌜ SoundNames (now names) (now index) count ⌝ }
+    requires { ⌜ (k < count) × (n < 2 ^ 32) ⌝ }
+    ensures { λ r. ⌜ ComparesName (now (names .entry)) (now (index .entry)) count k (now (path .entry)) n r ⌝ }
+{
+    compare_name(names, index, count, k, path, n)
+}
+
+// The path among the sorted names, by halving.
+fn halve(names: &[u8], index: &[u32], count: usize, path: &[u8], n: usize) -> Sought
+    requires { ⌜ SoundNames (now names) (now index) count ⌝ }
+    requires { ⌜ n ≤ 2 ⌝ }
+    ensures { λ r. ⌜ Halves (now (names .entry)) (now (index .entry)) count (now (path .entry)) n r ⌝ }
+{
+    let mut made = n;
+    let mut low = 0;
+    let mut high = at(index, SPARES);
+    while low < high {
+        let mid = low + (high - low) / 2;
+        let k = at(index, SORTED + mid);
+        match step(names, index, count, k, path, made) {
+            Compared::Before(m) => {
+                high = mid;
+                made = m;
+            }
+            Compared::Behind(m) => {
+                low = mid + 1;
+                made = m;
+            }
+            Compared::Same(m) => {
+                return Sought {
+                    number: k,
+                    compares: m,
+                    place: 0,
+                };
+            }
+        }
+    }
+    Sought {
+        number: count,
+        compares: made,
+        place: low,
+    }
+}
+
+// The path as the second name of its bucket, which is given by its number and one more, or among the sorted names.
+fn seek_second(
+    names: &[u8],
+    index: &[u32],
+    count: usize,
+    path: &[u8],
+    second: usize,
+    n: usize,
+) -> Sought
+    requires { ⌜ SoundNames (now names) (now index) count ⌝ }
+    requires { ⌜ (second ≤ count) × (n ≤ 1) ⌝ }
+    ensures { λ r. ⌜ SeeksSecond (now (names .entry)) (now (index .entry)) count (now (path .entry)) second n r ⌝ }
+{
+    if second == 0 {
+        return Sought {
+            number: count,
+            compares: n,
+            place: 0,
+        };
+    }
+    match step(names, index, count, second - 1, path, n) {
+        Compared::Before(m) => halve(names, index, count, path, m),
+        Compared::Behind(m) => halve(names, index, count, path, m),
+        Compared::Same(m) => Sought {
+            number: second - 1,
+            compares: m,
+            place: 0,
+        },
+    }
+}
+
+// The lookup of a path: the two names of its bucket, then the sorted ones.
+fn seek(names: &[u8], index: &[u32], count: usize, path: &[u8], b: usize) -> Sought
+    requires { ⌜ SoundNames (now names) (now index) count ⌝ }
+    requires { ⌜ b ≡ bucketOf (now path) ⌝ }
+    ensures { λ r. ⌜ SeeksName (now (names .entry)) (now (index .entry)) count (now (path .entry)) r ⌝ }
+{
+    let pair = at(index, HEADS + b);
+    let first = pair % PAIR;
+    let second = pair / PAIR;
+    if first == 0 {
+        return Sought {
+            number: count,
+            compares: 0,
+            place: 0,
+        };
+    }
+    match step(names, index, count, first - 1, path, 0) {
+        Compared::Before(m) => seek_second(names, index, count, path, second, m),
+        Compared::Behind(m) => seek_second(names, index, count, path, second, m),
+        Compared::Same(m) => Sought {
+            number: first - 1,
+            compares: m,
+            place: 0,
+        },
+    }
+}
+
+// The number of a path.
 pub fn find_name(names: &[u8], index: &[u32], count: usize, path: &[u8]) -> FoundName
     requires { ⌜ SoundNames (now names) (now index) count ⌝ }
     ensures { λ r. ⌜ FindsName (now (names .entry)) (now (index .entry)) count (now (path .entry)) r ⌝ }
 {
-    let mut j = at(index, HEADS + bucket(path));
-    while 0 < j {
-        let k = j - 1;
-        if equal(path, file_name(names, index, count, k)) {
-            return FoundName::At(k);
-        }
-        j = at(index, LINKS + k);
+    let s = seek(names, index, count, path, bucket(path));
+    if s.number < count {
+        return FoundName::At(s.number);
     }
     FoundName::Missing
 }
 
-// Puts down the numbers of a name more.
-fn link(index: &mut [u32], count: usize, b: usize, to: usize)
-    requires { ⌜ (maxNumbers ≤ length (now index)) × (count < maxFiles) × (b < buckets) × (to < 2 ^ 32) ⌝ }
-    ensures { λ _. ⌜ now (index .exit) ≡ linked (now (index .entry)) count b to ⌝ }
+// A name more among the sorted ones.
+fn spare(index: &mut [u32], count: usize, place: usize)
+    requires { ⌜ (maxNumbers ≤ length (now index)) × (count < maxFiles) × (sparesIn (now index) ≤ count) × (place ≤ sparesIn (now index)) ⌝ }
+    ensures { λ _. ⌜ Spared (now (index .entry)) count place (now (index .exit)) ⌝ }
 {
-    let head = index[HEADS + b];
-    index[count] = to as u32;
-    index[LINKS + count] = head;
-    index[HEADS + b] = (count + 1) as u32;
+    let n = at(index, SPARES);
+    insert(&mut index[SORTED..], n, place, count);
+    put(index, SPARES, n + 1);
+}
+
+// Puts down the numbers of a name more.
+fn enter(index: &mut [u32], count: usize, b: usize, to: usize, place: usize)
+    requires { ⌜ (maxNumbers ≤ length (now index)) × (count < maxFiles) × (b < buckets) × (to < 2 ^ 32) × (sparesIn (now index) ≤ count) × (place ≤ sparesIn (now index)) ⌝ }
+    ensures { λ _. ⌜ Entered (now (index .entry)) count b to place (now (index .exit)) ⌝ }
+{
+    put(index, count, to);
+    let pair = at(index, HEADS + b);
+    if pair == 0 {
+        put(index, HEADS + b, count + 1);
+        return;
+    }
+    if pair < PAIR {
+        put(index, HEADS + b, pair + (count + 1) * PAIR);
+        return;
+    }
+    spare(index, count, place);
 }
 
 // The number of a path, which is added where it is not there yet.
@@ -94,9 +288,10 @@ pub fn add(names: &mut [u8], index: &mut [u32], count: usize, path: &[u8]) -> Ad
     requires { ⌜ SoundNames (now names) (now index) count ⌝ }
     ensures { λ r. ⌜ AddsName (now (names .entry)) (now (index .entry)) count (now (path .entry)) (now (names .exit)) (now (index .exit)) r ⌝ }
 {
-    let found = find_name(names, index, count, path);
-    if let FoundName::At(k) = found {
-        return Added::Old(k);
+    let b = bucket(path);
+    let s = seek(names, index, count, path, b);
+    if s.number < count {
+        return Added::Old(s.number);
     }
     if FILES <= count {
         return Added::Full;
@@ -106,7 +301,7 @@ pub fn add(names: &mut [u8], index: &mut [u32], count: usize, path: &[u8]) -> Ad
         return Added::Full;
     }
     copy_at(names, from, path);
-    link(index, count, bucket(path), from + path.len());
+    enter(index, count, b, from + path.len(), s.place);
     Added::New(count)
 }
 

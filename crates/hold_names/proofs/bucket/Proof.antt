@@ -1,32 +1,27 @@
--- `hold_names::bucket` meets its contract: the number so far is the bucket of the bytes passed.
-use Prim.Native.Nat.{_-_}
+-- `hold_names::bucket` meets its contract: the number so far is the sum of the bytes passed.
+use Prim.Native.Nat.{_-_, _≤_}
 use native.Mathlib.Omega.{arith}
 use lib.ListN.{length}
-use Rattle.hold_names.proofs.Buckets.{Summing, sum-begin, sum-on, sum-end}
+use Rattle.hold_names.specs.Table.{Summed}
+use Rattle.hold_names.proofs.Buckets.{sum-begin, sum-then, bucket-is}
 use borrow.Author.Needs.{needs}
 use Rattle.hold_names.proofs.bucket.Statement.{statement}
 use Rattle.hold_names.proofs.bucket.Tie as tie
 
 abbrev Inv-loop : tie.InvT-loop
-Inv-loop path h₀ i₀ h i = Summing path h i
+Inv-loop path h₀ i₀ h i = (i ≤ length path) × Summed path 0 0 h i
 
 abbrev μ-loop : tie.MeasureT-loop
 μ-loop path h₀ i₀ h i = length path - i
 
 loop-holds : tie.Need-loop-holds Inv-loop μ-loop
-loop-holds c = sum-begin _
+loop-holds c = (omega arith, sum-begin _ (omega arith))
 
-mul-h : tie.Need-mul-h Inv-loop μ-loop
-mul-h c = search needs
+add-loop : tie.Need-add-loop Inv-loop μ-loop
+add-loop c = search needs
 
-shared-slice-read-wide : tie.Need-shared-slice-read-wide Inv-loop μ-loop
-shared-slice-read-wide c = search needs
-
-wide-requires : tie.Need-wide-requires Inv-loop μ-loop
-wide-requires c κs = search needs
-
-add-h : tie.Need-add-h Inv-loop μ-loop
-add-h c = omega (arith, c .wide .ensures, c .before .shared-slice-known2 .given (c .before .before .before .loop .i), c .before .before .before .loop .inv .small)
+sum-four-requires : tie.Need-sum-four-requires Inv-loop μ-loop
+sum-four-requires c κs = (c .loop-test .taken, c .before .loop .inv .1 .small)
 
 add-i : tie.Need-add-i Inv-loop μ-loop
 add-i c = search needs
@@ -35,10 +30,19 @@ loop-less : tie.Need-loop-less Inv-loop μ-loop
 loop-less c = search needs
 
 loop-again : tie.Need-loop-again Inv-loop μ-loop
-loop-again c = sum-on (c .before .before .before .loop .inv) (c .before .before .loop-test .taken) (c .wide .ensures)
+loop-again c = (omega (arith, c .before .loop-test .taken), sum-then (c .before .before .loop .inv .1) (c .sum-four .ensures))
+
+sum-rest-requires : tie.Need-sum-rest-requires Inv-loop μ-loop
+sum-rest-requires c κs = c .before .loop .inv .1 .small
+
+sub-lesser : tie.Need-sub-lesser Inv-loop μ-loop
+sub-lesser c = search needs
+
+lesser-requires : tie.Need-lesser-requires Inv-loop μ-loop
+lesser-requires c κs = search needs
 
 returns : tie.Need-returns Inv-loop μ-loop
-returns c = sum-end (c .before .loop .inv) (c .loop-test .left)
+returns c = bucket-is _ (c .before .before .before .loop .inv .1) (c .before .sum-rest .ensures) (c .lesser .ensures)
 
 pub bucket-spec : {M : Type 1} → statement M
 bucket-spec =
@@ -47,11 +51,12 @@ bucket-spec =
     Inv-loop
     μ-loop
     loop-holds
-    mul-h
-    shared-slice-read-wide
-    wide-requires
-    add-h
+    add-loop
+    sum-four-requires
     add-i
     loop-less
     loop-again
+    sum-rest-requires
+    sub-lesser
+    lesser-requires
     returns)

@@ -1,0 +1,239 @@
+-- The lookup of a path: the first name of its bucket, the second, and the sorted names.
+use Prim.Native.Nat.{ℕ, zero, suc, _+_, _-_, _/_, _%_, _≤_, _<_}
+use mathlib.Core.Bool.{true, false}
+use mathlib.Core.List.{List}
+use mathlib.Core.Logic.{_⊎_, inl, inr, ⊎-elim}
+use mathlib.Core.Path.{_≡_, refl, sym, _∙_, ap}
+use native.Mathlib.Decide.{decLt}
+use native.Mathlib.Nat.{not-suc-le-zero}
+use native.Mathlib.Omega.{arith}
+use lib.ListN.{length, getD}
+use Rattle.lists.specs.Bytes.{less-ne}
+use Rattle.lists.specs.Order.{orderBytes, order-less, order-equal, order-greater}
+use Rattle.lists.specs.declared.Order.{Order}
+use Rattle.lists.specs.declared.Order.the-variants.{Less, Equal, Greater}
+use Rattle.spec.specs.Basics.{among}
+use Rattle.spec.specs.Reading.{numberOf}
+use Rattle.hold_names.specs.declared.Compared.{Compared}
+use Rattle.hold_names.specs.declared.Compared.the-variants.{Before, Same, Behind}
+use Rattle.hold_names.specs.declared.Sought.{Sought}
+use Rattle.hold_names.specs.Table.{headsFrom, bucketOf, pairBase, pairAt, firstIn, secondIn, sparesIn, sparesOf, nameAt, Stands, Placed, HoldsNames, SoundNames, onOrder, halvings, comparesFrom, comparesOf, Between, ComparesName, Halves, SeeksSecond, SeeksName}
+use Rattle.hold_names.proofs.Numbers.{number-missing}
+use Rattle.hold_names.proofs.Buckets.{bucket-small, first-stands, among-nowhere}
+use Rattle.hold_names.proofs.Halving.{told-before, told-same, told-behind, spares-few}
+
+-- ---- a compare with one name
+
+-- the path is another
+abbrev Other : Order → Type 0
+Other o = (o ≡ Less) ⊎ (o ≡ Greater)
+
+other-ne : (s t : List ℕ) → Other (orderBytes s t) → t ≡ s → ⊥
+other-ne s t o e =
+    ⊎-elim (λ (l : orderBytes s t ≡ Less). less-ne (order-less s t l) (sym e)) (λ (l : orderBytes s t ≡ Greater). less-ne (order-greater s t l) e) o
+
+module _ (path : List ℕ) (files : List (List ℕ)) where
+  compares-none : (more : ℕ) → comparesFrom path files 0 more ≡ 0
+  unfolding comparesFrom
+  compares-none more = refl
+
+  compares-same : (s more : ℕ) → 0 < s → orderBytes path (nameAt files (s - 1)) ≡ Equal → comparesFrom path files s more ≡ 1
+  unfolding comparesFrom onOrder
+  compares-same zero more a e = absurd (not-suc-le-zero a)
+  compares-same (suc k) more a e = let z : suc k - 1 ≡ k = omega arith in rw (rw z at e)
+
+  compares-other : (s more : ℕ) → 0 < s → Other (orderBytes path (nameAt files (s - 1))) → comparesFrom path files s more ≡ suc more
+  unfolding comparesFrom onOrder
+  compares-other zero more a o = absurd (not-suc-le-zero a)
+  compares-other (suc k) more a o =
+      let z : suc k - 1 ≡ k = omega arith in
+      ⊎-elim (λ (e : orderBytes path (nameAt files (suc k - 1)) ≡ Less). rw (rw z at e)) (λ (e : orderBytes path (nameAt files (suc k - 1)) ≡ Greater). rw (rw z at e)) o
+
+  compares-one : (o : Order) (more : ℕ) → onOrder o (λ _. more) (λ _. 0) (λ _. more) ≤ more
+  unfolding onOrder
+  compares-one Less more = omega arith
+  compares-one Equal more = omega arith
+  compares-one Greater more = omega arith
+
+  compares-few : (s more : ℕ) → comparesFrom path files s more ≤ suc more
+  unfolding comparesFrom
+  compares-few zero more = omega arith
+  compares-few (suc k) more = omega (arith, compares-one (orderBytes path (nameAt files k)) more)
+
+-- The compare with name k, after n others, told that it is another; m compares were made.
+pub record Passed (names index : List ℕ) (count k : ℕ) (path : List ℕ) (n m : ℕ) : Type 0 where
+  pub made : m ≡ n + 1
+  pub other : (files : List (List ℕ)) → HoldsNames names index count files → Other (orderBytes path (nameAt files k))
+
+module _ {names index : List ℕ} {count k : ℕ} {path : List ℕ} {n : ℕ} (s : SoundNames names index count) {r : Compared} (t : ComparesName names index count k path n r) {m : ℕ} where
+  pub passed-before : r ≡ Before m → Passed names index count k path n m
+  passed-before e =
+      record {
+        made = told-before (n + 1) (orderBytes path (nameAt (s .files) k)) m (sym e ∙ t .answer (s .files) (s .holds)) .1;
+        other = λ files h. inl (told-before (n + 1) (orderBytes path (nameAt files k)) m (sym e ∙ t .answer files h) .0);
+      }
+
+  pub passed-behind : r ≡ Behind m → Passed names index count k path n m
+  passed-behind e =
+      record {
+        made = told-behind (n + 1) (orderBytes path (nameAt (s .files) k)) m (sym e ∙ t .answer (s .files) (s .holds)) .1;
+        other = λ files h. inr (told-behind (n + 1) (orderBytes path (nameAt files k)) m (sym e ∙ t .answer files h) .0);
+      }
+
+-- ---- the second name of a bucket, then the sorted ones
+
+module _ {names index : List ℕ} {count : ℕ} {path : List ℕ} {second n : ℕ} where
+  pub second-none : second ≡ 0 → SeeksSecond names index count path second n (record { number = count; compares = n; place = 0 })
+  second-none e =
+      record {
+        within = omega arith;
+        compares = λ files h.
+            rw (e, compares-none path files (halvings (sparesIn index) files (sparesOf index) path 0 (sparesIn index))) (omega arith);
+        answer = λ files h. inr (refl, (λ k q. absurd (omega (arith, e, q))), (λ l. absurd (omega (arith, e, l))));
+      }
+
+  module _ (a : 0 < second) (b : second ≤ count) where
+    pub second-same : {r : Compared} → ComparesName names index count (second - 1) path n r → {m : ℕ} → r ≡ Same m
+        → SeeksSecond names index count path second n (record { number = second - 1; compares = m; place = 0 })
+    second-same {r} t {m} e =
+        record {
+          within = omega arith;
+          compares = λ files h.
+              let (o, z) = told-same (n + 1) (orderBytes path (nameAt files (second - 1))) m (sym e ∙ t .answer files h) in
+              omega (arith, z, compares-same path files second (halvings (sparesIn index) files (sparesOf index) path 0 (sparesIn index)) a o);
+          answer = λ files h.
+              let (o, z) = told-same (n + 1) (orderBytes path (nameAt files (second - 1))) m (sym e ∙ t .answer files h) in
+              inl (omega arith, sym (order-equal path (nameAt files (second - 1)) o));
+        }
+
+    pub second-on : {m : ℕ} → Passed names index count (second - 1) path n m → {r : Sought} → Halves names index count path m r → SeeksSecond names index count path second n r
+    second-on {m} p {r} h =
+        record {
+          within = h .within;
+          compares = λ files g.
+              omega (arith, p .made, h .compares files g, compares-other path files second (halvings (sparesIn index) files (sparesOf index) path 0 (sparesIn index)) a (p .other files g));
+          answer = λ files g.
+              ⊎-elim (λ (f : (r .number < count) × (nameAt files (r .number) ≡ path)). inl f)
+              (λ (f : (r .number ≡ count) × Between files (sparesOf index) path (r .place) (r .place)).
+              inr (f .0, (λ k q. let z : second - 1 ≡ k = omega (arith, q) in rw z at (other-ne path (nameAt files (second - 1)) (p .other files g))), (λ l. f .1)))
+              (h .answer files g);
+        }
+
+-- ---- the whole lookup
+
+-- A name that is the path has the path's number.
+stands : {names index : List ℕ} {count : ℕ} {files : List (List ℕ)} → HoldsNames names index count files → {path : List ℕ} {k : ℕ} → k < count → nameAt files k ≡ path → k ≡ numberOf path files
+stands {files = files} h {path} {k} l e =
+    sym (first-stands path files k (omega (arith, h .counted)) e (λ i d f. h .once i k d l (f ∙ sym e)) .1)
+
+-- The path is no name if it is none of those where it is looked for.
+nowhere-held : {names index : List ℕ} {count : ℕ} {files : List (List ℕ)} → HoldsNames names index count files → (path : List ℕ)
+    → ((k : ℕ) → Placed index (bucketOf path) k → nameAt files k ≡ path → ⊥) → count ≡ numberOf path files
+nowhere-held {index = index} {files = files} h path g =
+    h .counted
+    ∙ sym (number-missing path files
+    (among-nowhere path files (λ k l e. g k (rw (ap bucketOf e) at (h .search .placed k (omega (arith, h .counted)))) e)))
+
+-- The path is none of the sorted names.
+not-sorted : {files : List (List ℕ)} {order path : List ℕ} {place : ℕ} → Between files order path place place → (k : ℕ) → Stands k order → nameAt files k ≡ path → ⊥
+not-sorted {files} {order} {path} {place} z k s e =
+    let (i, l, q) = s in
+    let w : nameAt files (getD order i 0) ≡ path = ap (nameAt files) q ∙ e in
+    elim (decLt i place) [
+      | yes d ↦ less-ne (z .before i d) w
+      | no d ↦ less-ne (z .after i (omega arith) l) (sym w)
+    ]
+
+module _ {names index : List ℕ} {count : ℕ} (path : List ℕ) (sound : SoundNames names index count) {b pair : ℕ} (e : b ≡ bucketOf path) (q : pair ≡ getD index (headsFrom + b) 0) where
+  abbrev home : ℕ
+  home = bucketOf path
+
+  pair-is : pair ≡ pairAt index home
+  pair-is = rw e at q
+
+  abbrev more : List (List ℕ) → ℕ
+  more files = halvings (sparesIn index) files (sparesOf index) path 0 (sparesIn index)
+
+  pub first-low : pair % pairBase ≤ count
+  first-low = omega (arith, pair-is, sound .holds .search .first home (bucket-small path))
+
+  pub second-low : pair / pairBase ≤ count
+  second-low = omega (arith, pair-is, sound .holds .search .second home (bucket-small path))
+
+  pub seek-none : pair % pairBase ≡ 0 → SeeksName names index count path (record { number = count; compares = 0; place = 0 })
+  unfolding comparesOf
+  seek-none z =
+      let f : firstIn index home ≡ 0 = omega (arith, pair-is) in
+      let none : (files : List (List ℕ)) → HoldsNames names index count files → 0 < secondIn index home → ⊥ =
+      λ files h l. omega (arith, f, h .search .both home (bucket-small path) l) in
+      record {
+        few = omega arith;
+        within = omega arith;
+        number = λ files h. nowhere-held h path
+            (λ k p n. ⊎-elim (λ (c : firstIn index home ≡ suc k). omega (arith, f, c))
+            (⊎-elim (λ (c : secondIn index home ≡ suc k). none files h (omega (arith, c))) (λ (c : (0 < secondIn index home) × Stands k (sparesOf index)). none files h (c .0))) p);
+        compares = λ files h. rw f (sym (compares-none path files (comparesFrom path files (secondIn index home) (more files))));
+        place = λ files h g l. absurd (none files h l);
+      }
+
+  module _ (a : 0 < pair % pairBase) where
+    first-is : firstIn index home ≡ pair % pairBase
+    first-is = ap (λ (y : ℕ). y % pairBase) (sym pair-is)
+
+    second-is : secondIn index home ≡ pair / pairBase
+    second-is = ap (λ (y : ℕ). y / pairBase) (sym pair-is)
+
+    pub seek-same : {r : Compared} → ComparesName names index count (pair % pairBase - 1) path 0 r → {m : ℕ} → r ≡ Same m
+        → SeeksName names index count path (record { number = pair % pairBase - 1; compares = m; place = 0 })
+    unfolding comparesOf
+    seek-same t {m} d =
+        let k = pair % pairBase - 1 in
+        let told : (files : List (List ℕ)) → HoldsNames names index count files → (orderBytes path (nameAt files k) ≡ Equal) × (m ≡ 0 + 1) =
+        λ files h. told-same (0 + 1) (orderBytes path (nameAt files k)) m (sym d ∙ t .answer files h) in
+        let number : (files : List (List ℕ)) → HoldsNames names index count files → k ≡ numberOf path files =
+        λ files h. stands h (omega (arith, first-low)) (sym (order-equal path (nameAt files k) (told files h .0))) in
+        record {
+          few = omega (arith, told (sound .files) (sound .holds) .1);
+          within = omega arith;
+          number = number;
+          compares = λ files h.
+              rw first-is
+              (told files h .1 ∙ omega arith ∙ sym (compares-same path files (pair % pairBase) (comparesFrom path files (secondIn index home) (more files)) a (told files h .0)));
+          place = λ files h g l.
+              absurd (omega (arith, number files h, number-missing path files g, h .counted, first-low));
+        }
+
+    module _ {m : ℕ} (p : Passed names index count (pair % pairBase - 1) path 0 m) {r : Sought} (s : SeeksSecond names index count path (pair / pairBase) m r) where
+      counted : (files : List (List ℕ)) → HoldsNames names index count files → r .compares ≡ comparesOf path files index
+      unfolding comparesOf
+      counted files h =
+          rw (first-is, second-is)
+          (s .compares files h ∙ ap (λ (y : ℕ). y + comparesFrom path files (pair / pairBase) (more files)) (p .made)
+          ∙ omega arith ∙ sym (compares-other path files (pair % pairBase) (comparesFrom path files (pair / pairBase) (more files)) a (p .other files h)))
+
+      absent : (files : List (List ℕ)) → HoldsNames names index count files → ((k : ℕ) → pair / pairBase ≡ suc k → nameAt files k ≡ path → ⊥)
+          → (0 < pair / pairBase → Between files (sparesOf index) path (r .place) (r .place)) → count ≡ numberOf path files
+      absent files h g z =
+          nowhere-held h path
+          (λ k w n. ⊎-elim
+          (λ (c : firstIn index home ≡ suc k). let y : pair % pairBase - 1 ≡ k = omega (arith, c, first-is) in other-ne path (nameAt files (pair % pairBase - 1)) (p .other files h) (rw y n))
+          (⊎-elim (λ (c : secondIn index home ≡ suc k). g k (sym second-is ∙ c) n)
+          (λ (c : (0 < secondIn index home) × Stands k (sparesOf index)). not-sorted (z (rw second-is at (c .0))) k (c .1) n)) w)
+
+      pub seek-on : SeeksName names index count path r
+      seek-on =
+          record {
+            few =
+                omega
+                (arith, p .made, s .compares (sound .files) (sound .holds), compares-few path (sound .files) (pair / pairBase) (more (sound .files)), spares-few (sound .holds) path);
+            within = s .within;
+            number = λ files h.
+                ⊎-elim (λ (f : (r .number < count) × (nameAt files (r .number) ≡ path)). stands h (f .0) (f .1))
+                (λ (f : (r .number ≡ count) × ((k : ℕ) → pair / pairBase ≡ suc k → nameAt files k ≡ path → ⊥) × (0 < pair / pairBase → Between files (sparesOf index) path (r .place) (r .place))).
+                f .0 ∙ absent files h (f .1) (f .2)) (s .answer files h);
+            compares = counted;
+            place = λ files h g l.
+                ⊎-elim (λ (f : (r .number < count) × (nameAt files (r .number) ≡ path)). absurd (omega (arith, stands h (f .0) (f .1), number-missing path files g, h .counted, f .0)))
+                (λ (f : (r .number ≡ count) × ((k : ℕ) → pair / pairBase ≡ suc k → nameAt files k ≡ path → ⊥) × (0 < pair / pairBase → Between files (sparesOf index) path (r .place) (r .place))).
+                f .2 (rw second-is at l)) (s .answer files h);
+          }
