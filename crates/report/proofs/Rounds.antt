@@ -109,8 +109,8 @@ module _ {manifest steps bytes ends out : List ℕ} {place held : ℕ} (w : Line
   pub lines-next : NextWanted manifest (part steps place (length steps)) bytes ends held
   lines-next =
       record {
-        wanted = record { some = omega (arith, w .more, length-part steps place (length steps) (omega arith)); rooms = w .rooms .texts };
-        rest = rw (part-to-end steps place) (w .rest);
+        wanted = record { some = omega (arith, w .more, length-part steps place (length steps) (omega arith)); rooms = w .left .rooms .texts };
+        rest = rw (part-to-end steps place) (w .left .rest);
       }
 
   module _ (n : ℕ) (bytes₁ ends₁ : List ℕ) (h : HoldsSome manifest (part steps place (length steps)) bytes₁ ends₁ n) where
@@ -125,7 +125,7 @@ module _ {manifest steps bytes ends out : List ℕ} {place held : ℕ} (w : Line
         record {
           order = now-held .held .order;
           counted = omega (arith, w .more, now-held .held .few, length-drop place steps, length-take-le n ends₁ lines-placed);
-          room = omega (arith, x, y, lines-placed, w .rooms .lines, length-take-le n ends₁ lines-placed);
+          room = omega (arith, x, y, lines-placed, w .left .rooms .lines, length-take-le n ends₁ lines-placed);
         }
 
     pub lines-made : (outExit : List ℕ) (r : ℕ) → LeavesOutput (textLines (length steps) place (cutTexts bytes₁ 0 (take n ends₁))) out r outExit
@@ -214,15 +214,32 @@ lining-end {place} {count} {bytes} {ends} {out₀} {out} {i} {from} {behind} exi
 
 -- ---- the program's rounds
 
-pub rounds-next : {manifest steps bytes ends out outExit : List ℕ} {place : ℕ} {r : Lines} → fine ≡ checkTexts manifest (drop place steps)
-    → MakesLines manifest steps place r bytes ends out outExit → AllFine manifest (drop (place + r .steps) steps) bytes ends 0
-rounds-next {manifest} {steps} {bytes} {ends} {out} {outExit} {place} {r} f m =
+pub rounds-start : {manifest steps bytes ends out : List ℕ} {held : ℕ} → AllFine manifest steps bytes ends held → LineRooms bytes ends out
+    → ToWrite manifest steps bytes ends out 0 held
+rounds-start a r = record { within = omega arith; rest = a; rooms = r }
+
+-- Only the lengths of the buffers count.
+rooms-kept : {bytes ends out bytes₁ ends₁ out₁ : List ℕ} → length bytes₁ ≡ length bytes → length ends₁ ≡ length ends → length out₁ ≡ length out → LineRooms bytes ends out
+    → LineRooms bytes₁ ends₁ out₁
+rooms-kept x y z r =
     record {
-      fine = f ∙ held-pass (m .holds .held) ∙ ap (checkTexts manifest) (drop-drop (r .steps) place steps);
-      held = held-none manifest (drop (place + r .steps) steps) bytes ends;
+      texts = record { bytes-room = omega (arith, x, r .texts .bytes-room); ends-room = omega (arith, y, r .texts .ends-room) };
+      lines = omega (arith, x, y, z, r .lines);
     }
 
-pub rounds-more : {manifest steps bytes ends out outExit : List ℕ} {place : ℕ} {r : Lines} → place ≤ length steps → MakesLines manifest steps place r bytes ends out outExit
-    → (0 < r .steps) × (place + r .steps ≤ length steps)
-rounds-more {manifest} {steps} {bytes} {ends} {out} {outExit} {place} {r} k m =
-    (m .holds .some, omega (arith, k, m .holds .held .few, length-drop place steps))
+module _ {manifest steps bytes ends out bytes₁ ends₁ out₁ : List ℕ} {place held : ℕ} {r : Lines} (w : ToWrite manifest steps bytes ends out place held)
+    (m : MakesLines manifest steps place r bytes₁ ends₁ out out₁) where
+  -- one step at least, and no more than there are
+  pub rounds-more : (0 < r .steps) × (place + r .steps ≤ length steps)
+  rounds-more = (m .holds .some, omega (arith, w .within, m .holds .held .few, length-drop place steps))
+
+  pub rounds-next : length bytes₁ ≡ length bytes → length ends₁ ≡ length ends → length out₁ ≡ length out → ToWrite manifest steps bytes₁ ends₁ out₁ (place + r .steps) 0
+  rounds-next x y z =
+      record {
+        within = rounds-more .1;
+        rest = record {
+          fine = w .rest .fine ∙ held-pass (m .holds .held) ∙ ap (checkTexts manifest) (drop-drop (r .steps) place steps);
+          held = held-none manifest (drop (place + r .steps) steps) bytes₁ ends₁;
+        };
+        rooms = rooms-kept x y z (w .rooms);
+      }

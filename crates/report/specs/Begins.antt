@@ -15,7 +15,7 @@ use Rattle.printing.specs.Writes.{lineRoom}
 use Rattle.report.specs.declared.Begun.{Begun}
 use Rattle.report.specs.declared.Begun.the-variants.{Whole, Refusal, Steps}
 use Rattle.report.specs.Output.{Checks, fine, stopped, checkTexts, stepLines, Outputs}
-use Rattle.report.specs.Held.{TextRooms, AllFine}
+use Rattle.report.specs.Held.{TextRooms, LineRooms, AllFine}
 
 -- how the output begins: whole, or with the lines of so many steps still to come
 pub data Start : Type 0 where
@@ -89,6 +89,11 @@ pub record Rooms (list line bytes ends : List ℕ) : Type 0 where
   pub list-room : length list ≡ leastList
   pub line-room : lineRoom ≤ length line
   pub texts : TextRooms bytes ends
+
+-- ... where the line has room for the lines of all texts too
+pub record AnswerRooms (list bytes ends out : List ℕ) : Type 0 where
+  pub rooms : Rooms list out bytes ends
+  pub lines : LineRooms bytes ends out
 
 pub record ListRooms (line bytes ends : List ℕ) : Type 0 where
   pub line-room : lineRoom ≤ length line

@@ -82,15 +82,16 @@ CheckedIs manifest steps bytes ends (Refused x) = stopped (said x) ≡ checkText
 
 -- ------------------------------------------------------------------ the lines
 
--- `place` lines are written, and those of the other steps are to come
-pub record ToWrite (manifest steps bytes ends : List ℕ) (place held : ℕ) : Type 0 where
-  pub within : place ≤ length steps
-  pub rest : AllFine manifest (drop place steps) bytes ends held
-
 -- room for the lines of all texts that the buffers can hold
 pub record LineRooms (bytes ends out : List ℕ) : Type 0 where
   pub texts : TextRooms bytes ends
   pub lines : length bytes + stepRoom * length ends ≤ length out
+
+-- `place` lines are written, and those of the other steps are to come
+pub record ToWrite (manifest steps bytes ends out : List ℕ) (place held : ℕ) : Type 0 where
+  pub within : place ≤ length steps
+  pub rest : AllFine manifest (drop place steps) bytes ends held
+  pub rooms : LineRooms bytes ends out
 
 pub record NextWanted (manifest steps bytes ends : List ℕ) (held : ℕ) : Type 0 where
   pub wanted : TextsWanted steps bytes ends
@@ -103,8 +104,7 @@ pub record CutWanted (bytes ends out : List ℕ) (place count : ℕ) : Type 0 wh
 
 pub record LinesWanted (manifest steps bytes ends out : List ℕ) (place held : ℕ) : Type 0 where
   pub more : place < length steps
-  pub rest : AllFine manifest (drop place steps) bytes ends held
-  pub rooms : LineRooms bytes ends out
+  pub left : ToWrite manifest steps bytes ends out place held
 
 -- The lines of one step at least, which come next; the buffers hold their texts.
 pub record MakesLines (manifest steps : List ℕ) (place : ℕ) (r : Lines) (bytes ends out outExit : List ℕ) : Type 0 where
