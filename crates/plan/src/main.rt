@@ -142,7 +142,15 @@ fn run(manifest: &[u8], card: &[u8], targets: &[u8]) -> Outcome {
     let mut bytes = [0u8; TEXTS];
     let mut ends = [0u32; LIST];
     let mut out = [0u8; OUT];
-    answer(manifest, card, targets, &mut list, &mut bytes, &mut ends, &mut out)
+    answer(
+        manifest,
+        card,
+        targets,
+        &mut list,
+        &mut bytes,
+        &mut ends,
+        &mut out,
+    )
 }
 
 // Reads what is asked, one byte more than each limit, so that what is over its limit is seen to be, and answers.

@@ -9,11 +9,6 @@ use answers::Numbers;
 use slices::bytes::copy_at;
 use slices::bytes::zero_from;
 use slices::words::at;
-use spec::limits::STEPS;
-use spec::limits::TEXT;
-
-// Room for a line of any kind: a step's line, or a refusal with a circle of all steps.
-pub const LINE: usize = TEXT + 8 * STEPS;
 
 // Writes s from place `from` on, and gives the place behind it.
 fn put(line: &mut [u8], from: usize, s: &[u8]) -> usize

@@ -17,7 +17,7 @@ use Rattle.printing.specs.Writes.{LeavesOutput}
 use Rattle.report.specs.declared.Begun.{Begun}
 use Rattle.report.specs.declared.Begun.the-variants.{Whole, Refusal, Steps}
 use Rattle.report.specs.Output.{Checks, fine, stopped, checkTexts, checkedOutput, listOutput, stepLines, Outputs}
-use Rattle.report.specs.Begins.{Start, whole, refusal, toCome, startOf, wholeOutput, refusing, checkedOpening, listOpening, planOpening, OpensReport, HeldBy, OpensHolding, writtenBy, StartWithin, Rooms, Planned, BeginsReport}
+use Rattle.report.specs.Begins.{whole, refusal, toCome, startOf, wholeOutput, refusing, checkedOpening, listOpening, planOpening, OpensReport, HeldBy, OpensHolding, writtenBy, StartWithin, Rooms, Planned, BeginsReport}
 use Rattle.report.specs.declared.Checked.the-variants.{All, Refused}
 use Rattle.report.specs.Held.{AllFine, CheckedIs}
 use Rattle.report.proofs.Early.{not-0, not-14}

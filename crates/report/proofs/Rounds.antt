@@ -1,10 +1,9 @@
 -- Readings for texts, one behind another: the check of all texts, and the lines of those that are held.
 use Prim.Native.Nat.{ℕ, suc, _+_, _-_, _*_, _≤_, _<_}
-use native.Mathlib.Numerals.{add-one}
 use native.Mathlib.Omega.{arith}
-use mathlib.Core.List.{List, [], _∷_, _++_, append-nil, append-assoc}
+use mathlib.Core.List.{List, _++_, append-nil, append-assoc}
 use mathlib.Core.Path.{_≡_, refl, sym, _∙_, ap}
-use lib.ListN.{length, take, drop, getD, replicate, length-take, length-drop}
+use lib.ListN.{length, take, drop, getD, replicate, length-drop}
 use lib.Seq.{drop-cons, drop-length, drop-drop, length-take-le}
 use Rattle.lists.specs.Fill.{zeroed}
 use Rattle.lists.specs.Parts.{part, length-part, part-to-end}
@@ -12,11 +11,10 @@ use Rattle.spec.specs.Promises.{filled}
 use Rattle.answers.specs.declared.Numbers.{Numbers as Two}
 use Rattle.printing.specs.Lines.{stepLineOf}
 use Rattle.printing.specs.Writes.{stepRoom, PutsUpTo, LeavesOutput}
-use Rattle.report.specs.declared.Asked.{Asked}
 use Rattle.report.specs.declared.Asked.the-variants.{Held, Refused as NotHeld}
 use Rattle.report.specs.declared.Checked.the-variants.{All, Refused}
 use Rattle.report.specs.declared.Lines.{Lines}
-use Rattle.report.specs.Output.{fine, stopped, checkTexts, stepLines}
+use Rattle.report.specs.Output.{fine, checkTexts}
 use Rattle.report.specs.Held.{InOrder, cutTexts, AreCommands, HeldTexts, textLines, TextRooms, TextsWanted, HoldsSome, AskedIs, AllFine, CheckedIs, ToWrite, LineRooms, NextWanted, CutWanted, LinesWanted, MakesLines}
 use Rattle.report.proofs.Texts.{commands-pass, commands-lines}
 
@@ -219,7 +217,7 @@ pub rounds-start : {manifest steps bytes ends out : List ℕ} {held : ℕ} → A
 rounds-start a r = record { within = omega arith; rest = a; rooms = r }
 
 -- Only the lengths of the buffers count.
-rooms-kept : {bytes ends out bytes₁ ends₁ out₁ : List ℕ} → length bytes₁ ≡ length bytes → length ends₁ ≡ length ends → length out₁ ≡ length out → LineRooms bytes ends out
+pub rooms-kept : {bytes ends out bytes₁ ends₁ out₁ : List ℕ} → length bytes₁ ≡ length bytes → length ends₁ ≡ length ends → length out₁ ≡ length out → LineRooms bytes ends out
     → LineRooms bytes₁ ends₁ out₁
 rooms-kept x y z r =
     record {

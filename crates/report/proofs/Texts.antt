@@ -5,7 +5,7 @@ use mathlib.Core.Bool.{true, false}
 use mathlib.Core.List.{List, [], _∷_, _++_, append-assoc}
 use mathlib.Core.Path.{_≡_, refl, sym, _∙_, ap}
 use lib.ListN.{length, take, drop, getD, replicate, length-append, length-replicate}
-use lib.Seq.{take-append-seam, drop-append-seam, drop-length, drop-drop}
+use lib.Seq.{take-append-seam, drop-append-seam}
 use Rattle.lists.specs.Parts.{part}
 use Rattle.lists.specs.Tests.{ifB, split}
 use Rattle.spec.specs.declared.Refusal.{Refusal}
@@ -14,7 +14,7 @@ use Rattle.spec.specs.Basics.{concat}
 use Rattle.spec.specs.Limits.{maxText}
 use Rattle.spec.specs.Answers.{Said, refusalSays, numberOfRefusal}
 use Rattle.spec.specs.Manifest.{Read, accepted, refusedWith, readManifest}
-use Rattle.spec.specs.TextAsk.{TextOutcome, text, noText, wantedName, textRead, textAsk}
+use Rattle.spec.specs.TextAsk.{TextOutcome, text, noText, textRead, textAsk}
 use Rattle.spec.specs.Promises.{filled, counts}
 use Rattle.answers.specs.declared.Numbers.{Numbers as Two}
 use Rattle.answers.specs.Numbers.{said}
@@ -22,10 +22,9 @@ use Rattle.text_batch.specs.declared.TextsAnswer.the-variants.{Written, Refused
 use Rattle.text_batch.specs.TextsAsk.{TextsOutcome, texts, noTexts, inFront, onText, hasRoom, textsFrom, endable, textsAsk, endsFrom}
 use Rattle.text_batch.specs.TextsPromise.{textsSays, Are, TextsMeets}
 use Rattle.text_batch.proofs.Asked.{onRead, each-asked, texts-leading, texts-progress}
-use Rattle.report.specs.declared.Asked.{Asked}
 use Rattle.report.specs.declared.Asked.the-variants.{Held, Refused as NotHeld}
-use Rattle.report.specs.Output.{commandText, Checks, fine, stopped, afterText, checkTexts, stepLine, stepLines}
-use Rattle.report.specs.Held.{InOrder, cutTexts, AreCommands, HeldTexts, textLines, TextRooms, TextsWanted, HoldsSome, AskedIs, AllFine}
+use Rattle.report.specs.Output.{commandText, stopped, afterText, checkTexts, stepLine, stepLines}
+use Rattle.report.specs.Held.{InOrder, cutTexts, AreCommands, textLines, TextsWanted, HoldsSome, AskedIs}
 use Rattle.report.proofs.Early.{not-0}
 
 -- What is filled begins with what it is filled with, which fits.

@@ -14,7 +14,7 @@ use Rattle.report.specs.declared.Asked.the-variants.{Held, Refused as No
 use Rattle.report.specs.declared.Checked.{Checked}
 use Rattle.report.specs.declared.Checked.the-variants.{All, Refused}
 use Rattle.report.specs.declared.Lines.{Lines}
-use Rattle.report.specs.Output.{Checks, fine, stopped, commandText, checkTexts, stepLines}
+use Rattle.report.specs.Output.{fine, stopped, commandText, checkTexts, stepLines}
 
 -- each text begins where the one before it ends, and lies within the bytes
 unfoldable pub InOrder : List ℕ → ℕ → List ℕ → Type 0

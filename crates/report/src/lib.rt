@@ -1,6 +1,4 @@
 // What the program writes: document 01's section "Gauges on the bench", from the lent bytes to lines in a lent buffer.
-ghost use Prim.Native.Nat.{_≤_};
-ghost use lib.ListN.{length, drop};
 ghost use Rattle.spec.specs.PlanAsk.{inputsOf};
 ghost use Rattle.answers.specs.Numbers.{said};
 ghost use Rattle.printing.specs.Writes.{LeavesOutput};

@@ -3,10 +3,6 @@ use Rattle.printing.proofs.Putting.{step-law}
 use borrow.Author.Needs.{needs}
 use Rattle.printing.proofs.put_step.Statement.{statement}
 use Rattle.printing.proofs.put_step.Tie as tie
-use Rattle.printing.proofs.put_step.Reads as reads
-use Rattle.printing.proofs.put_step.Lts as lts
-use Rattle.printing.proofs.put.Reads as put-reads
-use Rattle.printing.proofs.put_head.Reads as put-head-reads
 
 -- src/lib.rt:129:9
 put-head-requires : tie.Need-put-head-requires

@@ -1,6 +1,5 @@
 -- `report::text_lines` meets its contract.
 use Prim.Native.Nat.{_-_}
-use native.Mathlib.Omega.{arith}
 use lib.ListN.{length}
 use mathlib.Core.Path.{_∙_}
 use Rattle.report.proofs.Rounds.{Lining, lining-start, lining-from, lining-to, lining-room, lining-on, lining-end}
