@@ -17,7 +17,7 @@ use Rattle.printing.specs.Writes.{LeavesOutput}
 use Rattle.report.specs.declared.Begun.{Begun}
 use Rattle.report.specs.declared.Begun.the-variants.{Whole, Refusal, Steps}
 use Rattle.report.specs.Output.{Checks, fine, stopped, checkTexts, checkedOutput, listOutput, stepLines, Outputs}
-use Rattle.report.specs.Begins.{whole, refusal, toCome, startOf, wholeOutput, refusing, checkedOpening, listOpening, planOpening, OpensReport, HeldBy, OpensHolding, writtenBy, StartWithin, Rooms, Planned, BeginsReport}
+use Rattle.report.specs.Begins.{whole, refusal, toCome, startsAs, wholeOutput, refusing, checkedOpening, listOpening, planOpening, OpensReport, HeldBy, OpensHolding, writtenBy, StartWithin, Rooms, Planned, BeginsReport}
 use Rattle.report.specs.declared.Checked.the-variants.{All, Refused}
 use Rattle.report.specs.Held.{AllFine, CheckedIs}
 use Rattle.report.proofs.Early.{not-0, not-14}
@@ -98,7 +98,7 @@ module _ (manifest : List ℕ) (s : Said) (list : List ℕ) where
   planned-refused a b = rw (ne-eqb (s .number) 0 a, ne-eqb (s .number) 14 b)
 
   -- the steps are the first of the list
-  held-list : (r : Begun) (bytes ends : List ℕ) → startOf r ≡ listOpening manifest (take (s .value) list) .begun → HeldBy r manifest (take (s .value) list) bytes ends
+  held-list : (r : Begun) (bytes ends : List ℕ) → startsAs r ≡ listOpening manifest (take (s .value) list) .begun → HeldBy r manifest (take (s .value) list) bytes ends
       → HeldBy r manifest list bytes ends
   held-list (Whole n) bytes ends e h = tt
   held-list (Refusal n) bytes ends e h = tt
@@ -157,25 +157,25 @@ module _ (i : Inputs) (room : ℕ) where
 -- ---- what is written in all
 
 record Right (manifest : List ℕ) (o : PlanOutcome) (r : Begun) (list line : List ℕ) : Type 0 where
-  within : StartWithin (startOf r) list line
-  right : Outputs manifest o (writtenBy (startOf r) manifest list line)
+  within : StartWithin (startsAs r) list line
+  right : Outputs manifest o (writtenBy (startsAs r) manifest list line)
 
 -- where the line holds it wholeOutput
 whole-written : (manifest list out line : List ℕ) {r : Begun} {exit : List ℕ} → length exit ≡ length line → OpensReport (wholeOutput out) line r exit
-    → (StartWithin (startOf r) list exit) × (writtenBy (startOf r) manifest list exit ≡ out)
+    → (StartWithin (startsAs r) list exit) × (writtenBy (startsAs r) manifest list exit ≡ out)
 unfolding wholeOutput writtenBy
 whole-written manifest list out line {r} {exit} k p =
     (rw (p .begun) (omega (arith, fits-filled out line exit (p .left) k)), rw (p .begun, p .left) (front-filled out line))
 
 refusal-written : (manifest list out line : List ℕ) {r : Begun} {exit : List ℕ} → length exit ≡ length line → OpensReport (refusing out) line r exit
-    → (StartWithin (startOf r) list exit) × (writtenBy (startOf r) manifest list exit ≡ out)
+    → (StartWithin (startsAs r) list exit) × (writtenBy (startsAs r) manifest list exit ≡ out)
 unfolding refusing writtenBy
 refusal-written manifest list out line {r} {exit} k p =
     (rw (p .begun) (omega (arith, fits-filled out line exit (p .left) k)), rw (p .begun, p .left) (front-filled out line))
 
 -- where the steps' lines are to come
 steps-written : (manifest l list line listExit : List ℕ) {r : Begun} {exit : List ℕ} → length listExit ≡ length list → listExit ≡ filled l list
-    → OpensReport (checkedOpening (length l) fine) line r exit → (StartWithin (startOf r) listExit exit) × (writtenBy (startOf r) manifest listExit exit ≡ stepLines manifest (length l) 0 l)
+    → OpensReport (checkedOpening (length l) fine) line r exit → (StartWithin (startsAs r) listExit exit) × (writtenBy (startsAs r) manifest listExit exit ≡ stepLines manifest (length l) 0 l)
 unfolding checkedOpening writtenBy
 steps-written manifest l list line listExit {r} {exit} k w p = (
   rw (p .begun) (omega (arith, fits-filled l list listExit w k)),
@@ -183,13 +183,13 @@ steps-written manifest l list line listExit {r} {exit} k w p = (
 )
 
 checked-written : (manifest l list line listExit : List ℕ) {r : Begun} {exit : List ℕ} (c : Checks) → length listExit ≡ length list → listExit ≡ filled l list
-    → length exit ≡ length line → OpensReport (checkedOpening (length l) c) line r exit → (StartWithin (startOf r) listExit exit) × (writtenBy (startOf r) manifest listExit exit ≡ checkedOutput manifest l c)
+    → length exit ≡ length line → OpensReport (checkedOpening (length l) c) line r exit → (StartWithin (startsAs r) listExit exit) × (writtenBy (startsAs r) manifest listExit exit ≡ checkedOutput manifest l c)
 unfolding checkedOutput checkedOpening
 checked-written manifest l list line listExit fine k w j p = steps-written manifest l list line listExit k w p
 checked-written manifest l list line listExit (stopped s) k w j p = refusal-written manifest listExit (refusedLine s) line j p
 
 list-written : (manifest l list line listExit : List ℕ) {r : Begun} {exit : List ℕ} → length listExit ≡ length list → listExit ≡ filled l list
-    → length exit ≡ length line → OpensReport (listOpening manifest l) line r exit → (StartWithin (startOf r) listExit exit) × (writtenBy (startOf r) manifest listExit exit ≡ listOutput manifest l)
+    → length exit ≡ length line → OpensReport (listOpening manifest l) line r exit → (StartWithin (startsAs r) listExit exit) × (writtenBy (startsAs r) manifest listExit exit ≡ listOutput manifest l)
 unfolding listOutput listOpening
 list-written manifest [] list line listExit k w j p = whole-written manifest listExit noWork line j p
 list-written manifest (s ∷ l) list line listExit k w j p = checked-written manifest (s ∷ l) list line listExit (checkTexts manifest (s ∷ l)) k w j p
@@ -229,13 +229,13 @@ begins i list line listExit {bytes} {ends} {r} {exit} n s e k j m p =
     record { says = s; planned = m; opens = q; held = p .held; within = x .within; right = x .right }
 
 -- What is to be read of the line and of the list lies within them.
-pub whole-within : {r : Begun} {n : ℕ} (list line : List ℕ) → r ≡ Whole n → StartWithin (startOf r) list line → n ≤ length line
+pub whole-within : {r : Begun} {n : ℕ} (list line : List ℕ) → r ≡ Whole n → StartWithin (startsAs r) list line → n ≤ length line
 whole-within {r} {n} list line e w = rw e at w
 
-pub refusal-within : {r : Begun} {n : ℕ} (list line : List ℕ) → r ≡ Refusal n → StartWithin (startOf r) list line → n ≤ length line
+pub refusal-within : {r : Begun} {n : ℕ} (list line : List ℕ) → r ≡ Refusal n → StartWithin (startsAs r) list line → n ≤ length line
 refusal-within {r} {n} list line e w = rw e at w
 
-pub steps-within : {r : Begun} {n h : ℕ} (list line : List ℕ) → r ≡ Steps n h → StartWithin (startOf r) list line → n ≤ length list
+pub steps-within : {r : Begun} {n h : ℕ} (list line : List ℕ) → r ≡ Steps n h → StartWithin (startsAs r) list line → n ≤ length list
 steps-within {r} {n} {h} list line e w = rw e at w
 
 pub steps-held : {r : Begun} {n h : ℕ} (manifest list bytes ends : List ℕ) → r ≡ Steps n h → HeldBy r manifest list bytes ends → AllFine manifest (take n list) bytes ends h

@@ -15,11 +15,11 @@ use Rattle.report.specs.declared.Asked.the-variants.{Held, Refused as No
 use Rattle.report.specs.declared.Checked.the-variants.{All, Refused}
 use Rattle.report.specs.declared.Lines.{Lines}
 use Rattle.report.specs.Output.{fine, checkTexts}
-use Rattle.report.specs.Held.{InOrder, cutTexts, AreCommands, HeldTexts, textLines, TextRooms, TextsWanted, HoldsSome, AskedIs, AllFine, CheckedIs, ToWrite, LineRooms, NextWanted, CutWanted, LinesWanted, MakesLines}
+use Rattle.report.specs.Held.{TextsInOrder, cutTexts, AreCommands, HeldTexts, textLines, TextRooms, TextsWanted, HoldsSome, AskedIs, AllFine, CheckedIs, ToWrite, LineRooms, NextWanted, CutWanted, LinesWanted, MakesLines}
 use Rattle.report.proofs.Texts.{commands-pass, commands-lines}
 
 held-none : (manifest steps bytes ends : List ℕ) → HeldTexts manifest steps bytes ends 0
-unfolding InOrder AreCommands cutTexts
+unfolding TextsInOrder AreCommands cutTexts
 held-none manifest steps bytes ends = record { few = omega arith; placed = omega arith; order = tt; commands = tt }
 
 -- The check goes on behind the steps whose texts are held.
@@ -140,7 +140,7 @@ module _ {manifest steps bytes ends out : List ℕ} {place held : ℕ} (w : Line
 pub record Lining (place count : ℕ) (bytes ends out₀ out : List ℕ) (i from behind : ℕ) : Type 0 where
   pub within : i ≤ length ends
   pub kept : length out ≡ length out₀
-  pub order : InOrder bytes from (drop i ends)
+  pub order : TextsInOrder bytes from (drop i ends)
   pub start : from ≤ length bytes
   pub room : behind + (length bytes - from) + stepRoom * (length ends - i) ≤ length out₀
   pub front : take behind out ++ textLines count (place + i) (cutTexts bytes from (drop i ends)) ≡ textLines count place (cutTexts bytes 0 ends)
@@ -152,8 +152,8 @@ lining-start {bytes} {ends} {out} {place} {count} w =
 
 module _ {place count : ℕ} {bytes ends out₀ out : List ℕ} {i from behind : ℕ} (e : ℕ) (k : i < length ends) (w : e ≡ getD ends i 0)
     (l : Lining place count bytes ends out₀ out i from behind) where
-  next-order : (from ≤ e) × (e ≤ length bytes) × InOrder bytes e (drop (suc i) ends)
-  unfolding InOrder
+  next-order : (from ≤ e) × (e ≤ length bytes) × TextsInOrder bytes e (drop (suc i) ends)
+  unfolding TextsInOrder
   next-order = rw w (rw (drop-cons ends i 0 k) at (l .order))
 
   pub lining-from : from ≤ e

@@ -24,7 +24,7 @@ use Rattle.text_batch.specs.TextsPromise.{textsSays, Are, TextsMeets}
 use Rattle.text_batch.proofs.Asked.{onRead, each-asked, texts-leading, texts-progress}
 use Rattle.report.specs.declared.Asked.the-variants.{Held, Refused as NotHeld}
 use Rattle.report.specs.Output.{commandText, stopped, afterText, checkTexts, stepLine, stepLines}
-use Rattle.report.specs.Held.{InOrder, cutTexts, AreCommands, textLines, TextsWanted, HoldsSome, AskedIs}
+use Rattle.report.specs.Held.{TextsInOrder, cutTexts, AreCommands, textLines, TextsWanted, HoldsSome, AskedIs}
 use Rattle.report.proofs.Early.{not-0}
 
 -- What is filled begins with what it is filled with, which fits.
@@ -59,13 +59,13 @@ cut-ends p (t ∷ ts) r =
     rw (regroup p t (concat ts) r, ← k) (cut-ends (p ++ t) ts r) in
     rw (one, more)
 
-order-ends : (p : List ℕ) (ts : List (List ℕ)) (r : List ℕ) → InOrder (p ++ (concat ts ++ r)) (length p) (endsFrom (length p) ts)
-unfolding InOrder endsFrom concat
+order-ends : (p : List ℕ) (ts : List (List ℕ)) (r : List ℕ) → TextsInOrder (p ++ (concat ts ++ r)) (length p) (endsFrom (length p) ts)
+unfolding TextsInOrder endsFrom concat
 order-ends p [] r = tt
 order-ends p (t ∷ ts) r =
     let k : length (p ++ t) ≡ length p + length t = length-append p t in
     let n : length (p ++ t ++ (concat ts ++ r)) ≡ length p + length t + length (concat ts ++ r) = length-append (p ++ t) (concat ts ++ r) ∙ ap (λ (x : ℕ). x + length (concat ts ++ r)) k in
-    let more : InOrder (p ++ (t ++ concat ts ++ r)) (length p + length t) (endsFrom (length p + length t) ts) = rw (regroup p t (concat ts) r, ← k) (order-ends (p ++ t) ts r) in
+    let more : TextsInOrder (p ++ (t ++ concat ts ++ r)) (length p + length t) (endsFrom (length p + length t) ts) = rw (regroup p t (concat ts) r, ← k) (order-ends (p ++ t) ts r) in
     (omega arith, rw (regroup p t (concat ts) r) (omega arith), more)
 
 many-ends : (at : ℕ) (ts : List (List ℕ)) → length (endsFrom at ts) ≡ length ts

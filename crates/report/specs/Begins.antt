@@ -23,10 +23,10 @@ pub data Start : Type 0 where
   refusal : ℕ → Start
   toCome : ℕ → Start
 
-abbrev pub startOf : Begun → Start
-startOf (Whole n) = whole n
-startOf (Refusal n) = refusal n
-startOf (Steps n held) = toCome n
+abbrev pub startsAs : Begun → Start
+startsAs (Whole n) = whole n
+startsAs (Refusal n) = refusal n
+startsAs (Steps n held) = toCome n
 
 -- ... with what the lent line holds
 pub record Opening : Type 0 where
@@ -59,7 +59,7 @@ planOpening manifest s list =
     refusing (refusedLine s)
 
 pub record OpensReport (o : Opening) (lent : List ℕ) (r : Begun) (exit : List ℕ) : Type 0 where
-  pub begun : startOf r ≡ o .begun
+  pub begun : startsAs r ≡ o .begun
   pub left : exit ≡ filled (o .bytes) lent
 
 -- Where lines are to come, all texts are checked, and the buffers hold those of the first steps; else the buffers were working space.
@@ -112,5 +112,5 @@ pub record BeginsReport (i : Inputs) (list line : List ℕ) (r : Begun) (listExi
   pub planned : PlanMeets (planAsk i (length list)) list says listExit
   pub opens : OpensReport (planOpening (i .manifest) says listExit) line r lineExit
   pub held : HeldBy r (i .manifest) listExit bytesExit endsExit
-  pub within : StartWithin (startOf r) listExit lineExit
-  pub right : Outputs (i .manifest) (planAsk i (length list)) (writtenBy (startOf r) (i .manifest) listExit lineExit)
+  pub within : StartWithin (startsAs r) listExit lineExit
+  pub right : Outputs (i .manifest) (planAsk i (length list)) (writtenBy (startsAs r) (i .manifest) listExit lineExit)

@@ -17,9 +17,9 @@ use Rattle.report.specs.declared.Lines.{Lines}
 use Rattle.report.specs.Output.{fine, stopped, commandText, checkTexts, stepLines}
 
 -- each text begins where the one before it ends, and lies within the bytes
-unfoldable pub InOrder : List ℕ → ℕ → List ℕ → Type 0
-InOrder bytes at [] = Unit {0}
-InOrder bytes at (e ∷ es) = (at ≤ e) × (e ≤ length bytes) × InOrder bytes e es
+unfoldable pub TextsInOrder : List ℕ → ℕ → List ℕ → Type 0
+TextsInOrder bytes at [] = Unit {0}
+TextsInOrder bytes at (e ∷ es) = (at ≤ e) × (e ≤ length bytes) × TextsInOrder bytes e es
 
 -- the texts that end at these places, the first beginning at a place
 unfoldable pub cutTexts : List ℕ → ℕ → List ℕ → List (List ℕ)
@@ -38,7 +38,7 @@ AreCommands manifest (s ∷ ss) (t ∷ ts) = (commandText manifest s ≡ text t)
 pub record HeldTexts (manifest steps bytes ends : List ℕ) (n : ℕ) : Type 0 where
   pub few : n ≤ length steps
   pub placed : n ≤ length ends
-  pub order : InOrder bytes 0 (take n ends)
+  pub order : TextsInOrder bytes 0 (take n ends)
   pub commands : AreCommands manifest (take n steps) (cutTexts bytes 0 (take n ends))
 
 -- the lines of these texts, k of the list's n steps having gone before
@@ -98,7 +98,7 @@ pub record NextWanted (manifest steps bytes ends : List ℕ) (held : ℕ) : Type
   pub rest : AllFine manifest steps bytes ends held
 
 pub record CutWanted (bytes ends out : List ℕ) (place count : ℕ) : Type 0 where
-  pub order : InOrder bytes 0 ends
+  pub order : TextsInOrder bytes 0 ends
   pub counted : place + length ends ≤ count
   pub room : length bytes + stepRoom * length ends ≤ length out
 
