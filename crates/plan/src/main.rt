@@ -1,18 +1,14 @@
 // The program: reads `build.ninja` and `times.card` by name and the targets from standard input, and writes the plan.
-ghost use Prim.Native.Nat.{_≤_};
-ghost use lib.ListN.{length};
 ghost use Rattle.io.specs.Counts.{Counts};
-ghost use Rattle.printing.specs.Writes.{lineRoom};
-ghost use Rattle.report.specs.Begins.{Rooms};
+ghost use Rattle.report.specs.Begins.{AnswerRooms};
+ghost use Rattle.report.specs.Held.{ToWrite};
 use byteorder::equal;
 use libc::STDERR_FILENO;
 use libc::STDIN_FILENO;
 use libc::STDOUT_FILENO;
-use printing::LINE;
 use report::Begun;
 use report::begin;
-use report::step_line;
-use slices::words::at;
+use report::next_lines;
 use spec::limits::CARD;
 use spec::limits::LIST;
 use spec::limits::MANIFEST;
@@ -34,6 +30,12 @@ enum Outcome {
 
 // A program of the kit has no exit status of its own: it tells the script which one to end with, on this descriptor.
 const STATUS_FILENO: i32 = 3;
+
+// Room for the texts of one reading: those of 512 steps with 512 bytes each.
+const TEXTS: usize = 262144;
+
+// Room for the lines of all these texts: a line has 45 bytes at most beside its text.
+const OUT: usize = TEXTS + 45 * LIST;
 
 // Reads until the buffer is full or the input ends. Where a read fails, standard error has why, after the warning given, and nothing
 // counts as read.
@@ -79,17 +81,27 @@ fn write(bytes: &[u8]) -> bool {
     is_written
 }
 
-// The line of each listed step, in list order, as long as they can be written; whether all were.
-fn write_steps(manifest: &[u8], steps: &[u32], line: &mut [u8]) -> bool
-    requires { ⌜ lineRoom ≤ length (now line) ⌝ }
+// The lines of all listed steps, in list order, as many at once as have their texts in the buffers, as long as they can be written; whether
+// all were. The texts of the first `held` steps are in the buffers.
+fn write_steps(
+    manifest: &[u8],
+    steps: &[u32],
+    held: usize,
+    bytes: &mut [u8],
+    ends: &mut [u32],
+    out: &mut [u8],
+) -> bool
+    requires { ⌜ ToWrite (now manifest) (now steps) (now bytes) (now ends) (now out) 0 held ⌝ }
 {
-    let mut k = 0;
-    while k < steps.len() {
-        let n = step_line(manifest, at(steps, k), k + 1, steps.len(), line);
-        if !write(&line[..n]) {
+    let mut place = 0;
+    let mut held = held;
+    while place < steps.len() {
+        let made = next_lines(manifest, steps, place, held, bytes, ends, out);
+        if !write(&out[..made.bytes]) {
             return false;
         }
-        k += 1;
+        place += made.steps;
+        held = 0;
     }
     true
 }
@@ -108,22 +120,37 @@ fn answer(
     card: &[u8],
     targets: &[u8],
     list: &mut [u32],
-    line: &mut [u8],
+    bytes: &mut [u8],
+    ends: &mut [u32],
+    out: &mut [u8],
 ) -> Outcome
-    requires { ⌜ Rooms (now list) (now line) ⌝ }
+    requires { ⌜ AnswerRooms (now list) (now bytes) (now ends) (now out) ⌝ }
 {
-    match begin(manifest, card, targets, list, line) {
-        Begun::Whole(n) => written(write(&line[..n]), Outcome::Done),
-        Begun::Refusal(n) => written(write(&line[..n]), Outcome::Refused),
-        Begun::Steps(n) => written(write_steps(manifest, &list[..n], line), Outcome::Done),
+    match begin(manifest, card, targets, list, out, bytes, ends) {
+        Begun::Whole(n) => written(write(&out[..n]), Outcome::Done),
+        Begun::Refusal(n) => written(write(&out[..n]), Outcome::Refused),
+        Begun::Steps(n, held) => written(
+            write_steps(manifest, &list[..n], held, bytes, ends, out),
+            Outcome::Done,
+        ),
     }
 }
 
 // The same, with the working space.
 fn run(manifest: &[u8], card: &[u8], targets: &[u8]) -> Outcome {
     let mut list = [0u32; LIST];
-    let mut line = [0u8; LINE];
-    answer(manifest, card, targets, &mut list, &mut line)
+    let mut bytes = [0u8; TEXTS];
+    let mut ends = [0u32; LIST];
+    let mut out = [0u8; OUT];
+    answer(
+        manifest,
+        card,
+        targets,
+        &mut list,
+        &mut bytes,
+        &mut ends,
+        &mut out,
+    )
 }
 
 // Reads what is asked, one byte more than each limit, so that what is over its limit is seen to be, and answers.

@@ -11,8 +11,8 @@ use Rattle.lists.specs.Fill.{zeroed}
 use Rattle.lists.specs.Text.{bytes}
 use Rattle.spec.specs.Answers.{Said}
 use Rattle.spec.specs.Promises.{filled, refused14}
-use Rattle.printing.specs.Lines.{decimal, worded, refusedText, refusedLine, spaced, circleLine, circleOutput, headOf}
-use Rattle.printing.specs.Writes.{PutsInLine, PutsUpTo, LeavesOutput}
+use Rattle.printing.specs.Lines.{decimal, worded, refusedText, refusedLine, spaced, circleLine, circleOutput, headOf, stepLineOf}
+use Rattle.printing.specs.Writes.{stepRoom, PutsInLine, PutsUpTo, LeavesOutput}
 use Rattle.printing.proofs.Digits.{decimal-of}
 
 pub put-law : (s d e : List ℕ) (at r : ℕ) → at + length s ≤ length d → e ≡ paste d at s (length s) → r ≡ at + length s → PutsInLine s d at e r
@@ -105,10 +105,16 @@ pub refused-law : (s : Said) {d e f : List ℕ} {m r : ℕ} → PutsUpTo 28 (wor
 unfolding refusedText
 refused-law s p q = up-to-then p q
 
-pub head-law : (k n : ℕ) {d e f g : List ℕ} {i j r : ℕ} → PutsUpTo 21 (worded (bytes "[") k) d 0 e i → PutsUpTo 21 (worded (bytes "/") n) e i f j → PutsInLine (bytes "] ") f j g r
-    → PutsUpTo 44 (headOf k n) d 0 g r
+pub head-law : (k n : ℕ) {d e f g : List ℕ} {at i j r : ℕ} → PutsUpTo 21 (worded (bytes "[") k) d at e i → PutsUpTo 21 (worded (bytes "/") n) e i f j
+    → PutsInLine (bytes "] ") f j g r → PutsUpTo 44 (headOf k n) d at g r
 unfolding headOf
 head-law k n p q s = up-to-then (up-to-then p q) (up-to-length s)
+
+-- the head, the text and the line end
+pub step-law : (k n : ℕ) {t d e f g : List ℕ} {at i j r : ℕ} → PutsUpTo 44 (headOf k n) d at e i → PutsInLine t e i f j → PutsInLine (10 ∷ []) f j g r
+    → PutsUpTo (length t + stepRoom) (stepLineOf k n t) d at g r
+unfolding stepLineOf
+step-law k n p q s = record { puts = puts-then (puts-then (p .puts) q) s; short = omega (arith, p .short, q .end, s .end) }
 
 pub said-refused : (s : Said) {d e f : List ℕ} {m r : ℕ} → length e ≡ length d → PutsUpTo 52 (refusedText s) d 0 e m → LeavesOutput (take m e ++ (10 ∷ [])) e r f
     → LeavesOutput (refusedLine s) d r f

@@ -10,6 +10,10 @@ use Rattle.spec.specs.Promises.{filled}
 abbrev pub lineRoom : ℕ
 lineRoom = maxText + 8 * maxSteps
 
+-- what a step's line takes beside its text, at most: two numbers of twenty digits, and `[`, `/`, `] ` and a line end
+abbrev pub stepRoom : ℕ
+stepRoom = 45
+
 -- s is written from place `at` on, up to place r
 pub record PutsInLine (s entry : List ℕ) (at : ℕ) (exit : List ℕ) (r : ℕ) : Type 0 where
   pub end : r ≡ at + length s

@@ -3,17 +3,12 @@ ghost use mathlib.Core.List.{_∷_, [], _++_};
 ghost use Prim.Native.Nat.{_+_, _*_, _≤_, _<_};
 ghost use lib.ListN.{length, take};
 ghost use Rattle.answers.specs.Numbers.{said};
-ghost use Rattle.printing.specs.Lines.{decimal, worded, noWork, refusedText, refusedLine, spaced, circleOutput, headOf};
-ghost use Rattle.printing.specs.Writes.{lineRoom, PutsInLine, PutsUpTo, LeavesOutput};
+ghost use Rattle.printing.specs.Lines.{decimal, worded, noWork, refusedText, refusedLine, spaced, circleOutput, headOf, stepLineOf};
+ghost use Rattle.printing.specs.Writes.{lineRoom, stepRoom, PutsInLine, PutsUpTo, LeavesOutput};
 use answers::Numbers;
 use slices::bytes::copy_at;
 use slices::bytes::zero_from;
 use slices::words::at;
-use spec::limits::STEPS;
-use spec::limits::TEXT;
-
-// Room for a line of any kind: a step's line, or a refusal with a circle of all steps.
-pub const LINE: usize = TEXT + 8 * STEPS;
 
 // Writes s from place `from` on, and gives the place behind it.
 fn put(line: &mut [u8], from: usize, s: &[u8]) -> usize
@@ -44,7 +39,7 @@ fn put_worded(line: &mut [u8], from: usize, word: &[u8], n: usize) -> usize
 }
 
 // Ends a line, and clears all that lies behind it.
-pub fn end_line(line: &mut [u8], from: usize) -> usize
+fn end_line(line: &mut [u8], from: usize) -> usize
     requires { ⌜ from < length (now line) ⌝ }
     ensures { λ r. ⌜ LeavesOutput (take from (now (line .entry)) ++ (10 ∷ [])) (now (line .entry)) r (now (line .exit)) ⌝ }
 {
@@ -112,11 +107,21 @@ pub fn say_circle(line: &mut [u8], circle: &[u32]) -> usize
 }
 
 // The start of a step's line: its place in the list, and the list's length.
-pub fn put_head(line: &mut [u8], place: usize, count: usize) -> usize
-    requires { ⌜ lineRoom ≤ length (now line) ⌝ }
-    ensures { λ r. ⌜ PutsUpTo 44 (headOf place count) (now (line .entry)) 0 (now (line .exit)) r ⌝ }
+fn put_head(line: &mut [u8], from: usize, place: usize, count: usize) -> usize
+    requires { ⌜ from + 44 ≤ length (now line) ⌝ }
+    ensures { λ r. ⌜ PutsUpTo 44 (headOf place count) (now (line .entry)) from (now (line .exit)) r ⌝ }
 {
-    let slash = put_worded(line, 0, b"[", place);
+    let slash = put_worded(line, from, b"[", place);
     let bracket = put_worded(line, slash, b"/", count);
     put(line, bracket, b"] ")
+}
+
+// "a line for each listed step, with its place in the list, the list's length and its `command` text", from place `from` on.
+pub fn put_step(line: &mut [u8], from: usize, place: usize, count: usize, text: &[u8]) -> usize
+    requires { ⌜ from + (length (now text) + stepRoom) ≤ length (now line) ⌝ }
+    ensures { λ r. ⌜ PutsUpTo (length (now (text .entry)) + stepRoom) (stepLineOf place count (now (text .entry))) (now (line .entry)) from (now (line .exit)) r ⌝ }
+{
+    let named = put_head(line, from, place, count);
+    let behind = put(line, named, text);
+    put(line, behind, b"\n")
 }

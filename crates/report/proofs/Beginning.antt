@@ -4,8 +4,8 @@ use native.Mathlib.Omega.{arith}
 use mathlib.Core.List.{List, [], _∷_, append-nil}
 use mathlib.Core.Path.{_≡_, refl, sym, _∙_, ap}
 use borrow.Author.Tests.{eq-eqb, ne-eqb, eqb-false}
-use lib.ListN.{length, take, replicate}
-use lib.Seq.{drop-length}
+use lib.ListN.{length, take, replicate, length-take}
+use lib.Seq.{drop-length, take-length, take-take}
 use Rattle.lists.specs.Fill.{zeroed}
 use Rattle.spec.specs.Answers.{Said, numberOfRefusal}
 use Rattle.spec.specs.PlanAsk.{Inputs, PlanOutcome, listed, circular, noPlan, planAsk}
@@ -17,23 +17,26 @@ use Rattle.printing.specs.Writes.{LeavesOutput}
 use Rattle.report.specs.declared.Begun.{Begun}
 use Rattle.report.specs.declared.Begun.the-variants.{Whole, Refusal, Steps}
 use Rattle.report.specs.Output.{Checks, fine, stopped, checkTexts, checkedOutput, listOutput, stepLines, Outputs}
-use Rattle.report.specs.Begins.{wholeOutput, refusing, checkedOpening, listOpening, planOpening, OpensReport, writtenBy, BegunWithin, Rooms, Planned, BeginsReport}
+use Rattle.report.specs.Begins.{whole, refusal, toCome, startsAs, wholeOutput, refusing, checkedOpening, listOpening, planOpening, OpensReport, HeldBy, OpensHolding, writtenBy, StartWithin, Rooms, Planned, BeginsReport}
+use Rattle.report.specs.declared.Checked.the-variants.{All, Refused}
+use Rattle.report.specs.Held.{AllFine, CheckedIs}
 use Rattle.report.proofs.Early.{not-0, not-14}
 use Rattle.report.proofs.Texts.{front-filled, fits-filled}
 
 pub opens-whole : {out d f : List ℕ} {n : ℕ} → LeavesOutput out d n f → OpensReport (wholeOutput out) d (Whole n) f
 unfolding wholeOutput
-opens-whole l = record { begun = ap Whole (l .count); left = l .left }
+opens-whole l = record { begun = ap whole (l .count); left = l .left }
 
 pub opens-refusal : {out d f : List ℕ} {n : ℕ} → LeavesOutput out d n f → OpensReport (refusing out) d (Refusal n) f
 unfolding refusing
-opens-refusal l = record { begun = ap Refusal (l .count); left = l .left }
+opens-refusal l = record { begun = ap refusal (l .count); left = l .left }
 
 -- ---- a list
 
-pub list-none : (manifest steps : List ℕ) {d f : List ℕ} {n : ℕ} → length steps ≡ 0 → LeavesOutput noWork d n f → OpensReport (listOpening manifest steps) d (Whole n) f
+pub list-none : (manifest steps : List ℕ) {d f bytes ends : List ℕ} {n : ℕ} → length steps ≡ 0 → LeavesOutput noWork d n f
+    → OpensHolding (listOpening manifest steps) manifest steps d (Whole n) f bytes ends
 unfolding listOpening
-list-none manifest [] e l = opens-whole l
+list-none manifest [] e l = record { opens = opens-whole l; held = tt }
 list-none manifest (s ∷ steps) e l = absurd (omega arith)
 
 list-some : (manifest steps : List ℕ) → (length steps ≡ 0 → ⊥) → listOpening manifest steps ≡ checkedOpening (length steps) (checkTexts manifest steps)
@@ -41,22 +44,45 @@ unfolding listOpening
 list-some manifest [] e = absurd (e refl)
 list-some manifest (s ∷ steps) e = refl
 
-pub list-fine : (manifest steps d e f : List ℕ) → (length steps ≡ 0 → ⊥) → fine ≡ checkTexts manifest steps → length e ≡ length d → f ≡ zeroed e 0 (length e)
-    → OpensReport (listOpening manifest steps) d (Steps (length steps)) f
-unfolding checkedOpening zeroed filled
-list-fine manifest steps d e f h c k w =
-    let o : listOpening manifest steps ≡ checkedOpening (length steps) fine = list-some manifest steps h ∙ ap (checkedOpening (length steps)) (sym c) in
-    rw o
-    (record { begun = refl; left = w ∙ rw (drop-length e, k) (append-nil (replicate (length d - 0) 0)) })
+pub list-fine : (manifest steps d f bytes ends : List ℕ) (n : ℕ) → (length steps ≡ 0 → ⊥) → CheckedIs manifest steps bytes ends (All n) → f ≡ zeroed d 0 (length d)
+    → OpensHolding (listOpening manifest steps) manifest steps d (Steps (length steps) n) f bytes ends
+unfolding checkedOpening zeroed filled CheckedIs
+list-fine manifest steps d f bytes ends n h c w =
+    let o : listOpening manifest steps ≡ checkedOpening (length steps) fine = list-some manifest steps h ∙ ap (checkedOpening (length steps)) (sym (c .fine)) in
+    let t : take (length steps) steps ≡ steps = take-length steps in
+    record {
+      opens = rw o (record { begun = refl; left = w ∙ rw (drop-length d) (append-nil (replicate (length d - 0) 0)) });
+      held = rw t c;
+    }
 
-pub list-stopped : (manifest steps d e f : List ℕ) (s : Said) {n : ℕ} → (length steps ≡ 0 → ⊥) → stopped s ≡ checkTexts manifest steps → length e ≡ length d
-    → LeavesOutput (refusedLine s) e n f → OpensReport (listOpening manifest steps) d (Refusal n) f
-unfolding checkedOpening filled
-list-stopped manifest steps d e f s {n} h c k l =
-    let o : listOpening manifest steps ≡ refusing (refusedLine s) = list-some manifest steps h ∙ ap (checkedOpening (length steps)) (sym c) in
-    rw o (opens-refusal {d = d} (record { count = l .count; left = rw k at (l .left) }))
+pub list-stopped : (manifest steps d f bytes ends : List ℕ) (x : Two) {n : ℕ} → (length steps ≡ 0 → ⊥) → CheckedIs manifest steps bytes ends (Refused x)
+    → LeavesOutput (refusedLine (said x)) d n f → OpensHolding (listOpening manifest steps) manifest steps d (Refusal n) f bytes ends
+unfolding checkedOpening CheckedIs
+list-stopped manifest steps d f bytes ends x {n} h c l =
+    let o : listOpening manifest steps ≡ refusing (refusedLine (said x)) = list-some manifest steps h ∙ ap (checkedOpening (length steps)) (sym c) in
+    record { opens = rw o (opens-refusal l); held = tt }
 
 -- ---- by the plan's numbers
+
+no-whole : {A : Type 0} {n m : ℕ} → toCome n ≡ whole m → A
+no-whole e = absurd (let z : _≡_ {A = ℕ} 0 1 = cc in omega arith)
+
+no-refusal : {A : Type 0} {n m : ℕ} → toCome n ≡ refusal m → A
+no-refusal e = absurd (let z : _≡_ {A = ℕ} 0 1 = cc in omega arith)
+
+same-steps : {n m : ℕ} → toCome n ≡ toCome m → n ≡ m
+same-steps e = cc
+
+few-checked : {n : ℕ} (m : ℕ) (c : Checks) → toCome n ≡ checkedOpening m c .begun → n ≤ m
+unfolding checkedOpening refusing
+few-checked {n} m fine e = omega (arith, same-steps e)
+few-checked {n} m (stopped s) e = no-refusal e
+
+-- Lines are to come of as many steps as there are.
+few-begun : (manifest l : List ℕ) {n : ℕ} → toCome n ≡ listOpening manifest l .begun → n ≤ length l
+unfolding listOpening wholeOutput
+few-begun manifest [] e = no-whole e
+few-begun manifest (s ∷ l) e = few-checked (length (s ∷ l)) (checkTexts manifest (s ∷ l)) e
 
 module _ (manifest : List ℕ) (s : Said) (list : List ℕ) where
   planned-list : s .number ≡ 0 → planOpening manifest s list ≡ listOpening manifest (take (s .value) list)
@@ -71,14 +97,28 @@ module _ (manifest : List ℕ) (s : Said) (list : List ℕ) where
   unfolding planOpening
   planned-refused a b = rw (ne-eqb (s .number) 0 a, ne-eqb (s .number) 14 b)
 
-  pub opens-list : {d f : List ℕ} {r : Begun} → s .number ≡ 0 → OpensReport (listOpening manifest (take (s .value) list)) d r f → OpensReport (planOpening manifest s list) d r f
-  opens-list e p = rw (planned-list e) p
+  -- the steps are the first of the list
+  held-list : (r : Begun) (bytes ends : List ℕ) → startsAs r ≡ listOpening manifest (take (s .value) list) .begun → HeldBy r manifest (take (s .value) list) bytes ends
+      → HeldBy r manifest list bytes ends
+  held-list (Whole n) bytes ends e h = tt
+  held-list (Refusal n) bytes ends e h = tt
+  held-list (Steps n k) bytes ends e h =
+      let a : n ≤ s .value = omega (arith, few-begun manifest (take (s .value) list) e, length-take (s .value) list) in
+      let b : take n (take (s .value) list) ≡ take n list = take-take n (s .value) list a in
+      rw b at h
 
-  pub opens-circle : {d f : List ℕ} {n : ℕ} → s .number ≡ 14 → LeavesOutput (circleOutput (take (s .value) list)) d n f → OpensReport (planOpening manifest s list) d (Refusal n) f
-  opens-circle e p = rw (planned-circle e) (opens-refusal p)
+  pub opens-list : {d f bytes ends : List ℕ} {r : Begun} → s .number ≡ 0
+      → OpensHolding (listOpening manifest (take (s .value) list)) manifest (take (s .value) list) d r f bytes ends
+      → OpensHolding (planOpening manifest s list) manifest list d r f bytes ends
+  opens-list {bytes = bytes} {ends = ends} {r = r} e p = record { opens = rw (planned-list e) (p .opens); held = held-list r bytes ends (p .opens .begun) (p .held) }
 
-  pub opens-refused : {d f : List ℕ} {n : ℕ} → (s .number ≡ 0 → ⊥) → (s .number ≡ 14 → ⊥) → LeavesOutput (refusedLine s) d n f → OpensReport (planOpening manifest s list) d (Refusal n) f
-  opens-refused a b p = rw (planned-refused a b) (opens-refusal p)
+  pub opens-circle : {d f bytes ends : List ℕ} {n : ℕ} → s .number ≡ 14 → LeavesOutput (circleOutput (take (s .value) list)) d n f
+      → OpensHolding (planOpening manifest s list) manifest list d (Refusal n) f bytes ends
+  opens-circle e p = record { opens = rw (planned-circle e) (opens-refusal p); held = tt }
+
+  pub opens-refused : {d f bytes ends : List ℕ} {n : ℕ} → (s .number ≡ 0 → ⊥) → (s .number ≡ 14 → ⊥) → LeavesOutput (refusedLine s) d n f
+      → OpensHolding (planOpening manifest s list) manifest list d (Refusal n) f bytes ends
+  opens-refused a b p = record { opens = rw (planned-refused a b) (opens-refusal p); held = tt }
 
 -- ---- a list and a circle fit
 
@@ -102,40 +142,40 @@ module _ (i : Inputs) (room : ℕ) where
         circle-fits = λ (z : s .number ≡ 14). absurd (eqb-false (numberOfRefusal r) 14 (not-14 i room e) (sym n ∙ z));
       }
 
-  pub planned : (list exit line : List ℕ) (n : Two) (s : Said) → Rooms list line → said n ≡ s → length exit ≡ length list
-      → PlanMeets (planAsk i room) list s exit → Planned n exit line
-  planned list exit line n s h e k m =
+  pub planned : (list exit line bytes ends : List ℕ) (n : Two) (s : Said) → Rooms list line bytes ends → said n ≡ s → length exit ≡ length list
+      → PlanMeets (planAsk i room) list s exit → Planned n exit line bytes ends
+  planned list exit line bytes ends n s h e k m =
       let f : Fits s (length exit) = plan-fits (planAsk i room) refl list exit s k m in
       let a : n .number ≡ s .number = ap (λ (x : Said). x .number) e in
       let b : n .value ≡ s .value = ap (λ (x : Said). x .value) e in
       record {
         listed = λ (z : n .number ≡ 0). omega (arith, f .listed-fits (sym a ∙ z));
         shown = λ (z : n .number ≡ 14). omega (arith, f .circle-fits (sym a ∙ z));
-        rooms = record { list-room = k ∙ h .list-room; line-room = h .line-room };
+        rooms = record { list-room = k ∙ h .list-room; line-room = h .line-room; texts = h .texts };
       }
 
 -- ---- what is written in all
 
 record Right (manifest : List ℕ) (o : PlanOutcome) (r : Begun) (list line : List ℕ) : Type 0 where
-  within : BegunWithin r list line
-  right : Outputs manifest o (writtenBy r manifest list line)
+  within : StartWithin (startsAs r) list line
+  right : Outputs manifest o (writtenBy (startsAs r) manifest list line)
 
 -- where the line holds it wholeOutput
 whole-written : (manifest list out line : List ℕ) {r : Begun} {exit : List ℕ} → length exit ≡ length line → OpensReport (wholeOutput out) line r exit
-    → (BegunWithin r list exit) × (writtenBy r manifest list exit ≡ out)
+    → (StartWithin (startsAs r) list exit) × (writtenBy (startsAs r) manifest list exit ≡ out)
 unfolding wholeOutput writtenBy
 whole-written manifest list out line {r} {exit} k p =
     (rw (p .begun) (omega (arith, fits-filled out line exit (p .left) k)), rw (p .begun, p .left) (front-filled out line))
 
 refusal-written : (manifest list out line : List ℕ) {r : Begun} {exit : List ℕ} → length exit ≡ length line → OpensReport (refusing out) line r exit
-    → (BegunWithin r list exit) × (writtenBy r manifest list exit ≡ out)
+    → (StartWithin (startsAs r) list exit) × (writtenBy (startsAs r) manifest list exit ≡ out)
 unfolding refusing writtenBy
 refusal-written manifest list out line {r} {exit} k p =
     (rw (p .begun) (omega (arith, fits-filled out line exit (p .left) k)), rw (p .begun, p .left) (front-filled out line))
 
 -- where the steps' lines are to come
 steps-written : (manifest l list line listExit : List ℕ) {r : Begun} {exit : List ℕ} → length listExit ≡ length list → listExit ≡ filled l list
-    → OpensReport (checkedOpening (length l) fine) line r exit → (BegunWithin r listExit exit) × (writtenBy r manifest listExit exit ≡ stepLines manifest (length l) 0 l)
+    → OpensReport (checkedOpening (length l) fine) line r exit → (StartWithin (startsAs r) listExit exit) × (writtenBy (startsAs r) manifest listExit exit ≡ stepLines manifest (length l) 0 l)
 unfolding checkedOpening writtenBy
 steps-written manifest l list line listExit {r} {exit} k w p = (
   rw (p .begun) (omega (arith, fits-filled l list listExit w k)),
@@ -143,13 +183,13 @@ steps-written manifest l list line listExit {r} {exit} k w p = (
 )
 
 checked-written : (manifest l list line listExit : List ℕ) {r : Begun} {exit : List ℕ} (c : Checks) → length listExit ≡ length list → listExit ≡ filled l list
-    → length exit ≡ length line → OpensReport (checkedOpening (length l) c) line r exit → (BegunWithin r listExit exit) × (writtenBy r manifest listExit exit ≡ checkedOutput manifest l c)
+    → length exit ≡ length line → OpensReport (checkedOpening (length l) c) line r exit → (StartWithin (startsAs r) listExit exit) × (writtenBy (startsAs r) manifest listExit exit ≡ checkedOutput manifest l c)
 unfolding checkedOutput checkedOpening
 checked-written manifest l list line listExit fine k w j p = steps-written manifest l list line listExit k w p
 checked-written manifest l list line listExit (stopped s) k w j p = refusal-written manifest listExit (refusedLine s) line j p
 
 list-written : (manifest l list line listExit : List ℕ) {r : Begun} {exit : List ℕ} → length listExit ≡ length list → listExit ≡ filled l list
-    → length exit ≡ length line → OpensReport (listOpening manifest l) line r exit → (BegunWithin r listExit exit) × (writtenBy r manifest listExit exit ≡ listOutput manifest l)
+    → length exit ≡ length line → OpensReport (listOpening manifest l) line r exit → (StartWithin (startsAs r) listExit exit) × (writtenBy (startsAs r) manifest listExit exit ≡ listOutput manifest l)
 unfolding listOutput listOpening
 list-written manifest [] list line listExit k w j p = whole-written manifest listExit noWork line j p
 list-written manifest (s ∷ l) list line listExit k w j p = checked-written manifest (s ∷ l) list line listExit (checkTexts manifest (s ∷ l)) k w j p
@@ -180,20 +220,23 @@ module _ (i : Inputs) (room : ℕ) (list line listExit : List ℕ) {r : Begun} {
       let b = refusal-written (i .manifest) listExit (refusedLine s) line j q in
       record { within = b .0; right = b .1 ∙ ap refusedLine (m .says) }
 
-pub begins : (i : Inputs) (list line listExit : List ℕ) {r : Begun} {exit : List ℕ} (n : Two) (s : Said) → said n ≡ s → length listExit ≡ length list
-    → length exit ≡ length line → PlanMeets (planAsk i (length list)) list s listExit
-    → OpensReport (planOpening (i .manifest) (said n) listExit) line r exit → BeginsReport i list line r listExit exit
-begins i list line listExit {r} {exit} n s e k j m p =
-    let q : OpensReport (planOpening (i .manifest) s listExit) line r exit = rw e at p in
+pub begins : (i : Inputs) (list line listExit : List ℕ) {bytes ends : List ℕ} {r : Begun} {exit : List ℕ} (n : Two) (s : Said) → said n ≡ s
+    → length listExit ≡ length list → length exit ≡ length line → PlanMeets (planAsk i (length list)) list s listExit
+    → OpensHolding (planOpening (i .manifest) (said n) listExit) (i .manifest) listExit line r exit bytes ends → BeginsReport i list line r listExit exit bytes ends
+begins i list line listExit {bytes} {ends} {r} {exit} n s e k j m p =
+    let q : OpensReport (planOpening (i .manifest) s listExit) line r exit = rw e at (p .opens) in
     let x = plan-right i (length list) list line listExit s k j q (planAsk i (length list)) refl m in
-    record { says = s; planned = m; opens = q; within = x .within; right = x .right }
+    record { says = s; planned = m; opens = q; held = p .held; within = x .within; right = x .right }
 
 -- What is to be read of the line and of the list lies within them.
-pub whole-within : {r : Begun} {n : ℕ} (list line : List ℕ) → r ≡ Whole n → BegunWithin r list line → n ≤ length line
+pub whole-within : {r : Begun} {n : ℕ} (list line : List ℕ) → r ≡ Whole n → StartWithin (startsAs r) list line → n ≤ length line
 whole-within {r} {n} list line e w = rw e at w
 
-pub refusal-within : {r : Begun} {n : ℕ} (list line : List ℕ) → r ≡ Refusal n → BegunWithin r list line → n ≤ length line
+pub refusal-within : {r : Begun} {n : ℕ} (list line : List ℕ) → r ≡ Refusal n → StartWithin (startsAs r) list line → n ≤ length line
 refusal-within {r} {n} list line e w = rw e at w
 
-pub steps-within : {r : Begun} {n : ℕ} (list line : List ℕ) → r ≡ Steps n → BegunWithin r list line → n ≤ length list
-steps-within {r} {n} list line e w = rw e at w
+pub steps-within : {r : Begun} {n h : ℕ} (list line : List ℕ) → r ≡ Steps n h → StartWithin (startsAs r) list line → n ≤ length list
+steps-within {r} {n} {h} list line e w = rw e at w
+
+pub steps-held : {r : Begun} {n h : ℕ} (manifest list bytes ends : List ℕ) → r ≡ Steps n h → HeldBy r manifest list bytes ends → AllFine manifest (take n list) bytes ends h
+steps-held {r} {n} {h} manifest list bytes ends e w = rw e at w

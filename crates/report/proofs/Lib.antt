@@ -1,3 +1,4 @@
 pub mod Beginning
 pub mod Early
+pub mod Rounds
 pub mod Texts

@@ -1,22 +1,30 @@
--- A step's text as the program asks for it: what the ask says, the check of all texts, a step's line.
-use Prim.Native.Nat.{ℕ, _+_, _-_, _≤_, _<_}
-use native.Mathlib.Numerals.{add-one}
+-- Texts in the buffers: what a reading for them gives, and the check of all texts.
+use Prim.Native.Nat.{ℕ, zero, suc, _+_, _-_, _≤_, _<_}
 use native.Mathlib.Omega.{arith}
+use mathlib.Core.Bool.{true, false}
 use mathlib.Core.List.{List, [], _∷_, _++_, append-assoc}
 use mathlib.Core.Path.{_≡_, refl, sym, _∙_, ap}
-use lib.ListN.{length, take, drop, getD, replicate, length-append, length-replicate, length-take, length-drop}
-use lib.Seq.{drop-cons, take-append-seam, drop-length, take-append-add}
-use Rattle.lists.specs.Parts.{part, length-part}
+use lib.ListN.{length, take, drop, getD, replicate, length-append, length-replicate}
+use lib.Seq.{take-append-seam, drop-append-seam}
+use Rattle.lists.specs.Parts.{part}
+use Rattle.lists.specs.Tests.{ifB, split}
+use Rattle.spec.specs.declared.Refusal.{Refusal}
+use Rattle.spec.specs.declared.Wanted.the-variants.{Command}
+use Rattle.spec.specs.Basics.{concat}
+use Rattle.spec.specs.Limits.{maxText}
+use Rattle.spec.specs.Answers.{Said, refusalSays, numberOfRefusal}
+use Rattle.spec.specs.Manifest.{Read, accepted, refusedWith, readManifest}
+use Rattle.spec.specs.TextAsk.{TextOutcome, text, noText, textRead, textAsk}
+use Rattle.spec.specs.Promises.{filled, counts}
 use Rattle.answers.specs.declared.Numbers.{Numbers as Two}
 use Rattle.answers.specs.Numbers.{said}
-use Rattle.spec.specs.declared.Wanted.the-variants.{Command}
-use Rattle.spec.specs.Limits.{maxText}
-use Rattle.spec.specs.Answers.{numberOfRefusal, Said}
-use Rattle.spec.specs.TextAsk.{TextOutcome, text, noText, textAsk}
-use Rattle.spec.specs.Promises.{filled, TextMeets}
-use Rattle.printing.specs.Lines.{refusedLine, headOf, stepLineOf}
-use Rattle.printing.specs.Writes.{PutsUpTo, LeavesOutput}
-use Rattle.report.specs.Output.{commandText, outcomeSays, Checks, fine, stopped, afterText, checkTexts, stepLine}
+use Rattle.text_batch.specs.declared.TextsAnswer.the-variants.{Written, Refused}
+use Rattle.text_batch.specs.TextsAsk.{TextsOutcome, texts, noTexts, inFront, onText, hasRoom, textsFrom, endable, textsAsk, endsFrom}
+use Rattle.text_batch.specs.TextsPromise.{textsSays, Are, TextsMeets}
+use Rattle.text_batch.proofs.Asked.{onRead, each-asked, texts-leading, texts-progress}
+use Rattle.report.specs.declared.Asked.the-variants.{Held, Refused as NotHeld}
+use Rattle.report.specs.Output.{commandText, stopped, afterText, checkTexts, stepLine, stepLines}
+use Rattle.report.specs.Held.{TextsInOrder, cutTexts, AreCommands, textLines, TextsWanted, HoldsSome, AskedIs}
 use Rattle.report.proofs.Early.{not-0}
 
 -- What is filled begins with what it is filled with, which fits.
@@ -30,146 +38,160 @@ fits-filled l lent exit e h =
     let a : length exit ≡ length l + length (replicate {0} {A = ℕ} (length lent - length l) 0) = ap length e ∙ length-append l (replicate (length lent - length l) 0) in
     omega (arith, length-replicate {A = ℕ} (length lent - length l) 0)
 
--- ---- what the ask says
+-- ---- texts end to end, cut where they end
 
-meets-says : (o : TextOutcome) (lent exit : List ℕ) (s : Said) → TextMeets o lent s exit → s ≡ outcomeSays o
-unfolding TextMeets outcomeSays
-meets-says (text t) lent exit s m = m .says
-meets-says (noText r) lent exit s m = m .says
+regroup : (p t c r : List ℕ) → p ++ (t ++ c ++ r) ≡ p ++ t ++ (c ++ r)
+regroup p t c r = simp append-assoc
 
--- by a buffer of 8,192 bytes
-pub says-command : (manifest : List ℕ) (step : ℕ) (lent exit : List ℕ) (s : Said) → length lent ≡ maxText
-    → TextMeets (textAsk manifest step Command (length lent)) lent s exit → s ≡ outcomeSays (commandText manifest step)
-unfolding commandText
-says-command manifest step lent exit s k m = rw k at (meets-says (textAsk manifest step Command (length lent)) lent exit s m)
+cut-one : (p t r : List ℕ) → part (p ++ (t ++ r)) (length p) (length p + length t) ≡ t
+cut-one p t r =
+    let z : length p + length t - length p ≡ length t = omega arith in
+    rw (z, drop-append-seam p (t ++ r)) (take-append-seam t r)
 
--- ---- the check of all texts
+cut-ends : (p : List ℕ) (ts : List (List ℕ)) (r : List ℕ) → cutTexts (p ++ (concat ts ++ r)) (length p) (endsFrom (length p) ts) ≡ ts
+unfolding cutTexts endsFrom concat
+cut-ends p [] r = refl
+cut-ends p (t ∷ ts) r =
+    let k : length (p ++ t) ≡ length p + length t = length-append p t in
+    let a : p ++ (t ++ concat ts ++ r) ≡ p ++ (t ++ (concat ts ++ r)) = ap (λ (l : List ℕ). p ++ l) (append-assoc t (concat ts) r) in
+    let one : part (p ++ (t ++ concat ts ++ r)) (length p) (length p + length t) ≡ t = rw a (cut-one p t (concat ts ++ r)) in
+    let more : cutTexts (p ++ (t ++ concat ts ++ r)) (length p + length t) (endsFrom (length p + length t) ts) ≡ ts =
+    rw (regroup p t (concat ts) r, ← k) (cut-ends (p ++ t) ts r) in
+    rw (one, more)
 
-says-fine : (o : TextOutcome) (rest : Checks) → outcomeSays o .number ≡ 0 → afterText o rest ≡ rest
-unfolding outcomeSays afterText numberOfRefusal
-says-fine (text t) rest e = refl
-says-fine (noText r) rest e = absurd (not-0 r e)
+order-ends : (p : List ℕ) (ts : List (List ℕ)) (r : List ℕ) → TextsInOrder (p ++ (concat ts ++ r)) (length p) (endsFrom (length p) ts)
+unfolding TextsInOrder endsFrom concat
+order-ends p [] r = tt
+order-ends p (t ∷ ts) r =
+    let k : length (p ++ t) ≡ length p + length t = length-append p t in
+    let n : length (p ++ t ++ (concat ts ++ r)) ≡ length p + length t + length (concat ts ++ r) = length-append (p ++ t) (concat ts ++ r) ∙ ap (λ (x : ℕ). x + length (concat ts ++ r)) k in
+    let more : TextsInOrder (p ++ (t ++ concat ts ++ r)) (length p + length t) (endsFrom (length p + length t) ts) = rw (regroup p t (concat ts) r, ← k) (order-ends (p ++ t) ts r) in
+    (omega arith, rw (regroup p t (concat ts) r) (omega arith), more)
 
-says-stopped : (o : TextOutcome) (rest : Checks) → (outcomeSays o .number ≡ 0 → ⊥) → afterText o rest ≡ stopped (outcomeSays o)
-unfolding outcomeSays afterText
-says-stopped (text t) rest e = absurd (e refl)
-says-stopped (noText r) rest e = refl
+many-ends : (at : ℕ) (ts : List (List ℕ)) → length (endsFrom at ts) ≡ length ts
+unfolding endsFrom
+many-ends at [] = refl
+many-ends at (t ∷ ts) = ap suc (many-ends (at + length t) ts)
 
--- the first i texts are fine
-pub record Checking (manifest steps line₀ line : List ℕ) (i : ℕ) : Type 0 where
-  pub within : i ≤ length steps
-  pub kept : length line ≡ length line₀
-  pub rest : checkTexts manifest (drop i steps) ≡ checkTexts manifest steps
+-- ---- the commands of leading steps
 
-pub checking-start : (manifest steps line : List ℕ) → Checking manifest steps line line 0
-checking-start manifest steps line = record { within = omega arith; kept = refl; rest = refl }
+module _ (manifest : List ℕ) where
+  leading-commands : (steps : List ℕ) (ts : List (List ℕ)) → length ts ≤ length steps
+      → ((i : ℕ) → i < length ts → commandText manifest (getD steps i 0) ≡ text (getD ts i [])) → AreCommands manifest (take (length ts) steps) ts
+  unfolding AreCommands
+  leading-commands steps [] h e = tt
+  leading-commands [] (t ∷ ts) h e = absurd (omega arith)
+  leading-commands (s ∷ ss) (t ∷ ts) h e = (e 0 (omega arith), leading-commands ss ts (omega arith) (λ i k. e (suc i) (omega arith)))
 
-next-check : (manifest steps : List ℕ) (i : ℕ) → i < length steps
-    → checkTexts manifest (drop i steps) ≡ afterText (commandText manifest (getD steps i 0)) (checkTexts manifest (drop (i + 1) steps))
-unfolding checkTexts
-next-check manifest steps i h = rw (add-one, drop-cons steps i 0 h)
+  -- The check goes on behind them.
+  pub commands-pass : (n : ℕ) (l : List ℕ) (ts : List (List ℕ)) → AreCommands manifest (take n l) ts → checkTexts manifest l ≡ checkTexts manifest (drop n l)
+  unfolding AreCommands checkTexts afterText
+  commands-pass zero l ts c = refl
+  commands-pass (suc n) [] ts c = refl
+  commands-pass (suc n) (s ∷ l) [] c = absurd c
+  commands-pass (suc n) (s ∷ l) (t ∷ ts) c = rw (c .0) (commands-pass n l ts (c .1))
 
-module _ {manifest steps line₀ line : List ℕ} {i : ℕ} (s : ℕ) {n : Said} (h : i < length steps) (w : s ≡ getD steps i 0)
-    (e : n ≡ outcomeSays (commandText manifest s)) (c : Checking manifest steps line₀ line i) where
-  pub checking-on : (line₁ : List ℕ) → length line₁ ≡ length line → n .number ≡ 0 → Checking manifest steps line₀ line₁ (i + 1)
-  checking-on line₁ k z =
-      let o = commandText manifest (getD steps i 0) in
-      let f : afterText o (checkTexts manifest (drop (i + 1) steps)) ≡ checkTexts manifest (drop (i + 1) steps) =
-      says-fine o _ (ap (λ (x : Said). x .number) (ap (λ (x : ℕ). outcomeSays (commandText manifest x)) (sym w)) ∙ ap (λ (x : Said). x .number) (sym e) ∙ z) in
-      record { within = omega arith; kept = k ∙ c .kept; rest = sym f ∙ sym (next-check manifest steps i h) ∙ c .rest }
+  -- Their lines are the lines of the texts.
+  pub commands-lines : (n k : ℕ) (ss : List ℕ) (ts : List (List ℕ)) → AreCommands manifest ss ts → textLines n k ts ≡ stepLines manifest n k ss
+  unfolding AreCommands textLines stepLines stepLine
+  commands-lines n k [] [] c = refl
+  commands-lines n k [] (t ∷ ts) c = absurd c
+  commands-lines n k (s ∷ ss) [] c = absurd c
+  commands-lines n k (s ∷ ss) (t ∷ ts) c = rw (c .0, commands-lines n (suc k) ss ts (c .1))
 
-  pub checking-stops : (n .number ≡ 0 → ⊥) → stopped n ≡ checkTexts manifest steps
-  checking-stops z =
-      let o = commandText manifest (getD steps i 0) in
-      let q : n ≡ outcomeSays o = e ∙ ap (λ (x : ℕ). outcomeSays (commandText manifest x)) w in
-      let f : afterText o (checkTexts manifest (drop (i + 1) steps)) ≡ stopped (outcomeSays o) =
-      says-stopped o _ (λ (y : outcomeSays o .number ≡ 0). z (ap (λ (x : Said). x .number) q ∙ y)) in
-      ap stopped q ∙ sym f ∙ sym (next-check manifest steps i h) ∙ c .rest
+-- ---- a refusal
 
-pub checking-end : {manifest steps line₀ line : List ℕ} {i : ℕ} → length steps ≤ i → Checking manifest steps line₀ line i → fine ≡ checkTexts manifest steps
-unfolding checkTexts
-checking-end {manifest} {steps} {line₀} {line} {i} h c =
-    let z : i ≡ length steps = omega (arith, c .within) in
-    rw (z, drop-length steps) at (c .rest)
+no-texts : {A : Type 0} {ts : List (List ℕ)} {r : Refusal} → texts ts ≡ noTexts r → A
+no-texts e = absurd (let z : _≡_ {A = ℕ} 0 1 = cc in omega arith)
 
--- ---- a step's line
+same-refusal : {x y : Refusal} → noTexts x ≡ noTexts y → x ≡ y
+same-refusal e = cc
 
-record Text (o : TextOutcome) (lent : List ℕ) (s : Said) (exit : List ℕ) : Type 0 where
-  bytes : List ℕ
-  outcome : o ≡ text bytes
-  counted : s .value ≡ length bytes
-  shown : exit ≡ filled bytes lent
+front-refused : (t : List ℕ) (o : TextsOutcome) {r : Refusal} → inFront t o ≡ noTexts r → o ≡ noTexts r
+unfolding inFront
+front-refused t (texts ts) e = no-texts e
+front-refused t (noTexts x) e = e
 
-text-of : (o : TextOutcome) (lent exit : List ℕ) (s : Said) → s .number ≡ 0 → TextMeets o lent s exit → Text o lent s exit
-unfolding TextMeets numberOfRefusal
-text-of (text t) lent exit s e m = record { bytes = t; outcome = refl; counted = ap (λ (x : Said). x .value) (m .says); shown = m .leaves }
-text-of (noText r) lent exit s e m = absurd (not-0 r (sym (ap (λ (x : Said). x .number) (m .says)) ∙ e))
+module _ (manifest : List ℕ) where
+  refused-on : (s : ℕ) (ss : List ℕ) (room places : ℕ) (r : Refusal) (o : TextOutcome) → commandText manifest s ≡ o
+      → ((room places : ℕ) → textsFrom (commandText manifest) ss room places ≡ noTexts r → stopped (refusalSays r) ≡ checkTexts manifest ss)
+      → onText o (λ t. ifB (hasRoom room places t) (λ _. inFront t (textsFrom (commandText manifest) ss (room - length t) (places - 1))) (λ _. texts [])) ≡ noTexts r
+      → stopped (refusalSays r) ≡ afterText o (checkTexts manifest ss)
+  unfolding afterText
+  refused-on s ss room places r (noText x) e rest q = ap (λ (y : Refusal). stopped (refusalSays y)) (sym (same-refusal q))
+  refused-on s ss room places r (text t) e rest q =
+      split (hasRoom room places t)
+      (λ (f : hasRoom room places t ≡ true).
+      rest (room - length t) (places - 1) (front-refused t (textsFrom (commandText manifest) ss (room - length t) (places - 1)) (rw f at q)))
+      (λ (f : hasRoom room places t ≡ false). no-texts (rw f at q))
 
-behind-head : (head t lent rest : List ℕ) → take (length head + length t) (head ++ (filled t lent ++ rest)) ≡ head ++ t
-unfolding filled
-behind-head head t lent rest =
-    take-append-add head (filled t lent ++ rest) (length t)
-    ∙ ap (λ (l : List ℕ). head ++ l)
-    (ap (take (length t)) (append-assoc t (replicate (length lent - length t) 0) rest) ∙ take-append-seam t (replicate (length lent - length t) 0 ++ rest))
+  from-refused : (steps : List ℕ) (room places : ℕ) (r : Refusal) → textsFrom (commandText manifest) steps room places ≡ noTexts r → stopped (refusalSays r) ≡ checkTexts manifest steps
+  unfolding textsFrom checkTexts
+  from-refused [] room places r q = no-texts q
+  from-refused (s ∷ ss) room places r q =
+      refused-on s ss room places r (commandText manifest s) refl (λ room places e. from-refused ss room places r e) q
 
-front-law : (from v : ℕ) (a head t lent exit rest : List ℕ) → a ≡ head → from ≡ length head → v ≡ length t → exit ≡ filled t lent
-    → take (from + v) (a ++ (exit ++ rest)) ≡ head ++ t
-front-law from v a head t lent exit rest ea ef ev ee = rw (ea, ef, ev, ee) (behind-head head t lent rest)
+  -- Where the manifest is refused, so is each text.
+  unread : (s : ℕ) (x : Refusal) → readManifest manifest ≡ refusedWith x → commandText manifest s ≡ noText x
+  unfolding commandText textAsk textRead
+  unread s x e = rw e
 
--- The line is as long as it was when its part comes back.
-pub back-length : (from : ℕ) (line exit : List ℕ) → from + maxText ≤ length line → length exit ≡ length (part line from (from + maxText))
-    → length (take from line ++ (exit ++ drop (from + maxText - from) (drop from line))) ≡ length line
-back-length from line exit h k =
-    let a : length exit ≡ from + maxText - from = k ∙ length-part line from (from + maxText) h in
-    simp (length-append, length-take, length-drop) (omega arith)
+  read-refused : (steps : List ℕ) (room places : ℕ) (r : Refusal) (x : Read) → readManifest manifest ≡ x → 0 < length steps
+      → onRead x (λ _. textsFrom (commandText manifest) steps room places) ≡ noTexts r → stopped (refusalSays r) ≡ checkTexts manifest steps
+  unfolding checkTexts afterText
+  read-refused [] room places r x e k q = absurd (omega arith)
+  read-refused (s ∷ ss) room places r (refusedWith x) e k q = rw (unread s x e) (ap (λ (y : Refusal). stopped (refusalSays y)) (sym (same-refusal q)))
+  read-refused (s ∷ ss) room places r (accepted rd) e k q = from-refused (s ∷ ss) room places r q
 
-refused-line : (place count : ℕ) (o : TextOutcome) (s : Said) → s ≡ outcomeSays o → (s .number ≡ 0 → ⊥) → refusedLine s ≡ stepLine place count o
-unfolding outcomeSays stepLine
-refused-line place count (text t) s e z = absurd (z (ap (λ (x : Said). x .number) e))
-refused-line place count (noText r) s e z = ap refusedLine e
-
--- Only the length of the lent buffer counts.
-pub leaves-as : {out lent line f : List ℕ} {r : ℕ} → length line ≡ length lent → LeavesOutput out line r f → LeavesOutput out lent r f
-unfolding filled
-leaves-as {out} {lent} {line} {f} {r} k l = record { count = l .count; left = rw k at (l .left) }
-
--- The text was asked for into the 8,192 bytes from place `from` on.
-module _ (manifest : List ℕ) (step from : ℕ) (line exit : List ℕ) (n : Two) (s : Said) (h : from + maxText ≤ length line) (e : said n ≡ s)
-    (m : TextMeets (textAsk manifest step Command (length (part line from (from + maxText)))) (part line from (from + maxText)) s exit) where
-  room : length (part line from (from + maxText)) ≡ maxText
-  room = length-part line from (from + maxText) h ∙ (omega arith)
-
-  zero-number : n .number ≡ 0 → s .number ≡ 0
-  zero-number z = sym (ap (λ (x : Said). x .number) e) ∙ z
-
-  same-value : n .value ≡ s .value
-  same-value = ap (λ (x : Said). x .value) e
-
-  found : n .number ≡ 0 → Text (commandText manifest step) (part line from (from + maxText)) s exit
+  texts-refused : (steps : List ℕ) (room places : ℕ) (r : Refusal) → maxText ≤ room → 0 < length steps → textsAsk manifest steps Command room places ≡ noTexts r
+      → stopped (refusalSays r) ≡ checkTexts manifest steps
   unfolding commandText
-  found z = text-of (textAsk manifest step Command maxText) (part line from (from + maxText)) exit s (zero-number z) (rw room at m)
+  texts-refused steps room places r h k q =
+      read-refused steps (endable room) places r (readManifest manifest) refl k (sym (each-asked manifest steps Command room places h) ∙ q)
 
-  pub text-fits : n .number ≡ 0 → length exit ≡ length (part line from (from + maxText)) → n .value ≤ maxText
-  text-fits z k =
-      let t = found z in
-      omega (arith, same-value, t .counted, room, fits-filled (t .bytes) (part line from (from + maxText)) exit (t .shown) k)
+-- ---- what a reading gives
 
-  module _ (place count : ℕ) (lent rest : List ℕ) (p : PutsUpTo 44 (headOf place count) lent 0 line from) (k : length (take from line ++ (exit ++ rest)) ≡ length lent) where
-    front : (z : n .number ≡ 0) → take (from + n .value) (take from line ++ (exit ++ rest)) ≡ headOf place count ++ found z .bytes
-    front z =
-        let t = found z in
-        front-law from (n .value) (take from line) (headOf place count) (t .bytes) (part line from (from + maxText)) exit rest (p .puts .front) (p .puts .end ∙ omega arith)
-        (same-value ∙ t .counted) (t .shown)
+module _ (manifest steps bytes ends bytesExit endsExit : List ℕ) (w : TextsWanted steps bytes ends) where
+  held-of : (ts : List (List ℕ)) (n : ℕ) → textsAsk manifest steps Command (length bytes) (length ends) ≡ texts ts → length endsExit ≡ length ends
+      → Are (textsSays (Written n)) bytesExit endsExit (counts (length ts)) (filled (concat ts) bytes) (filled (endsFrom 0 ts) ends)
+      → HoldsSome manifest steps bytesExit endsExit n
+  unfolding textsSays commandText filled
+  held-of ts n q k a =
+      let l = texts-leading manifest Command (length bytes) (w .rooms .bytes-room) steps (length ends) ts q in
+      let c : n ≡ length ts = ap (λ (x : Said). x .value) (a .says) in
+      let p : length ts ≡ length (endsFrom 0 ts) = sym (many-ends 0 ts) in
+      let e : take (length ts) endsExit ≡ endsFrom 0 ts = rw (a .leaves-ends, p) (front-filled (endsFrom 0 ts) ends) in
+      let b : cutTexts bytesExit 0 (endsFrom 0 ts) ≡ ts = rw (a .leaves-bytes) (cut-ends [] ts (replicate (length bytes - length (concat ts)) 0)) in
+      record {
+        some = omega (arith, c, texts-progress manifest Command (length bytes) (w .rooms .bytes-room) steps (length ends) ts q (w .some) (w .rooms .ends-room));
+        held = record {
+          few = omega (arith, c, l .few);
+          placed = omega (arith, c, l .ends);
+          order = rw (c, e, a .leaves-bytes) (order-ends [] ts (replicate (length bytes - length (concat ts)) 0));
+          commands = rw (c, e, b) (leading-commands manifest steps ts (l .few) (l .each));
+        };
+      }
 
-    pub step-fine : {f : List ℕ} {r : ℕ} → n .number ≡ 0 → LeavesOutput (take (from + n .value) (take from line ++ (exit ++ rest)) ++ (10 ∷ [])) (take from line ++ (exit ++ rest)) r f
-        → LeavesOutput (stepLine place count (commandText manifest step)) lent r f
-    unfolding stepLine stepLineOf filled
-    step-fine z l =
-        let t = found z in
-        rw (t .outcome) (record { count = rw (front z) at (l .count); left = rw (front z, k) at (l .left) })
+  held-by : (o : TextsOutcome) (n : ℕ) → textsAsk manifest steps Command (length bytes) (length ends) ≡ o → length endsExit ≡ length ends
+      → TextsMeets o bytes ends (textsSays (Written n)) bytesExit endsExit → HoldsSome manifest steps bytesExit endsExit n
+  unfolding TextsMeets textsSays numberOfRefusal
+  held-by (texts ts) n q k m = held-of ts n q k m
+  held-by (noTexts r) n q k m = absurd (not-0 r (sym (ap (λ (x : Said). x .number) (m .says))))
 
-  pub step-refused : (place count : ℕ) (lent line₂ f : List ℕ) {r : ℕ} → length line₂ ≡ length lent → (n .number ≡ 0 → ⊥) → LeavesOutput (refusedLine (said n)) line₂ r f
-      → LeavesOutput (stepLine place count (commandText manifest step)) lent r f
-  step-refused place count lent line₂ f k z l =
-      let q : said n ≡ outcomeSays (commandText manifest step) = e ∙ says-command manifest step (part line from (from + maxText)) exit s room m in
-      rw (refused-line place count (commandText manifest step) (said n) q z) at (leaves-as {lent = lent} k l)
+  refused-by : (o : TextsOutcome) (r : Refusal) → textsAsk manifest steps Command (length bytes) (length ends) ≡ o
+      → TextsMeets o bytes ends (textsSays (Refused r)) bytesExit endsExit → stopped (refusalSays r) ≡ checkTexts manifest steps
+  unfolding TextsMeets textsSays numberOfRefusal
+  refused-by (texts ts) r q m = absurd (not-0 r (ap (λ (x : Said). x .number) (m .says)))
+  refused-by (noTexts x) r q m = ap stopped (m .says) ∙ texts-refused manifest steps (length bytes) (length ends) x (w .rooms .bytes-room) (w .some) q
+
+  pub asked-held : (n : ℕ) → length endsExit ≡ length ends
+      → TextsMeets (textsAsk manifest steps Command (length bytes) (length ends)) bytes ends (textsSays (Written n)) bytesExit endsExit
+      → AskedIs manifest steps bytesExit endsExit (Held n)
+  unfolding AskedIs
+  asked-held n k m = held-by (textsAsk manifest steps Command (length bytes) (length ends)) n refl k m
+
+  pub asked-refused : (r : Refusal) (x : Two) → said x ≡ refusalSays r
+      → TextsMeets (textsAsk manifest steps Command (length bytes) (length ends)) bytes ends (textsSays (Refused r)) bytesExit endsExit
+      → AskedIs manifest steps bytesExit endsExit (NotHeld x)
+  unfolding AskedIs
+  asked-refused r x e m = ap stopped e ∙ refused-by (textsAsk manifest steps Command (length bytes) (length ends)) r refl m

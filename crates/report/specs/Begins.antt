@@ -10,34 +10,39 @@ use Rattle.spec.specs.Answers.{Said}
 use Rattle.spec.specs.PlanAsk.{Inputs, planAsk}
 use Rattle.spec.specs.Promises.{filled, PlanMeets}
 use Rattle.answers.specs.declared.Numbers.{Numbers as Two}
-use Rattle.answers.specs.Numbers.{said}
 use Rattle.printing.specs.Lines.{noWork, refusedLine, circleOutput}
 use Rattle.printing.specs.Writes.{lineRoom}
-use Rattle.report.specs.declared.Checked.{Checked}
-use Rattle.report.specs.declared.Checked.the-variants.{All, Refused}
 use Rattle.report.specs.declared.Begun.{Begun}
 use Rattle.report.specs.declared.Begun.the-variants.{Whole, Refusal, Steps}
 use Rattle.report.specs.Output.{Checks, fine, stopped, checkTexts, stepLines, Outputs}
+use Rattle.report.specs.Held.{TextRooms, LineRooms, AllFine}
 
-abbrev pub checkedSays : Checked → Checks
-checkedSays All = fine
-checkedSays (Refused x) = stopped (said x)
+-- how the output begins: whole, or with the lines of so many steps still to come
+pub data Start : Type 0 where
+  whole : ℕ → Start
+  refusal : ℕ → Start
+  toCome : ℕ → Start
 
--- how the output begins: wholeOutput in the lent line, or with the lines of the steps still to come
+abbrev pub startsAs : Begun → Start
+startsAs (Whole n) = whole n
+startsAs (Refusal n) = refusal n
+startsAs (Steps n held) = toCome n
+
+-- ... with what the lent line holds
 pub record Opening : Type 0 where
-  pub begun : Begun
+  pub begun : Start
   pub bytes : List ℕ
 
 unfoldable pub wholeOutput : List ℕ → Opening
-wholeOutput out = record { begun = Whole (length out); bytes = out }
+wholeOutput out = record { begun = whole (length out); bytes = out }
 
 -- the same, of a refusal
 unfoldable pub refusing : List ℕ → Opening
-refusing out = record { begun = Refusal (length out); bytes = out }
+refusing out = record { begun = refusal (length out); bytes = out }
 
 unfoldable pub checkedOpening : ℕ → Checks → Opening
 unfolding refusing refusedLine
-checkedOpening n fine = record { begun = Steps n; bytes = [] }
+checkedOpening n fine = record { begun = toCome n; bytes = [] }
 checkedOpening n (stopped s) = refusing (refusedLine s)
 
 unfoldable pub listOpening : List ℕ → List ℕ → Opening
@@ -54,37 +59,58 @@ planOpening manifest s list =
     refusing (refusedLine s)
 
 pub record OpensReport (o : Opening) (lent : List ℕ) (r : Begun) (exit : List ℕ) : Type 0 where
-  pub begun : r ≡ o .begun
+  pub begun : startsAs r ≡ o .begun
   pub left : exit ≡ filled (o .bytes) lent
 
+-- Where lines are to come, all texts are checked, and the buffers hold those of the first steps; else the buffers were working space.
+abbrev pub HeldBy : Begun → List ℕ → List ℕ → List ℕ → List ℕ → Type 0
+HeldBy (Whole n) manifest list bytes ends = Unit {0}
+HeldBy (Refusal n) manifest list bytes ends = Unit {0}
+HeldBy (Steps n held) manifest list bytes ends = AllFine manifest (take n list) bytes ends held
+
+pub record OpensHolding (o : Opening) (manifest list lent : List ℕ) (r : Begun) (exit bytes ends : List ℕ) : Type 0 where
+  pub opens : OpensReport o lent r exit
+  pub held : HeldBy r manifest list bytes ends
+
 -- what is written in all: the bytes in the line, or the line of each listed step
-unfoldable pub writtenBy : Begun → List ℕ → List ℕ → List ℕ → List ℕ
+unfoldable pub writtenBy : Start → List ℕ → List ℕ → List ℕ → List ℕ
 unfolding stepLines
-writtenBy (Whole n) manifest list line = take n line
-writtenBy (Refusal n) manifest list line = take n line
-writtenBy (Steps n) manifest list line = stepLines manifest n 0 (take n list)
+writtenBy (whole n) manifest list line = take n line
+writtenBy (refusal n) manifest list line = take n line
+writtenBy (toCome n) manifest list line = stepLines manifest n 0 (take n list)
 
 -- how many of the line's bytes or of the list's numbers are to be read
-abbrev pub BegunWithin : Begun → List ℕ → List ℕ → Type 0
-BegunWithin (Whole n) list line = n ≤ length line
-BegunWithin (Refusal n) list line = n ≤ length line
-BegunWithin (Steps n) list line = n ≤ length list
+abbrev pub StartWithin : Start → List ℕ → List ℕ → Type 0
+StartWithin (whole n) list line = n ≤ length line
+StartWithin (refusal n) list line = n ≤ length line
+StartWithin (toCome n) list line = n ≤ length list
 
-pub record Rooms (list line : List ℕ) : Type 0 where
+pub record Rooms (list line bytes ends : List ℕ) : Type 0 where
   pub list-room : length list ≡ leastList
   pub line-room : lineRoom ≤ length line
+  pub texts : TextRooms bytes ends
+
+-- ... where the line has room for the lines of all texts too
+pub record AnswerRooms (list bytes ends out : List ℕ) : Type 0 where
+  pub rooms : Rooms list out bytes ends
+  pub lines : LineRooms bytes ends out
+
+pub record ListRooms (line bytes ends : List ℕ) : Type 0 where
+  pub line-room : lineRoom ≤ length line
+  pub texts : TextRooms bytes ends
 
 -- a list and a circle lie within the list
-pub record Planned (s : Two) (list line : List ℕ) : Type 0 where
+pub record Planned (s : Two) (list line bytes ends : List ℕ) : Type 0 where
   pub listed : s .number ≡ 0 → s .value ≤ length list
   pub shown : s .number ≡ 14 → s .value ≤ length list
-  pub rooms : Rooms list line
+  pub rooms : Rooms list line bytes ends
 
--- the plan ask's inputs, list and line at entry, answer, list and line at exit: the list holds what the plan ask promises, the line what
--- follows from that, and what is written in all is what the program may write
-pub record BeginsReport (i : Inputs) (list line : List ℕ) (r : Begun) (listExit lineExit : List ℕ) : Type 0 where
+-- the plan ask's inputs, list and line at entry, answer, all buffers at exit: the list holds what the plan ask promises, the line what follows from that, and what is
+-- written in all is what the program may write
+pub record BeginsReport (i : Inputs) (list line : List ℕ) (r : Begun) (listExit lineExit bytesExit endsExit : List ℕ) : Type 0 where
   pub says : Said
   pub planned : PlanMeets (planAsk i (length list)) list says listExit
   pub opens : OpensReport (planOpening (i .manifest) says listExit) line r lineExit
-  pub within : BegunWithin r listExit lineExit
-  pub right : Outputs (i .manifest) (planAsk i (length list)) (writtenBy r (i .manifest) listExit lineExit)
+  pub held : HeldBy r (i .manifest) listExit bytesExit endsExit
+  pub within : StartWithin (startsAs r) listExit lineExit
+  pub right : Outputs (i .manifest) (planAsk i (length list)) (writtenBy (startsAs r) (i .manifest) listExit lineExit)

@@ -10,19 +10,12 @@ use Rattle.spec.specs.Reading.{Step}
 use Rattle.spec.specs.Words.{NeededCircle}
 use Rattle.spec.specs.PlanAsk.{PlanOutcome, listed, circular, noPlan}
 use Rattle.spec.specs.TextAsk.{TextOutcome, text, noText, textAsk}
-use Rattle.spec.specs.Promises.{counts}
 use Rattle.printing.specs.Lines.{noWork, refusedLine, circleOutput, stepLineOf}
 
--- the `commandText` text of a step
+-- the `command` text of a step
 unfoldable pub commandText : List ℕ → ℕ → TextOutcome
 unfolding textAsk
 commandText manifest s = textAsk manifest s Command maxText
-
--- what the text ask says of it
-unfoldable pub outcomeSays : TextOutcome → Said
-unfolding refusalSays
-outcomeSays (text t) = counts (length t)
-outcomeSays (noText r) = refusalSays r
 
 -- "Texts are all checked, in list order": all have one, or the first that has none
 pub data Checks : Type 0 where

@@ -1,91 +1,120 @@
 // What the program writes: document 01's section "Gauges on the bench", from the lent bytes to lines in a lent buffer.
-ghost use mathlib.Core.Path.{_≡_};
-ghost use Prim.Native.Nat.{_≤_};
-ghost use lib.ListN.{length};
-ghost use Rattle.lists.specs.Lent.{Spare, Leaves};
 ghost use Rattle.spec.specs.PlanAsk.{inputsOf};
 ghost use Rattle.answers.specs.Numbers.{said};
-ghost use Rattle.printing.specs.Writes.{lineRoom, LeavesOutput};
-ghost use Rattle.report.specs.Output.{commandText, outcomeSays, checkTexts, stepLine};
-ghost use Rattle.report.specs.Begins.{checkedSays, listOpening, planOpening, OpensReport, Rooms, Planned, BeginsReport};
+ghost use Rattle.printing.specs.Writes.{LeavesOutput};
+ghost use Rattle.report.specs.Begins.{listOpening, planOpening, OpensHolding, Rooms, ListRooms, Planned, BeginsReport};
+ghost use Rattle.report.specs.Held.{TextRooms, TextsWanted, AskedIs, CheckedIs, NextWanted, HoldsSome, cutTexts, textLines, CutWanted, LinesWanted, MakesLines};
 use answers::Numbers;
 use answers::of_plan;
-use answers::of_text;
+use answers::of_refusal;
 use asks::plan;
-use asks::text;
-use printing::end_line;
-use printing::put_head;
+use asks::texts;
+use printing::put_step;
 use printing::say_circle;
 use printing::say_no_work;
 use printing::say_refused;
 use slices::bytes::zero_from;
 use slices::words::at;
 use spec::Wanted;
-use spec::limits::TEXT;
+use text_batch::TextsAnswer;
 
-// What the check of all texts finds: that each listed step has one, or the first refusal.
+// What a reading for texts gives: how many leading steps have their texts in the buffers, or the first refusal.
+pub enum Asked {
+    Held(usize),
+    Refused(Numbers),
+}
+
+// What the check of all texts finds: that each listed step has one, and for how many first steps the buffers hold them; or the first refusal.
 pub enum Checked {
-    All,
+    All(usize),
     Refused(Numbers),
 }
 
 // How the output begins: the line holds all of it, this many bytes, which say that there is no work or that the planner refuses; or the
-// lines of this many steps are to come.
+// lines of this many steps are to come, and for so many of the first the buffers hold the texts.
 pub enum Begun {
     Whole(usize),
     Refusal(usize),
-    Steps(usize),
+    Steps(usize, usize),
 }
 
-// What the text ask says of a step's command; the line is working space.
-fn check_text(manifest: &[u8], step: usize, line: &mut [u8]) -> Numbers
-    requires { ⌜ lineRoom ≤ length (now line) ⌝ }
-    ensures { λ r. ⌜ Leaves (Spare (now (line .entry)) (now (line .exit))) (said r ≡ outcomeSays (commandText (now (manifest .entry)) step)) ⌝ }
+// Lines that were made: of so many steps, and so many bytes long.
+pub struct Lines {
+    pub steps: usize,
+    pub bytes: usize,
+}
+
+// One reading: the texts of as many of the steps as have room.
+fn ask_texts(manifest: &[u8], steps: &[u32], bytes: &mut [u8], ends: &mut [u32]) -> Asked
+    requires { ⌜ TextsWanted (now steps) (now bytes) (now ends) ⌝ }
+    ensures { λ r. ⌜ AskedIs (now (manifest .entry)) (now (steps .entry)) (now (bytes .exit)) (now (ends .exit)) r ⌝ }
 {
-    of_text(text(manifest, step, Wanted::Command, &mut line[..TEXT]))
+    match texts(manifest, steps, Wanted::Command, bytes, ends) {
+        TextsAnswer::Written(n) => Asked::Held(n),
+        TextsAnswer::Refused(r) => Asked::Refused(of_refusal(r)),
+    }
 }
 
-// "Texts are all checked, in list order"
-fn check_texts(manifest: &[u8], steps: &[u32], line: &mut [u8]) -> Checked
-    requires { ⌜ lineRoom ≤ length (now line) ⌝ }
-    ensures { λ r. ⌜ Leaves (Spare (now (line .entry)) (now (line .exit))) (checkedSays r ≡ checkTexts (now (manifest .entry)) (now (steps .entry))) ⌝ }
+// "Texts are all checked, in list order": by one reading, where the buffers have room for all.
+fn check_texts(manifest: &[u8], steps: &[u32], bytes: &mut [u8], ends: &mut [u32]) -> Checked
+    requires { ⌜ TextRooms (now bytes) (now ends) ⌝ }
+    ensures { λ r. ⌜ CheckedIs (now (manifest .entry)) (now (steps .entry)) (now (bytes .exit)) (now (ends .exit)) r ⌝ }
 {
     let mut i = 0;
     while i < steps.len() {
-        let n = check_text(manifest, at(steps, i), line);
-        if n.number != 0 {
-            return Checked::Refused(n);
+        match ask_texts(manifest, &steps[i..], bytes, ends) {
+            Asked::Held(n) => {
+                if n == steps.len() {
+                    return Checked::All(n);
+                }
+                i += n;
+            }
+            Asked::Refused(n) => {
+                return Checked::Refused(n);
+            }
         }
-        i += 1;
     }
-    Checked::All
+    Checked::All(0)
 }
 
 // The start of the output for a list.
-fn begin_list(manifest: &[u8], steps: &[u32], line: &mut [u8]) -> Begun
-    requires { ⌜ lineRoom ≤ length (now line) ⌝ }
-    ensures { λ r. ⌜ OpensReport (listOpening (now (manifest .entry)) (now (steps .entry))) (now (line .entry)) r (now (line .exit)) ⌝ }
+fn begin_list(
+    manifest: &[u8],
+    steps: &[u32],
+    line: &mut [u8],
+    bytes: &mut [u8],
+    ends: &mut [u32],
+) -> Begun
+    requires { ⌜ ListRooms (now line) (now bytes) (now ends) ⌝ }
+    ensures { λ r. ⌜ OpensHolding (listOpening (now (manifest .entry)) (now (steps .entry))) (now (manifest .entry)) (now (steps .entry)) (now (line .entry)) r (now (line .exit)) (now (bytes .exit)) (now (ends .exit)) ⌝ }
 {
     if steps.len() == 0 {
         return Begun::Whole(say_no_work(line));
     }
-    match check_texts(manifest, steps, line) {
-        Checked::All => {
+    match check_texts(manifest, steps, bytes, ends) {
+        Checked::All(held) => {
             zero_from(line, 0);
-            Begun::Steps(steps.len())
+            Begun::Steps(steps.len(), held)
         }
         Checked::Refused(n) => Begun::Refusal(say_refused(line, n)),
     }
 }
 
 // The start of the output for what the plan ask says and its list.
-fn begin_planned(manifest: &[u8], n: Numbers, list: &[u32], line: &mut [u8]) -> Begun
-    requires { ⌜ Planned n (now list) (now line) ⌝ }
-    ensures { λ r. ⌜ OpensReport (planOpening (now (manifest .entry)) (said n) (now (list .entry))) (now (line .entry)) r (now (line .exit)) ⌝ }
+fn begin_planned(
+    manifest: &[u8],
+    n: Numbers,
+    list: &[u32],
+    line: &mut [u8],
+    bytes: &mut [u8],
+    ends: &mut [u32],
+) -> Begun
+    requires { ⌜ Planned n (now list) (now line) (now bytes) (now ends) ⌝ }
+    ensures { λ r. ⌜ OpensHolding (planOpening (now (manifest .entry)) (said n) (now (list .entry))) (now (manifest .entry)) (now (list .entry)) (now (line .entry)) r (now (line .exit)) (now (bytes .exit)) (now (ends .exit)) ⌝ }
 {
     let count = n.value;
     if n.number == 0 {
-        return begin_list(manifest, &list[..count], line);
+        return begin_list(manifest, &list[..count], line, bytes, ends);
     }
     if n.number == 14 {
         return Begun::Refusal(say_circle(line, &list[..count]));
@@ -100,24 +129,72 @@ pub fn begin(
     targets: &[u8],
     list: &mut [u32],
     line: &mut [u8],
+    bytes: &mut [u8],
+    ends: &mut [u32],
 ) -> Begun
-    requires { ⌜ Rooms (now list) (now line) ⌝ }
-    ensures { λ r. ⌜ BeginsReport (inputsOf (now (manifest .entry)) (now (card .entry)) (now (targets .entry))) (now (list .entry)) (now (line .entry)) r (now (list .exit)) (now (line .exit)) ⌝ }
+    requires { ⌜ Rooms (now list) (now line) (now bytes) (now ends) ⌝ }
+    ensures { λ r. ⌜ BeginsReport (inputsOf (now (manifest .entry)) (now (card .entry)) (now (targets .entry))) (now (list .entry)) (now (line .entry)) r (now (list .exit)) (now (line .exit)) (now (bytes .exit)) (now (ends .exit)) ⌝ }
 {
     let n = of_plan(plan(manifest, card, targets, list));
-    begin_planned(manifest, n, list, line)
+    begin_planned(manifest, n, list, line, bytes, ends)
 }
 
-// "a line for each listed step, with its place in the list, the list's length and its `command` text"
-pub fn step_line(manifest: &[u8], step: usize, place: usize, count: usize, line: &mut [u8]) -> usize
-    requires { ⌜ lineRoom ≤ length (now line) ⌝ }
-    ensures { λ r. ⌜ LeavesOutput (stepLine place count (commandText (now (manifest .entry)) step)) (now (line .entry)) r (now (line .exit)) ⌝ }
+// Has the texts of the next steps in the buffers, by a reading where none are held: of how many steps.
+fn hold_next(
+    manifest: &[u8],
+    steps: &[u32],
+    held: usize,
+    bytes: &mut [u8],
+    ends: &mut [u32],
+) -> usize
+    requires { ⌜ NextWanted (now manifest) (now steps) (now bytes) (now ends) held ⌝ }
+    ensures { λ r. ⌜ HoldsSome (now (manifest .entry)) (now (steps .entry)) (now (bytes .exit)) (now (ends .exit)) r ⌝ }
 {
-    let from = put_head(line, place, count);
-    let to = from + TEXT;
-    let n = of_text(text(manifest, step, Wanted::Command, &mut line[from..to]));
-    if n.number == 0 {
-        return end_line(line, from + n.value);
+    if held != 0 {
+        return held;
     }
-    say_refused(line, n)
+    match ask_texts(manifest, steps, bytes, ends) {
+        Asked::Held(n) => n,
+        // never met: all texts are checked
+        Asked::Refused(_) => 0,
+    }
+}
+
+// The line of each text that ends at one of the places, the list's first `place` steps having gone before.
+fn text_lines(place: usize, count: usize, bytes: &[u8], ends: &[u32], out: &mut [u8]) -> usize
+    requires { ⌜ CutWanted (now bytes) (now ends) (now out) place count ⌝ }
+    ensures { λ r. ⌜ LeavesOutput (textLines count place (cutTexts (now (bytes .entry)) 0 (now (ends .entry)))) (now (out .entry)) r (now (out .exit)) ⌝ }
+{
+    let mut i = 0;
+    let mut from = 0;
+    let mut behind = 0;
+    while i < ends.len() {
+        let end = at(ends, i);
+        behind = put_step(out, behind, place + i + 1, count, &bytes[from..end]);
+        from = end;
+        i += 1;
+    }
+    zero_from(out, behind);
+    behind
+}
+
+// The lines of the steps from `place` on, as many as have their texts in the buffers, once a reading was made for them where none are held.
+pub fn next_lines(
+    manifest: &[u8],
+    steps: &[u32],
+    place: usize,
+    held: usize,
+    bytes: &mut [u8],
+    ends: &mut [u32],
+    out: &mut [u8],
+) -> Lines
+    requires { ⌜ LinesWanted (now manifest) (now steps) (now bytes) (now ends) (now out) place held ⌝ }
+    ensures { λ r. ⌜ MakesLines (now (manifest .entry)) (now (steps .entry)) place r (now (bytes .exit)) (now (ends .exit)) (now (out .entry)) (now (out .exit)) ⌝ }
+{
+    let steps_held = hold_next(manifest, &steps[place..], held, bytes, ends);
+    let behind = text_lines(place, steps.len(), bytes, &ends[..steps_held], out);
+    Lines {
+        steps: steps_held,
+        bytes: behind,
+    }
 }

@@ -1,58 +1,67 @@
 -- `plan::write_steps` meets its contract.
-use mathlib.Core.Path.{sym, _≡_}
+use Prim.Native.Nat.{_-_}
+use native.Mathlib.Omega.{arith}
+use mathlib.Core.Path.{_≡_, refl, sym, _∙_}
+use lib.ListN.{length}
 use lib.Seq.{length-take-le}
 use Rattle.printing.proofs.Putting.{leaves-within}
-use native.Mathlib.Omega.{arith}
-use Prim.Native.Nat.{_-_, _≤_}
-use lib.ListN.{length}
+use Rattle.report.specs.Held.{ToWrite}
+use Rattle.report.proofs.Rounds.{rounds-more, rounds-next}
 use borrow.Author.Needs.{needs}
 use Rattle.plan.proofs.write_steps.Statement.{statement}
 use Rattle.plan.proofs.write_steps.Tie as tie
 
 abbrev Inv-loop : tie.InvT-loop
-Inv-loop manifest steps line₀ k₀ line k = (k ≤ length steps) × (length line ≡ length line₀)
+Inv-loop manifest steps held bytes₀ ends₀ out₀ place₀ held₀ bytes ends out place held' =
+    (length bytes ≡ length bytes₀) × (length ends ≡ length ends₀) × (length out ≡ length out₀) × ToWrite manifest steps bytes ends out place held'
 
 abbrev μ-loop : tie.MeasureT-loop
-μ-loop manifest steps line₀ k₀ line k = length steps - k
+μ-loop manifest steps held bytes₀ ends₀ out₀ place₀ held₀ bytes ends out place held' = length steps - place
 
 loop-holds : tie.Need-loop-holds Inv-loop μ-loop
-loop-holds c = search needs
+loop-holds c = (refl, refl, refl, c .before .before .before .before .before .pre)
 
-at-requires : tie.Need-at-requires Inv-loop μ-loop
-at-requires c κs = search needs
-
-add-step-line : tie.Need-add-step-line Inv-loop μ-loop
-add-step-line c = search needs
-
-step-line-requires : tie.Need-step-line-requires Inv-loop μ-loop
-step-line-requires c κs = omega (arith, c .before .before .before .loop .inv .1, c .before .before .before .before .before .before .before .pre)
+next-lines-requires : tie.Need-next-lines-requires Inv-loop μ-loop
+next-lines-requires c κs = record { more = c .before .before .before .loop-test .taken; left = c .before .before .before .before .loop .inv .3 }
 
 slice-reshare-prefix-write : tie.Need-slice-reshare-prefix-write Inv-loop μ-loop
-slice-reshare-prefix-write c = leaves-within (c .before .before .step-line .kept .1 .1 .1 .1 .0) (c .before .before .step-line .ensures)
+slice-reshare-prefix-write c = leaves-within (c .before .before .before .before .before .before .next-lines .kept .1 .1 .1 .1 .1 .1 .0) (c .before .before .before .before .before .before .next-lines .ensures .lines)
 
 slice-aggregate-write : tie.Need-slice-aggregate-write Inv-loop μ-loop
-slice-aggregate-write c = sym (length-take-le _ _ (leaves-within (c .before .before .before .step-line .kept .1 .1 .1 .1 .0) (c .before .before .before .step-line .ensures)))
+slice-aggregate-write c = sym (length-take-le _ _ (leaves-within (c .before .before .before .before .before .before .before .next-lines .kept .1 .1 .1 .1 .1 .1 .0) (c .before .before .before .before .before .before .before .next-lines .ensures .lines)))
 
 write-requires : tie.Need-write-requires Inv-loop μ-loop
 write-requires c κs = search needs
 
 same-length : tie.Need-same-length Inv-loop μ-loop
-same-length c = search needs
+same-length c = c .before .before .before .before .before .before .before .before .before .next-lines .kept .1 .1 .1 .1 .0 ∙ c .before .before .before .before .before .before .before .before .before .before .before .before .before .before .loop .inv .0
+
+same-length-2 : tie.Need-same-length-2 Inv-loop μ-loop
+same-length-2 c = c .before .before .before .before .before .before .before .before .before .next-lines .kept .1 .1 .1 .1 .1 .0 ∙ c .before .before .before .before .before .before .before .before .before .before .before .before .before .before .loop .inv .1
+
+same-length-3 : tie.Need-same-length-3 Inv-loop μ-loop
+same-length-3 c = c .before .before .before .before .before .before .before .before .before .next-lines .kept .1 .1 .1 .1 .1 .1 .0 ∙ c .before .before .before .before .before .before .before .before .before .before .before .before .before .before .loop .inv .2
 
 returns : tie.Need-returns Inv-loop μ-loop
 returns c = search needs
 
-add-k : tie.Need-add-k Inv-loop μ-loop
-add-k c = search needs
+add-place : tie.Need-add-place Inv-loop μ-loop
+add-place c = omega (arith, c .before .before .before .before .before .before .before .before .before .before .before .before .before .before .before .before .before .before .before .before .before .good, rounds-more (c .before .before .before .before .before .before .before .before .before .before .before .before .before .before .before .loop .inv .3) (c .before .before .before .before .before .before .before .before .before .before .next-lines .ensures))
 
 loop-less : tie.Need-loop-less Inv-loop μ-loop
-loop-less c = search needs
+loop-less c = omega (arith, rounds-more (c .before .before .before .before .before .before .before .before .before .before .before .before .before .before .before .loop .inv .3) (c .before .before .before .before .before .before .before .before .before .before .next-lines .ensures))
 
 loop-again : tie.Need-loop-again Inv-loop μ-loop
-loop-again c = search needs
+loop-again c = (c .before .before .before .before .before .before .before .before .before .before .next-lines .kept .1 .1 .1 .1 .0 ∙ c .before .before .before .before .before .before .before .before .before .before .before .before .before .before .before .loop .inv .0, c .before .before .before .before .before .before .before .before .before .before .next-lines .kept .1 .1 .1 .1 .1 .0 ∙ c .before .before .before .before .before .before .before .before .before .before .before .before .before .before .before .loop .inv .1, c .before .before .before .before .before .before .before .before .before .before .next-lines .kept .1 .1 .1 .1 .1 .1 .0 ∙ c .before .before .before .before .before .before .before .before .before .before .before .before .before .before .before .loop .inv .2, rounds-next (c .before .before .before .before .before .before .before .before .before .before .before .before .before .before .before .loop .inv .3) (c .before .before .before .before .before .before .before .before .before .before .next-lines .ensures) (c .before .before .before .before .before .before .before .before .before .before .next-lines .kept .1 .1 .1 .1 .0) (c .before .before .before .before .before .before .before .before .before .before .next-lines .kept .1 .1 .1 .1 .1 .0) (c .before .before .before .before .before .before .before .before .before .before .next-lines .kept .1 .1 .1 .1 .1 .1 .0))
 
-same-length-2 : tie.Need-same-length-2 Inv-loop μ-loop
-same-length-2 c = search needs
+same-length-4 : tie.Need-same-length-4 Inv-loop μ-loop
+same-length-4 c = c .before .loop .inv .0
+
+same-length-5 : tie.Need-same-length-5 Inv-loop μ-loop
+same-length-5 c = c .before .loop .inv .1
+
+same-length-6 : tie.Need-same-length-6 Inv-loop μ-loop
+same-length-6 c = c .before .loop .inv .2
 
 returns-2 : tie.Need-returns-2 Inv-loop μ-loop
 returns-2 c = search needs
@@ -64,16 +73,18 @@ write-steps-spec =
     Inv-loop
     μ-loop
     loop-holds
-    at-requires
-    add-step-line
-    step-line-requires
+    next-lines-requires
     slice-reshare-prefix-write
     slice-aggregate-write
     write-requires
     same-length
+    same-length-2
+    same-length-3
     returns
-    add-k
+    add-place
     loop-less
     loop-again
-    same-length-2
+    same-length-4
+    same-length-5
+    same-length-6
     returns-2)

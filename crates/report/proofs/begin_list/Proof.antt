@@ -1,7 +1,5 @@
 -- `report::begin_list` meets its contract.
-use mathlib.Core.Path.{sym, _∙_, ap}
 use denote.Ref.{now}
-use Rattle.report.specs.Begins.{checkedSays}
 use Rattle.report.proofs.Beginning.{list-none, list-fine, list-stopped}
 use borrow.Author.Needs.{needs}
 use Rattle.report.proofs.begin_list.Statement.{statement}
@@ -14,13 +12,13 @@ same-length : tie.Need-same-length
 same-length c = search needs
 
 returns : tie.Need-returns
-returns c = list-none (now (c .before .before .before .before .before .before .before .before .args .manifest)) (now (c .before .before .before .before .before .before .before .before .args .steps)) (c .before .before .before .before .if1 .taken) (c .before .before .say-no-work .ensures)
+returns c = list-none (now (c .before .before .before .before .before .before .before .before .before .before .args .manifest)) (now (c .before .before .before .before .before .before .before .before .before .before .args .steps)) (c .before .before .before .before .if1 .taken) (c .before .before .say-no-work .ensures)
 
 check-texts-requires : tie.Need-check-texts-requires
 check-texts-requires c κs = search needs
 
-enum-told : tie.Need-enum-told
-enum-told c = search needs
+enum-known-held : tie.Need-enum-known-held
+enum-known-held c = search needs
 
 zero-from-requires : tie.Need-zero-from-requires
 zero-from-requires c κs = search needs
@@ -34,14 +32,26 @@ say-refused-requires c κs = search needs
 same-length-2 : tie.Need-same-length-2
 same-length-2 c = search needs
 
-returns-2 : tie.Need-returns-2
-returns-2 c = list-fine (now (c .before .before .before .before .before .before .before .before .before .before .before .before .before .before .args .manifest)) (now (c .before .before .before .before .before .before .before .before .before .before .before .before .before .before .args .steps)) (now (c .before .before .before .before .before .before .before .before .before .before .before .before .before .before .args .line)) (c .before .before .before .before .before .before .before .before .check-texts .last .1 .1 .0) (c .before .before .zero-from .last .0) (c .before .before .before .before .before .before .before .before .before .before .if1 .left) (ap checkedSays (sym (c .before .before .before .before .enum-told .given .1)) ∙ c .before .before .before .before .before .before .before .before .check-texts .ensures .promise) (c .before .before .before .before .before .before .before .before .check-texts .kept .1 .1 .0) (c .before .before .zero-from .ensures)
-
 same-length-3 : tie.Need-same-length-3
 same-length-3 c = search needs
 
+same-length-4 : tie.Need-same-length-4
+same-length-4 c = search needs
+
+returns-2 : tie.Need-returns-2
+returns-2 c = list-fine (now (c .before .before .before .before .before .before .before .before .before .before .before .before .before .before .before .before .before .before .before .before .args .manifest)) (now (c .before .before .before .before .before .before .before .before .before .before .before .before .before .before .before .before .before .before .before .before .args .steps)) (now (c .before .before .before .before .before .before .before .before .before .before .before .before .before .before .before .before .before .before .before .before .args .line)) _ _ _ _ (c .before .before .before .before .before .before .before .before .before .before .before .before .before .before .if1 .left) (rw (c .before .before .before .before .before .held .given .1) at (c .before .before .before .before .before .before .before .before .before .before .before .check-texts .ensures)) (c .before .before .zero-from .ensures)
+
+same-length-5 : tie.Need-same-length-5
+same-length-5 c = search needs
+
+same-length-6 : tie.Need-same-length-6
+same-length-6 c = search needs
+
+same-length-7 : tie.Need-same-length-7
+same-length-7 c = search needs
+
 returns-3 : tie.Need-returns-3
-returns-3 c = list-stopped (now (c .before .before .before .before .before .before .before .before .before .before .before .before .before .before .before .args .manifest)) (now (c .before .before .before .before .before .before .before .before .before .before .before .before .before .before .before .args .steps)) (now (c .before .before .before .before .before .before .before .before .before .before .before .before .before .before .before .args .line)) (c .before .before .before .before .before .before .before .before .before .check-texts .last .1 .1 .0) (c .before .before .say-refused .last .0) _ (c .before .before .before .before .before .before .before .before .before .before .before .if1 .left) (ap checkedSays (sym (c .before .before .before .before .before .n .given .1)) ∙ c .before .before .before .before .before .before .before .before .before .check-texts .ensures .promise) (c .before .before .before .before .before .before .before .before .before .check-texts .kept .1 .1 .0) (c .before .before .say-refused .ensures)
+returns-3 c = list-stopped (now (c .before .before .before .before .before .before .before .before .before .before .before .before .before .before .before .before .before .before .before .before .args .manifest)) (now (c .before .before .before .before .before .before .before .before .before .before .before .before .before .before .before .before .before .before .before .before .args .steps)) (now (c .before .before .before .before .before .before .before .before .before .before .before .before .before .before .before .before .before .before .before .before .args .line)) _ _ _ _ (c .before .before .before .before .before .before .before .before .before .before .before .before .before .before .if1 .left) (rw (c .before .before .before .before .before .n .given .1) at (c .before .before .before .before .before .before .before .before .before .before .before .check-texts .ensures)) (c .before .before .say-refused .ensures)
 
 pub begin-list-spec : {M : Type 1} → statement M
 begin-list-spec =
@@ -51,11 +61,15 @@ begin-list-spec =
     same-length
     returns
     check-texts-requires
-    enum-told
+    enum-known-held
     zero-from-requires
     enum-known-n
     say-refused-requires
     same-length-2
-    returns-2
     same-length-3
+    same-length-4
+    returns-2
+    same-length-5
+    same-length-6
+    same-length-7
     returns-3)

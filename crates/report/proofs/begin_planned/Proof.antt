@@ -10,37 +10,43 @@ use Rattle.report.proofs.begin_planned.Statement.{statement}
 use Rattle.report.proofs.begin_planned.Tie as tie
 
 slice-aggregate-begin-list : tie.Need-slice-aggregate-begin-list
-slice-aggregate-begin-list c = sym (length-take-le (c .before .before .before .before .before .before .args .n .value) (now (c .before .before .before .before .before .before .args .list)) (c .before .before .before .before .before .before .pre .listed (c .before .if1 .taken)))
+slice-aggregate-begin-list c = sym (length-take-le (c .before .before .before .before .before .before .before .before .args .n .value) (now (c .before .before .before .before .before .before .before .before .args .list)) (c .before .before .before .before .before .before .before .before .pre .listed (c .before .if1 .taken)))
 
 begin-list-requires : tie.Need-begin-list-requires
-begin-list-requires c κs = search needs
+begin-list-requires c κs = record { line-room = c .before .before .before .before .before .before .before .before .before .before .before .pre .rooms .line-room; texts = c .before .before .before .before .before .before .before .before .before .before .before .pre .rooms .texts }
 
 same-length : tie.Need-same-length
 same-length c = search needs
 
-returns : tie.Need-returns
-returns c = opens-list (now (c .before .before .before .before .before .before .before .before .before .before .args .manifest)) (said (c .before .before .before .before .before .before .before .before .before .before .args .n)) (now (c .before .before .before .before .before .before .before .before .before .before .args .list)) (c .before .before .before .before .before .if1 .taken) (c .before .before .begin-list .ensures)
-
-slice-aggregate-say-circle : tie.Need-slice-aggregate-say-circle
-slice-aggregate-say-circle c = sym (length-take-le (c .before .before .before .before .before .before .before .before .before .args .n .value) (now (c .before .before .before .before .before .before .before .before .before .args .list)) (c .before .before .before .before .before .before .before .before .before .pre .shown (c .before .before .if2 .taken)))
-
-say-circle-requires : tie.Need-say-circle-requires
-say-circle-requires c κs = (c .before .before .before .before .before .before .before .before .before .pre .rooms .line-room, omega (arith, c .before .before .before .before .before .before .before .before .before .pre .rooms .list-room, c .before .before .before .before .before .before .before .before .before .pre .shown (c .before .before .if2 .taken), length-take-le (c .before .before .before .before .before .before .before .before .before .args .n .value) (now (c .before .before .before .before .before .before .before .before .before .args .list)) (c .before .before .before .before .before .before .before .before .before .pre .shown (c .before .before .if2 .taken))))
-
 same-length-2 : tie.Need-same-length-2
 same-length-2 c = search needs
-
-returns-2 : tie.Need-returns-2
-returns-2 c = opens-circle (now (c .before .before .before .before .before .before .before .before .before .before .before .before .args .manifest)) (said (c .before .before .before .before .before .before .before .before .before .before .before .before .args .n)) (now (c .before .before .before .before .before .before .before .before .before .before .before .before .args .list)) (c .before .before .before .before .before .if2 .taken) (c .before .before .say-circle .ensures)
-
-say-refused-requires : tie.Need-say-refused-requires
-say-refused-requires c κs = search needs
 
 same-length-3 : tie.Need-same-length-3
 same-length-3 c = search needs
 
+returns : tie.Need-returns
+returns c = opens-list (now (c .before .before .before .before .before .before .before .before .before .before .before .before .before .before .before .before .before .before .args .manifest)) (said (c .before .before .before .before .before .before .before .before .before .before .before .before .before .before .before .before .before .before .args .n)) (now (c .before .before .before .before .before .before .before .before .before .before .before .before .before .before .before .before .before .before .args .list)) (c .before .before .before .before .before .before .before .before .before .before .before .if1 .taken) (c .before .before .before .before .before .before .begin-list .ensures)
+
+slice-aggregate-say-circle : tie.Need-slice-aggregate-say-circle
+slice-aggregate-say-circle c = sym (length-take-le (c .before .before .before .before .before .before .before .before .before .before .before .args .n .value) (now (c .before .before .before .before .before .before .before .before .before .before .before .args .list)) (c .before .before .before .before .before .before .before .before .before .before .before .pre .shown (c .before .before .if2 .taken)))
+
+say-circle-requires : tie.Need-say-circle-requires
+say-circle-requires c κs = (c .before .before .before .before .before .before .before .before .before .before .before .pre .rooms .line-room, omega (arith, c .before .before .before .before .before .before .before .before .before .before .before .pre .rooms .list-room, c .before .before .before .before .before .before .before .before .before .before .before .pre .shown (c .before .before .if2 .taken), length-take-le (c .before .before .before .before .before .before .before .before .before .before .before .args .n .value) (now (c .before .before .before .before .before .before .before .before .before .before .before .args .list)) (c .before .before .before .before .before .before .before .before .before .before .before .pre .shown (c .before .before .if2 .taken))))
+
+same-length-4 : tie.Need-same-length-4
+same-length-4 c = search needs
+
+returns-2 : tie.Need-returns-2
+returns-2 c = opens-circle (now (c .before .before .before .before .before .before .before .before .before .before .before .before .before .before .args .manifest)) (said (c .before .before .before .before .before .before .before .before .before .before .before .before .before .before .args .n)) (now (c .before .before .before .before .before .before .before .before .before .before .before .before .before .before .args .list)) (c .before .before .before .before .before .if2 .taken) (c .before .before .say-circle .ensures)
+
+say-refused-requires : tie.Need-say-refused-requires
+say-refused-requires c κs = search needs
+
+same-length-5 : tie.Need-same-length-5
+same-length-5 c = search needs
+
 returns-3 : tie.Need-returns-3
-returns-3 c = opens-refused (now (c .before .before .before .before .before .before .before .before .before .before .before .args .manifest)) (said (c .before .before .before .before .before .before .before .before .before .before .before .args .n)) (now (c .before .before .before .before .before .before .before .before .before .before .before .args .list)) (c .before .before .before .before .before .before .if1 .left) (c .before .before .before .before .if2 .left) (c .before .before .say-refused .ensures)
+returns-3 c = opens-refused (now (c .before .before .before .before .before .before .before .before .before .before .before .before .before .args .manifest)) (said (c .before .before .before .before .before .before .before .before .before .before .before .before .before .args .n)) (now (c .before .before .before .before .before .before .before .before .before .before .before .before .before .args .list)) (c .before .before .before .before .before .before .if1 .left) (c .before .before .before .before .if2 .left) (c .before .before .say-refused .ensures)
 
 pub begin-planned-spec : {M : Type 1} → statement M
 begin-planned-spec =
@@ -49,11 +55,13 @@ begin-planned-spec =
     slice-aggregate-begin-list
     begin-list-requires
     same-length
+    same-length-2
+    same-length-3
     returns
     slice-aggregate-say-circle
     say-circle-requires
-    same-length-2
+    same-length-4
     returns-2
     say-refused-requires
-    same-length-3
+    same-length-5
     returns-3)

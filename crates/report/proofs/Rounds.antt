@@ -1,0 +1,243 @@
+-- Readings for texts, one behind another: the check of all texts, and the lines of those that are held.
+use Prim.Native.Nat.{ℕ, suc, _+_, _-_, _*_, _≤_, _<_}
+use native.Mathlib.Omega.{arith}
+use mathlib.Core.List.{List, _++_, append-nil, append-assoc}
+use mathlib.Core.Path.{_≡_, refl, sym, _∙_, ap}
+use lib.ListN.{length, take, drop, getD, replicate, length-drop}
+use lib.Seq.{drop-cons, drop-length, drop-drop, length-take-le}
+use Rattle.lists.specs.Fill.{zeroed}
+use Rattle.lists.specs.Parts.{part, length-part, part-to-end}
+use Rattle.spec.specs.Promises.{filled}
+use Rattle.answers.specs.declared.Numbers.{Numbers as Two}
+use Rattle.printing.specs.Lines.{stepLineOf}
+use Rattle.printing.specs.Writes.{stepRoom, PutsUpTo, LeavesOutput}
+use Rattle.report.specs.declared.Asked.the-variants.{Held, Refused as NotHeld}
+use Rattle.report.specs.declared.Checked.the-variants.{All, Refused}
+use Rattle.report.specs.declared.Lines.{Lines}
+use Rattle.report.specs.Output.{fine, checkTexts}
+use Rattle.report.specs.Held.{TextsInOrder, cutTexts, AreCommands, HeldTexts, textLines, TextRooms, TextsWanted, HoldsSome, AskedIs, AllFine, CheckedIs, ToWrite, LineRooms, NextWanted, CutWanted, LinesWanted, MakesLines}
+use Rattle.report.proofs.Texts.{commands-pass, commands-lines}
+
+held-none : (manifest steps bytes ends : List ℕ) → HeldTexts manifest steps bytes ends 0
+unfolding TextsInOrder AreCommands cutTexts
+held-none manifest steps bytes ends = record { few = omega arith; placed = omega arith; order = tt; commands = tt }
+
+-- The check goes on behind the steps whose texts are held.
+held-pass : {manifest steps bytes ends : List ℕ} {n : ℕ} → HeldTexts manifest steps bytes ends n → checkTexts manifest steps ≡ checkTexts manifest (drop n steps)
+held-pass {manifest} {steps} {bytes} {ends} {n} h = commands-pass manifest n steps (cutTexts bytes 0 (take n ends)) (h .commands)
+
+none-left : (manifest steps : List ℕ) (n : ℕ) → n ≡ length steps → checkTexts manifest (drop n steps) ≡ fine
+unfolding checkTexts
+none-left manifest steps n e = rw (e, drop-length steps)
+
+-- ---- the check of all texts
+
+-- the first i texts are fine
+pub record Checking (manifest steps bytes₀ ends₀ bytes ends : List ℕ) (i : ℕ) : Type 0 where
+  pub within : i ≤ length steps
+  pub bytes-kept : length bytes ≡ length bytes₀
+  pub ends-kept : length ends ≡ length ends₀
+  pub rest : checkTexts manifest (drop i steps) ≡ checkTexts manifest steps
+
+pub checking-start : (manifest steps bytes ends : List ℕ) → Checking manifest steps bytes ends bytes ends 0
+checking-start manifest steps bytes ends = record { within = omega arith; bytes-kept = refl; ends-kept = refl; rest = refl }
+
+module _ {manifest steps bytes₀ ends₀ bytes ends : List ℕ} {i : ℕ} (k : i < length steps) (c : Checking manifest steps bytes₀ ends₀ bytes ends i) where
+  pub checking-asks : TextRooms bytes₀ ends₀ → TextsWanted (part steps i (length steps)) bytes ends
+  checking-asks r =
+      record {
+        some = omega (arith, k, length-part steps i (length steps) (omega arith));
+        rooms = record { bytes-room = omega (arith, c .bytes-kept, r .bytes-room); ends-room = omega (arith, c .ends-kept, r .ends-room) };
+      }
+
+  module _ (bytes₁ ends₁ : List ℕ) where
+    asked-some : (n : ℕ) → AskedIs manifest (part steps i (length steps)) bytes₁ ends₁ (Held n) → HoldsSome manifest (drop i steps) bytes₁ ends₁ n
+    unfolding AskedIs
+    asked-some n a = rw (part-to-end steps i) at a
+
+    pub checking-more : (n : ℕ) → AskedIs manifest (part steps i (length steps)) bytes₁ ends₁ (Held n) → (0 < n) × (i + n ≤ length steps)
+    checking-more n a = (asked-some n a .some, omega (arith, k, asked-some n a .held .few, length-drop i steps))
+
+    pub checking-on : (n : ℕ) → length bytes₁ ≡ length bytes → length ends₁ ≡ length ends → AskedIs manifest (part steps i (length steps)) bytes₁ ends₁ (Held n)
+        → Checking manifest steps bytes₀ ends₀ bytes₁ ends₁ (i + n)
+    checking-on n x y a =
+        record {
+          within = checking-more n a .1;
+          bytes-kept = x ∙ c .bytes-kept;
+          ends-kept = y ∙ c .ends-kept;
+          rest = sym (ap (checkTexts manifest) (drop-drop n i steps)) ∙ sym (held-pass (asked-some n a .held)) ∙ c .rest;
+        }
+
+    -- All steps' texts are held: it was the first reading.
+    pub checking-all : (n : ℕ) → n ≡ length steps → AskedIs manifest (part steps i (length steps)) bytes₁ ends₁ (Held n) → CheckedIs manifest steps bytes₁ ends₁ (All n)
+    unfolding CheckedIs
+    checking-all n e a =
+        let z : i ≡ 0 = omega (arith, k, e, asked-some n a .held .few, length-drop i steps) in
+        let h : HeldTexts manifest steps bytes₁ ends₁ n = rw z at (asked-some n a .held) in
+        record { fine = sym (held-pass h ∙ none-left manifest steps n e); held = h }
+
+    pub checking-stops : (x : Two) → AskedIs manifest (part steps i (length steps)) bytes₁ ends₁ (NotHeld x) → CheckedIs manifest steps bytes₁ ends₁ (Refused x)
+    unfolding CheckedIs AskedIs
+    checking-stops x a = a ∙ ap (checkTexts manifest) (part-to-end steps i) ∙ c .rest
+
+pub checking-end : {manifest steps bytes₀ ends₀ bytes ends : List ℕ} {i : ℕ} → length steps ≤ i → Checking manifest steps bytes₀ ends₀ bytes ends i
+    → CheckedIs manifest steps bytes ends (All 0)
+unfolding CheckedIs
+checking-end {manifest} {steps} {bytes₀} {ends₀} {bytes} {ends} {i} h c =
+    record { fine = sym (sym (c .rest) ∙ none-left manifest steps i (omega (arith, c .within))); held = held-none manifest steps bytes ends }
+
+-- ---- the next steps
+
+module _ {manifest steps bytes ends : List ℕ} {held : ℕ} (w : NextWanted manifest steps bytes ends held) where
+  pub next-held : (held ≡ 0 → ⊥) → HoldsSome manifest steps bytes ends held
+  next-held h = record { some = omega (arith, h); held = w .rest .held }
+
+  pub next-asked : (n : ℕ) (bytes₁ ends₁ : List ℕ) → AskedIs manifest steps bytes₁ ends₁ (Held n) → HoldsSome manifest steps bytes₁ ends₁ n
+  unfolding AskedIs
+  next-asked n bytes₁ ends₁ a = a
+
+  -- All texts are checked.
+  pub next-refused : {A : Type 0} (x : Two) (bytes₁ ends₁ : List ℕ) → AskedIs manifest steps bytes₁ ends₁ (NotHeld x) → A
+  unfolding AskedIs
+  next-refused x bytes₁ ends₁ a =
+      let e = a ∙ sym (w .rest .fine) in
+      absurd (let z : _≡_ {A = ℕ} 0 1 = cc in omega arith)
+
+module _ {manifest steps bytes ends out : List ℕ} {place held : ℕ} (w : LinesWanted manifest steps bytes ends out place held) where
+  pub lines-next : NextWanted manifest (part steps place (length steps)) bytes ends held
+  lines-next =
+      record {
+        wanted = record { some = omega (arith, w .more, length-part steps place (length steps) (omega arith)); rooms = w .left .rooms .texts };
+        rest = rw (part-to-end steps place) (w .left .rest);
+      }
+
+  module _ (n : ℕ) (bytes₁ ends₁ : List ℕ) (h : HoldsSome manifest (part steps place (length steps)) bytes₁ ends₁ n) where
+    now-held : HoldsSome manifest (drop place steps) bytes₁ ends₁ n
+    now-held = rw (part-to-end steps place) at h
+
+    pub lines-placed : n ≤ length ends₁
+    lines-placed = now-held .held .placed
+
+    pub lines-cut : length bytes₁ ≡ length bytes → length ends₁ ≡ length ends → CutWanted bytes₁ (take n ends₁) out place (length steps)
+    lines-cut x y =
+        record {
+          order = now-held .held .order;
+          counted = omega (arith, w .more, now-held .held .few, length-drop place steps, length-take-le n ends₁ lines-placed);
+          room = omega (arith, x, y, lines-placed, w .left .rooms .lines, length-take-le n ends₁ lines-placed);
+        }
+
+    pub lines-made : (outExit : List ℕ) (r : ℕ) → LeavesOutput (textLines (length steps) place (cutTexts bytes₁ 0 (take n ends₁))) out r outExit
+        → MakesLines manifest steps place (record { steps = n; bytes = r }) bytes₁ ends₁ out outExit
+    lines-made outExit r l =
+        record {
+          holds = now-held;
+          lines = rw (commands-lines manifest (length steps) place (take n (drop place steps)) (cutTexts bytes₁ 0 (take n ends₁)) (now-held .held .commands)) at l;
+        }
+
+-- ---- lines of texts
+
+-- i texts, which end at `from`, are in the lines' first bytes
+pub record Lining (place count : ℕ) (bytes ends out₀ out : List ℕ) (i from behind : ℕ) : Type 0 where
+  pub within : i ≤ length ends
+  pub kept : length out ≡ length out₀
+  pub order : TextsInOrder bytes from (drop i ends)
+  pub start : from ≤ length bytes
+  pub room : behind + (length bytes - from) + stepRoom * (length ends - i) ≤ length out₀
+  pub front : take behind out ++ textLines count (place + i) (cutTexts bytes from (drop i ends)) ≡ textLines count place (cutTexts bytes 0 ends)
+
+pub lining-start : {bytes ends out : List ℕ} {place count : ℕ} → CutWanted bytes ends out place count → Lining place count bytes ends out out 0 0 0
+lining-start {bytes} {ends} {out} {place} {count} w =
+    let z : place + 0 ≡ place = omega arith in
+    record { within = omega arith; kept = refl; order = w .order; start = omega arith; room = omega (arith, w .room); front = rw z }
+
+module _ {place count : ℕ} {bytes ends out₀ out : List ℕ} {i from behind : ℕ} (e : ℕ) (k : i < length ends) (w : e ≡ getD ends i 0)
+    (l : Lining place count bytes ends out₀ out i from behind) where
+  next-order : (from ≤ e) × (e ≤ length bytes) × TextsInOrder bytes e (drop (suc i) ends)
+  unfolding TextsInOrder
+  next-order = rw w (rw (drop-cons ends i 0 k) at (l .order))
+
+  pub lining-from : from ≤ e
+  lining-from = next-order .0
+
+  pub lining-to : e ≤ length bytes
+  lining-to = next-order .1
+
+  long : length (part bytes from e) ≡ e - from
+  long = length-part bytes from e lining-to
+
+  pub lining-room : behind + (length (part bytes from e) + stepRoom) ≤ length out
+  lining-room = omega (arith, k, long, lining-from, lining-to, l .room, l .kept)
+
+  next-front : textLines count (place + i) (cutTexts bytes from (drop i ends))
+      ≡ stepLineOf (place + i + 1) count (part bytes from e) ++ textLines count (place + (i + 1)) (cutTexts bytes e (drop (i + 1) ends))
+  unfolding textLines cutTexts
+  next-front =
+      let a : place + i + 1 ≡ suc (place + i) = omega arith in
+      let b : place + (i + 1) ≡ suc (place + i) = omega arith in
+      let d : i + 1 ≡ suc i = omega arith in
+      rw (drop-cons ends i 0 k, a, b, d, w)
+
+  pub lining-on : (out₁ : List ℕ) (r : ℕ) → length out₁ ≡ length out → PutsUpTo (length (part bytes from e) + stepRoom) (stepLineOf (place + i + 1) count (part bytes from e)) out behind out₁ r
+      → Lining place count bytes ends out₀ out₁ (i + 1) e r
+  lining-on out₁ r x p =
+      let d : i + 1 ≡ suc i = omega arith in
+      record {
+        within = omega (arith, k);
+        kept = x ∙ l .kept;
+        order = rw d (next-order .2);
+        start = lining-to;
+        room = omega (arith, k, long, lining-from, lining-to, l .room, p .short);
+        front =
+            ap (λ (s : List ℕ). s ++ textLines count (place + (i + 1)) (cutTexts bytes e (drop (i + 1) ends))) (p .puts .front)
+            ∙ append-assoc (take behind out) (stepLineOf (place + i + 1) count (part bytes from e)) (textLines count (place + (i + 1)) (cutTexts bytes e (drop (i + 1) ends)))
+            ∙ ap (λ (s : List ℕ). take behind out ++ s) (sym next-front)
+            ∙ l .front;
+      }
+
+lined : {place count : ℕ} {bytes ends out₀ out : List ℕ} {i from behind : ℕ} → length ends ≤ i → Lining place count bytes ends out₀ out i from behind
+    → take behind out ≡ textLines count place (cutTexts bytes 0 ends)
+unfolding textLines cutTexts
+lined {place} {count} {bytes} {ends} {out₀} {out} {i} {from} {behind} h l =
+    let z : i ≡ length ends = omega (arith, l .within) in
+    sym (append-nil (take behind out)) ∙ (rw (z, drop-length ends) at (l .front))
+
+pub lining-end : {place count : ℕ} {bytes ends out₀ out : List ℕ} {i from behind : ℕ} (exit : List ℕ) → length ends ≤ i → Lining place count bytes ends out₀ out i from behind
+    → exit ≡ zeroed out behind (length out) → LeavesOutput (textLines count place (cutTexts bytes 0 ends)) out₀ behind exit
+unfolding zeroed filled
+lining-end {place} {count} {bytes} {ends} {out₀} {out} {i} {from} {behind} exit h l z =
+    let f = lined h l in
+    let n : length (take behind out) ≡ behind = length-take-le behind out (omega (arith, l .room, l .kept)) in
+    rw (← f)
+    (record { count = sym n; left = z ∙ rw (drop-length out, n, l .kept) (append-nil (take behind out ++ replicate (length out₀ - behind) 0)) })
+
+-- ---- the program's rounds
+
+pub rounds-start : {manifest steps bytes ends out : List ℕ} {held : ℕ} → AllFine manifest steps bytes ends held → LineRooms bytes ends out
+    → ToWrite manifest steps bytes ends out 0 held
+rounds-start a r = record { within = omega arith; rest = a; rooms = r }
+
+-- Only the lengths of the buffers count.
+pub rooms-kept : {bytes ends out bytes₁ ends₁ out₁ : List ℕ} → length bytes₁ ≡ length bytes → length ends₁ ≡ length ends → length out₁ ≡ length out → LineRooms bytes ends out
+    → LineRooms bytes₁ ends₁ out₁
+rooms-kept x y z r =
+    record {
+      texts = record { bytes-room = omega (arith, x, r .texts .bytes-room); ends-room = omega (arith, y, r .texts .ends-room) };
+      lines = omega (arith, x, y, z, r .lines);
+    }
+
+module _ {manifest steps bytes ends out bytes₁ ends₁ out₁ : List ℕ} {place held : ℕ} {r : Lines} (w : ToWrite manifest steps bytes ends out place held)
+    (m : MakesLines manifest steps place r bytes₁ ends₁ out out₁) where
+  -- one step at least, and no more than there are
+  pub rounds-more : (0 < r .steps) × (place + r .steps ≤ length steps)
+  rounds-more = (m .holds .some, omega (arith, w .within, m .holds .held .few, length-drop place steps))
+
+  pub rounds-next : length bytes₁ ≡ length bytes → length ends₁ ≡ length ends → length out₁ ≡ length out → ToWrite manifest steps bytes₁ ends₁ out₁ (place + r .steps) 0
+  rounds-next x y z =
+      record {
+        within = rounds-more .1;
+        rest = record {
+          fine = w .rest .fine ∙ held-pass (m .holds .held) ∙ ap (checkTexts manifest) (drop-drop (r .steps) place steps);
+          held = held-none manifest (drop (place + r .steps) steps) bytes₁ ends₁;
+        };
+        rooms = rooms-kept x y z (w .rooms);
+      }

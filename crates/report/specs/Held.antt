@@ -1,0 +1,112 @@
+-- Texts that stand in lent buffers: end to end in one of bytes, and where each ends in one of numbers.
+use Prim.Native.Nat.{ℕ, suc, _+_, _*_, _≤_, _<_}
+use mathlib.Core.List.{List, [], _∷_, _++_}
+use mathlib.Core.Path.{_≡_}
+use lib.ListN.{length, take, drop}
+use Rattle.lists.specs.Parts.{part}
+use Rattle.spec.specs.Limits.{maxText}
+use Rattle.spec.specs.TextAsk.{text}
+use Rattle.answers.specs.Numbers.{said}
+use Rattle.printing.specs.Lines.{stepLineOf}
+use Rattle.printing.specs.Writes.{stepRoom, LeavesOutput}
+use Rattle.report.specs.declared.Asked.{Asked}
+use Rattle.report.specs.declared.Asked.the-variants.{Held, Refused as NotHeld}
+use Rattle.report.specs.declared.Checked.{Checked}
+use Rattle.report.specs.declared.Checked.the-variants.{All, Refused}
+use Rattle.report.specs.declared.Lines.{Lines}
+use Rattle.report.specs.Output.{fine, stopped, commandText, checkTexts, stepLines}
+
+-- each text begins where the one before it ends, and lies within the bytes
+unfoldable pub TextsInOrder : List ℕ → ℕ → List ℕ → Type 0
+TextsInOrder bytes at [] = Unit {0}
+TextsInOrder bytes at (e ∷ es) = (at ≤ e) × (e ≤ length bytes) × TextsInOrder bytes e es
+
+-- the texts that end at these places, the first beginning at a place
+unfoldable pub cutTexts : List ℕ → ℕ → List ℕ → List (List ℕ)
+cutTexts bytes at [] = []
+cutTexts bytes at (e ∷ es) = part bytes at e ∷ cutTexts bytes e es
+
+-- these are the `command` texts of these steps
+unfoldable pub AreCommands : List ℕ → List ℕ → List (List ℕ) → Type 0
+unfolding commandText
+AreCommands manifest [] [] = Unit {0}
+AreCommands manifest [] (t ∷ ts) = ⊥
+AreCommands manifest (s ∷ ss) [] = ⊥
+AreCommands manifest (s ∷ ss) (t ∷ ts) = (commandText manifest s ≡ text t) × AreCommands manifest ss ts
+
+-- the buffers hold the `command` texts of the first n of these steps
+pub record HeldTexts (manifest steps bytes ends : List ℕ) (n : ℕ) : Type 0 where
+  pub few : n ≤ length steps
+  pub placed : n ≤ length ends
+  pub order : TextsInOrder bytes 0 (take n ends)
+  pub commands : AreCommands manifest (take n steps) (cutTexts bytes 0 (take n ends))
+
+-- the lines of these texts, k of the list's n steps having gone before
+unfoldable pub textLines : ℕ → ℕ → List (List ℕ) → List ℕ
+unfolding stepLineOf
+textLines n k [] = []
+textLines n k (t ∷ ts) = stepLineOf (suc k) n t ++ textLines n (suc k) ts
+
+-- ------------------------------------------------------------------ asking
+
+-- room for one text at least
+pub record TextRooms (bytes ends : List ℕ) : Type 0 where
+  pub bytes-room : maxText ≤ length bytes
+  pub ends-room : 0 < length ends
+
+pub record TextsWanted (steps bytes ends : List ℕ) : Type 0 where
+  pub some : 0 < length steps
+  pub rooms : TextRooms bytes ends
+
+-- one step at least
+pub record HoldsSome (manifest steps bytes ends : List ℕ) (n : ℕ) : Type 0 where
+  pub some : 0 < n
+  pub held : HeldTexts manifest steps bytes ends n
+
+unfoldable pub AskedIs : List ℕ → List ℕ → List ℕ → List ℕ → Asked → Type 0
+unfolding checkTexts
+AskedIs manifest steps bytes ends (Held n) = HoldsSome manifest steps bytes ends n
+AskedIs manifest steps bytes ends (NotHeld x) = stopped (said x) ≡ checkTexts manifest steps
+
+-- ------------------------------------------------------------------ the check of all texts
+
+-- all steps have a text, and the buffers hold those of the first n
+pub record AllFine (manifest steps bytes ends : List ℕ) (n : ℕ) : Type 0 where
+  pub fine : fine ≡ checkTexts manifest steps
+  pub held : HeldTexts manifest steps bytes ends n
+
+unfoldable pub CheckedIs : List ℕ → List ℕ → List ℕ → List ℕ → Checked → Type 0
+unfolding checkTexts
+CheckedIs manifest steps bytes ends (All n) = AllFine manifest steps bytes ends n
+CheckedIs manifest steps bytes ends (Refused x) = stopped (said x) ≡ checkTexts manifest steps
+
+-- ------------------------------------------------------------------ the lines
+
+-- room for the lines of all texts that the buffers can hold
+pub record LineRooms (bytes ends out : List ℕ) : Type 0 where
+  pub texts : TextRooms bytes ends
+  pub lines : length bytes + stepRoom * length ends ≤ length out
+
+-- `place` lines are written, and those of the other steps are to come
+pub record ToWrite (manifest steps bytes ends out : List ℕ) (place held : ℕ) : Type 0 where
+  pub within : place ≤ length steps
+  pub rest : AllFine manifest (drop place steps) bytes ends held
+  pub rooms : LineRooms bytes ends out
+
+pub record NextWanted (manifest steps bytes ends : List ℕ) (held : ℕ) : Type 0 where
+  pub wanted : TextsWanted steps bytes ends
+  pub rest : AllFine manifest steps bytes ends held
+
+pub record CutWanted (bytes ends out : List ℕ) (place count : ℕ) : Type 0 where
+  pub order : TextsInOrder bytes 0 ends
+  pub counted : place + length ends ≤ count
+  pub room : length bytes + stepRoom * length ends ≤ length out
+
+pub record LinesWanted (manifest steps bytes ends out : List ℕ) (place held : ℕ) : Type 0 where
+  pub more : place < length steps
+  pub left : ToWrite manifest steps bytes ends out place held
+
+-- The lines of one step at least, which come next; the buffers hold their texts.
+pub record MakesLines (manifest steps : List ℕ) (place : ℕ) (r : Lines) (bytes ends out outExit : List ℕ) : Type 0 where
+  pub holds : HoldsSome manifest (drop place steps) bytes ends (r .steps)
+  pub lines : LeavesOutput (stepLines manifest (length steps) place (take (r .steps) (drop place steps))) out (r .bytes) outExit
