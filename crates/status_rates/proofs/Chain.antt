@@ -4,22 +4,23 @@ use Prim.Native.Nat.{ℕ, zero, suc, _+_, _-_, _*_, _/_, _%_, _^_, _≤_, _<_}
 use native.Mathlib.Nat.{le-trans, le-of-eq, le-of-lt, lt-of-lt-of-le, lt-of-le-of-lt, mul-comm, mul-assoc, mul-left-comm, mul-le-mul-right, mul-le-mul-left, mul-le-mul, mul-pos, add-mul, mul-add, mul-one, one-mul, le-of-mul-le-mul-left, le-of-mul-le-mul-right, lt-of-mul-lt-mul-right, mul-suc, lt-of-mul-lt-mul-left, le-refl, add-le-add, le-div-iff-mul-le, div-lt-iff-lt-mul, div-mul-le-self, lt-suc-self, mul-lt-mul-of-pos-left, le-of-suc-le-suc}
 use native.Mathlib.Omega.{arith}
 use lib.Dec.{lit<, lit≤}
+use Rattle.status_rates.specs.Within.{WithinOne}
 use Rattle.status_rates.proofs.Near.{Near}
 
-abbrev E : ℕ
+abbrev pub E : ℕ
 E = 0x10000000000000
 
-abbrev D : ℕ
+abbrev pub D : ℕ
 D = 0xfffffffffffff
 
-abbrev F : ℕ
+abbrev pub F : ℕ
 F = 0x10000000000001
 
 -- what Near says, by factors
-most : (n g : ℕ) → Near E n g → E * g ≤ F * n
+pub most : (n g : ℕ) → Near E n g → E * g ≤ F * n
 most n g h = omega (arith, h .most)
 
-least : (n g : ℕ) → Near E n g → D * n ≤ E * g
+pub least : (n g : ℕ) → Near E n g → D * n ≤ E * g
 least n g h = omega (arith, h .least)
 
 -- ---- from above
@@ -96,11 +97,6 @@ below X m T P up small h =
     let two : D * (D * X) < D * (D * Y) + D * (D * m) = sum-up (D * (D * X)) (D * (D * Y)) (D * (D * m)) (E * (F * Y)) (4 * (E * Y)) h (parts Y) less in
     lt-of-mul-lt-mul-left D (lt-of-mul-lt-mul-left D (lt-of-lt-of-le two (le-of-eq (sym (ap (λ (z : ℕ). D * z) (mul-add D Y m) ∙ mul-add D (D * Y) (D * m))))))
 
--- the number of tenths T and the whole quotient are within 1 of each other
-pub record Within (X m T : ℕ) : Type 0 where
-  pub most : T ≤ X / m + 1
-  pub least : X / m ≤ T + 1
-
 last : (t X m : ℕ) → 0 < m → m * suc t < X + m → t ≤ X / m
 last t X m P h = le-div-iff-mul-le P .1 (omega (arith, h, mul-suc m t, mul-comm t m))
 
@@ -118,7 +114,7 @@ at-least : (T X m : ℕ) → 0 < m → X < m * suc T + m → X / m ≤ T + 1
 at-least T X m P h = le-of-suc-le-suc (subst (λ (z : ℕ). X / m < z) (two-more T) (div-lt-iff-lt-mul P .1 (lt-of-lt-of-le h (le-of-eq (by-two T m)))))
 
 pub within : (L m s g1 g2 g3 : ℕ) → 0 < L → 0 < m → 4 * (10000 * s) < D → 10000 * s + 2 * m < 0x10000000
-    → Near E (m * L) (g1 * 1000) → Near E (s * L * L) (g2 * g1) → Near E (g2 * 10 * L) (g3 * L) → Within (10000 * s) m (g3 / L)
+    → Near E (m * L) (g1 * 1000) → Near E (s * L * L) (g2 * g1) → Near E (g2 * 10 * L) (g3 * L) → WithinOne (10000 * s) m (g3 / L)
 within L m s g1 g2 g3 PL Pm small less n1 n2 n3 =
     let T = g3 / L in
     let up : m * T < 10000 * s + m = above (10000 * s) m T Pm small (whole-up D E F L m s T g3 PL (div-mul-le-self g3 L) (up-product D E F L m s g1 g2 g3 (least (m * L) (g1 * 1000) n1) (most (s * L * L) (g2 * g1) n2) (most (g2 * 10 * L) (g3 * L) n3))) in
