@@ -1,10 +1,11 @@
 -- "for at most 2,048 steps the number of tenths is within 1 of 10,000 times the steps divided by the milliseconds, cut downwards", and when a rate is known.
 use mathlib.Core.Path.{_≡_, refl, sym, ap, _∙_, subst}
-use mathlib.Core.Bool.{true, false, true≢false}
+use mathlib.Core.Bool.{Bool, true, false, true≢false}
 use Prim.Native.Nat.{ℕ, zero, suc, _+_, _-_, _*_, _/_, _^_, _≤_, _<_, min}
-use native.Mathlib.Nat.{le-trans, le-of-eq, lt-of-lt-of-le, lt-of-le-of-lt, mul-comm, mul-le-mul-left, mul-le-mul-right, mul-lt-mul-of-pos-left, mul-one, one-mul, zero-mul, mul-zero, div-le-self, le-refl, zero-div}
+use native.Mathlib.Nat.{le-trans, le-of-eq, lt-of-lt-of-le, lt-of-le-of-lt, mul-comm, mul-le-mul-left, mul-le-mul-right, mul-lt-mul-of-pos-left, mul-one, one-mul, zero-mul, mul-pos, div-le-self, zero-div}
 use native.Mathlib.Omega.{arith}
-use lib.Dec.{T, lit≤, lit<, ltb, lt→ltb}
+use lib.Dec.{T, lit≤, lit<, ltb, lt→ltb, ltb→lt}
+use lib.IntN.{pos}
 use lib.Pow.{pow-add, pow-pos, pow-mono}
 use lib.Ieee.{Float, nan, inf, fin, binary64, prec, emax, low, up, down, size, round, mul, div, sub, lt, ofInt, toUnsigned}
 use lib.Ieee.Exact.{HasValue}
@@ -155,3 +156,37 @@ module _ (m : ℕ) (from : 0 < m) (to : m ≤ day) where
 pub tenths-near : (n m : ℕ) → n ≤ 2048 → 0 < m → m ≤ day → TenthsNear n m (tenthsOf (div binary64 (wholeFloat n) (secondsOf (wholeFloat m))))
 tenths-near zero m few from to = none-near m from to
 tenths-near (suc n) m few from to = some-near m from to (suc n) (omega arith) few
+
+-- ---- a rate is known exactly when time has passed
+of-T : (b : Bool) → T b → b ≡ true
+of-T true t = refl
+of-T false t = absurd t
+
+zero-is : wholeFloat 0 ≡ fin false 0 (pos 0)
+unfolding ofInt
+zero-is = refl
+
+above-zero : (x : Float) → T (positive x) → lt (fin false 0 (pos 0)) x ≡ true
+unfolding lt
+above-zero nan p = absurd p
+above-zero (inf s) p = absurd p
+above-zero (fin true m e) p = absurd p
+above-zero (fin false m e) p = of-T (ltb (0 * 1 * down e) (m * up e * 1)) (lt→ltb (0 * 1 * down e) (m * up e * 1) (subst (λ (x : ℕ). x < m * up e * 1) (sym (zero-mul (down e))) (mul-pos (mul-pos (ltb→lt 0 m p) (up-pos e)) (lit< tt))))
+
+time-passed : (m : ℕ) → 0 < m → m ≤ day → lt (wholeFloat 0) (secondsOf (wholeFloat m)) ≡ true
+time-passed m from to =
+    ap (λ (x : Float). lt x (secondsOf (wholeFloat m))) zero-is
+    ∙ above-zero (secondsOf (wholeFloat m)) (positive-of-value (secondsOf (wholeFloat m)) (grid binary64 m 1000) one (seconds-value m from to) (seconds-pos m from to))
+
+pub rate-known : (n m : ℕ) → 0 < m → m ≤ day → rateOf n (secondsOf (wholeFloat m)) ≡ Known (div binary64 (wholeFloat n) (secondsOf (wholeFloat m)))
+unfolding rateOf
+rate-known n m from to = rw (time-passed m from to)
+
+pub rate-none : (n : ℕ) → rateOf n (secondsOf (wholeFloat 0)) ≡ Unknown
+unfolding rateOf secondsOf
+rate-none n = refl
+
+-- the difference of two times is a whole number of milliseconds
+pub sub-whole : (a b : ℕ) → b ≤ a → a ≤ day → sub binary64 (wholeFloat a) (wholeFloat b) ≡ wholeFloat (a - b)
+unfolding ofInt
+sub-whole a b h to = sub-value binary64 (wholeFloat a) (wholeFloat b) a b h (whole-small a (le-trans to (lit≤ tt))) (whole-small b (le-trans h (le-trans to (lit≤ tt))))
