@@ -36,19 +36,19 @@ unfolding takenTime
 taken-itself last t h k = omega arith
 
 -- ---- times that fall
-pub falling-on : {m n : ℕ} (ts : List ℕ) → m ≤ n → Falling m ts → Falling n ts
-falling-on [] h f = tt
-falling-on (t ∷ ts) h f = (le-trans (f .0) h, f .1)
+pub falling-on : (m n : ℕ) (ts : List ℕ) → m ≤ n → Falling m ts → Falling n ts
+falling-on m n [] h f = tt
+falling-on m n (t ∷ ts) h f = (le-trans (f .0) h, f .1)
 
-pub falling-below : {m : ℕ} (ts : List ℕ) (j : ℕ) → Falling m ts → j < length ts → getD ts j 0 ≤ m
-falling-below [] j f h = absurd (omega arith)
-falling-below (t ∷ ts) zero f h = f .0
-falling-below (t ∷ ts) (suc j) f h = le-trans (falling-below ts j (f .1) (omega arith)) (f .0)
+pub falling-below : (m : ℕ) (ts : List ℕ) (j : ℕ) → Falling m ts → j < length ts → getD ts j 0 ≤ m
+falling-below m [] j f h = absurd (omega arith)
+falling-below m (t ∷ ts) zero f h = f .0
+falling-below m (t ∷ ts) (suc j) f h = le-trans (falling-below t ts j (f .1) (omega arith)) (f .0)
 
-pub falling-first : {m : ℕ} (ts : List ℕ) (j : ℕ) → Falling m ts → j < length ts → getD ts j 0 ≤ getD ts 0 0
-falling-first [] j f h = absurd (omega arith)
-falling-first (t ∷ ts) zero f h = le-refl t
-falling-first (t ∷ ts) (suc j) f h = falling-below ts j (f .1) (omega arith)
+pub falling-first : (m : ℕ) (ts : List ℕ) (j : ℕ) → Falling m ts → j < length ts → getD ts j 0 ≤ getD ts 0 0
+falling-first m [] j f h = absurd (omega arith)
+falling-first m (t ∷ ts) zero f h = le-refl t
+falling-first m (t ∷ ts) (suc j) f h = falling-below t ts j (f .1) (omega arith)
 
 -- ---- the window
 take-less : (n m : ℕ) (l : List Float) → n ≤ m → take n (take m l) ≡ take n l

@@ -1,0 +1,4 @@
+pub mod Decimal
+pub mod Wrong
+pub mod Lining
+pub mod Filling
