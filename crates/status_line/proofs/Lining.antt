@@ -6,12 +6,15 @@ use native.Mathlib.Omega.{arith}
 use mathlib.Core.Bool.{Bool, true, false}
 use mathlib.Core.List.{List, [], _∷_, _++_, append-nil, append-assoc}
 use mathlib.Core.Path.{_≡_, refl, sym, ap, _∙_, subst}
+use borrow.Author.Tests.{eq-eqb, ne-eqb}
 use lib.ListN.{length, drop, getD}
 use lib.Seq.{drop-cons, drop-length}
 use Rattle.spec.specs.Limits.{maxText}
 use Rattle.text_buffer.specs.Puts.{Open, PutsText}
 use Rattle.text_buffer.proofs.Parts.{puts-none, puts-then, puts-over}
 use Rattle.status_record.specs.declared.Status.{Status}
+use Rattle.status_line.specs.declared.Piece.{Piece}
+use Rattle.status_line.specs.Pieces.{pieceOf, pieceText}
 use Rattle.status_line.specs.Line.{nextState, elementText, lineFrom}
 
 -- what the first i bytes of the format give is written
@@ -62,3 +65,21 @@ module _ {s : Status} {format before buffer : List ℕ} {n i : ℕ} {a : Bool} (
       subst (λ (x : List ℕ). PutsText before 0 x buffer n)
       (sym (h .rest ∙ ap (λ (x : List ℕ). h .done ++ lineFrom s a x) (ap (λ (k : ℕ). drop k format) (le-antisymm (h .within) l) ∙ drop-length format) ∙ ap (λ (x : List ℕ). h .done ++ x) (ended s a) ∙ append-nil (h .done)))
       (h .puts)
+
+  pub line-open : Open before 0 → Open buffer n
+  line-open o = record { room = subst (λ (k : ℕ). maxText ≤ k) (sym (h .puts .long)) (o .room); low = h .low }
+
+-- ---- what one byte of the format adds
+pub element-piece : (s : Status) (b : ℕ) {a : Bool} {p : Piece} {before after : List ℕ} {place r : ℕ} → a ≡ true → p ≡ pieceOf s b → PutsText before place (pieceText p) after r
+    → PutsText before place (elementText s a b) after r
+unfolding elementText
+element-piece s b {before = before} {after} {place} {r} t e h = rw t (subst (λ (x : Piece). PutsText before place (pieceText x) after r) e h)
+
+pub element-none : (s : Status) {b : ℕ} {a : Bool} {before : List ℕ} {place : ℕ} → a ≡ false → b ≡ 37 → Open before place → PutsText before place (elementText s a b) before place
+unfolding elementText
+element-none s {b} t e o = rw (t, eq-eqb b 37 e) (puts-none o)
+
+pub element-byte : (s : Status) {b : ℕ} {a : Bool} {before after : List ℕ} {place r : ℕ} → a ≡ false → (b ≡ 37 → ⊥) → PutsText before place (b ∷ []) after r
+    → PutsText before place (elementText s a b) after r
+unfolding elementText
+element-byte s {b} t e h = rw (t, ne-eqb b 37 e) h

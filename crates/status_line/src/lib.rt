@@ -77,7 +77,7 @@ fn rate_piece(r: Rate) -> Piece
 }
 
 // What a placeholder stands for, by the byte behind its `%`.
-fn piece(s: Status, key: u8) -> Piece
+fn piece_at(s: Status, key: u8) -> Piece
     ensures { λ p. ⌜ p ≡ pieceOf s key ⌝ }
 {
     if key == b's' {
@@ -99,10 +99,12 @@ fn piece(s: Status, key: u8) -> Piece
         return Piece::Number(wide(s.finished));
     }
     if key == b'o' {
-        return rate_piece(s.overall);
+        let overall = s.overall;
+        return rate_piece(overall);
     }
     if key == b'c' {
-        return rate_piece(s.current);
+        let current = s.current;
+        return rate_piece(current);
     }
     if key == b'e' {
         return Piece::Seconds(wide(s.last));
@@ -173,10 +175,34 @@ fn put_piece(p: Piece, buffer: &mut [u8], place: usize) -> usize
 fn known_key(b: u8) -> bool
     ensures { λ r. ⌜ r ≡ knownKey b ⌝ }
 {
-    match b {
-        b's' | b't' | b'p' | b'r' | b'u' | b'f' | b'o' | b'c' | b'e' | b'%' => true,
-        _ => false,
+    if b == b's' {
+        return true;
     }
+    if b == b't' {
+        return true;
+    }
+    if b == b'p' {
+        return true;
+    }
+    if b == b'r' {
+        return true;
+    }
+    if b == b'u' {
+        return true;
+    }
+    if b == b'f' {
+        return true;
+    }
+    if b == b'o' {
+        return true;
+    }
+    if b == b'c' {
+        return true;
+    }
+    if b == b'e' {
+        return true;
+    }
+    b == b'%'
 }
 
 // Whether this byte stands behind a `%` and names no placeholder.
@@ -227,7 +253,7 @@ fn put_element(s: Status, after: bool, b: u8, buffer: &mut [u8], place: usize) -
     ensures { λ r. ⌜ PutsText (now (buffer .entry)) place (elementText s after b) (now (buffer .exit)) r ⌝ }
 {
     if after {
-        return put_piece(piece(s, b), buffer, place);
+        return put_piece(piece_at(s, b), buffer, place);
     }
     if b == b'%' {
         return place;
