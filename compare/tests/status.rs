@@ -31,7 +31,11 @@ fn line(record: StatusRecord, format: &[u8], room: usize) -> Result<Vec<u8>, (us
         assert!(buffer[written..].iter().all(|&byte| byte == 0), "zero beyond");
     }
     buffer.truncate(written);
-    if number == 0 { Ok(buffer) } else { Err((number, value)) }
+    if number == 0 {
+        Ok(buffer)
+    } else {
+        Err((number, value))
+    }
 }
 
 fn both(total: u32, jobs: u32, events: &[Event]) -> (StatusRecord, Status) {

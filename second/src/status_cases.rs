@@ -3,6 +3,9 @@
 
 use crate::status::Event;
 
+/// What is given, or a refusal's number and place.
+pub type Told<T> = Result<T, (usize, usize)>;
+
 /// What a format gives after some events.
 pub struct Case {
     /// The sentence or reading.
@@ -13,7 +16,7 @@ pub struct Case {
     pub events: &'static str,
     pub format: &'static str,
     /// The line, or a refusal's number and place.
-    pub right: Result<&'static str, (usize, usize)>,
+    pub right: Told<&'static str>,
 }
 
 const fn case(
@@ -21,7 +24,7 @@ const fn case(
     (total, jobs): (u32, u32),
     events: &'static str,
     format: &'static str,
-    right: Result<&'static str, (usize, usize)>,
+    right: Told<&'static str>,
 ) -> Case {
     Case { pins, total, jobs, events, format, right }
 }
@@ -117,7 +120,7 @@ pub fn events(text: &str) -> Vec<Event> {
 
 /// Formats at the limit of a line, for a total of 1,000,000 (seven bytes), and what they give: the
 /// number of bytes, or a refusal. "8,192 bytes fit", "17 last".
-pub fn long_formats() -> Vec<(Vec<u8>, Result<usize, (usize, usize)>)> {
+pub fn long_formats() -> Vec<(Vec<u8>, Told<usize>)> {
     let xs = |count: usize, tail: &str| [&vec![b'x'; count][..], tail.as_bytes()].concat();
     vec![
         (xs(8_191, ""), Ok(8_191)),
