@@ -22,9 +22,9 @@ use Rattle.status_line.specs.LineAsk.{lineSays, lineRefusalSays, LineOut
 use mathlib.Core.Bool.{false}
 
 -- a buffer of the same length, all zero
-pub cleared : {mid lent exit : List ℕ} → length mid ≡ length lent → exit ≡ zeroed mid 0 (length mid) → exit ≡ filled [] lent
+cleared : (mid lent exit : List ℕ) → length mid ≡ length lent → exit ≡ zeroed mid 0 (length mid) → exit ≡ filled [] lent
 unfolding filled
-cleared {mid} {lent} {exit} n e = e ∙ zeroed-all mid ∙ ap zeros (n ∙ sym (none (length lent)))
+cleared mid lent exit n e = e ∙ zeroed-all mid ∙ ap zeros (n ∙ sym (none (length lent)))
   where
     none : (k : ℕ) → k - 0 ≡ k
     none k = omega arith
@@ -33,10 +33,10 @@ pub fill-over : {l lent mid exit : List ℕ} {n : ℕ} → PutsText lent 0 l mid
 unfolding fittingLine LineMeets leftByLine lineSays
 fill-over {l} {lent} {mid} {exit} {n} p h e =
     let o : maxText < 0 + length l = p .over h in
-    rw (lt-ltb maxText (length l) (omega arith)) (record { says = refl; leaves = cleared (p .long) e })
+    rw (lt-ltb maxText (length l) (omega arith)) (record { says = refl; leaves = cleared mid lent exit (p .long) e })
 
 pub fill-fits : {l lent mid exit : List ℕ} {n : ℕ} → PutsText lent 0 l mid n → n ≤ maxText → exit ≡ zeroed mid n (length mid) → LineMeets (fittingLine l) lent (lineSays (Written n)) exit
-unfolding fittingLine LineMeets lineSays
+unfolding fittingLine LineMeets lineSays zeroed filled
 fill-fits {l} {lent} {mid} {exit} {n} p h e =
     let f = p .fits h in
     let c : n ≡ length l = omega (arith, f .count) in
@@ -46,7 +46,7 @@ fill-fits {l} {lent} {mid} {exit} {n} p h e =
     padded c b =
         ap (λ (x : List ℕ). x ++ zeros (length mid - n) ++ drop (length mid) mid) b
         ∙ ap (λ (x : List ℕ). l ++ zeros (length mid - n) ++ x) (drop-length mid)
-        ∙ ap (λ (x : List ℕ). l ++ x) (append-nil (zeros (length mid - n)))
+        ∙ append-nil (l ++ zeros (length mid - n))
         ∙ ap (λ (k : ℕ). l ++ zeros (k - n)) (p .long)
         ∙ ap (λ (k : ℕ). l ++ zeros (length lent - k)) c
 
@@ -62,9 +62,8 @@ judged s f lent h = rw (le-ltb (length lent) maxText h)
 pub line-wrong : (s : Status) (f lent : List ℕ) {exit : List ℕ} {p : ℕ} → maxText ≤ length lent → At p ≡ wrongFrom 0 false f → exit ≡ zeroed lent 0 (length lent)
     → LineMeets (lineOutcome s f (length lent)) lent (lineSays (Refused (BadPlaceholder p))) exit
 unfolding soundFormat LineMeets leftByLine lineSays
-line-wrong s f lent {exit} {p} h w e = rw (judged s f lent h, ← w) (record { says = refl; leaves = cleared {mid = lent} refl e })
+line-wrong s f lent {exit} {p} h w e = rw (judged s f lent h, ← w) (record { says = refl; leaves = cleared lent lent exit refl e })
 
-pub line-sound : (s : Status) (f lent : List ℕ) {exit : List ℕ} {a : LineAnswer} → maxText ≤ length lent → Nowhere ≡ wrongFrom 0 false f
-    → LineMeets (fittingLine (lineFrom s false f)) lent (lineSays a) exit → LineMeets (lineOutcome s f (length lent)) lent (lineSays a) exit
+pub line-sound : (s : Status) (f lent : List ℕ) → maxText ≤ length lent → Nowhere ≡ wrongFrom 0 false f → lineOutcome s f (length lent) ≡ fittingLine (lineFrom s false f)
 unfolding soundFormat
-line-sound s f lent h w m = rw (judged s f lent h, ← w) m
+line-sound s f lent h w = judged s f lent h ∙ ap (λ (x : WrongPlace). soundFormat x (lineFrom s false f)) (sym w)

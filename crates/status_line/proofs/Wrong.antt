@@ -21,10 +21,10 @@ pub record Looking (format : List ℕ) (i : ℕ) (after : Bool) : Type 0 where
 pub look-begin : (format : List ℕ) → Looking format 0 false
 look-begin format = record { within = omega arith; begun = λ e. absurd (true≢false (sym e)); rest = refl }
 
-pub bad-after : {a : Bool} (b : ℕ) → badKey a b ≡ true → a ≡ true
+pub bad-after : (a : Bool) (b : ℕ) → badKey a b ≡ true → a ≡ true
 unfolding badKey
-bad-after {true} b e = refl
-bad-after {false} b e = e
+bad-after true b e = refl
+bad-after false b e = e
 
 step : (i : ℕ) (a : Bool) (b : ℕ) (l : List ℕ) → badKey a b ≡ false → wrongFrom i a (b ∷ l) ≡ wrongFrom (suc i) (nextState a b) l
 unfolding wrongFrom

@@ -76,6 +76,20 @@ fn rate_piece(r: Rate) -> Piece
     }
 }
 
+fn overall_piece(s: Status) -> Piece
+    ensures { λ p. ⌜ p ≡ ratePiece (s .overall) ⌝ }
+{
+    let r = s.overall;
+    rate_piece(r)
+}
+
+fn current_piece(s: Status) -> Piece
+    ensures { λ p. ⌜ p ≡ ratePiece (s .current) ⌝ }
+{
+    let r = s.current;
+    rate_piece(r)
+}
+
 // What a placeholder stands for, by the byte behind its `%`.
 fn piece_at(s: Status, key: u8) -> Piece
     ensures { λ p. ⌜ p ≡ pieceOf s key ⌝ }
@@ -99,12 +113,10 @@ fn piece_at(s: Status, key: u8) -> Piece
         return Piece::Number(wide(s.finished));
     }
     if key == b'o' {
-        let overall = s.overall;
-        return rate_piece(overall);
+        return overall_piece(s);
     }
     if key == b'c' {
-        let current = s.current;
-        return rate_piece(current);
+        return current_piece(s);
     }
     if key == b'e' {
         return Piece::Seconds(wide(s.last));

@@ -58,7 +58,7 @@ fn rate_flag(r: Rate) -> u32
 {
     match r {
         Rate::Unknown => 0,
-        Rate::Known(x) => 1,
+        Rate::Known(_) => 1,
     }
 }
 

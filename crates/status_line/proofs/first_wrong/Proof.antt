@@ -24,7 +24,7 @@ bad-key-requires : tie.Need-bad-key-requires Inv-loop μ-loop
 bad-key-requires c κs = search needs
 
 sub-t9 : tie.Need-sub-t9 Inv-loop μ-loop
-sub-t9 c = omega (arith, c .before .before .before .before .loop .inv .begun (bad-after _ (sym (c .before .bad-key .ensures) ∙ c .if1 .taken)))
+sub-t9 c = omega (arith, c .before .before .before .before .loop .inv .begun (bad-after _ _ (sym (c .before .bad-key .ensures) ∙ c .if1 .taken)))
 
 returns : tie.Need-returns Inv-loop μ-loop
 returns c = look-bad (c .before .before .before .before .loop .inv) (c .before .before .before .loop-test .taken) (sym (c .before .bad-key .ensures) ∙ c .if1 .taken)
