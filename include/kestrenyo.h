@@ -55,8 +55,9 @@ extern "C" {
  *   14  the needed steps have no order: the length of the circle that the list buffer shows
  *   15  a needed source is missing: its file number, counted from 0 by first mention
  *   16  a rule's text leads back to itself: the step
- *   17  the text has over 8,192 bytes: the step
+ *   17  the text has over 8,192 bytes: the step; a status line: 0
  *   18  there is no such step, or it is phony: the step
+ *   21  a `%` of a status format begins no placeholder: its place in the format
  */
 struct kestrenyo_said {
     size_t number;
@@ -110,6 +111,43 @@ struct kestrenyo_said kestrenyo_text(const uint8_t *manifest, size_t manifest_le
  */
 struct kestrenyo_said kestrenyo_texts(const uint8_t *manifest, size_t manifest_len, const uint32_t *steps, size_t steps_len,
                                       size_t wanted, uint8_t *bytes, size_t bytes_len, uint32_t *ends, size_t ends_len);
+
+/*
+ * How far a build is, by value. kestrenyo_status makes one, the functions below give the next one, and nothing is kept
+ * anywhere else. Times are milliseconds from the start of the build; one above 86,400,000 counts as that, one earlier than
+ * the last as the last. elapsed and both rates are doubles, one rounding to each operation; a rate is unknown where its
+ * flag is 0. window has the last sixteen finish times in milliseconds, the newest first.
+ *
+ * Any numbers are taken. More started than total count as total, more finished than started as those started, a time past
+ * the day as the day; the doubles are taken as they are.
+ */
+struct kestrenyo_status {
+    uint32_t total, jobs, started, finished;
+    uint32_t last;
+    uint32_t overall_known, current_known;
+    double elapsed, overall, current;
+    double window[16];
+};
+
+/* Before the first event: so many steps, and so many jobs at once. */
+struct kestrenyo_status kestrenyo_status(uint32_t total, uint32_t jobs);
+
+/* A step starts; one past the total changes nothing. A step finishes; with none running it changes nothing. */
+struct kestrenyo_status kestrenyo_status_started(struct kestrenyo_status status, uint64_t milliseconds);
+struct kestrenyo_status kestrenyo_status_finished(struct kestrenyo_status status, uint64_t milliseconds);
+
+/* The clock moved to the time of printing, by which `%e` and `%o` go. */
+struct kestrenyo_status kestrenyo_status_at(struct kestrenyo_status status, uint64_t milliseconds);
+
+/*
+ * The line of a status as it stands, by a format with the placeholders of the ninja manual: %s started, %t total, %p percent
+ * started, %r running, %u not started, %f finished, %o and %c the overall and the current rate (steps a second in tenths,
+ * `?` where unknown), %e the elapsed seconds with three decimals, %% a `%`. Refusals 1, then 21, then 17.
+ *
+ * buffer: as kestrenyo_text's.
+ */
+struct kestrenyo_said kestrenyo_status_line(struct kestrenyo_status status, const uint8_t *format, size_t format_len,
+                                            uint8_t *buffer, size_t buffer_len);
 
 #ifdef __cplusplus
 }

@@ -1,5 +1,5 @@
 //! The asks on buffers that the caller lends: nothing is allocated. Nothing checks these
-//! declarations against the library's sources (`crates/kestrenyo`), so they are three; a slice passes
+//! declarations against the library's sources (`crates/kestrenyo`), so they are few; a slice passes
 //! as a pointer and a length.
 
 /// What an ask says: 0 and the count of what was written, or a refusal's number and its place.
@@ -21,7 +21,49 @@ pub enum Wanted {
     Description,
 }
 
+/// How far a build is, passed and returned by value. [`Status`](crate::Status) is this with its
+/// functions. Any numbers are taken: more started than the total count as the total, more finished
+/// than started as those started, a time past the day as the day; rates, elapsed seconds and window
+/// are taken as they are.
+#[repr(C)]
+#[derive(Debug, Clone, Copy, PartialEq)]
+pub struct StatusRecord {
+    /// All steps.
+    pub total: u32,
+    /// Jobs at once.
+    pub jobs: u32,
+    /// Steps started.
+    pub started: u32,
+    /// Steps finished.
+    pub finished: u32,
+    /// The last time, in milliseconds.
+    pub last: u32,
+    /// 0 where the overall rate is unknown.
+    pub overall_known: u32,
+    /// 0 where the current rate is unknown.
+    pub current_known: u32,
+    /// The last time, in seconds.
+    pub elapsed: f64,
+    /// The overall rate, in steps a second.
+    pub overall: f64,
+    /// The rate of the last finish times.
+    pub current: f64,
+    /// The last sixteen finish times, in milliseconds, the newest first.
+    pub window: [f64; 16],
+}
+
 extern "C" {
+    fn kestrenyo_status(total: u32, jobs: u32) -> StatusRecord;
+    fn kestrenyo_status_started(status: StatusRecord, milliseconds: u64) -> StatusRecord;
+    fn kestrenyo_status_finished(status: StatusRecord, milliseconds: u64) -> StatusRecord;
+    fn kestrenyo_status_at(status: StatusRecord, milliseconds: u64) -> StatusRecord;
+    fn kestrenyo_status_line(
+        status: StatusRecord,
+        format: *const u8,
+        format_len: usize,
+        buffer: *mut u8,
+        buffer_len: usize,
+    ) -> Said;
     fn kestrenyo_plan(
         manifest: *const u8,
         manifest_len: usize,
@@ -124,6 +166,46 @@ pub fn texts(
             bytes.len(),
             ends.as_mut_ptr(),
             ends.len(),
+        )
+    }
+}
+
+/// The status before the first event.
+pub fn status(total: u32, jobs: u32) -> StatusRecord {
+    // SAFETY: the function asks nothing of its arguments and touches no memory.
+    unsafe { kestrenyo_status(total, jobs) }
+}
+
+/// The status after a step started.
+pub fn status_started(status: StatusRecord, milliseconds: u64) -> StatusRecord {
+    // SAFETY: as above.
+    unsafe { kestrenyo_status_started(status, milliseconds) }
+}
+
+/// The status after a step finished.
+pub fn status_finished(status: StatusRecord, milliseconds: u64) -> StatusRecord {
+    // SAFETY: as above.
+    unsafe { kestrenyo_status_finished(status, milliseconds) }
+}
+
+/// The status with the clock moved to the time of printing.
+pub fn status_at(status: StatusRecord, milliseconds: u64) -> StatusRecord {
+    // SAFETY: as above.
+    unsafe { kestrenyo_status_at(status, milliseconds) }
+}
+
+/// The line of a status as it stands, by a format. It stands at the start of `buffer`, which has
+/// [`TEXT`](crate::TEXT) bytes at least, and all beyond it is zero. After a refusal all of it is
+/// zero, but 1 touches nothing.
+pub fn status_line(status: StatusRecord, format: &[u8], buffer: &mut [u8]) -> Said {
+    // SAFETY: the function asks nothing of its arguments, reads the slice and writes the buffer.
+    unsafe {
+        kestrenyo_status_line(
+            status,
+            format.as_ptr(),
+            format.len(),
+            buffer.as_mut_ptr(),
+            buffer.len(),
         )
     }
 }

@@ -17,7 +17,7 @@
 //! ```
 //!
 //! [`plan()`] lists the steps to run, [`text()`] gives the text of one step, and [`texts()`] those of
-//! many, without reading the manifest anew for each.
+//! many, without reading the manifest anew for each. [`Status`] prints how far a build is.
 //!
 //! Any input gets an answer: a list, a text, or a [`Refusal`] with its number and place. Nothing
 //! panics and nothing is read or written but what is lent.
@@ -34,11 +34,13 @@
 mod card;
 pub mod lent;
 mod refusal;
+mod status;
 mod texts;
 
 pub use card::{card, CardError};
 pub use lent::Wanted;
 pub use refusal::Refusal;
+pub use status::Status;
 pub use texts::{texts, Texts};
 
 /// The least list buffer, in numbers: as many as there may be steps.

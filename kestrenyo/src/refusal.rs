@@ -47,6 +47,10 @@ pub enum Refusal {
     LongText(usize),
     /// 18: there is no step of this number, or it is a phony one.
     NoCommand(usize),
+    /// 17, of a status line: it has over 8,192 bytes.
+    LongLine,
+    /// 21: a `%` of a status format, at this place, that begins no placeholder.
+    BadPlaceholder(usize),
     /// A number that this crate does not know, with its place. The library of this crate's edition
     /// never says one (that is proved); one of a later edition may.
     Unknown {
@@ -80,11 +84,20 @@ impl Refusal {
             16 => Refusal::EndlessText(place),
             17 => Refusal::LongText(place),
             18 => Refusal::NoCommand(place),
+            21 => Refusal::BadPlaceholder(place),
             number => Refusal::Unknown { number, place },
         }
     }
 
-    /// Document 01's number, 1 to 18 but for [`Unknown`](Refusal::Unknown).
+    /// The refusal of a status line, whose number is not 0.
+    pub(crate) fn of_line(said: Said) -> Self {
+        match said.number {
+            17 => Refusal::LongLine,
+            _ => Refusal::of(said, &[]),
+        }
+    }
+
+    /// Document 01's number, 1 to 18 or 21 but for [`Unknown`](Refusal::Unknown).
     pub fn number(&self) -> usize {
         match self {
             Refusal::ShortBuffer => 1,
@@ -103,8 +116,9 @@ impl Refusal {
             Refusal::Circle(_) => 14,
             Refusal::MissingSource(_) => 15,
             Refusal::EndlessText(_) => 16,
-            Refusal::LongText(_) => 17,
+            Refusal::LongText(_) | Refusal::LongLine => 17,
             Refusal::NoCommand(_) => 18,
+            Refusal::BadPlaceholder(_) => 21,
             Refusal::Unknown { number, .. } => *number,
         }
     }
@@ -112,7 +126,11 @@ impl Refusal {
     /// Document 01's place.
     pub fn place(&self) -> usize {
         match self {
-            Refusal::ShortBuffer | Refusal::LongManifest | Refusal::BadCard | Refusal::NoRoot => 0,
+            Refusal::ShortBuffer
+            | Refusal::LongManifest
+            | Refusal::BadCard
+            | Refusal::NoRoot
+            | Refusal::LongLine => 0,
             Refusal::Circle(steps) => steps.len(),
             Refusal::BadByte(place)
             | Refusal::BadLine(place)
@@ -127,6 +145,7 @@ impl Refusal {
             | Refusal::EndlessText(place)
             | Refusal::LongText(place)
             | Refusal::NoCommand(place)
+            | Refusal::BadPlaceholder(place)
             | Refusal::Unknown { place, .. } => *place,
         }
     }
@@ -187,6 +206,10 @@ impl Display for Refusal {
             }
             Refusal::LongText(step) => write!(f, "the text of step {step} has over 8,192 bytes"),
             Refusal::NoCommand(step) => write!(f, "there is no step {step}, or it is phony"),
+            Refusal::LongLine => write!(f, "the status line has over 8,192 bytes"),
+            Refusal::BadPlaceholder(place) => {
+                write!(f, "the `%` at byte {place} of the format begins no placeholder")
+            }
             Refusal::Unknown { .. } => {
                 write!(f, "this crate does not know the refusal; the library is another edition's")
             }
@@ -212,7 +235,7 @@ mod tests {
     /// Whatever is told, also what the proved library never tells, is a refusal with its number.
     #[test]
     fn any_number() {
-        for number in (1..=18).chain([0, 19, usize::MAX]) {
+        for number in (1..=18).chain([0, 19, 21, usize::MAX]) {
             for value in [0, 1, 512, 513, usize::MAX] {
                 let refusal = Refusal::of(Said { number, value }, &[7; 512]);
                 assert_eq!(refusal.number(), number);

@@ -19,6 +19,8 @@ pub mod program;
 pub mod rng;
 pub mod scan;
 pub mod shapes;
+pub mod status;
+pub mod status_cases;
 pub mod targets;
 pub mod text;
 pub mod texts;

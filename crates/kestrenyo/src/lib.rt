@@ -1,4 +1,4 @@
-// The three asks for C and Rust: numbers and slices alone. None asks anything of its caller, and each says what document 01 says in two numbers.
+// The three asks and the status line for C and Rust: numbers and slices alone. None asks anything of its caller, and each says what document 01 says in two numbers.
 ghost use mathlib.Core.Path.{_≡_};
 ghost use lib.ListN.{length};
 ghost use Rattle.spec.specs.PlanAsk.{inputsOf};
@@ -6,6 +6,9 @@ ghost use Rattle.spec.specs.Demands.{PlanDemands, TextDemands};
 ghost use Rattle.answers.specs.Numbers.{said};
 ghost use Rattle.text_batch.specs.TextsAsk.{textsAsk};
 ghost use Rattle.text_batch.specs.TextsPromise.{textsSays, TextsMeets};
+ghost use Rattle.status_record.specs.Record.{firstStatus, movedTo, startAt, finishAt};
+ghost use Rattle.status_line.specs.LineAsk.{lineOutcome, LineMeets};
+ghost use Rattle.status_numbers.specs.Numbers.{statusHeld, recordOf};
 ghost use Rattle.kestrenyo.specs.Tells.{Tells, TellsNumbers};
 ghost use Rattle.kestrenyo.specs.Wants.{wantedOf};
 use answers::Numbers;
@@ -16,6 +19,12 @@ use asks::plan;
 use asks::text;
 use asks::texts;
 use spec::Wanted;
+use status_numbers::StatusRecord;
+use status_numbers::first_record;
+use status_numbers::record_finished;
+use status_numbers::record_line;
+use status_numbers::record_moved;
+use status_numbers::record_started;
 use text_batch::TextsAnswer;
 
 // A refusal's number and its place; or 0 and the count that an answer gives.
@@ -95,4 +104,48 @@ pub extern "C" fn kestrenyo_texts(
     ensures { λ r. ⌜ Tells (λ said. TextsMeets (textsAsk (now (manifest .entry)) (now (steps .entry)) (wantedOf wanted) (length (now (bytes .entry))) (length (now (ends .entry)))) (now (bytes .entry)) (now (ends .entry)) said (now (bytes .exit)) (now (ends .exit))) r ⌝ }
 {
     in_two(of_texts(texts(manifest, steps, wanted_of(wanted), bytes, ends)))
+}
+
+// The status before the first event, of so many steps and so many jobs at once.
+#[no_mangle]
+pub extern "C" fn kestrenyo_status(total: u32, jobs: u32) -> StatusRecord
+    ensures { λ r. ⌜ r ≡ recordOf (firstStatus total jobs) ⌝ }
+{
+    first_record(total, jobs)
+}
+
+// A step starts.
+#[no_mangle]
+pub extern "C" fn kestrenyo_status_started(status: StatusRecord, milliseconds: u64) -> StatusRecord
+    ensures { λ r. ⌜ r ≡ recordOf (startAt (statusHeld status) milliseconds) ⌝ }
+{
+    record_started(status, milliseconds)
+}
+
+// A step finishes.
+#[no_mangle]
+pub extern "C" fn kestrenyo_status_finished(status: StatusRecord, milliseconds: u64) -> StatusRecord
+    ensures { λ r. ⌜ r ≡ recordOf (finishAt (statusHeld status) milliseconds) ⌝ }
+{
+    record_finished(status, milliseconds)
+}
+
+// The clock moved to the time of printing.
+#[no_mangle]
+pub extern "C" fn kestrenyo_status_at(status: StatusRecord, milliseconds: u64) -> StatusRecord
+    ensures { λ r. ⌜ r ≡ recordOf (movedTo (statusHeld status) milliseconds) ⌝ }
+{
+    record_moved(status, milliseconds)
+}
+
+// The line of a status as it stands: 0 and the number of bytes written, or a refusal's number and place.
+#[no_mangle]
+pub extern "C" fn kestrenyo_status_line(
+    status: StatusRecord,
+    format: &[u8],
+    buffer: &mut [u8],
+) -> Said
+    ensures { λ r. ⌜ Tells (λ said. LineMeets (lineOutcome (statusHeld status) (now (format .entry)) (length (now (buffer .entry)))) (now (buffer .entry)) said (now (buffer .exit))) r ⌝ }
+{
+    in_two(record_line(status, format, buffer))
 }

@@ -1,0 +1,25 @@
+-- `bad_key` meets its contract.
+use mathlib.Core.Path.{_≡_, refl, sym, ap, _∙_, subst}
+use mathlib.Core.Bool.{not}
+use Rattle.status_line.specs.Line.{badKey, knownKey}
+use borrow.Author.Needs.{needs}
+use Rattle.status_line.proofs.bad_key.Statement.{statement}
+use Rattle.status_line.proofs.bad_key.Tie as tie
+
+known-key-requires : tie.Need-known-key-requires
+known-key-requires c κs = search needs
+
+returns : tie.Need-returns
+unfolding badKey
+returns c = rw (c .before .before .if1 .taken) (rw (sym (c .before .known-key .ensures) ∙ c .if2 .taken))
+
+returns-2 : tie.Need-returns-2
+unfolding badKey
+returns-2 c = rw (c .before .before .if1 .taken) (rw (sym (c .before .known-key .ensures) ∙ c .if2 .left))
+
+returns-3 : tie.Need-returns-3
+unfolding badKey
+returns-3 c = rw (c .if1 .left)
+
+pub bad-key-spec : {M : Type 1} → statement M
+bad-key-spec = tie.close (tie.spec known-key-requires returns returns-2 returns-3)
