@@ -83,8 +83,9 @@ struct kestrenyo_said kestrenyo_plan(const uint8_t *manifest, size_t manifest_le
                                      const uint8_t *targets, size_t targets_len, uint32_t *list, size_t list_len);
 
 /*
- * A text of a step: its command where wanted is KESTRENYO_COMMAND, its description where it is any other number. Refusals 1
- * to 10 and 16 to 18.
+ * A text of a step: its command where wanted is KESTRENYO_COMMAND, its description where it is any other number. The names
+ * of its files stand in it as a shell reads them back: one of other bytes than letters, digits and _ + - . / in single quotes,
+ * a single quote inside as quote, backslash, quote, quote. Refusals 1 to 10 and 16 to 18.
  *
  * buffer: after an answer it starts with the text, which no 0 ends, and all beyond is zero. After a refusal all of it is zero,
  * but 1 touches nothing.

@@ -70,7 +70,17 @@ pub fn plan(manifest: &[u8], card: &[u8], targets: &[u8]) -> Result<Vec<u32>, Re
     }
 }
 
-/// The text of a step: its `command` or its `description`, expanded.
+/// The text of a step: its `command` or its `description`, expanded. `$in`, `$in_newline` and `$out`
+/// give names as a shell reads them back: one of other bytes than letters, digits and `_ + - . /`
+/// stands in single quotes, a single quote inside as quote, backslash, quote, quote.
+///
+/// ```
+/// # use kestrenyo::{text, Wanted};
+/// let manifest = b"rule cc\n  command = cc $in -o $out\nbuild a+b.o: cc left$ hand it's\n";
+/// let command = text(manifest, 0, Wanted::Command)?;
+/// assert_eq!(command, br"cc 'left hand' 'it'\''s' -o a+b.o");
+/// # Ok::<(), kestrenyo::Refusal>(())
+/// ```
 ///
 /// # Errors
 ///

@@ -4,6 +4,7 @@ use crate::expand::{pieces, Piece};
 use crate::limits;
 use crate::manifest::{Key, Manifest, Rule, Scope};
 use crate::{Refusal, Wanted};
+use std::borrow::Cow;
 
 /// The `command` or `description` text of a step.
 pub fn text(manifest: &Manifest, step: usize, wanted: Wanted) -> Result<Vec<u8>, Refusal> {
@@ -17,6 +18,25 @@ pub fn text(manifest: &Manifest, step: usize, wanted: Wanted) -> Result<Vec<u8>,
         .append(name, &mut text)
         .map_err(|TooLong| Refusal::new(17, step))?;
     Ok(text.bytes)
+}
+
+/// A file's name as `$in` and `$out` give it (document 02, [2]): "a name of only letters, digits and
+/// `_ + - . /` stays; any other stands in single quotes, each single quote inside written as quote,
+/// backslash, quote, quote".
+pub fn quoted(name: &[u8]) -> Cow<'_, [u8]> {
+    let stays = |byte: &u8| byte.is_ascii_alphanumeric() || b"_+-./".contains(byte);
+    if name.iter().all(stays) {
+        return Cow::Borrowed(name);
+    }
+    let mut quoted = vec![b'\''];
+    for &byte in name {
+        match byte {
+            b'\'' => quoted.extend_from_slice(br"'\''"),
+            _ => quoted.push(byte),
+        }
+    }
+    quoted.push(b'\'');
+    Cow::Owned(quoted)
 }
 
 /// What a name stands for in a step's text.
@@ -142,7 +162,7 @@ impl Expansion<'_> {
             if place > 0 {
                 text.push(&[joint])?;
             }
-            text.push(&self.lookup.manifest.files.names[file as usize])?;
+            text.push(&quoted(&self.lookup.manifest.files.names[file as usize]))?;
         }
         Ok(())
     }

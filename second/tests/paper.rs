@@ -132,7 +132,7 @@ fn readings_that_look_right() {
     assert_eq!(list(two, &[("i", 5), ("a", 9), ("b", 4)], ""), [0]);
     // Expanding a path before cutting it.
     let spaced = b"s = foo bar\nrule r\n  command = $in.\nbuild o: r $s/baz other$ file\n";
-    assert_eq!(command(spaced, 0), b"foo bar/baz other file.");
+    assert_eq!(command(spaced, 0), b"'foo bar/baz' 'other file'.");
 }
 
 /// The manual's own examples within this edition, with what it says of them.
@@ -182,7 +182,7 @@ rule r
   command = $out
 build $spaced/baz other$ file: r
 ";
-    assert_eq!(command(spaced, 0), b"foo bar/baz other file");
+    assert_eq!(command(spaced, 0), b"'foo bar/baz' 'other file'");
     assert_eq!(list(spaced, &[("foo bar/baz", 1)], "other file\n"), [0]);
 
     let phony = b"build foo: phony some/file/in/a/faraway/subdir/foo\n";

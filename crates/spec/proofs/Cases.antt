@@ -45,6 +45,14 @@ join-in-path : shownText (command (bytes "rule r\n  command = $out\nbuild a$\n  
 unfolding shownText textAsk
 join-in-path = refl
 
+quotes-left-hand : shownText (command (bytes "rule r\n  command = x $in $out\nbuild o$ 1: r left$ hand a+b/c.d_e-F9\n") 0) ≡ 0 ∷ bytes "x 'left hand' a+b/c.d_e-F9 'o 1'"
+unfolding shownText textAsk
+quotes-left-hand = refl
+
+quotes-in-newline : shownText (command (bytes "rule r\n  command = $in_newline\nbuild o: r it's b ~c\n") 0) ≡ 0 ∷ bytes "'it'\\''s'\nb\n'~c'"
+unfolding shownText textAsk
+quotes-in-newline = refl
+
 dollars-from-the-left-odd : shownText (command (bytes "rule r\n  command = x$$$\n  y\nbuild a: r\n") 0) ≡ 0 ∷ 120 ∷ 36 ∷ 121 ∷ []
 unfolding shownText textAsk
 dollars-from-the-left-odd = refl

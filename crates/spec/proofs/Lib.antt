@@ -1,3 +1,4 @@
+pub mod Quotes
 pub mod Cases
 pub mod Graph
 pub mod Stale

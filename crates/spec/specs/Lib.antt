@@ -9,6 +9,7 @@ pub mod Statements
 pub mod Manifest
 pub mod Sound
 pub mod Text
+pub mod Shell
 pub mod Card
 pub mod Targets
 pub mod Graph

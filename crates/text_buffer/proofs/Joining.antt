@@ -7,10 +7,10 @@ use native.Mathlib.Omega.{arith}
 use lib.ListN.{length, drop, getD, drop-of-length-le}
 use lib.Seq.{drop-cons}
 use Rattle.spec.specs.Limits.{maxText}
-use Rattle.spec.specs.Text.{joinedBy}
+use Rattle.spec.specs.Text.{quoted, joinedBy}
 use Rattle.hold_names.specs.Table.{HoldsNames}
 use Rattle.text_buffer.specs.Puts.{Open, PutsText, namesIn, headed, FileNameAsk, FileNamesAsk}
-use Rattle.text_buffer.proofs.Parts.{puts-none, puts-over, puts-then, open-on}
+use Rattle.text_buffer.proofs.Parts.{puts-over, puts-then, open-on, Done, done-none, done-on, done-over, done-end}
 
 -- ---- one name
 
@@ -23,9 +23,9 @@ module _ {names index fs buffer : List ℕ} {count place i f : ℕ} (a : FileNam
   pub name-ask : {now : List ℕ} {n : ℕ} → Open now n → FileNameAsk names index count f now n
   name-ask o = record { named = a .named; low = rw e (a .low i b); free = o }
 
-  pub head-first : (c : ℕ) {after : List ℕ} {r : ℕ} → i ≡ 0 → ((files : List (List ℕ)) → HoldsNames names index count files → PutsText buffer place (getD files f []) after r)
-      → (files : List (List ℕ)) → HoldsNames names index count files → PutsText buffer place (headed c i (getD files (getD fs i 0) [])) after r
-  head-first c z p files h = rw (first c (getD files (getD fs i 0) []) i z, ← e) (p files h)
+  pub head-first : (c : ℕ) {after : List ℕ} {r : ℕ} → i ≡ 0 → ((files : List (List ℕ)) → HoldsNames names index count files → PutsText buffer place (quoted (getD files f [])) after r)
+      → (files : List (List ℕ)) → HoldsNames names index count files → PutsText buffer place (headed c i (quoted (getD files (getD fs i 0) []))) after r
+  head-first c z p files h = rw (first c (quoted (getD files (getD fs i 0) [])) i z, ← e) (p files h)
 
   module _ (c : ℕ) (z : i ≡ 0 → ⊥) {middle : List ℕ} {n : ℕ} (p : PutsText buffer place (c ∷ []) middle n) where
     later : (m : List ℕ) (j : ℕ) → (j ≡ 0 → ⊥) → headed c j m ≡ c ∷ m
@@ -33,12 +33,12 @@ module _ {names index fs buffer : List ℕ} {count place i f : ℕ} (a : FileNam
     later m zero w = absurd (w refl)
     later m (suc j) w = refl
 
-    pub head-over : maxText < n → (files : List (List ℕ)) → HoldsNames names index count files → PutsText buffer place (headed c i (getD files (getD fs i 0) [])) middle n
-    head-over h files k = rw (later (getD files (getD fs i 0) []) i z) (puts-over p h (getD files (getD fs i 0) []))
+    pub head-over : maxText < n → (files : List (List ℕ)) → HoldsNames names index count files → PutsText buffer place (headed c i (quoted (getD files (getD fs i 0) []))) middle n
+    head-over h files k = rw (later (quoted (getD files (getD fs i 0) [])) i z) (puts-over p h (quoted (getD files (getD fs i 0) [])))
 
-    pub head-on : {after : List ℕ} {r : ℕ} → n ≤ maxText → ((files : List (List ℕ)) → HoldsNames names index count files → PutsText middle n (getD files f []) after r)
-        → (files : List (List ℕ)) → HoldsNames names index count files → PutsText buffer place (headed c i (getD files (getD fs i 0) [])) after r
-    head-on h q files k = rw (later (getD files (getD fs i 0) []) i z, ← e) (puts-then p h (q files k))
+    pub head-on : {after : List ℕ} {r : ℕ} → n ≤ maxText → ((files : List (List ℕ)) → HoldsNames names index count files → PutsText middle n (quoted (getD files f [])) after r)
+        → (files : List (List ℕ)) → HoldsNames names index count files → PutsText buffer place (headed c i (quoted (getD files (getD fs i 0) []))) after r
+    head-on h q files k = rw (later (quoted (getD files (getD fs i 0) [])) i z, ← e) (puts-then p h (q files k))
 
 -- ---- one name after another
 
@@ -59,12 +59,6 @@ tail-first c [] = refl
 tail-first c (n ∷ []) = append-nil n
 tail-first c (n ∷ m ∷ l) = ap (λ (r : List ℕ). n ++ r) (tail-later c 0 m l)
 
--- A part is written, and what is left ends in the whole.
-pub record Done (whole rest before : List ℕ) (place : ℕ) (now : List ℕ) (n : ℕ) : Type 0 where
-  pub part : List ℕ
-  pub adds : part ++ rest ≡ whole
-  pub puts : PutsText before place part now n
-
 pub record Joining (names index : List ℕ) (count : ℕ) (fs : List ℕ) (c : ℕ) (before : List ℕ) (place : ℕ) (now : List ℕ) (n i : ℕ) : Type 0 where
   pub ask : FileNamesAsk names index count fs now n
   pub long : length now ≡ length before
@@ -75,12 +69,12 @@ join-begin {fs = fs} c a =
     record {
       ask = a;
       long = refl;
-      done = λ files h. record { part = []; adds = tail-first c (namesIn files fs); puts = puts-none (a .free) };
+      done = λ files h. done-none (a .free) (tail-first c (namesIn files fs));
     }
 
 module _ {names index fs before now : List ℕ} {count c place n i : ℕ} (x : Joining names index count fs c before place now n i) (b : i < length fs) {next : List ℕ} {r : ℕ}
-    (p : (files : List (List ℕ)) → HoldsNames names index count files → PutsText now n (headed c i (getD files (getD fs i 0) [])) next r) where
-  left : (files : List (List ℕ)) → tailFrom c i (namesIn files (drop i fs)) ≡ headed c i (getD files (getD fs i 0) []) ++ tailFrom c (suc i) (namesIn files (drop (suc i) fs))
+    (p : (files : List (List ℕ)) → HoldsNames names index count files → PutsText now n (headed c i (quoted (getD files (getD fs i 0) []))) next r) where
+  left : (files : List (List ℕ)) → tailFrom c i (namesIn files (drop i fs)) ≡ headed c i (quoted (getD files (getD fs i 0) [])) ++ tailFrom c (suc i) (namesIn files (drop (suc i) fs))
   unfolding tailFrom
   left files = rw (drop-cons fs i 0 b)
 
@@ -91,25 +85,13 @@ module _ {names index fs before now : List ℕ} {count c place n i : ℕ} (x : J
       record {
         ask = record { named = w; low = x .ask .low; free = open-on q h (x .ask .free) };
         long = q .long ∙ x .long;
-        done = λ files k.
-            let d = x .done files k in
-            record {
-              part = d .part ++ headed c i (getD files (getD fs i 0) []);
-              adds = rw (append-assoc, add-one i) (rw (← (left files)) (d .adds));
-              puts = puts-then (d .puts) (x .ask .free .low) (p files k);
-            };
+        done = λ files k. rw (add-one i) (done-on (headed c i (quoted (getD files (getD fs i 0) []))) (tailFrom c (suc i) (namesIn files (drop (suc i) fs))) (rw (left files) at (x .done files k)) (x .ask .free .low) (p files k));
       }
 
   pub join-over : maxText < r → (files : List (List ℕ)) → HoldsNames names index count files → PutsText before place (joinedBy c (namesIn files fs)) next r
-  join-over h files k =
-      let d = x .done files k in
-      let u = tailFrom c (suc i) (namesIn files (drop (suc i) fs)) in
-      rw (← (d .adds), left files, ← append-assoc) (puts-over (puts-then (d .puts) (x .ask .free .low) (p files k)) h u)
+  join-over h files k = done-over (headed c i (quoted (getD files (getD fs i 0) []))) (tailFrom c (suc i) (namesIn files (drop (suc i) fs))) (rw (left files) at (x .done files k)) (x .ask .free .low) (p files k) h
 
 pub join-end : {names index fs before now : List ℕ} {count c place n i : ℕ} → Joining names index count fs c before place now n i → length fs ≤ i
     → (files : List (List ℕ)) → HoldsNames names index count files → PutsText before place (joinedBy c (namesIn files fs)) now n
 unfolding tailFrom
-join-end {fs = fs} {i = i} x h files k =
-    let d = x .done files k in
-    let e : d .part ≡ joinedBy _ (namesIn files fs) = sym (append-nil (d .part)) ∙ rw (drop-of-length-le fs {i = i} h) at (d .adds) in
-    rw (← e) (d .puts)
+join-end {fs = fs} {i = i} x h files k = done-end (rw (drop-of-length-le fs {i = i} h) at (x .done files k))

@@ -6,7 +6,7 @@ use native.Mathlib.Nat.{le-refl}
 use native.Mathlib.Numerals.{add-one}
 use native.Mathlib.Omega.{arith}
 use lib.ListN.{length, take, drop, set, length-append, length-set}
-use lib.Seq.{length-take-le, take-all, take-append-seam, take-suc-set, paste, length-paste}
+use lib.Seq.{length-take-le, take-all, take-take, take-append-le, take-append-seam, take-suc-set, paste, length-paste}
 use Rattle.spec.specs.Limits.{maxText}
 use Rattle.text_buffer.specs.Puts.{Open, PutsText}
 
@@ -51,6 +51,39 @@ module _ {before s middle : List ℕ} {place q : ℕ} (p : PutsText before place
             };
         over = λ k. let b = n .over k in rw length-append (omega (arith, f .count));
       }
+
+-- A part is written, and what is left ends in the whole.
+pub record Done (whole rest before : List ℕ) (place : ℕ) (now : List ℕ) (n : ℕ) : Type 0 where
+  pub part : List ℕ
+  pub adds : part ++ rest ≡ whole
+  pub puts : PutsText before place part now n
+
+pub done-none : {whole rest before : List ℕ} {place : ℕ} → Open before place → rest ≡ whole → Done whole rest before place before place
+done-none o e = record { part = []; adds = e; puts = puts-none o }
+
+module _ {whole before now next : List ℕ} {place n r : ℕ} (s rest : List ℕ) (d : Done whole (s ++ rest) before place now n) (low : n ≤ maxText) (p : PutsText now n s next r) where
+  pub done-on : Done whole rest before place next r
+  done-on = record { part = d .part ++ s; adds = append-assoc (d .part) s rest ∙ d .adds; puts = puts-then (d .puts) low p }
+
+  pub done-over : maxText < r → PutsText before place whole next r
+  done-over h = rw (← (d .adds), ← (append-assoc (d .part) s rest)) (puts-over (puts-then (d .puts) low p) h rest)
+
+pub done-end : {whole before now : List ℕ} {place n : ℕ} → Done whole [] before place now n → PutsText before place whole now n
+done-end d = rw (← (d .adds), append-nil (d .part)) (d .puts)
+
+-- Written over from the same place on.
+pub puts-again : {before s now u after : List ℕ} {place n r : ℕ} → Open before place → PutsText before place s now n → n ≤ maxText → PutsText now place u after r → PutsText before place u after r
+puts-again {before} {s} {now} {u} {after} {place} {n} o p h q =
+    let f = p .fits h in
+    let k : length (take place before) ≡ place = length-take-le place before (omega (arith, o .low, o .room)) in
+    let same : take place now ≡ take place before =
+    sym (take-take place n now (omega (arith, f .count))) ∙ ap (take place) (f .bytes) ∙ take-append-le place (take place before) s (omega (arith, k)) ∙ take-take place place before (le-refl place) in
+    record {
+      long = q .long ∙ p .long;
+      low = q .low;
+      fits = λ k. let g = q .fits k in record { count = g .count; bytes = g .bytes ∙ ap (λ (l : List ℕ). l ++ u) same };
+      over = q .over;
+    }
 
 -- ---- bytes
 

@@ -4,6 +4,7 @@ use mathlib.Core.List.{List, [], _∷_, _++_, map}
 use mathlib.Core.Path.{_≡_}
 use lib.ListN.{length, take, getD}
 use Rattle.spec.specs.Limits.{maxText}
+use Rattle.spec.specs.Text.{quote, insideQuotes, quoted}
 use Rattle.hold_names.specs.Table.{SoundNames}
 
 -- the buffer has room for a longest text, which is written up to this place
@@ -25,9 +26,13 @@ pub record PutsText (before : List ℕ) (place : ℕ) (s after : List ℕ) (r : 
 
 -- ------------------------------------------------------------------ files
 
--- the names of files by their numbers
+-- a name behind the quote that opens it
+abbrev pub toClose : List ℕ → List ℕ
+toClose n = insideQuotes n ++ (quote ∷ [])
+
+-- the names of files by their numbers, as a text has them
 abbrev pub namesIn : List (List ℕ) → List ℕ → List (List ℕ)
-namesIn files fs = map (λ (f : ℕ). getD files f []) fs
+namesIn files fs = map (λ (f : ℕ). quoted (getD files f [])) fs
 
 -- name i of a list with its separator before it
 unfoldable pub headed : ℕ → ℕ → List ℕ → List ℕ

@@ -6,7 +6,7 @@ use native.Mathlib.Omega.{arith}
 use Rattle.lists.specs.Parts.{part, length-part, getD-part}
 use Rattle.spec.specs.Bytes.{space, newline}
 use Rattle.spec.specs.Reading.{Step, Reading}
-use Rattle.spec.specs.Text.{joinedBy, namesOf, asIs, ofRule}
+use Rattle.spec.specs.Text.{quoted, joinedBy, namesOf, asIs, ofRule}
 use Rattle.hold_names.specs.Table.{HoldsNames}
 use Rattle.hold_bindings.specs.Log.{Logged, entryAt}
 use Rattle.text_lookup.specs.declared.Asked.{Asked}
@@ -54,12 +54,12 @@ module _ {bs : Buffers} {before after : List ℕ} {a : Asked} {source : Source} 
       }
 
   -- files of the step between two places
-  plain-files : (c from to : ℕ) (l : Step → List ℕ) → ((rd : Reading) (s : Step) (log : List Logged) → meaning rd s log source ≡ asIs (joinedBy c (namesOf rd (l s))))
+  plain-files : (c from to : ℕ) (l : Step → List ℕ) → ((rd : Reading) (s : Step) (log : List Logged) → meaning rd s log source ≡ asIs (joinedBy c (namesOf quoted rd (l s))))
       → ((rd : Reading) (s : Step) → StepFiles (bs .names) (bs .index) (bs .graph) a rd s → part (bs .graph) from to ≡ l s)
       → ((files : List (List ℕ)) → HoldsNames (bs .names) (bs .index) (a .files) files → WritesDraft before d (joinedBy c (namesIn files (part (bs .graph) from to))) after r)
       → WritesPlain bs a source before d after r
   unfolding namesOf
-  plain-files c from to l e q w = plainly (λ rd s log. joinedBy c (namesOf rd (l s))) e (λ log rd s h. rw (← (q rd s (h .files))) (w (rd .files) (h .files .named)))
+  plain-files c from to l e q w = plainly (λ rd s log. joinedBy c (namesOf quoted rd (l s))) e (λ log rd s h. rw (← (q rd s (h .files))) (w (rd .files) (h .files .named)))
 
   pub plain-inputs : source ≡ Inputs → ((files : List (List ℕ)) → HoldsNames (bs .names) (bs .index) (a .files) files → WritesDraft before d (joinedBy space (namesIn files (part (bs .graph) (a .ins) (a .rest)))) after r)
       → WritesPlain bs a source before d after r

@@ -10,7 +10,7 @@ use Rattle.lists.specs.Text.{bytes}
 use Rattle.lists.specs.Bytes.{eqBytes}
 use Rattle.spec.specs.Basics.{orElse}
 use Rattle.spec.specs.Reading.{boundTo, fileVar}
-use Rattle.spec.specs.Text.{asIs, ofRule, ofStep, lookup}
+use Rattle.spec.specs.Text.{asIs, ofRule, ofStep, lookupBy, lookup}
 use Rattle.hold_bindings.specs.declared.FoundEntry.{FoundEntry}
 use Rattle.hold_bindings.specs.declared.FoundEntry.the-variants.{At, Missing}
 use Rattle.hold_bindings.specs.Log.{Logged, ofFile, ofKeys, ofBlock, entryAt, newest, valueOf, boundBy}
@@ -99,7 +99,7 @@ module _ (n : List ℕ) {texts bind : List ℕ} {a : Asked} {f : FoundEntry} whe
 
 module _ (n : List ℕ) {texts bind : List ℕ} (a : Asked) where
   pub looks-inputs : eqBytes n (bytes "in") ≡ true → LooksUp texts bind a (λ rd s. lookup rd s n) Inputs
-  unfolding lookup ofStep meaning
+  unfolding lookupBy ofStep meaning
   looks-inputs e =
       record {
         means = λ log rd s c. rw e;
@@ -109,7 +109,7 @@ module _ (n : List ℕ) {texts bind : List ℕ} (a : Asked) where
 
   module _ (p : eqBytes n (bytes "in") ≡ false) where
     pub looks-lines : eqBytes n (bytes "in_newline") ≡ true → LooksUp texts bind a (λ rd s. lookup rd s n) InputLines
-    unfolding lookup ofStep meaning
+    unfolding lookupBy ofStep meaning
     looks-lines e =
         record {
           means = λ log rd s c. rw (p, e);
@@ -119,7 +119,7 @@ module _ (n : List ℕ) {texts bind : List ℕ} (a : Asked) where
 
     module _ (q : eqBytes n (bytes "in_newline") ≡ false) where
       pub looks-outputs : eqBytes n (bytes "out") ≡ true → LooksUp texts bind a (λ rd s. lookup rd s n) Outputs
-      unfolding lookup ofStep meaning
+      unfolding lookupBy ofStep meaning
       looks-outputs e =
           record {
             means = λ log rd s c. rw (p, q, e);
@@ -128,7 +128,7 @@ module _ (n : List ℕ) {texts bind : List ℕ} (a : Asked) where
           }
 
       pub looks-on : {r : Source} → eqBytes n (bytes "out") ≡ false → LooksUp texts bind a (fromBlock n) r → LooksUp texts bind a (λ rd s. lookup rd s n) r
-      unfolding lookup ofStep
+      unfolding lookupBy ofStep
       looks-on e l =
           record {
             means = λ log rd s c. rw (p, q, e) (l .means log rd s c);

@@ -6,7 +6,7 @@ use mathlib.Core.Path.{_≡_, refl, sym, _∙_}
 use native.Mathlib.Omega.{arith}
 use Rattle.spec.specs.Basics.{orElse}
 use Rattle.spec.specs.Reading.{Step, Reading, boundTo, keysOf}
-use Rattle.spec.specs.Text.{asIs, ofRule, ofStep, lookup}
+use Rattle.spec.specs.Text.{quoted, asIs, ofRule, ofStep, lookupBy, lookup}
 use Rattle.scan_classes.specs.Table.{classes}
 use Rattle.hold_bindings.specs.Log.{Logged, entryAt}
 use Rattle.hold_bindings.specs.Held.{HoldsBindings}
@@ -25,8 +25,8 @@ module _ (rd : Reading) (s : Step) (n : List ℕ) where
 
   -- what the lookup finds in the rule is one of the rule's keys
   pub found-key : (raw : List ℕ) → lookup rd s n ≡ ofRule raw → boundTo n (keysOf (s .rule) (rd .rules)) ≡ some raw
-  unfolding lookup
-  found-key raw e = rule-text (ofStep rd s n) (boundTo n (s .block)) (boundTo n (keysOf (s .rule) (rd .rules))) raw e refl refl
+  unfolding lookupBy
+  found-key raw e = rule-text (ofStep quoted rd s n) (boundTo n (s .block)) (boundTo n (keysOf (s .rule) (rd .rules))) raw e refl refl
 
 -- the value of an entry as the table gives it
 abbrev pub ValueOf : List ℕ → List ℕ → ℕ → List ℕ → Type 0

@@ -7,7 +7,7 @@ use Rattle.spec.specs.Limits.{maxSteps}
 use Rattle.spec.specs.Basics.{orElse}
 use Rattle.spec.specs.Reading.{Step, Reading, boundTo, fileVar, keysOf}
 use Rattle.spec.specs.Sound.{SoundKeys}
-use Rattle.spec.specs.Text.{joinedBy, namesOf, Found, asIs, ofRule}
+use Rattle.spec.specs.Text.{quoted, joinedBy, namesOf, Found, asIs, ofRule}
 use Rattle.hold_bindings.specs.Log.{Logged, ofFile, ofKeys, ofBlock, entryAt, boundBy}
 use Rattle.hold_bindings.specs.Held.{maxEntries, HoldsBindings, HasEntry}
 use Rattle.text_lookup.specs.declared.Asked.{Asked}
@@ -34,9 +34,9 @@ pub record InScope (texts bind : List ℕ) (a : Asked) : Type 0 where
 -- what an answer means
 unfoldable pub meaning : Reading → Step → List Logged → Source → Found
 unfolding joinedBy namesOf entryAt
-meaning rd s log Inputs = asIs (joinedBy space (namesOf rd (s .ins)))
-meaning rd s log InputLines = asIs (joinedBy newline (namesOf rd (s .ins)))
-meaning rd s log Outputs = asIs (joinedBy space (namesOf rd (s .outs)))
+meaning rd s log Inputs = asIs (joinedBy space (namesOf quoted rd (s .ins)))
+meaning rd s log InputLines = asIs (joinedBy newline (namesOf quoted rd (s .ins)))
+meaning rd s log Outputs = asIs (joinedBy space (namesOf quoted rd (s .outs)))
 meaning rd s log (Value k) = asIs (entryAt k log .value)
 meaning rd s log (Text k) = ofRule (entryAt k log .value)
 meaning rd s log Unset = asIs []

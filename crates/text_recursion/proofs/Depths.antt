@@ -8,7 +8,7 @@ use Rattle.lists.specs.Members.{any}
 use Rattle.lists.specs.Tests.{differ, or-left, or-right, or-false}
 use Rattle.spec.specs.Dollars.{Piece, byte, ref, pieces, fill, expand, refsOf, refs}
 use Rattle.spec.specs.Reading.{Step, Reading}
-use Rattle.spec.specs.Text.{ruleKeys, Found, asIs, ofRule, lookup, textOf, deep}
+use Rattle.spec.specs.Text.{ruleKeys, Found, asIs, ofRule, lookup, textBy, textOf, deep}
 use Rattle.text_recursion.specs.Depth.{leadsTo, goesDeep}
 
 -- none of the names: not the first, and none of the others
@@ -71,7 +71,7 @@ module _ (rd : Reading) (s : Step) where
 
   found-stable : (k j : ℕ) (n : List ℕ) (f : Found) → lookup rd s n ≡ f → ((m : List ℕ) → goesDeep rd s k m ≡ false → textOf rd s j m ≡ textOf rd s k m)
       → goesDeep rd s (suc k) n ≡ false → textOf rd s (suc j) n ≡ textOf rd s (suc k) n
-  unfolding textOf
+  unfolding textBy
   found-stable k j n (asIs v) e q h = rw e
   found-stable k j n (ofRule raw) e q h = rw e (expand-same (goesDeep rd s k) (textOf rd s j) (textOf rd s k) q raw (text-below k n raw h e))
 
@@ -81,7 +81,7 @@ module _ (rd : Reading) (s : Step) where
   text-stable (suc k) (suc j) n h b = found-stable k j n (lookup rd s n) refl (λ m g. text-stable k j m g (omega arith)) h
 
   once : (k : ℕ) (n raw : List ℕ) → lookup rd s n ≡ ofRule raw → textOf rd s (suc k) n ≡ expand (textOf rd s k) raw
-  unfolding textOf
+  unfolding textBy
   once k n raw e = rw e
 
   whole-below : (k : ℕ) (n raw : List ℕ) → goesDeep rd s (suc k) n ≡ false → suc k ≤ deep → lookup rd s n ≡ ofRule raw → textOf rd s deep n ≡ expand (textOf rd s deep) raw
@@ -95,5 +95,5 @@ module _ (rd : Reading) (s : Step) where
   text-whole (suc k) n raw h b e = whole-below k n raw h b e
 
   pub text-as-is : (n v : List ℕ) → lookup rd s n ≡ asIs v → textOf rd s deep n ≡ v
-  unfolding textOf
+  unfolding textBy
   text-as-is n v e = rw e

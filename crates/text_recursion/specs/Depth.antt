@@ -8,7 +8,7 @@ use lib.ListN.{getD}
 use Rattle.lists.specs.Members.{any}
 use Rattle.spec.specs.Dollars.{refs}
 use Rattle.spec.specs.Reading.{Step, Reading}
-use Rattle.spec.specs.Text.{keyNumber, onFound, lookup}
+use Rattle.spec.specs.Text.{keyNumber, onFound, lookupBy, lookup}
 use Rattle.scan_classes.specs.Table.{classes}
 use Rattle.hold_bindings.specs.Log.{Logged}
 use Rattle.text_lookup.specs.declared.Asked.{Asked}
@@ -16,7 +16,7 @@ use Rattle.text_lookup.specs.Scope.{Scope, InScope}
 
 -- the name stands for a rule's text, and that text refers to a name of p
 unfoldable pub leadsTo : Reading → Step → (List ℕ → Bool) → List ℕ → Bool
-unfolding lookup any refs
+unfolding lookupBy any refs
 leadsTo rd s p n = onFound (lookup rd s n) (λ v. false) (λ raw. any p (refs raw))
 
 -- the text of a name goes k rule texts deep, by references from one to the next

@@ -7,6 +7,12 @@ const VARIABLES: &[&str] =
     &["a", "b", "v", "x.y", "in", "out", "in_newline", "command", "description", "generator"];
 const PATHS: &[&str] =
     &["a", "b", "c", "d.o", "x/y", "s$ p", "k$:", "i$v", "${v}/z", "=", "#{}", "$$"];
+/// Paths that a shell would read in another way if they had no quotes, and some that look so.
+const ODD_PATHS: &[&str] = &[
+    "left$ hand", "'", "''", "it's", "'q'", "a$ 'b'$ c", "\\'", "a+b", "+", "-", "_", "/", "x//y",
+    "~", "~/a", "a~", "u@h", "50%", "a,b", "\"d\"", "`x`", "$$v", "(a)", "a;b", "a&b", "*.c", "a?",
+    "[a]", "!", "^", "\\", "<a>", "K$:l", "é", "\u{80}", "z\u{fffd}", "\u{7f}", "\u{1}",
+];
 const WILD_PATHS: &[&str] = &["$u", "$v", "$.", "${}", "${v", "$", "${v$\n}", "$|", "|", ":", "||"];
 const VALUES: &[&str] = &[
     "x", "-O2", " ", "# =", ":|", "{}", "$$", "$ ", "$:", "$\n   ", "$\n", "$a", "${b}", "$v",
@@ -111,6 +117,11 @@ impl<'r> Draft<'r> {
     fn token(&mut self, tame: &[&'static str], wild: &[&'static str]) -> &'static str {
         let choices = if self.is_wild() { wild } else { tame };
         self.rng.pick(choices)
+    }
+
+    fn path(&mut self) -> &'static str {
+        let tame = if self.rng.chance(25) { ODD_PATHS } else { PATHS };
+        self.token(tame, WILD_PATHS)
     }
 
     fn push(&mut self, token: &str) {
@@ -261,7 +272,7 @@ impl<'r> Draft<'r> {
     /// An output that no step makes yet, as far as names tell.
     fn output(&mut self) {
         let mut path = match self.rng.below(3) {
-            0 => self.token(PATHS, WILD_PATHS).to_string(),
+            0 => self.path().to_string(),
             _ => format!("o{}", self.outputs.len()),
         };
         if self.outputs.contains(&path) && !self.is_wild() {
@@ -276,7 +287,7 @@ impl<'r> Draft<'r> {
             self.gap();
             let path = match self.made() {
                 Some(output) if self.rng.chance(50) => output,
-                _ => self.token(PATHS, WILD_PATHS).to_string(),
+                _ => self.path().to_string(),
             };
             self.push(&path);
         }

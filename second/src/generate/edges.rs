@@ -2,6 +2,7 @@
 
 use crate::limits;
 use crate::rng::Rng;
+use crate::text::quoted;
 
 /// Variables `a` and `b` of 16 and 128 bytes, by which [`long`] writes long values shortly.
 const UNITS: &str = "a=xxxxxxxxxxxxxxxx\nb=$a$a$a$a$a$a$a$a\n";
@@ -86,13 +87,17 @@ fn together(rng: &mut Rng, total: usize) -> String {
     format!("{UNITS}c={}\n{lines}d={rest}\n{last}", long(limits::VALUE))
 }
 
-/// A step with a text of so many bytes, which now and then leads back to itself.
+/// A step with a text of so many bytes, which now and then leads back to itself. Its input, if it has
+/// one, may be a name that is longer in quotes.
 fn long_text(rng: &mut Rng, length: usize) -> String {
-    let (times, rest) = (length / 2_000, length % 2_000);
-    let command = "$c".repeat(times) + "$description";
+    let input = rng.pick(&["", "", "i", "x'y", "'", "a+b", "a~", "''''"]);
+    let rest = length - quoted(input.as_bytes()).len();
+    let (times, rest) = (rest / 2_000, rest % 2_000);
+    let (first, last) = if rng.chance(50) { ("$in", "") } else { ("", "$in") };
+    let command = format!("{first}{}$description{last}", "$c".repeat(times));
     let description = long(rest) + rng.pick(&["", "", "", "$command"]);
     let rule = format!("rule r\n command={command}\n description={description}\n");
-    format!("{UNITS}c={}\n{rule}build o:r\n", long(2_000))
+    format!("{UNITS}c={}\n{rule}build o:r {input}\n", long(2_000))
 }
 
 /// Steps with texts about as long as a text may be, half as long, of a few bytes, and now and then
