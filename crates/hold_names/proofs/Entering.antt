@@ -3,10 +3,9 @@ use Prim.Native.Nat.{ℕ, suc, _+_, _*_, _-_, _/_, _%_, _≤_, _<_}
 use mathlib.Core.Bool.{true}
 use mathlib.Core.List.{List, [], _∷_, _++_}
 use mathlib.Core.Logic.{inl, inr, ⊎-elim}
-use mathlib.Core.Path.{_≡_, refl, sym, _∙_, ap}
+use mathlib.Core.Path.{_≡_, sym, _∙_, ap}
 use native.Mathlib.Decide.{decLt}
 use native.Mathlib.Nat.{not-suc-le-zero}
-use native.Mathlib.Numerals.{add-one}
 use native.Mathlib.Omega.{arith}
 use lib.ListN.{length, take, drop, getD, set, length-set, length-append, length-take, length-drop, List·getD-append}
 use lib.Seq.{getD-set-same, getD-set-other, getD-drop, drop-set-add, drop-set-lt, take-set-le, take-suc-set, take-at, drop-at, take-append-le, length-take-le, take-take}
@@ -15,7 +14,7 @@ use Rattle.lists.specs.Fill.{zeroed, getD-zeroed-in}
 use Rattle.lists.specs.Parts.{part, part-to-end}
 use Rattle.spec.specs.Limits.{maxFiles}
 use Rattle.arena.specs.Inserted.{inserted, Shifted}
-use Rattle.arena.proofs.Inserting.{length-inserted, each-inserted, pairs-inserted, has-inserted, keeps-inserted}
+use Rattle.arena.proofs.Inserting.{each-inserted, pairs-inserted, has-inserted, keeps-inserted}
 use Rattle.hold_names.specs.Table.{sortedFrom, headsFrom, maxNumbers, buckets, sparesAt, bucketOf, pairBase, pairAt, firstIn, secondIn, sparesIn, sparesOf, nameAt, Sorted, Stands, Placed, Searched, Between, Spared, Entered}
 use Rattle.hold_names.proofs.Buckets.{bucket-small, name-old, name-new}
 

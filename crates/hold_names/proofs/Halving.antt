@@ -1,6 +1,6 @@
 -- The search among the sorted names: its number of compares, what it knows between two places, and its end.
-use Prim.Native.Nat.{ℕ, zero, suc, _+_, _-_, _/_, _^_, _≤_, _<_}
-use mathlib.Core.Bool.{true, false}
+use Prim.Native.Nat.{ℕ, zero, suc, _+_, _-_, _/_, _≤_, _<_}
+use mathlib.Core.Bool.{true}
 use mathlib.Core.List.{List}
 use mathlib.Core.Logic.{inl, inr}
 use mathlib.Core.Path.{_≡_, refl, sym, _∙_, ap}
@@ -8,10 +8,8 @@ use native.Mathlib.Decide.{decLt}
 use native.Mathlib.Nat.{not-suc-le-zero}
 use native.Mathlib.Omega.{arith}
 use borrow.Author.Tests.{lt-ltb, le-ltb}
-use lib.Dec.{ltb}
-use lib.ListN.{length, take, drop, getD, length-drop}
+use lib.ListN.{length, drop, getD, length-drop}
 use lib.Seq.{getD-take, getD-drop, length-take-le}
-use Rattle.lists.specs.Tests.{split}
 use Rattle.lists.specs.Bytes.{lessBytes, less-trans}
 use Rattle.lists.specs.Order.{orderBytes, order-less, order-equal, order-greater}
 use Rattle.lists.specs.declared.Order.{Order}

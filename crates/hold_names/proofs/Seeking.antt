@@ -1,26 +1,24 @@
 -- The lookup of a path: the first name of its bucket, the second, and the sorted names.
 use Prim.Native.Nat.{ℕ, zero, suc, _+_, _-_, _/_, _%_, _≤_, _<_}
-use mathlib.Core.Bool.{true, false}
 use mathlib.Core.List.{List}
 use mathlib.Core.Logic.{_⊎_, inl, inr, ⊎-elim}
 use mathlib.Core.Path.{_≡_, refl, sym, _∙_, ap}
 use native.Mathlib.Decide.{decLt}
 use native.Mathlib.Nat.{not-suc-le-zero}
 use native.Mathlib.Omega.{arith}
-use lib.ListN.{length, getD}
+use lib.ListN.{getD}
 use Rattle.lists.specs.Bytes.{less-ne}
 use Rattle.lists.specs.Order.{orderBytes, order-less, order-equal, order-greater}
 use Rattle.lists.specs.declared.Order.{Order}
 use Rattle.lists.specs.declared.Order.the-variants.{Less, Equal, Greater}
-use Rattle.spec.specs.Basics.{among}
 use Rattle.spec.specs.Reading.{numberOf}
 use Rattle.hold_names.specs.declared.Compared.{Compared}
 use Rattle.hold_names.specs.declared.Compared.the-variants.{Before, Same, Behind}
 use Rattle.hold_names.specs.declared.Sought.{Sought}
-use Rattle.hold_names.specs.Table.{headsFrom, bucketOf, pairBase, pairAt, firstIn, secondIn, sparesIn, sparesOf, nameAt, Stands, Placed, HoldsNames, SoundNames, onOrder, halvings, comparesFrom, comparesOf, Between, ComparesName, Halves, SeeksSecond, SeeksName}
+use Rattle.hold_names.specs.Table.{headsFrom, bucketOf, pairBase, pairAt, firstIn, secondIn, sparesIn, sparesOf, nameAt, Stands, Placed, HoldsNames, SoundNames, onOrder, halvings, comparesFrom, comparesOf, maxCompares, Between, ComparesName, Halves, SeeksSecond, SeeksName}
 use Rattle.hold_names.proofs.Numbers.{number-missing}
 use Rattle.hold_names.proofs.Buckets.{bucket-small, first-stands, among-nowhere}
-use Rattle.hold_names.proofs.Halving.{told-before, told-same, told-behind, spares-few}
+use Rattle.hold_names.proofs.Halving.{told-before, told-same, told-behind, reach-all, halvings-few}
 
 -- ---- a compare with one name
 
@@ -59,6 +57,20 @@ module _ (path : List ℕ) (files : List (List ℕ)) where
   unfolding comparesFrom
   compares-few zero more = omega arith
   compares-few (suc k) more = omega (arith, compares-one (orderBytes path (nameAt files k)) more)
+
+-- Whatever is held, a lookup compares with 16 names at most, as long as no more than 16,383 are sorted.
+pub at-most-sixteen : (path : List ℕ) (files : List (List ℕ)) (index : List ℕ) → sparesIn index ≤ 16383 → comparesOf path files index ≤ maxCompares
+unfolding comparesOf
+at-most-sixteen path files index h =
+    let e : comparesOf path files index
+    ≡ comparesFrom path files (firstIn index (bucketOf path)) (comparesFrom path files (secondIn index (bucketOf path)) (halvings (sparesIn index) files (sparesOf index) path 0 (sparesIn index))) = refl in
+    omega (
+      arith,
+      e,
+      compares-few path files (firstIn index (bucketOf path)) (comparesFrom path files (secondIn index (bucketOf path)) (halvings (sparesIn index) files (sparesOf index) path 0 (sparesIn index))),
+      compares-few path files (secondIn index (bucketOf path)) (halvings (sparesIn index) files (sparesOf index) path 0 (sparesIn index)),
+      halvings-few files (sparesOf index) path 14 (sparesIn index) 0 (sparesIn index) (omega (arith, reach-all, h)),
+    )
 
 -- The compare with name k, after n others, told that it is another; m compares were made.
 pub record Passed (names index : List ℕ) (count k : ℕ) (path : List ℕ) (n m : ℕ) : Type 0 where
@@ -225,7 +237,7 @@ module _ {names index : List ℕ} {count : ℕ} (path : List ℕ) (sound : Sound
           record {
             few =
                 omega
-                (arith, p .made, s .compares (sound .files) (sound .holds), compares-few path (sound .files) (pair / pairBase) (more (sound .files)), spares-few (sound .holds) path);
+                (arith, counted (sound .files) (sound .holds), at-most-sixteen path (sound .files) index (omega (arith, sound .holds .search .few, sound .holds .few)));
             within = s .within;
             number = λ files h.
                 ⊎-elim (λ (f : (r .number < count) × (nameAt files (r .number) ≡ path)). stands h (f .0) (f .1))

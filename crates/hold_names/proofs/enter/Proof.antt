@@ -1,5 +1,4 @@
 -- `hold_names::enter` meets its contract: a law for each room that a name may find.
-use native.Mathlib.Omega.{arith}
 use Rattle.hold_names.proofs.Entering.{spare-asked, enter-first, enter-second, enter-spare}
 use borrow.Author.Needs.{needs}
 use Rattle.hold_names.proofs.enter.Statement.{statement}
