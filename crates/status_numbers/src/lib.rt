@@ -77,6 +77,7 @@ fn status_held(r: StatusRecord) -> Status
 {
     let started = at_most(r.started, r.total);
     let finished = at_most(r.finished, started);
+    let running = started - finished;
     let last = at_most(r.last, DAY);
     let overall = rate_held(r.overall_known, r.overall);
     let current = rate_held(r.current_known, r.current);
@@ -85,7 +86,7 @@ fn status_held(r: StatusRecord) -> Status
         total: r.total,
         jobs: r.jobs,
         started,
-        running: started - finished,
+        running,
         finished,
         last,
         elapsed: r.elapsed,
@@ -95,16 +96,42 @@ fn status_held(r: StatusRecord) -> Status
     }
 }
 
+fn overall_flag(s: Status) -> u32
+    ensures { λ n. ⌜ n ≡ rateFlag (s .overall) ⌝ }
+{
+    let r = s.overall;
+    rate_flag(r)
+}
+
+fn current_flag(s: Status) -> u32
+    ensures { λ n. ⌜ n ≡ rateFlag (s .current) ⌝ }
+{
+    let r = s.current;
+    rate_flag(r)
+}
+
+fn overall_number(s: Status) -> f64
+    ensures { λ x. ⌜ x ≡ rateNumber (s .overall) ⌝ }
+{
+    let r = s.overall;
+    rate_number(r)
+}
+
+fn current_number(s: Status) -> f64
+    ensures { λ x. ⌜ x ≡ rateNumber (s .current) ⌝ }
+{
+    let r = s.current;
+    rate_number(r)
+}
+
 fn record_of(s: Status) -> StatusRecord
     ensures { λ r. ⌜ r ≡ recordOf s ⌝ }
 {
-    let overall = s.overall;
-    let current = s.current;
+    let overall_known = overall_flag(s);
+    let current_known = current_flag(s);
+    let overall = overall_number(s);
+    let current = current_number(s);
     let window = s.window;
-    let overall_known = rate_flag(overall);
-    let current_known = rate_flag(current);
-    let overall_rate = rate_number(overall);
-    let current_rate = rate_number(current);
     StatusRecord {
         total: s.total,
         jobs: s.jobs,
@@ -114,8 +141,8 @@ fn record_of(s: Status) -> StatusRecord
         overall_known,
         current_known,
         elapsed: s.elapsed,
-        overall: overall_rate,
-        current: current_rate,
+        overall,
+        current,
         window,
     }
 }
