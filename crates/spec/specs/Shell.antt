@@ -19,11 +19,11 @@ backslash = 92
 unfoldable pub blank : ℕ → Bool
 blank b = eqb b space || eqb b 9 || eqb b newline
 
--- 2.2: `| & ; < > ( ) $`, backquote and double quote always, and `* ? [ # ~ = %` in some places, mean more than themselves. Bytes that are no printing ASCII
--- ones are left to the locale.
+-- 2.2: `| & ; < > ( ) $`, backquote and double quote always, and `* ? [ # ~ = %` in some places, mean more than themselves; `{ } ! ^ , ]` do to some shells.
+-- Bytes that are no printing ASCII ones are left to the locale.
 unfoldable pub plainByte : ℕ → Bool
 unfolding between has
-plainByte b = between 33 126 b && not (has b (bytes "|&;<>()$`\"*?[#~=%"))
+plainByte b = between 33 126 b && not (has b (bytes "|&;<>()$`\"*?[#~=%{}!^,]"))
 
 -- what is read: the word, and the text behind it
 pub record Word : Type 0 where
