@@ -1,10 +1,10 @@
 -- Times that fall, and the window as the list of them.
-use mathlib.Core.Path.{_≡_, refl, sym, ap, _∙_}
+use mathlib.Core.Path.{_≡_, refl, ap, _∙_}
 use mathlib.Core.List.{List, [], _∷_, _++_, map}
-use Prim.Native.Nat.{ℕ, zero, suc, _+_, _-_, _≤_, _<_, min, max}
+use Prim.Native.Nat.{ℕ, zero, suc, _≤_, _<_}
 use native.Mathlib.Nat.{le-refl, le-trans}
 use native.Mathlib.Omega.{arith}
-use lib.ListN.{length, take, getD, replicate}
+use lib.ListN.{length, take, getD}
 use lib.Ieee.{Float, nan}
 use Rattle.status_rates.specs.Rates.{wholeFloat}
 use Rattle.status_rates.specs.Within.{day}
@@ -29,11 +29,6 @@ taken-past last t h = omega arith
 pub taken-early : (last t : ℕ) → t ≤ last → takenTime last t ≡ last
 unfolding takenTime
 taken-early last t h = omega arith
-
--- any other as itself
-pub taken-itself : (last t : ℕ) → last ≤ t → t ≤ day → takenTime last t ≡ t
-unfolding takenTime
-taken-itself last t h k = omega arith
 
 -- ---- times that fall
 pub falling-on : (m n : ℕ) (ts : List ℕ) → m ≤ n → Falling m ts → Falling n ts

@@ -1,13 +1,8 @@
-use mathlib.Core.Path.{_∙_}
 use borrow.Author.Tests.{eq-eqb, ne-eqb}
 use Rattle.status_record.specs.Record.{currentOf}
 use borrow.Author.Needs.{needs}
 use Rattle.status_record.proofs.current_rate.Statement.{statement}
 use Rattle.status_record.proofs.current_rate.Tie as tie
-use Rattle.status_record.proofs.current_rate.Reads as reads
-use Rattle.status_record.proofs.current_rate.Lts as lts
-use Rattle.status_rates.proofs.rate_over.Reads as rate-over-reads
-use Rattle.status_rates.proofs.seconds.Reads as seconds-reads
 
 -- src/lib.rt:134:9
 returns : tie.Need-returns

@@ -3,11 +3,6 @@ use Rattle.status_record.specs.Record.{finishAt}
 use borrow.Author.Needs.{needs}
 use Rattle.status_record.proofs.finish_at.Statement.{statement}
 use Rattle.status_record.proofs.finish_at.Tie as tie
-use Rattle.status_record.proofs.finish_at.Reads as reads
-use Rattle.status_record.proofs.finish_at.Lts as lts
-use Rattle.status_record.proofs.counting.Reads as counting-reads
-use Rattle.status_record.proofs.finish_noted.Reads as finish-noted-reads
-use Rattle.status_record.proofs.moved_to.Reads as moved-to-reads
 
 -- src/lib.rt:160:9
 returns : tie.Need-returns

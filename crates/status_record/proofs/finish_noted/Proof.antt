@@ -2,16 +2,9 @@ use Rattle.status_record.proofs.Steps.{noted-law}
 use Prim.Native.Nat.{ℕ, _≤_}
 use mathlib.Core.Path.{sym, subst}
 use Rattle.status_record.proofs.Steps.{held-few}
-use Rattle.status_record.specs.Record.{finishNoted}
 use borrow.Author.Needs.{needs}
 use Rattle.status_record.proofs.finish_noted.Statement.{statement}
 use Rattle.status_record.proofs.finish_noted.Tie as tie
-use Rattle.status_record.proofs.finish_noted.Reads as reads
-use Rattle.status_record.proofs.finish_noted.Lts as lts
-use Rattle.status_rates.proofs.as_float.Reads as as-float-reads
-use Rattle.status_record.proofs.current_rate.Reads as current-rate-reads
-use Rattle.status_record.proofs.held_times.Reads as held-times-reads
-use Rattle.status_record.proofs.slid.Reads as slid-reads
 
 -- src/lib.rt:145:28
 as-float-requires : tie.Need-as-float-requires

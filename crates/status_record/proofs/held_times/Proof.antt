@@ -4,9 +4,6 @@ use Rattle.status_record.specs.Record.{heldTimes}
 use borrow.Author.Needs.{needs}
 use Rattle.status_record.proofs.held_times.Statement.{statement}
 use Rattle.status_record.proofs.held_times.Tie as tie
-use Rattle.status_record.proofs.held_times.Reads as reads
-use Rattle.status_record.proofs.held_times.Lts as lts
-use Rattle.status_record.proofs.sooner.Reads as sooner-reads
 
 -- src/lib.rt:116:9
 sooner-requires : tie.Need-sooner-requires

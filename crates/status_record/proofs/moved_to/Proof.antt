@@ -2,12 +2,6 @@ use Rattle.status_record.specs.Record.{movedTo}
 use borrow.Author.Needs.{needs}
 use Rattle.status_record.proofs.moved_to.Statement.{statement}
 use Rattle.status_record.proofs.moved_to.Tie as tie
-use Rattle.status_record.proofs.moved_to.Reads as reads
-use Rattle.status_record.proofs.moved_to.Lts as lts
-use Rattle.status_rates.proofs.as_float.Reads as as-float-reads
-use Rattle.status_rates.proofs.rate_over.Reads as rate-over-reads
-use Rattle.status_rates.proofs.seconds.Reads as seconds-reads
-use Rattle.status_record.proofs.taken.Reads as taken-reads
 
 -- src/lib.rt:68:9
 taken-requires : tie.Need-taken-requires

@@ -1,11 +1,8 @@
 use native.Mathlib.Omega.{arith}
 use Rattle.status_record.proofs.Steps.{slid-law, spread}
-use Rattle.status_record.specs.Record.{slid}
 use borrow.Author.Needs.{needs}
 use Rattle.status_record.proofs.slid.Statement.{statement}
 use Rattle.status_record.proofs.slid.Tie as tie
-use Rattle.status_record.proofs.slid.Reads as reads
-use Rattle.status_record.proofs.slid.Lts as lts
 
 -- src/lib.rt:106:12
 array-read-t6 : tie.Need-array-read-t6

@@ -3,10 +3,6 @@ use Rattle.status_record.specs.Record.{startAt}
 use borrow.Author.Needs.{needs}
 use Rattle.status_record.proofs.start_at.Statement.{statement}
 use Rattle.status_record.proofs.start_at.Tie as tie
-use Rattle.status_record.proofs.start_at.Reads as reads
-use Rattle.status_record.proofs.start_at.Lts as lts
-use Rattle.status_record.proofs.counting.Reads as counting-reads
-use Rattle.status_record.proofs.moved_to.Reads as moved-to-reads
 
 -- src/lib.rt:96:9
 returns : tie.Need-returns

@@ -4,9 +4,6 @@ use Rattle.status_record.specs.Record.{takenTime}
 use borrow.Author.Needs.{needs}
 use Rattle.status_record.proofs.taken.Statement.{statement}
 use Rattle.status_record.proofs.taken.Tie as tie
-use Rattle.status_record.proofs.taken.Reads as reads
-use Rattle.status_record.proofs.taken.Lts as lts
-use Rattle.status_record.proofs.later.Reads as later-reads
 
 -- src/lib.rt:52:9
 later-requires : tie.Need-later-requires
