@@ -1,6 +1,6 @@
 -- Lines that the definitions compute.
 use mathlib.Core.Bool.{false}
-use mathlib.Core.List.{List, [], _∷_}
+use mathlib.Core.List.{[], _∷_}
 use mathlib.Core.Path.{_≡_, refl}
 use Rattle.lists.specs.Text.{bytes}
 use Rattle.status_record.specs.Events.{starts, finishes, prints, statusAfter}

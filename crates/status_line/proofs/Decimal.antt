@@ -1,5 +1,5 @@
 -- A number in decimal, digit by digit, and the texts that are made of them.
-use Prim.Native.Nat.{ℕ, zero, suc, _+_, _/_, _%_, _≤_, _<_}
+use Prim.Native.Nat.{ℕ, zero, suc, _/_, _≤_, _<_}
 use native.Mathlib.Nat.{div-lt-self}
 use native.Mathlib.Omega.{arith}
 use mathlib.Core.Bool.{true, false}

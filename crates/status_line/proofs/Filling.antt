@@ -1,24 +1,23 @@
 -- The line with zeros beyond it, and what a refusal leaves.
 use Prim.Native.Nat.{ℕ, _+_, _-_, _≤_, _<_}
 use native.Mathlib.Omega.{arith}
-use mathlib.Core.List.{List, [], _∷_, _++_, append-nil}
+use mathlib.Core.List.{List, [], _++_, append-nil}
 use mathlib.Core.Path.{_≡_, refl, sym, ap, _∙_}
 use borrow.Author.Tests.{lt-ltb, le-ltb}
-use lib.ListN.{length, take, drop, replicate}
+use lib.ListN.{length, take, drop}
 use lib.Seq.{drop-length}
 use Rattle.lists.specs.Fill.{zeroed, zeros, zeroed-all}
 use Rattle.spec.specs.Limits.{maxText}
 use Rattle.spec.specs.Answers.{says}
-use Rattle.spec.specs.Promises.{AnswerIs, filled}
-use Rattle.text_buffer.specs.Puts.{Open, PutsText}
+use Rattle.spec.specs.Promises.{filled}
+use Rattle.text_buffer.specs.Puts.{PutsText}
 use Rattle.status_record.specs.declared.Status.{Status}
 use Rattle.status_line.specs.declared.WrongPlace.{WrongPlace}
 use Rattle.status_line.specs.declared.WrongPlace.the-variants.{At, Nowhere}
-use Rattle.status_line.specs.declared.LineAnswer.{LineAnswer}
 use Rattle.status_line.specs.declared.LineAnswer.the-variants.{Written, Refused}
 use Rattle.status_line.specs.declared.LineRefusal.the-variants.{ShortBuffer, BadPlaceholder, LongLine}
 use Rattle.status_line.specs.Line.{wrongFrom, lineFrom}
-use Rattle.status_line.specs.LineAsk.{lineSays, lineRefusalSays, LineOutcome, printed, noLine, fittingLine, soundFormat, lineOutcome, leftByLine, LineMeets}
+use Rattle.status_line.specs.LineAsk.{lineSays, fittingLine, soundFormat, lineOutcome, leftByLine, LineMeets}
 use mathlib.Core.Bool.{false}
 
 -- a buffer of the same length, all zero

@@ -8,7 +8,6 @@ use mathlib.Core.List.{List, [], _∷_}
 use mathlib.Core.Path.{_≡_, refl, sym, ap, _∙_}
 use lib.ListN.{length, drop, getD}
 use lib.Seq.{drop-cons, drop-length}
-use Rattle.status_line.specs.declared.WrongPlace.{WrongPlace}
 use Rattle.status_line.specs.declared.WrongPlace.the-variants.{At, Nowhere}
 use Rattle.status_line.specs.Line.{badKey, nextState, wrongEnd, wrongFrom}
 

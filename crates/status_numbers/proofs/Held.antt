@@ -1,8 +1,7 @@
 -- A record stands for a sound status, and that of a sound status for it.
-use mathlib.Core.Path.{_≡_, refl, sym, ap, _∙_}
-use Prim.Native.Nat.{ℕ, _+_, _-_, _≤_, min}
+use mathlib.Core.Path.{_≡_, refl}
+use Prim.Native.Nat.{_-_, min}
 use native.Mathlib.Omega.{arith}
-use lib.Ieee.{Float}
 use Rattle.status_rates.specs.Within.{day}
 use Rattle.status_rates.specs.declared.Rate.{Rate}
 use Rattle.status_rates.specs.declared.Rate.the-variants.{Unknown, Known}

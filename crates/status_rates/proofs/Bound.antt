@@ -2,24 +2,23 @@
 use mathlib.Core.Path.{_≡_, refl, sym, ap, _∙_, subst}
 use mathlib.Core.Bool.{Bool, true, false, true≢false}
 use Prim.Native.Nat.{ℕ, zero, suc, _+_, _-_, _*_, _/_, _^_, _≤_, _<_, min}
-use native.Mathlib.Nat.{le-trans, le-of-eq, lt-of-lt-of-le, lt-of-le-of-lt, mul-comm, mul-le-mul-left, mul-le-mul-right, mul-lt-mul-of-pos-left, mul-one, one-mul, zero-mul, mul-pos, div-le-self, zero-div}
+use native.Mathlib.Nat.{le-trans, le-of-eq, lt-of-lt-of-le, lt-of-le-of-lt, mul-comm, mul-le-mul-right, mul-lt-mul-of-pos-left, mul-one, one-mul, zero-mul, mul-pos, div-le-self, zero-div}
 use native.Mathlib.Omega.{arith}
 use lib.Dec.{T, lit≤, lit<, ltb, lt→ltb, ltb→lt}
 use lib.IntN.{pos}
 use lib.Pow.{pow-add, pow-pos, pow-mono}
-use lib.Ieee.{Float, nan, inf, fin, binary64, prec, emax, low, up, down, size, round, mul, div, sub, lt, ofInt, toUnsigned}
+use lib.Ieee.{Float, nan, inf, fin, binary64, low, up, down, round, mul, div, sub, lt, ofInt, toUnsigned}
 use lib.Ieee.Exact.{HasValue}
 use lib.Ieee.Fits.{down-pos, up-pos}
 use lib.Ieee.Nearest.{div-same}
 use lib.Ieee.Scale.{grid, overflow, round-val, normal-of-fraction}
-use lib.Ieee.Positive.{num, den, den-pos, value→cross, positive, positive-of-value}
-use Rattle.status_rates.specs.declared.Rate.{Rate}
+use lib.Ieee.Positive.{positive, positive-of-value}
 use Rattle.status_rates.specs.declared.Rate.the-variants.{Unknown, Known}
 use Rattle.status_rates.specs.Rates.{wholeFloat, secondsOf, rateOf, tenthsOf}
 use Rattle.status_rates.specs.Within.{WithinOne, TenthsNear, day}
 use Rattle.status_rates.proofs.Cut.{whole-value}
 use Rattle.status_rates.proofs.Near.{Near, near}
-use Rattle.status_rates.proofs.Chain.{E, D, within}
+use Rattle.status_rates.proofs.Chain.{E, within}
 use Rattle.status_rates.proofs.Values.{mul-value, div-value, sub-value, round-zero}
 use Rattle.status_rates.proofs.Ranges as ranges
 

@@ -1,7 +1,7 @@
 -- Three roundings after one another, each near what it rounds, and the whole number of tenths: within 1 of the whole quotient.
 use mathlib.Core.Path.{_≡_, sym, ap, _∙_, subst}
-use Prim.Native.Nat.{ℕ, zero, suc, _+_, _-_, _*_, _/_, _%_, _^_, _≤_, _<_}
-use native.Mathlib.Nat.{le-trans, le-of-eq, le-of-lt, lt-of-lt-of-le, lt-of-le-of-lt, mul-comm, mul-assoc, mul-left-comm, mul-le-mul-right, mul-le-mul-left, mul-le-mul, mul-pos, add-mul, mul-add, mul-one, one-mul, le-of-mul-le-mul-left, le-of-mul-le-mul-right, lt-of-mul-lt-mul-right, mul-suc, lt-of-mul-lt-mul-left, le-refl, add-le-add, le-div-iff-mul-le, div-lt-iff-lt-mul, div-mul-le-self, lt-suc-self, mul-lt-mul-of-pos-left, le-of-suc-le-suc}
+use Prim.Native.Nat.{ℕ, zero, suc, _+_, _*_, _/_, _≤_, _<_}
+use native.Mathlib.Nat.{le-trans, le-of-eq, lt-of-lt-of-le, lt-of-le-of-lt, mul-comm, mul-assoc, mul-left-comm, mul-le-mul-left, mul-le-mul, mul-pos, add-mul, mul-add, mul-one, le-of-mul-le-mul-left, le-of-mul-le-mul-right, lt-of-mul-lt-mul-right, mul-suc, lt-of-mul-lt-mul-left, le-div-iff-mul-le, div-lt-iff-lt-mul, div-mul-le-self, lt-suc-self, mul-lt-mul-of-pos-left, le-of-suc-le-suc}
 use native.Mathlib.Omega.{arith}
 use lib.Dec.{lit<, lit≤}
 use Rattle.status_rates.specs.Within.{WithinOne}

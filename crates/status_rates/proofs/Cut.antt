@@ -1,10 +1,9 @@
 -- A float cut downwards, found by halving: a whole number that is not 0 is at most the float exactly where it is at most the float cut downwards.
-use mathlib.Core.Path.{_≡_, refl, sym, subst, ap}
+use mathlib.Core.Path.{_≡_, refl, sym, subst}
 use mathlib.Core.Bool.{Bool, true, false, true≢false}
-use Prim.Native.Nat.{ℕ, suc, _+_, _-_, _*_, _/_, _^_, _≤_, _<_, min}
+use Prim.Native.Nat.{ℕ, _+_, _-_, _*_, _/_, _^_, _≤_, _<_, min}
 use native.Mathlib.Nat.{le-of-eq, le-trans, lt-of-not-le, le-div-iff-mul-le, mul-one}
 use native.Mathlib.Omega.{arith}
-use lib.IntN.{ℤ, pos}
 use lib.Dec.{T, lit≤}
 use lib.Ieee.{Float, nan, inf, fin, binary64, up, down, le, ofInt, toUnsigned}
 use lib.Ieee.Fits.{down-pos}

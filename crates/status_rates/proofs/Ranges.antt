@@ -1,10 +1,10 @@
 -- The three roundings stay in the normal range and below an infinity. L is the number of smallest units in 1: of it nothing is used but that it is large.
-use Prim.Native.Nat.{ℕ, zero, suc, _+_, _-_, _*_, _/_, _^_, _≤_, _<_}
-use native.Mathlib.Nat.{le-trans, le-of-eq, lt-of-lt-of-le, mul-comm, mul-assoc, mul-left-comm, mul-le-mul, mul-le-mul-right, mul-le-mul-left, le-refl, mul-pos, le-of-mul-le-mul-right, one-mul}
+use Prim.Native.Nat.{ℕ, _*_, _≤_, _<_}
+use native.Mathlib.Nat.{le-trans, le-of-eq, mul-comm, mul-assoc, mul-left-comm, mul-le-mul-right, mul-le-mul-left, le-of-mul-le-mul-right, one-mul}
 use native.Mathlib.Omega.{arith}
-use mathlib.Core.Path.{_≡_, sym, ap, _∙_}
+use mathlib.Core.Path.{_≡_, sym, ap}
 use Rattle.status_rates.proofs.Near.{Near}
-use Rattle.status_rates.proofs.Chain.{E, D, F, most, least}
+use Rattle.status_rates.proofs.Chain.{E, most, least}
 
 -- within a factor of two
 pub under-twice : (n g : ℕ) → Near E n g → g ≤ 2 * n

@@ -1,8 +1,8 @@
 -- What an operation gives where its operands are known fractions that are not negative: the rounded fraction.
 use mathlib.Core.Path.{_≡_, refl, sym, ap, _∙_, subst}
 use mathlib.Core.Bool.{Bool, true, false, cond, true≢false}
-use Prim.Native.Nat.{ℕ, zero, suc, _+_, _-_, _*_, _/_, _^_, _≤_, _<_}
-use native.Mathlib.Nat.{le-trans, le-of-eq, lt-irrefl, not-le-of-lt, mul-comm, mul-assoc, mul-left-comm, mul-right-comm, mul-pos, mul-one, zero-mul, mul-le-mul-right, mul-mul-mul-comm, mul-sub}
+use Prim.Native.Nat.{ℕ, zero, suc, _+_, _-_, _*_, _^_, _≤_, _<_}
+use native.Mathlib.Nat.{le-trans, le-of-eq, lt-irrefl, not-le-of-lt, mul-comm, mul-assoc, mul-left-comm, mul-pos, mul-one, zero-mul, mul-le-mul-right, mul-mul-mul-comm, mul-sub}
 use native.Mathlib.Omega.{arith}
 use lib.IntN.{ℤ}
 use lib.Dec.{T, ltb, eqb, ltb→lt, eqb→eq, lit≤}

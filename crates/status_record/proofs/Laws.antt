@@ -1,24 +1,23 @@
 -- What holds of the status along any sequence of events.
 use mathlib.Core.Path.{_≡_, refl, sym, ap, _∙_, subst}
-use mathlib.Core.Bool.{Bool, true, false}
-use mathlib.Core.List.{List, [], _∷_, _++_, map}
-use Prim.Native.Nat.{ℕ, zero, suc, _+_, _-_, _≤_, _<_, min, max}
+use mathlib.Core.Bool.{true, false}
+use mathlib.Core.List.{List, [], _∷_}
+use Prim.Native.Nat.{ℕ, _+_, _-_, _≤_, _<_}
 use native.Mathlib.Nat.{le-refl, le-trans, le-of-eq}
 use native.Mathlib.Omega.{arith}
 use borrow.Author.Tests.{leb-true, leb-false, eqb-true, eqb-false, eq-eqb, ne-eqb, le-leb}
 use lib.Dec.{eqb, leb}
-use lib.ListN.{length, take, getD, replicate}
+use lib.ListN.{length, getD, replicate}
 use lib.Ieee.{Float, nan, binary64, sub, div}
 use Rattle.lists.specs.Tests.{ifB, split}
-use Rattle.status_rates.specs.Rates.{wholeFloat, secondsOf, rateOf, tenthsOf}
-use Rattle.status_rates.specs.Within.{day, TenthsNear}
-use Rattle.status_rates.specs.declared.Rate.{Rate}
-use Rattle.status_rates.specs.declared.Rate.the-variants.{Unknown, Known}
+use Rattle.status_rates.specs.Rates.{wholeFloat, secondsOf, rateOf}
+use Rattle.status_rates.specs.Within.{day}
+use Rattle.status_rates.specs.declared.Rate.the-variants.{Unknown}
 use Rattle.status_rates.proofs.Bound.{tenths-near, rate-known, rate-none, sub-whole}
 use Rattle.status_record.specs.declared.Status.{Status}
-use Rattle.status_record.specs.Record.{takenTime, firstStatus, clockAt, movedTo, counting, startAt, slid, heldTimes, currentOf, windowed, finishNoted, finishAt, SoundStatus}
+use Rattle.status_record.specs.Record.{takenTime, firstStatus, clockAt, movedTo, counting, startAt, heldTimes, currentOf, finishNoted, finishAt, SoundStatus}
 use Rattle.status_record.specs.Events.{Event, starts, finishes, prints, Ran, ran, timesAfter, after, afterAll, statusAfter}
-use Rattle.status_record.specs.Claims.{Falling, SoundRun, KnownNear}
+use Rattle.status_record.specs.Claims.{SoundRun, KnownNear}
 use Rattle.status_record.proofs.Times.{taken-day, taken-later, taken-past, taken-early, falling-on, falling-below, falling-first, window-more, window-entry}
 
 -- ---- the counts

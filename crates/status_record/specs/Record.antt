@@ -1,5 +1,5 @@
 -- The status record, the window of finish times, and what each event makes of them.
-use Prim.Native.Nat.{ℕ, suc, _+_, _-_, _≤_, min, max}
+use Prim.Native.Nat.{ℕ, _+_, _-_, _≤_, min, max}
 use mathlib.Core.List.{List, _∷_}
 use mathlib.Core.Path.{_≡_}
 use lib.Dec.{eqb, leb}
@@ -9,7 +9,7 @@ use Rattle.lists.specs.Tests.{ifB}
 use Rattle.status_rates.specs.Rates.{wholeFloat, secondsOf, rateOf}
 use Rattle.status_rates.specs.Within.{day}
 use Rattle.status_rates.specs.declared.Rate.{Rate}
-use Rattle.status_rates.specs.declared.Rate.the-variants.{Unknown, Known}
+use Rattle.status_rates.specs.declared.Rate.the-variants.{Unknown}
 use Rattle.status_record.specs.declared.Status.{Status}
 
 -- "Times are milliseconds from the start; one above 86,400,000 counts as that, one earlier than the last as the last."

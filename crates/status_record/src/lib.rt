@@ -1,7 +1,7 @@
 // The status record by value: started, finished, and the clock moved to the time of printing. Nothing is kept anywhere else.
 ghost use mathlib.Core.Path.{_≡_};
 ghost use Prim.Native.Nat.{_≤_, min, max};
-ghost use Rattle.status_record.specs.Record.{takenTime, firstStatus, movedTo, counting, startAt, slid, heldTimes, currentOf, windowed, finishAt, finishNoted, SoundStatus};
+ghost use Rattle.status_record.specs.Record.{takenTime, firstStatus, movedTo, counting, startAt, slid, heldTimes, currentOf, finishAt, finishNoted, SoundStatus};
 use status_rates::Rate;
 use status_rates::as_float;
 use status_rates::rate_over;
@@ -105,7 +105,21 @@ fn slid(w: [f64; 16], t: f64) -> [f64; 16]
     ensures { λ r. ⌜ r ≡ slid w t ⌝ }
 {
     [
-        t, w[0], w[1], w[2], w[3], w[4], w[5], w[6], w[7], w[8], w[9], w[10], w[11], w[12], w[13],
+        t,
+        w[0],
+        w[1],
+        w[2],
+        w[3],
+        w[4],
+        w[5],
+        w[6],
+        w[7],
+        w[8],
+        w[9],
+        w[10],
+        w[11],
+        w[12],
+        w[13],
         w[14],
     ]
 }
@@ -163,8 +177,5 @@ pub fn finish_at(s: Status, t: u64) -> Status
     if s.running == 0 {
         return s;
     }
-    finish_noted(moved_to(
-        counting(s, s.started, s.running - 1, s.finished + 1),
-        t,
-    ))
+    finish_noted(moved_to(counting(s, s.started, s.running - 1, s.finished + 1), t))
 }

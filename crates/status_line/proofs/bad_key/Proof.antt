@@ -1,7 +1,6 @@
 -- `bad_key` meets its contract.
-use mathlib.Core.Path.{_≡_, refl, sym, ap, _∙_, subst}
-use mathlib.Core.Bool.{not}
-use Rattle.status_line.specs.Line.{badKey, knownKey}
+use mathlib.Core.Path.{sym, _∙_}
+use Rattle.status_line.specs.Line.{badKey}
 use borrow.Author.Needs.{needs}
 use Rattle.status_line.proofs.bad_key.Statement.{statement}
 use Rattle.status_line.proofs.bad_key.Tie as tie

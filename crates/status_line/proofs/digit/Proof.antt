@@ -1,6 +1,5 @@
 -- `digit` meets its contract.
-use mathlib.Core.Path.{_≡_, refl, sym, ap, _∙_, subst}
-use native.Mathlib.Omega.{arith}
+use mathlib.Core.Path.{refl}
 use Rattle.status_line.specs.Pieces.{digitOf}
 use borrow.Author.Needs.{needs}
 use Rattle.status_line.proofs.digit.Statement.{statement}

@@ -1,5 +1,4 @@
 -- `fill_line` meets its contract.
-use mathlib.Core.Path.{_≡_, refl, sym, ap, _∙_, subst}
 use Rattle.status_line.proofs.Filling.{fill-over, fill-fits}
 use borrow.Author.Needs.{needs}
 use Rattle.status_line.proofs.fill_line.Statement.{statement}

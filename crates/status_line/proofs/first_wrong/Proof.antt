@@ -1,6 +1,6 @@
 -- `first_wrong` meets its contract.
 use Prim.Native.Nat.{_-_}
-use mathlib.Core.Path.{_≡_, refl, sym, ap, _∙_, subst}
+use mathlib.Core.Path.{sym, _∙_}
 use native.Mathlib.Omega.{arith}
 use lib.ListN.{length}
 use Rattle.status_line.proofs.Wrong.{Looking, look-begin, look-bad, look-on, look-open, look-end, bad-after}

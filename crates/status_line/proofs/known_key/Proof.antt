@@ -1,8 +1,6 @@
 -- `known_key` meets its contract: key by key.
-use mathlib.Core.Path.{_≡_, refl, sym, ap, _∙_, subst}
-use borrow.Author.Tests.{eq-eqb, ne-eqb, lt-ltb, le-ltb}
+use borrow.Author.Tests.{eq-eqb, ne-eqb}
 use Rattle.status_line.specs.Line.{knownKey}
-use borrow.Author.Needs.{needs}
 use Rattle.status_line.proofs.known_key.Statement.{statement}
 use Rattle.status_line.proofs.known_key.Tie as tie
 

@@ -1,8 +1,7 @@
 -- `line` meets its contract: 1, 21, then the line or 17.
-use mathlib.Core.Path.{_≡_, refl, sym, ap, _∙_, subst}
+use mathlib.Core.Path.{sym, _∙_}
 use native.Mathlib.Omega.{arith}
 use Rattle.status_line.proofs.Filling.{line-short, line-wrong, line-sound}
-use Rattle.text_buffer.specs.Puts.{Open}
 use borrow.Author.Needs.{needs}
 use Rattle.status_line.proofs.line.Statement.{statement}
 use Rattle.status_line.proofs.line.Tie as tie

@@ -1,7 +1,5 @@
 -- `next_state` meets its contract.
-use mathlib.Core.Path.{_≡_, refl, sym, ap, _∙_, subst}
 use Rattle.status_line.specs.Line.{nextState}
-use borrow.Author.Needs.{needs}
 use Rattle.status_line.proofs.next_state.Statement.{statement}
 use Rattle.status_line.proofs.next_state.Tie as tie
 

@@ -1,6 +1,5 @@
 -- `piece_at` meets its contract: key by key.
-use mathlib.Core.Path.{_≡_, refl, sym, ap, _∙_, subst}
-use borrow.Author.Tests.{eq-eqb, ne-eqb, lt-ltb, le-ltb}
+use borrow.Author.Tests.{eq-eqb, ne-eqb}
 use Rattle.status_line.specs.Pieces.{pieceOf}
 use borrow.Author.Needs.{needs}
 use Rattle.status_line.proofs.piece_at.Statement.{statement}

@@ -1,7 +1,4 @@
 -- `put_element` meets its contract.
-use mathlib.Core.Path.{_≡_, refl, sym, ap, _∙_, subst}
-use borrow.Author.Tests.{eq-eqb, ne-eqb, lt-ltb, le-ltb}
-use Rattle.text_buffer.proofs.Parts.{open-on, puts-then, puts-over, puts-none}
 use Rattle.status_line.proofs.Lining.{element-piece, element-none, element-byte}
 use borrow.Author.Needs.{needs}
 use Rattle.status_line.proofs.put_element.Statement.{statement}

@@ -1,7 +1,5 @@
 -- `put_line` meets its contract.
 use Prim.Native.Nat.{_-_}
-use mathlib.Core.Path.{_≡_, refl, sym, ap, _∙_, subst}
-use native.Mathlib.Omega.{arith}
 use lib.ListN.{length}
 use Rattle.status_line.proofs.Lining.{Lining, line-begin, line-on, line-over, line-end, line-open}
 use borrow.Author.Needs.{needs}

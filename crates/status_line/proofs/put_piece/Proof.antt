@@ -1,5 +1,4 @@
 -- `put_piece` meets its contract: by the piece.
-use mathlib.Core.Path.{_≡_, refl, sym, ap, _∙_, subst}
 use Rattle.status_line.proofs.Decimal.{piece-number, piece-tenths, piece-seconds, piece-byte}
 use borrow.Author.Needs.{needs}
 use Rattle.status_line.proofs.put_piece.Statement.{statement}

@@ -1,7 +1,5 @@
 -- `put_seconds` meets its contract.
-use mathlib.Core.Path.{_≡_, refl, sym, ap, _∙_, subst}
-use native.Mathlib.Omega.{arith}
-use Rattle.text_buffer.proofs.Parts.{open-on, puts-then, puts-over, puts-none}
+use Rattle.text_buffer.proofs.Parts.{open-on}
 use Rattle.status_line.proofs.Decimal.{after-over, seconds-is, seconds-on}
 use borrow.Author.Needs.{needs}
 use Rattle.status_line.proofs.put_seconds.Statement.{statement}

@@ -1,5 +1,5 @@
 -- `rate_piece` meets its contract.
-use mathlib.Core.Path.{_≡_, refl, sym, ap, _∙_, subst}
+use mathlib.Core.Path.{sym, ap}
 use Rattle.status_line.specs.Pieces.{ratePiece}
 use borrow.Author.Needs.{needs}
 use Rattle.status_line.proofs.rate_piece.Statement.{statement}

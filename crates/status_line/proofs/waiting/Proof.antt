@@ -1,5 +1,4 @@
 -- `waiting` meets its contract.
-use mathlib.Core.Path.{_≡_, refl, sym, ap, _∙_, subst}
 use native.Mathlib.Omega.{arith}
 use borrow.Author.Needs.{needs}
 use Rattle.status_line.proofs.waiting.Statement.{statement}

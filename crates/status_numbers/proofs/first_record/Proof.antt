@@ -1,5 +1,5 @@
 -- `first_record` meets its contract.
-use mathlib.Core.Path.{_≡_, refl, sym, ap, _∙_, subst}
+use mathlib.Core.Path.{ap, _∙_}
 use Rattle.status_numbers.specs.Numbers.{recordOf}
 use borrow.Author.Needs.{needs}
 use Rattle.status_numbers.proofs.first_record.Statement.{statement}

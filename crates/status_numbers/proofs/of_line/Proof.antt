@@ -1,5 +1,5 @@
 -- `of_line` meets its contract.
-use mathlib.Core.Path.{_≡_, refl, sym, ap, _∙_, subst}
+use mathlib.Core.Path.{sym, ap, _∙_}
 use Rattle.status_line.specs.LineAsk.{lineSays}
 use borrow.Author.Needs.{needs}
 use Rattle.status_numbers.proofs.of_line.Statement.{statement}

@@ -1,5 +1,5 @@
 -- `rate_flag` meets its contract.
-use mathlib.Core.Path.{_≡_, refl, sym, ap, _∙_, subst}
+use mathlib.Core.Path.{sym, ap}
 use Rattle.status_numbers.specs.Numbers.{rateFlag}
 use borrow.Author.Needs.{needs}
 use Rattle.status_numbers.proofs.rate_flag.Statement.{statement}

@@ -1,8 +1,6 @@
 -- `rate_held` meets its contract.
-use mathlib.Core.Path.{_≡_, refl, sym, ap, _∙_, subst}
-use borrow.Author.Tests.{eq-eqb, ne-eqb, lt-ltb, le-ltb}
+use borrow.Author.Tests.{eq-eqb, ne-eqb}
 use Rattle.status_numbers.specs.Numbers.{rateHeld}
-use borrow.Author.Needs.{needs}
 use Rattle.status_numbers.proofs.rate_held.Statement.{statement}
 use Rattle.status_numbers.proofs.rate_held.Tie as tie
 

@@ -1,5 +1,5 @@
 -- `rate_number` meets its contract.
-use mathlib.Core.Path.{_≡_, refl, sym, ap, _∙_, subst}
+use mathlib.Core.Path.{sym, ap, _∙_}
 use Rattle.status_rates.proofs.Constants.{nought}
 use Rattle.status_numbers.specs.Numbers.{rateNumber}
 use borrow.Author.Needs.{needs}

@@ -1,6 +1,6 @@
 -- `record_finished` meets its contract.
-use mathlib.Core.Path.{_≡_, refl, sym, ap, _∙_, subst}
-use Rattle.status_record.specs.Record.{SoundStatus, startAt, finishAt, movedTo}
+use mathlib.Core.Path.{sym, ap, _∙_, subst}
+use Rattle.status_record.specs.Record.{SoundStatus, finishAt}
 use Rattle.status_record.specs.declared.Status.{Status}
 use Rattle.status_numbers.specs.Numbers.{recordOf}
 use Rattle.status_numbers.proofs.Held.{held-sound}

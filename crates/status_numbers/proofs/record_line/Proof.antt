@@ -1,5 +1,4 @@
 -- `record_line` meets its contract.
-use mathlib.Core.Path.{_≡_, refl, sym, ap, _∙_, subst}
 use borrow.Author.Needs.{needs}
 use Rattle.status_numbers.proofs.record_line.Statement.{statement}
 use Rattle.status_numbers.proofs.record_line.Tie as tie

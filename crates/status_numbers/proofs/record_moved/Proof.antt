@@ -1,6 +1,6 @@
 -- `record_moved` meets its contract.
-use mathlib.Core.Path.{_≡_, refl, sym, ap, _∙_, subst}
-use Rattle.status_record.specs.Record.{SoundStatus, startAt, finishAt, movedTo}
+use mathlib.Core.Path.{ap, _∙_}
+use Rattle.status_record.specs.Record.{movedTo}
 use Rattle.status_record.specs.declared.Status.{Status}
 use Rattle.status_numbers.specs.Numbers.{recordOf}
 use borrow.Author.Needs.{needs}

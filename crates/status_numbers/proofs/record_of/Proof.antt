@@ -1,5 +1,4 @@
 -- `record_of` meets its contract.
-use mathlib.Core.Path.{_≡_, refl, sym, ap, _∙_, subst}
 use Rattle.status_numbers.specs.Numbers.{recordOf}
 use borrow.Author.Needs.{needs}
 use Rattle.status_numbers.proofs.record_of.Statement.{statement}

@@ -1,5 +1,4 @@
 -- `status_held` meets its contract.
-use mathlib.Core.Path.{_≡_, refl, sym, ap, _∙_, subst}
 use native.Mathlib.Omega.{arith}
 use Rattle.status_numbers.specs.Numbers.{statusHeld}
 use borrow.Author.Needs.{needs}

@@ -1,8 +1,5 @@
 -- `rate_over` meets its contract.
-use mathlib.Core.Path.{_≡_, sym, ap, _∙_, subst}
-use mathlib.Core.Bool.{true, false}
 use borrow.Author.Needs.{needs}
-use lib.Ieee.{Float, lt}
 use Rattle.status_rates.specs.Rates.{rateOf}
 use Rattle.status_rates.proofs.Constants.{nought}
 use Rattle.status_rates.proofs.rate_over.Statement.{statement}

@@ -1,6 +1,5 @@
 use mathlib.Core.Path.{refl}
 use Rattle.status_record.specs.Record.{counting}
-use borrow.Author.Needs.{needs}
 use Rattle.status_record.proofs.counting.Statement.{statement}
 use Rattle.status_record.proofs.counting.Tie as tie
 use Rattle.status_record.proofs.counting.Reads as reads

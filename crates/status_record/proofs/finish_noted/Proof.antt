@@ -2,7 +2,6 @@ use Rattle.status_record.proofs.Steps.{noted-law}
 use Prim.Native.Nat.{ℕ, _≤_}
 use mathlib.Core.Path.{sym, subst}
 use Rattle.status_record.proofs.Steps.{held-few}
-use Rattle.status_record.specs.Record.{finishNoted}
 use borrow.Author.Needs.{needs}
 use Rattle.status_record.proofs.finish_noted.Statement.{statement}
 use Rattle.status_record.proofs.finish_noted.Tie as tie

@@ -1,6 +1,5 @@
 use Rattle.status_rates.proofs.Constants.{nought}
 use Rattle.status_record.specs.Record.{firstStatus}
-use borrow.Author.Needs.{needs}
 use Rattle.status_record.proofs.first_status.Statement.{statement}
 use Rattle.status_record.proofs.first_status.Tie as tie
 use Rattle.status_record.proofs.first_status.Reads as reads

@@ -1,6 +1,5 @@
 use native.Mathlib.Omega.{arith}
 use Rattle.status_record.proofs.Steps.{slid-law, spread}
-use Rattle.status_record.specs.Record.{slid}
 use borrow.Author.Needs.{needs}
 use Rattle.status_record.proofs.slid.Statement.{statement}
 use Rattle.status_record.proofs.slid.Tie as tie
