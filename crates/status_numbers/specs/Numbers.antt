@@ -37,8 +37,8 @@ statusHeld r =
       finished = finished;
       last = min (r .last) day;
       elapsed = r .elapsed;
-      overall = rateHeld (r .overall_known) (r .overall);
-      current = rateHeld (r .current_known) (r .current);
+      overall = rateHeld (r .timed) (r .overall);
+      current = rateHeld (r .paced) (r .current);
       window = r .window;
     }
 
@@ -52,8 +52,8 @@ recordOf s =
       started = s .started;
       finished = s .finished;
       last = s .last;
-      overall_known = rateFlag (s .overall);
-      current_known = rateFlag (s .current);
+      timed = rateFlag (s .overall);
+      paced = rateFlag (s .current);
       elapsed = s .elapsed;
       overall = rateNumber (s .overall);
       current = rateNumber (s .current);

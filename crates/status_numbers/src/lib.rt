@@ -27,8 +27,9 @@ pub struct StatusRecord {
     pub started: u32,
     pub finished: u32,
     pub last: u32,
-    pub overall_known: u32,
-    pub current_known: u32,
+    // the overall rate's flag, and the current rate's
+    pub timed: u32,
+    pub paced: u32,
     pub elapsed: f64,
     pub overall: f64,
     pub current: f64,
@@ -79,8 +80,8 @@ fn status_held(r: StatusRecord) -> Status
     let finished = at_most(r.finished, started);
     let running = started - finished;
     let last = at_most(r.last, DAY);
-    let overall = rate_held(r.overall_known, r.overall);
-    let current = rate_held(r.current_known, r.current);
+    let overall = rate_held(r.timed, r.overall);
+    let current = rate_held(r.paced, r.current);
     let window = r.window;
     Status {
         total: r.total,
@@ -127,8 +128,8 @@ fn current_number(s: Status) -> f64
 fn record_of(s: Status) -> StatusRecord
     ensures { λ r. ⌜ r ≡ recordOf s ⌝ }
 {
-    let overall_known = overall_flag(s);
-    let current_known = current_flag(s);
+    let timed = overall_flag(s);
+    let paced = current_flag(s);
     let overall = overall_number(s);
     let current = current_number(s);
     let window = s.window;
@@ -138,8 +139,8 @@ fn record_of(s: Status) -> StatusRecord
         started: s.started,
         finished: s.finished,
         last: s.last,
-        overall_known,
-        current_known,
+        timed,
+        paced,
         elapsed: s.elapsed,
         overall,
         current,

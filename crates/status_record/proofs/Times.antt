@@ -30,6 +30,11 @@ pub taken-early : (last t : ℕ) → t ≤ last → takenTime last t ≡ last
 unfolding takenTime
 taken-early last t h = omega arith
 
+-- any other as itself
+pub taken-itself : (last t : ℕ) → last ≤ t → t ≤ day → takenTime last t ≡ t
+unfolding takenTime
+taken-itself last t h k = omega arith
+
 -- ---- times that fall
 pub falling-on : (m n : ℕ) (ts : List ℕ) → m ≤ n → Falling m ts → Falling n ts
 falling-on m n [] h f = tt

@@ -1,9 +1,9 @@
+-- `counting` meets its contract.
 use mathlib.Core.Path.{refl}
 use Rattle.status_record.specs.Record.{counting}
 use Rattle.status_record.proofs.counting.Statement.{statement}
 use Rattle.status_record.proofs.counting.Tie as tie
 
--- src/lib.rt:79:1
 returns : tie.Need-returns
 unfolding counting
 returns c = refl

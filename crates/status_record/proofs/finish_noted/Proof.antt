@@ -1,3 +1,4 @@
+-- `finish_noted` meets its contract.
 use Rattle.status_record.proofs.Steps.{noted-law}
 use Prim.Native.Nat.{ℕ, _≤_}
 use mathlib.Core.Path.{sym, subst}
@@ -6,23 +7,18 @@ use borrow.Author.Needs.{needs}
 use Rattle.status_record.proofs.finish_noted.Statement.{statement}
 use Rattle.status_record.proofs.finish_noted.Tie as tie
 
--- src/lib.rt:145:28
 as-float-requires : tie.Need-as-float-requires
 as-float-requires c κs = search needs
 
--- src/lib.rt:145:9
 slid-requires : tie.Need-slid-requires
 slid-requires c κs = search needs
 
--- src/lib.rt:146:40
 held-times-requires : tie.Need-held-times-requires
 held-times-requires c κs = search needs
 
--- src/lib.rt:146:9
 current-rate-requires : tie.Need-current-rate-requires
 current-rate-requires c κs = subst (λ (n : ℕ). n ≤ 16) (sym (c .held-times .ensures)) (held-few (c .before .before .before .before .args .s .jobs) (c .before .before .before .before .args .s .finished))
 
--- src/lib.rt:141:1
 returns : tie.Need-returns
 returns c = noted-law (c .before .before .before .before .before .args .s) (c .before .before .before .as-float .ensures) (c .before .before .slid .ensures) (c .before .held-times .ensures) (c .current-rate .ensures)
 

@@ -1,9 +1,9 @@
+-- `first_status` meets its contract.
 use Rattle.status_rates.proofs.Constants.{nought}
 use Rattle.status_record.specs.Record.{firstStatus}
 use Rattle.status_record.proofs.first_status.Statement.{statement}
 use Rattle.status_record.proofs.first_status.Tie as tie
 
--- src/lib.rt:30:1
 returns : tie.Need-returns
 unfolding firstStatus
 returns c = rw nought

@@ -1,3 +1,4 @@
+-- `held_times` meets its contract.
 use mathlib.Core.Path.{_∙_}
 use native.Mathlib.Omega.{arith}
 use Rattle.status_record.specs.Record.{heldTimes}
@@ -5,20 +6,16 @@ use borrow.Author.Needs.{needs}
 use Rattle.status_record.proofs.held_times.Statement.{statement}
 use Rattle.status_record.proofs.held_times.Tie as tie
 
--- src/lib.rt:116:9
 sooner-requires : tie.Need-sooner-requires
 sooner-requires c κs = search needs
 
--- src/lib.rt:116:9
 returns : tie.Need-returns
 unfolding heldTimes
 returns c = c .sooner .ensures ∙ omega (arith, c .before .if1 .taken)
 
--- src/lib.rt:118:5
 sooner-requires-2 : tie.Need-sooner-requires-2
 sooner-requires-2 c κs = search needs
 
--- src/lib.rt:112:1
 returns-2 : tie.Need-returns-2
 unfolding heldTimes
 returns-2 c = c .sooner2 .ensures ∙ omega (arith, c .before .if1 .left)

@@ -1,25 +1,21 @@
+-- `moved_to` meets its contract.
 use Rattle.status_record.specs.Record.{movedTo}
 use borrow.Author.Needs.{needs}
 use Rattle.status_record.proofs.moved_to.Statement.{statement}
 use Rattle.status_record.proofs.moved_to.Tie as tie
 
--- src/lib.rt:68:9
 taken-requires : tie.Need-taken-requires
 taken-requires c κs = search needs
 
--- src/lib.rt:69:27
 as-float-requires : tie.Need-as-float-requires
 as-float-requires c κs = search needs
 
--- src/lib.rt:69:9
 seconds-requires : tie.Need-seconds-requires
 seconds-requires c κs = search needs
 
--- src/lib.rt:70:9
 rate-over-requires : tie.Need-rate-over-requires
 rate-over-requires c κs = search needs
 
--- src/lib.rt:65:1
 returns : tie.Need-returns
 unfolding movedTo
 returns c = rw (c .before .rate-over .ensures, c .before .before .seconds .ensures, c .before .before .before .as-float .ensures, c .before .before .before .before .taken .ensures)

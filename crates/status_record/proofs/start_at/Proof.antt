@@ -1,31 +1,26 @@
+-- `start_at` meets its contract.
 use borrow.Author.Tests.{le-leb, lt-leb}
 use Rattle.status_record.specs.Record.{startAt}
 use borrow.Author.Needs.{needs}
 use Rattle.status_record.proofs.start_at.Statement.{statement}
 use Rattle.status_record.proofs.start_at.Tie as tie
 
--- src/lib.rt:96:9
 returns : tie.Need-returns
 unfolding startAt
 returns c = rw (le-leb (c .before .before .args .s .total) (c .before .before .args .s .started) (c .if1 .taken))
 
--- src/lib.rt:98:26
 add-counting : tie.Need-add-counting
 add-counting c = search needs
 
--- src/lib.rt:98:41
 add-counting-2 : tie.Need-add-counting-2
 add-counting-2 c = search needs
 
--- src/lib.rt:98:14
 counting-requires : tie.Need-counting-requires
 counting-requires c κs = search needs
 
--- src/lib.rt:98:5
 moved-to-requires : tie.Need-moved-to-requires
 moved-to-requires c κs = search needs
 
--- src/lib.rt:91:1
 returns-2 : tie.Need-returns-2
 unfolding startAt
 returns-2 c = rw (lt-leb (c .before .before .before .before .before .before .args .s .total) (c .before .before .before .before .before .before .args .s .started) (c .before .before .before .before .if1 .left)) (rw (c .moved-to .ensures, c .before .counting .ensures))

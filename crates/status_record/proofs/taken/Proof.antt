@@ -1,3 +1,4 @@
+-- `taken` meets its contract.
 use mathlib.Core.Path.{_∙_}
 use native.Mathlib.Omega.{arith}
 use Rattle.status_record.specs.Record.{takenTime}
@@ -5,24 +6,19 @@ use borrow.Author.Needs.{needs}
 use Rattle.status_record.proofs.taken.Statement.{statement}
 use Rattle.status_record.proofs.taken.Tie as tie
 
--- src/lib.rt:52:9
 later-requires : tie.Need-later-requires
 later-requires c κs = search needs
 
--- src/lib.rt:52:9
 returns : tie.Need-returns
 unfolding takenTime
 returns c = c .later .ensures ∙ omega (arith, c .before .if1 .taken)
 
--- src/lib.rt:54:17
 cast-later : tie.Need-cast-later
 cast-later c = search needs
 
--- src/lib.rt:54:5
 later-requires-2 : tie.Need-later-requires-2
 later-requires-2 c κs = search needs
 
--- src/lib.rt:48:1
 returns-2 : tie.Need-returns-2
 unfolding takenTime
 returns-2 c = c .later2 .ensures ∙ omega (arith, c .before .if1 .left)
