@@ -118,6 +118,7 @@ fn format(random: &mut Rng) -> Vec<u8> {
     for _ in 0..random.below(12) {
         match random.below(12) {
             0 => format.push(random.below(256) as u8),
+            1 if random.chance(30) => format.extend([b'%', random.below(256) as u8]),
             1 => format.extend(b"x%%"),
             _ => format.extend([b'%', b"stprufoce%"[random.below(10)]]),
         }
