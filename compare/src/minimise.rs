@@ -19,19 +19,25 @@ pub fn minimise(mut ask: Ask, holds: impl Fn(&Ask) -> bool) -> Ask {
     }
 }
 
-/// The least buffers that will do, and the lowest step.
+/// The least buffers that will do, and the lowest steps.
 fn question(ask: Ask, holds: &impl Fn(&Ask) -> bool) -> Ask {
     let with = |question| Ask { question, ..ask.clone() };
     let tries = match ask.question.clone() {
         Question::Plan { .. } => vec![Question::PLAN],
         Question::Texts { steps, wanted, buf_len, ends_len } => {
-            let lent = |buf_len, ends_len| {
-                let steps = steps.clone();
+            let lent = |steps: &[u32], buf_len, ends_len| {
+                let steps = steps.to_vec();
                 Question::Texts { steps, wanted, buf_len, ends_len }
             };
             let shorter =
-                (0..ends_len.min(steps.len() + 1)).map(|ends_len| lent(buf_len, ends_len));
-            [lent(limits::TEXT, ends_len)].into_iter().chain(shorter).collect()
+                (0..ends_len.min(steps.len() + 1)).map(|ends_len| lent(&steps, buf_len, ends_len));
+            let lower = (0..steps.len()).map(|place| {
+                let mut steps = steps.clone();
+                steps[place] = 0;
+                lent(&steps, buf_len, ends_len)
+            });
+            let least = lent(&steps, limits::TEXT, ends_len);
+            [least].into_iter().chain(shorter).chain(lower).collect()
         }
         Question::Text { step, wanted, buf_len } => {
             let least = Question::Text { step, wanted, buf_len: limits::TEXT };
@@ -39,7 +45,9 @@ fn question(ask: Ask, holds: &impl Fn(&Ask) -> bool) -> Ask {
             [least].into_iter().chain(lower).collect()
         }
     };
-    let smaller = tries.into_iter().map(with).find(|smaller| holds(smaller));
+    // what it has already is no smaller
+    let others = tries.into_iter().filter(|question| *question != ask.question);
+    let smaller = others.map(with).find(|smaller| holds(smaller));
     smaller.unwrap_or(ask)
 }
 
