@@ -1,5 +1,6 @@
 -- The lookup of a path: the first name of its bucket, the second, and the sorted names.
 use Prim.Native.Nat.{ℕ, zero, suc, _+_, _-_, _/_, _%_, _≤_, _<_}
+use mathlib.Core.Bool.{Bool, true, false}
 use mathlib.Core.List.{List}
 use mathlib.Core.Logic.{_⊎_, inl, inr, ⊎-elim}
 use mathlib.Core.Path.{_≡_, refl, sym, _∙_, ap}
@@ -7,18 +8,18 @@ use native.Mathlib.Decide.{decLt}
 use native.Mathlib.Nat.{not-suc-le-zero}
 use native.Mathlib.Omega.{arith}
 use lib.ListN.{getD}
-use Rattle.lists.specs.Bytes.{less-ne}
-use Rattle.lists.specs.Order.{orderBytes, order-less, order-equal, order-greater}
+use Rattle.lists.specs.Bytes.{eqBytes, lessBytes, eqBytes-true, eqBytes-false, less-ne, less-total}
+use Rattle.lists.specs.Order.{orderBytes, less-order, equal-order, greater-order, order-less, order-greater}
+use Rattle.lists.specs.Tests.{split}
 use Rattle.lists.specs.declared.Order.{Order}
 use Rattle.lists.specs.declared.Order.the-variants.{Less, Equal, Greater}
 use Rattle.spec.specs.Reading.{numberOf}
-use Rattle.hold_names.specs.declared.Compared.{Compared}
-use Rattle.hold_names.specs.declared.Compared.the-variants.{Before, Same, Behind}
+use Rattle.hold_names.specs.declared.Matched.{Matched}
 use Rattle.hold_names.specs.declared.Sought.{Sought}
-use Rattle.hold_names.specs.Table.{headsFrom, bucketOf, pairBase, pairAt, firstIn, secondIn, sparesIn, sparesOf, nameAt, Stands, Placed, HoldsNames, SoundNames, onOrder, halvings, comparesFrom, comparesOf, maxCompares, Between, ComparesName, Halves, SeeksSecond, SeeksName}
+use Rattle.hold_names.specs.Table.{headsFrom, bucketOf, pairBase, pairAt, firstIn, secondIn, sparesIn, sparesOf, nameAt, Stands, Placed, HoldsNames, SoundNames, NamesFile, onOrder, halvings, comparesFrom, comparesOf, maxCompares, Between, MatchesName, Halves, SeeksSecond, SeeksName}
 use Rattle.hold_names.proofs.Numbers.{number-missing}
 use Rattle.hold_names.proofs.Buckets.{bucket-small, first-stands, among-nowhere}
-use Rattle.hold_names.proofs.Halving.{told-before, told-same, told-behind, reach-all, halvings-few}
+use Rattle.hold_names.proofs.Halving.{reach-all, halvings-few}
 
 -- ---- a compare with one name
 
@@ -29,6 +30,14 @@ Other o = (o ≡ Less) ⊎ (o ≡ Greater)
 other-ne : (s t : List ℕ) → Other (orderBytes s t) → t ≡ s → ⊥
 other-ne s t o e =
     ⊎-elim (λ (l : orderBytes s t ≡ Less). less-ne (order-less s t l) (sym e)) (λ (l : orderBytes s t ≡ Greater). less-ne (order-greater s t l) e) o
+
+ne-other : (s t : List ℕ) → (s ≡ t → ⊥) → Other (orderBytes s t)
+ne-other s t h =
+    split (lessBytes s t) (λ (p : lessBytes s t ≡ true). inl (less-order s t p))
+    (λ (p : lessBytes s t ≡ false).
+    split (lessBytes t s)
+    (λ (q : lessBytes t s ≡ true). inr (greater-order s t q))
+    (λ (q : lessBytes t s ≡ false). absurd (h (less-total s t p q))))
 
 module _ (path : List ℕ) (files : List (List ℕ)) where
   compares-none : (more : ℕ) → comparesFrom path files 0 more ≡ 0
@@ -72,25 +81,28 @@ at-most-sixteen path files index h =
       halvings-few files (sparesOf index) path 14 (sparesIn index) 0 (sparesIn index) (omega (arith, reach-all, h)),
     )
 
+-- One compare with the name that lies there.
+pub matches-name : {names index : List ℕ} {count k : ℕ} {path name : List ℕ} {made : ℕ} {same : Bool} → NamesFile names index count k name → same ≡ eqBytes path name
+    → MatchesName names index count k path made (record { same = same; compares = made + 1 })
+matches-name {path = path} f e = record { made = refl; answer = λ files h. e ∙ ap (eqBytes path) (f .answer files h) }
+
+-- The compare with name k told that it is the path.
+met : {names index : List ℕ} {count k : ℕ} {path : List ℕ} {n : ℕ} {r : Matched} → MatchesName names index count k path n r → r .same ≡ true
+    → (files : List (List ℕ)) → HoldsNames names index count files → path ≡ nameAt files k
+met {k = k} {path = path} t e files h = eqBytes-true path (nameAt files k) (sym (t .answer files h) ∙ e)
+
 -- The compare with name k, after n others, told that it is another; m compares were made.
 pub record Passed (names index : List ℕ) (count k : ℕ) (path : List ℕ) (n m : ℕ) : Type 0 where
   pub made : m ≡ n + 1
   pub other : (files : List (List ℕ)) → HoldsNames names index count files → Other (orderBytes path (nameAt files k))
 
-module _ {names index : List ℕ} {count k : ℕ} {path : List ℕ} {n : ℕ} (s : SoundNames names index count) {r : Compared} (t : ComparesName names index count k path n r) {m : ℕ} where
-  pub passed-before : r ≡ Before m → Passed names index count k path n m
-  passed-before e =
-      record {
-        made = told-before (n + 1) (orderBytes path (nameAt (s .files) k)) m (sym e ∙ t .answer (s .files) (s .holds)) .1;
-        other = λ files h. inl (told-before (n + 1) (orderBytes path (nameAt files k)) m (sym e ∙ t .answer files h) .0);
-      }
-
-  pub passed-behind : r ≡ Behind m → Passed names index count k path n m
-  passed-behind e =
-      record {
-        made = told-behind (n + 1) (orderBytes path (nameAt (s .files) k)) m (sym e ∙ t .answer (s .files) (s .holds)) .1;
-        other = λ files h. inr (told-behind (n + 1) (orderBytes path (nameAt files k)) m (sym e ∙ t .answer files h) .0);
-      }
+pub passed : {names index : List ℕ} {count k : ℕ} {path : List ℕ} {n : ℕ} {r : Matched} → MatchesName names index count k path n r → r .same ≡ false
+    → Passed names index count k path n (r .compares)
+passed {k = k} {path = path} t e =
+    record {
+      made = t .made;
+      other = λ files h. ne-other path (nameAt files k) (eqBytes-false (sym (t .answer files h) ∙ e));
+    }
 
 -- ---- the second name of a bucket, then the sorted ones
 
@@ -105,17 +117,15 @@ module _ {names index : List ℕ} {count : ℕ} {path : List ℕ} {second n : �
       }
 
   module _ (a : 0 < second) (b : second ≤ count) where
-    pub second-same : {r : Compared} → ComparesName names index count (second - 1) path n r → {m : ℕ} → r ≡ Same m
-        → SeeksSecond names index count path second n (record { number = second - 1; compares = m; place = 0 })
-    second-same {r} t {m} e =
+    pub second-same : {r : Matched} → MatchesName names index count (second - 1) path n r → r .same ≡ true
+        → SeeksSecond names index count path second n (record { number = second - 1; compares = r .compares; place = 0 })
+    second-same {r} t e =
         record {
           within = omega arith;
           compares = λ files h.
-              let (o, z) = told-same (n + 1) (orderBytes path (nameAt files (second - 1))) m (sym e ∙ t .answer files h) in
-              omega (arith, z, compares-same path files second (halvings (sparesIn index) files (sparesOf index) path 0 (sparesIn index)) a o);
-          answer = λ files h.
-              let (o, z) = told-same (n + 1) (orderBytes path (nameAt files (second - 1))) m (sym e ∙ t .answer files h) in
-              inl (omega arith, sym (order-equal path (nameAt files (second - 1)) o));
+              omega
+              (arith, t .made, compares-same path files second (halvings (sparesIn index) files (sparesOf index) path 0 (sparesIn index)) a (equal-order path (nameAt files (second - 1)) (met t e files h)));
+          answer = λ files h. inl (omega arith, sym (met t e files h));
         }
 
     pub second-on : {m : ℕ} → Passed names index count (second - 1) path n m → {r : Sought} → Halves names index count path m r → SeeksSecond names index count path second n r
@@ -195,22 +205,20 @@ module _ {names index : List ℕ} {count : ℕ} (path : List ℕ) (sound : Sound
     second-is : secondIn index home ≡ pair / pairBase
     second-is = ap (λ (y : ℕ). y / pairBase) (sym pair-is)
 
-    pub seek-same : {r : Compared} → ComparesName names index count (pair % pairBase - 1) path 0 r → {m : ℕ} → r ≡ Same m
-        → SeeksName names index count path (record { number = pair % pairBase - 1; compares = m; place = 0 })
+    pub seek-same : {r : Matched} → MatchesName names index count (pair % pairBase - 1) path 0 r → r .same ≡ true
+        → SeeksName names index count path (record { number = pair % pairBase - 1; compares = r .compares; place = 0 })
     unfolding comparesOf
-    seek-same t {m} d =
+    seek-same t d =
         let k = pair % pairBase - 1 in
-        let told : (files : List (List ℕ)) → HoldsNames names index count files → (orderBytes path (nameAt files k) ≡ Equal) × (m ≡ 0 + 1) =
-        λ files h. told-same (0 + 1) (orderBytes path (nameAt files k)) m (sym d ∙ t .answer files h) in
         let number : (files : List (List ℕ)) → HoldsNames names index count files → k ≡ numberOf path files =
-        λ files h. stands h (omega (arith, first-low)) (sym (order-equal path (nameAt files k) (told files h .0))) in
+        λ files h. stands h (omega (arith, first-low)) (sym (met t d files h)) in
         record {
-          few = omega (arith, told (sound .files) (sound .holds) .1);
+          few = omega (arith, t .made);
           within = omega arith;
           number = number;
           compares = λ files h.
               rw first-is
-              (told files h .1 ∙ omega arith ∙ sym (compares-same path files (pair % pairBase) (comparesFrom path files (secondIn index home) (more files)) a (told files h .0)));
+              (t .made ∙ omega arith ∙ sym (compares-same path files (pair % pairBase) (comparesFrom path files (secondIn index home) (more files)) a (equal-order path (nameAt files k) (met t d files h))));
           place = λ files h g l.
               absurd (omega (arith, number files h, number-missing path files g, h .counted, first-low));
         }

@@ -7,7 +7,7 @@ use mathlib.Core.Path.{_≡_}
 use lib.Dec.{ltb, leb}
 use lib.ListN.{length, take, drop, getD, set}
 use Rattle.lists.specs.Tests.{ifB}
-use Rattle.lists.specs.Bytes.{lessBytes}
+use Rattle.lists.specs.Bytes.{eqBytes, lessBytes}
 use Rattle.lists.specs.Order.{orderBytes}
 use Rattle.lists.specs.declared.Order.{Order}
 use Rattle.lists.specs.declared.Order.the-variants.{Less, Equal, Greater}
@@ -21,6 +21,7 @@ use Rattle.hold_names.specs.declared.Added.{Added}
 use Rattle.hold_names.specs.declared.Added.the-variants.{Old, New, Full}
 use Rattle.hold_names.specs.declared.Compared.{Compared}
 use Rattle.hold_names.specs.declared.Compared.the-variants.{Before, Same, Behind}
+use Rattle.hold_names.specs.declared.Matched.{Matched}
 use Rattle.hold_names.specs.declared.Sought.{Sought}
 
 -- ---- what is held
@@ -212,6 +213,11 @@ pub record Between (files : List (List ℕ)) (order path : List ℕ) (low high :
 -- one compare of the path with name k, after n others
 pub record ComparesName (names index : List ℕ) (count k : ℕ) (path : List ℕ) (n : ℕ) (r : Compared) : Type 0 where
   pub answer : (files : List (List ℕ)) → HoldsNames names index count files → r ≡ comparedOf (n + 1) (orderBytes path (nameAt files k))
+
+-- the same, where it is told only whether they are the same
+pub record MatchesName (names index : List ℕ) (count k : ℕ) (path : List ℕ) (n : ℕ) (r : Matched) : Type 0 where
+  pub made : r .compares ≡ n + 1
+  pub answer : (files : List (List ℕ)) → HoldsNames names index count files → r .same ≡ eqBytes path (nameAt files k)
 
 -- Halving, after n compares: the path has this number, or none of the sorted ones is the path and its place among them is this one.
 pub record Halves (names index : List ℕ) (count : ℕ) (path : List ℕ) (n : ℕ) (r : Sought) : Type 0 where

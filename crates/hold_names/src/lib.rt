@@ -1,14 +1,15 @@
 // The table of file names: a number for each path, by first mention. The bytes of the names lie end to end in `names`. `index` has where each ends;
 // then, sorted, the numbers of those that found no room in their bucket; then for each bucket two names, as one number.
 ghost use mathlib.Core.Path.{_≡_};
-ghost use Prim.Native.Nat.{_+_, _^_, _≤_, _<_};
+ghost use Prim.Native.Nat.{_+_, _-_, _^_, _≤_, _<_};
 ghost use lib.ListN.{length, drop};
 ghost use Rattle.lists.specs.Fill.{zeroed};
 ghost use Rattle.spec.specs.Limits.{maxFiles};
-ghost use Rattle.hold_names.specs.Table.{buckets, bucketFrom, Summed, bucketOf, headsFrom, maxNumbers, sparesIn, SoundNames, FindsName, AddsName, NamesFile, nameStart, comparedOf, ComparesName, Halves, SeeksSecond, SeeksName, Spared, Entered};
+ghost use Rattle.hold_names.specs.Table.{buckets, bucketFrom, Summed, bucketOf, headsFrom, maxNumbers, sparesIn, SoundNames, FindsName, AddsName, NamesFile, nameStart, comparedOf, ComparesName, MatchesName, Halves, SeeksSecond, SeeksName, Spared, Entered};
 use arena::insert;
 use arena::put;
 use byteorder::compare;
+use byteorder::equal;
 use byteorder::lesser;
 use lists::Order;
 use slices::bytes::copy_at;
@@ -49,6 +50,12 @@ pub enum Compared {
     Before(usize),
     Same(usize),
     Behind(usize),
+}
+
+// Whether a path is a name, and how many compares were made with this one.
+pub struct Matched {
+    pub same: bool,
+    pub compares: usize,
 }
 
 // The end of a lookup: the number of the path, or the count of names; how many compares were made; the place of a new path among the sorted ones.
@@ -123,7 +130,7 @@ fn counted(order: Order, n: usize) -> Compared
     }
 }
 
-// One compare of a path with name k. Nothing else in this table compares names.
+// One compare of a path with name k: which of them comes first. Nothing but this and `match_name` compares names in this table.
 fn compare_name(
     names: &[u8],
     index: &[u32],
@@ -139,13 +146,41 @@ fn compare_name(
     counted(compare(path, file_name(names, index, count, k)), n)
 }
 
-// A step of the lookup: one compare, whatever it tells.
+// A step of halving: one compare, whatever it tells.
 fn step(names: &[u8], index: &[u32], count: usize, k: usize, path: &[u8], n: usize) -> Compared
     requires { ⌜ SoundNames (now names) (now index) count ⌝ }
     requires { ⌜ (k < count) × (n < 2 ^ 32) ⌝ }
     ensures { λ r. ⌜ ComparesName (now (names .entry)) (now (index .entry)) count k (now (path .entry)) n r ⌝ }
 {
     compare_name(names, index, count, k, path, n)
+}
+
+// One compare of a path with name k: whether they are the same. Names of other lengths are told apart by their lengths.
+fn match_name(names: &[u8], index: &[u32], count: usize, k: usize, path: &[u8], n: usize) -> Matched
+    requires { ⌜ SoundNames (now names) (now index) count ⌝ }
+    requires { ⌜ (k < count) × (n < 2 ^ 32) ⌝ }
+    ensures { λ r. ⌜ MatchesName (now (names .entry)) (now (index .entry)) count k (now (path .entry)) n r ⌝ }
+{
+    Matched {
+        same: equal(path, file_name(names, index, count, k)),
+        compares: n + 1,
+    }
+}
+
+// A step of the lookup in a bucket: one compare with a name that is given by its number and one more.
+fn match_entry(
+    names: &[u8],
+    index: &[u32],
+    count: usize,
+    entry: usize,
+    path: &[u8],
+    n: usize,
+) -> Matched
+    requires { ⌜ SoundNames (now names) (now index) count ⌝ }
+    requires { ⌜ (0 < entry) × (entry ≤ count) × (n < 2 ^ 32) ⌝ }
+    ensures { λ r. ⌜ MatchesName (now (names .entry)) (now (index .entry)) count (entry - 1) (now (path .entry)) n r ⌝ }
+{
+    match_name(names, index, count, entry - 1, path, n)
 }
 
 // The path among the sorted names, by halving.
@@ -205,15 +240,15 @@ fn seek_second(
             place: 0,
         };
     }
-    match step(names, index, count, second - 1, path, n) {
-        Compared::Before(m) => halve(names, index, count, path, m),
-        Compared::Behind(m) => halve(names, index, count, path, m),
-        Compared::Same(m) => Sought {
+    let m = match_entry(names, index, count, second, path, n);
+    if m.same {
+        return Sought {
             number: second - 1,
-            compares: m,
+            compares: m.compares,
             place: 0,
-        },
+        };
     }
+    halve(names, index, count, path, m.compares)
 }
 
 // The lookup of a path: the two names of its bucket, then the sorted ones.
@@ -232,15 +267,15 @@ fn seek(names: &[u8], index: &[u32], count: usize, path: &[u8], b: usize) -> Sou
             place: 0,
         };
     }
-    match step(names, index, count, first - 1, path, 0) {
-        Compared::Before(m) => seek_second(names, index, count, path, second, m),
-        Compared::Behind(m) => seek_second(names, index, count, path, second, m),
-        Compared::Same(m) => Sought {
+    let m = match_entry(names, index, count, first, path, 0);
+    if m.same {
+        return Sought {
             number: first - 1,
-            compares: m,
+            compares: m.compares,
             place: 0,
-        },
+        };
     }
+    seek_second(names, index, count, path, second, m.compares)
 }
 
 // The number of a path.
