@@ -16,7 +16,7 @@ extern "C" {
 
 /// The bucket that the proved table of names keeps a path in.
 pub fn bucket(path: &[u8]) -> u32 {
-    path.iter().fold(0, |h, &b| (h * 403 + u32::from(b)) % 1_024).min(1_022)
+    path.iter().fold(0, |h, &b| (h * 117 + u32::from(b)) % 1_024).min(1_022)
 }
 
 /// So many paths of four bytes, all in one bucket.

@@ -22,7 +22,7 @@ pub sum-begin : (s : List ℕ) {h i : ℕ} → h < maxFiles → Summed s h i h i
 sum-begin s b = record { small = b; rest = refl }
 
 module _ {s : List ℕ} {g k h i : ℕ} (x : Summed s g k h i) where
-  pub sum-on : i < length s → {b : ℕ} → b ≡ getD s i 0 → Summed s g k ((h * 403 + b) % maxFiles) (i + 1)
+  pub sum-on : i < length s → {b : ℕ} → b ≡ getD s i 0 → Summed s g k ((h * 117 + b) % maxFiles) (i + 1)
   unfolding bucketFrom
   sum-on l e = record { small = omega arith; rest = x .rest ∙ rw (e, add-one, drop-cons s i 0 l) }
 
@@ -33,25 +33,25 @@ module _ {s : List ℕ} {g k h i : ℕ} (x : Summed s g k h i) where
   unfolding bucketFrom
   sum-end l = sym (x .rest ∙ rw (drop-of-length-le s {i = i} l))
 
-once-less : (x y : ℕ) → (x % maxFiles * 403 + y) % maxFiles ≡ (x * 403 + y) % maxFiles
+once-less : (x y : ℕ) → (x % maxFiles * 117 + y) % maxFiles ≡ (x * 117 + y) % maxFiles
 once-less x y =
-    let z : x * 403 + y ≡ x % maxFiles * 403 + y + x / maxFiles * 403 * maxFiles = omega arith in
-    sym (ap (λ (k : ℕ). k % maxFiles) z ∙ add-mul-mod-self-right (x % maxFiles * 403 + y) (x / maxFiles * 403) maxFiles)
+    let z : x * 117 + y ≡ x % maxFiles * 117 + y + x / maxFiles * 117 * maxFiles = omega arith in
+    sym (ap (λ (k : ℕ). k % maxFiles) z ∙ add-mul-mod-self-right (x % maxFiles * 117 + y) (x / maxFiles * 117) maxFiles)
 
 four-sum : (h a b c d : ℕ)
-    → (a * 65450827 + b * 162409 + c * 403 + d + h * 26376683281) % maxFiles ≡ ((((h * 403 + a) % maxFiles * 403 + b) % maxFiles * 403 + c) % maxFiles * 403 + d) % maxFiles
+    → (a * 1601613 + b * 13689 + c * 117 + d + h * 187388721) % maxFiles ≡ ((((h * 117 + a) % maxFiles * 117 + b) % maxFiles * 117 + c) % maxFiles * 117 + d) % maxFiles
 four-sum h a b c d =
-    let z : a * 65450827 + b * 162409 + c * 403 + d + h * 26376683281 ≡ (((h * 403 + a) * 403 + b) * 403 + c) * 403 + d = omega arith in
-    rw (once-less (h * 403 + a) b, once-less ((h * 403 + a) * 403 + b) c, once-less (((h * 403 + a) * 403 + b) * 403 + c) d) (ap (λ (y : ℕ). y % maxFiles) z)
+    let z : a * 1601613 + b * 13689 + c * 117 + d + h * 187388721 ≡ (((h * 117 + a) * 117 + b) * 117 + c) * 117 + d = omega arith in
+    rw (once-less (h * 117 + a) b, once-less ((h * 117 + a) * 117 + b) c, once-less (((h * 117 + a) * 117 + b) * 117 + c) d) (ap (λ (y : ℕ). y % maxFiles) z)
 
 pub sum-four : (s : List ℕ) (i h : ℕ) → i + 4 ≤ length s → h < maxFiles → {a b c d : ℕ} → a ≡ getD s i 0 → b ≡ getD s (i + 1) 0 → c ≡ getD s (i + 2) 0 → d ≡ getD s (i + 3) 0
-    → Summed s h i ((a * 65450827 + b * 162409 + c * 403 + d + h * 26376683281) % maxFiles) (i + 4)
+    → Summed s h i ((a * 1601613 + b * 13689 + c * 117 + d + h * 187388721) % maxFiles) (i + 4)
 sum-four s i h l m {a} {b} {c} {d} p q r t =
     let e : i + 1 + 1 ≡ i + 2 = omega arith in
     let f : i + 2 + 1 ≡ i + 3 = omega arith in
     let g : i + 3 + 1 ≡ i + 4 = omega arith in
-    let x : Summed s h i (((h * 403 + a) % maxFiles * 403 + b) % maxFiles) (i + 2) = rw e at (sum-on (sum-on (sum-begin s m) (omega arith) p) (omega arith) q) in
-    let y : Summed s h i ((((h * 403 + a) % maxFiles * 403 + b) % maxFiles * 403 + c) % maxFiles) (i + 3) = rw f at (sum-on x (omega arith) r) in
+    let x : Summed s h i (((h * 117 + a) % maxFiles * 117 + b) % maxFiles) (i + 2) = rw e at (sum-on (sum-on (sum-begin s m) (omega arith) p) (omega arith) q) in
+    let y : Summed s h i ((((h * 117 + a) % maxFiles * 117 + b) % maxFiles * 117 + c) % maxFiles) (i + 3) = rw f at (sum-on x (omega arith) r) in
     rw (four-sum h a b c d) (rw g at (sum-on y (omega arith) t))
 
 pub bucket-is : (s : List ℕ) {h i : ℕ} → Summed s 0 0 h i → {r q : ℕ} → r ≡ bucketFrom h (drop i s) → q ≡ min r (buckets - 1) → q ≡ bucketOf s

@@ -51,7 +51,7 @@ sparesAt = headsFrom + buckets
 -- the bucket of a name, by its bytes
 unfoldable pub bucketFrom : ℕ → List ℕ → ℕ
 bucketFrom h [] = h
-bucketFrom h (b ∷ s) = bucketFrom ((h * 403 + b) % maxFiles) s
+bucketFrom h (b ∷ s) = bucketFrom ((h * 117 + b) % maxFiles) s
 
 -- The sum h of the bytes before place i is r with those before place j.
 pub record Summed (s : List ℕ) (h i r j : ℕ) : Type 0 where

@@ -80,7 +80,7 @@ fn sum_four(path: &[u8], i: usize, h: usize) -> usize
     let b = wide(path[i + 1]);
     let c = wide(path[i + 2]);
     let d = wide(path[i + 3]);
-    (a * 65450827 + b * 162409 + c * 403 + d + h * 26376683281) % FILES
+    (a * 1601613 + b * 13689 + c * 117 + d + h * 187388721) % FILES
 }
 
 // The same of all bytes from place `from` on, one by one.
@@ -91,7 +91,7 @@ fn sum_rest(path: &[u8], from: usize, sum: usize) -> usize
     let mut h = sum;
     let mut i = from;
     while i < path.len() {
-        h = (h * 403 + wide(path[i])) % FILES;
+        h = (h * 117 + wide(path[i])) % FILES;
         i += 1;
     }
     h
