@@ -182,13 +182,14 @@ module _ {names index : List ℕ} {count : ℕ} (path : List ℕ) (sound : Sound
   pub second-low : pair / pairBase ≤ count
   second-low = omega (arith, pair-is, sound .holds .search .second home (bucket-small path))
 
-  pub seek-none : pair % pairBase ≡ 0 → SeeksName names index count path (record { number = count; compares = 0; place = 0 })
+  pub seek-none : pair % pairBase ≡ 0 → SeeksName names index count path (record { bucket = b; number = count; compares = 0; place = 0 })
   unfolding comparesOf
   seek-none z =
       let f : firstIn index home ≡ 0 = omega (arith, pair-is) in
       let none : (files : List (List ℕ)) → HoldsNames names index count files → 0 < secondIn index home → ⊥ =
       λ files h l. omega (arith, f, h .search .both home (bucket-small path) l) in
       record {
+        home = e;
         few = omega arith;
         within = omega arith;
         number = λ files h. nowhere-held h path
@@ -206,13 +207,14 @@ module _ {names index : List ℕ} {count : ℕ} (path : List ℕ) (sound : Sound
     second-is = ap (λ (y : ℕ). y / pairBase) (sym pair-is)
 
     pub seek-same : {r : Matched} → MatchesName names index count (pair % pairBase - 1) path 0 r → r .same ≡ true
-        → SeeksName names index count path (record { number = pair % pairBase - 1; compares = r .compares; place = 0 })
+        → SeeksName names index count path (record { bucket = b; number = pair % pairBase - 1; compares = r .compares; place = 0 })
     unfolding comparesOf
     seek-same t d =
         let k = pair % pairBase - 1 in
         let number : (files : List (List ℕ)) → HoldsNames names index count files → k ≡ numberOf path files =
         λ files h. stands h (omega (arith, first-low)) (sym (met t d files h)) in
         record {
+          home = e;
           few = omega (arith, t .made);
           within = omega arith;
           number = number;
@@ -240,9 +242,10 @@ module _ {names index : List ℕ} {count : ℕ} (path : List ℕ) (sound : Sound
           (⊎-elim (λ (c : secondIn index home ≡ suc k). g k (sym second-is ∙ c) n)
           (λ (c : (0 < secondIn index home) × Stands k (sparesOf index)). not-sorted (z (rw second-is at (c .0))) k (c .1) n)) w)
 
-      pub seek-on : SeeksName names index count path r
+      pub seek-on : SeeksName names index count path (record { bucket = b; number = r .number; compares = r .compares; place = r .place })
       seek-on =
           record {
+            home = e;
             few =
                 omega
                 (arith, counted (sound .files) (sound .holds), at-most-sixteen path (sound .files) index (omega (arith, sound .holds .search .few, sound .holds .few)));

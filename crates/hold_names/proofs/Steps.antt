@@ -15,7 +15,7 @@ use Rattle.spec.specs.Reading.{numberOf}
 use Rattle.hold_names.specs.declared.FoundName.{FoundName}
 use Rattle.hold_names.specs.declared.FoundName.the-variants.{At, Missing}
 use Rattle.hold_names.specs.declared.Added.the-variants.{Old, New, Full}
-use Rattle.hold_names.specs.declared.Sought.{Sought}
+use Rattle.hold_names.specs.declared.Lookup.{Lookup}
 use Rattle.hold_names.specs.Table.{bucketOf, pairBase, pairAt, secondIn, sparesIn, sparesOf, Searched, HoldsNames, found, fits, added, filesAfter, countAfter, FindsName, AddsName, nameStart, Between, SeeksName, Entered}
 use Rattle.hold_names.proofs.Numbers.{number-below, number-missing}
 use Rattle.hold_names.proofs.Entering.{column-now, searched-first, searched-second, searched-spare, column-spare}
@@ -24,7 +24,7 @@ use Rattle.hold_names.proofs.Halving.{clash}
 
 -- ---- the answer of a lookup
 
-module _ {names index : List ℕ} {count : ℕ} {p : List ℕ} {r : Sought} (f : SeeksName names index count p r) where
+module _ {names index : List ℕ} {count : ℕ} {p : List ℕ} {r : Lookup} (f : SeeksName names index count p r) where
   pub sought-at : r .number < count → FindsName names index count p (At (r .number))
   unfolding found
   sought-at l =
@@ -124,15 +124,15 @@ searched-more {index = index} {count = count} h a p {to = to} g w z =
       ]
     ]
 
-module _ {names index : List ℕ} {count : ℕ} {p : List ℕ} {r : Sought} (f : SeeksName names index count p r) (m : FindsName names index count p Missing) (a : count < maxFiles) {from : ℕ}
-    (s : from ≡ nameStart index count) (l : length p ≤ length names - from) {b : ℕ} (e : b ≡ bucketOf p) {index′ : List ℕ}
-    (g : Entered index count b (from + length p) (r .place) index′) (y : length index′ ≡ length index) where
+module _ {names index : List ℕ} {count : ℕ} {p : List ℕ} {r : Lookup} (f : SeeksName names index count p r) (m : FindsName names index count p Missing) (a : count < maxFiles) {from : ℕ}
+    (s : from ≡ nameStart index count) (l : length p ≤ length names - from) {index′ : List ℕ}
+    (g : Entered index count (r .bucket) (from + length p) (r .place) index′) (y : length index′ ≡ length index) where
   entered : (files : List (List ℕ)) → HoldsNames names index count files → HoldsNames (paste names from p (length p)) index′ (count + 1) (files ++ (p ∷ []))
   entered files h =
       let u : from ≡ length (concat files) = s ∙ used-held h in
       let q : among p files ≡ false = absent m refl files h in
       let w : length (concat files) + length p ≤ length names = omega (arith, used-held h, h .within, s) in
-      let (t, c) = searched-more h a p (rw (u, e) at g) (f .within) (f .place files h q) in
+      let (t, c) = searched-more h a p (rw (u, f .home) at g) (f .within) (f .place files h q) in
       rw u (holds-more p h a q w y c t)
 
   pub add-new : AddsName names index count p (paste names from p (length p)) index′ (New count)

@@ -22,6 +22,7 @@ use Rattle.hold_names.specs.declared.Added.the-variants.{Old, New, Full}
 use Rattle.hold_names.specs.declared.Compared.{Compared}
 use Rattle.hold_names.specs.declared.Compared.the-variants.{Before, Same, Behind}
 use Rattle.hold_names.specs.declared.Matched.{Matched}
+use Rattle.hold_names.specs.declared.Lookup.{Lookup}
 use Rattle.hold_names.specs.declared.Sought.{Sought}
 
 -- ---- what is held
@@ -236,8 +237,9 @@ pub record SeeksSecond (names index : List ℕ) (count : ℕ) (path : List ℕ) 
       → ((r .number < count) × (nameAt files (r .number) ≡ path))
       ⊎ ((r .number ≡ count) × ((k : ℕ) → s ≡ suc k → nameAt files k ≡ path → ⊥) × (0 < s → Between files (sparesOf index) path (r .place) (r .place)))
 
--- A lookup: the path's number, which is the count of names where it is not there, and with how many names it was compared.
-pub record SeeksName (names index : List ℕ) (count : ℕ) (path : List ℕ) (r : Sought) : Type 0 where
+-- A lookup: the path's bucket; its number, which is the count of names where it is not there, and with how many names it was compared.
+pub record SeeksName (names index : List ℕ) (count : ℕ) (path : List ℕ) (r : Lookup) : Type 0 where
+  pub home : r .bucket ≡ bucketOf path
   pub few : r .compares ≤ maxCompares
   pub within : r .place ≤ sparesIn index
   pub number : (files : List (List ℕ)) → HoldsNames names index count files → r .number ≡ numberOf path files

@@ -58,8 +58,16 @@ pub struct Matched {
     pub compares: usize,
 }
 
-// The end of a lookup: the number of the path, or the count of names; how many compares were made; the place of a new path among the sorted ones.
+// The end of a search: the number of the path, or the count of names; how many compares were made; the place of a new path among the sorted ones.
 pub struct Sought {
+    pub number: usize,
+    pub compares: usize,
+    pub place: usize,
+}
+
+// The same of a whole lookup, with the path's bucket, so that `add` need not sum its bytes again.
+pub struct Lookup {
+    pub bucket: usize,
     pub number: usize,
     pub compares: usize,
     pub place: usize,
@@ -252,16 +260,17 @@ fn seek_second(
 }
 
 // The lookup of a path: the two names of its bucket, then the sorted ones.
-fn seek(names: &[u8], index: &[u32], count: usize, path: &[u8], b: usize) -> Sought
+fn seek(names: &[u8], index: &[u32], count: usize, path: &[u8]) -> Lookup
     requires { ⌜ SoundNames (now names) (now index) count ⌝ }
-    requires { ⌜ b ≡ bucketOf (now path) ⌝ }
     ensures { λ r. ⌜ SeeksName (now (names .entry)) (now (index .entry)) count (now (path .entry)) r ⌝ }
 {
+    let b = bucket(path);
     let pair = at(index, HEADS + b);
     let first = pair % PAIR;
     let second = pair / PAIR;
     if first == 0 {
-        return Sought {
+        return Lookup {
+            bucket: b,
             number: count,
             compares: 0,
             place: 0,
@@ -269,13 +278,20 @@ fn seek(names: &[u8], index: &[u32], count: usize, path: &[u8], b: usize) -> Sou
     }
     let m = match_entry(names, index, count, first, path, 0);
     if m.same {
-        return Sought {
+        return Lookup {
+            bucket: b,
             number: first - 1,
             compares: m.compares,
             place: 0,
         };
     }
-    seek_second(names, index, count, path, second, m.compares)
+    let s = seek_second(names, index, count, path, second, m.compares);
+    Lookup {
+        bucket: b,
+        number: s.number,
+        compares: s.compares,
+        place: s.place,
+    }
 }
 
 // The number of a path.
@@ -283,7 +299,7 @@ pub fn find_name(names: &[u8], index: &[u32], count: usize, path: &[u8]) -> Foun
     requires { ⌜ SoundNames (now names) (now index) count ⌝ }
     ensures { λ r. ⌜ FindsName (now (names .entry)) (now (index .entry)) count (now (path .entry)) r ⌝ }
 {
-    let s = seek(names, index, count, path, bucket(path));
+    let s = seek(names, index, count, path);
     if s.number < count {
         return FoundName::At(s.number);
     }
@@ -323,8 +339,7 @@ pub fn add(names: &mut [u8], index: &mut [u32], count: usize, path: &[u8]) -> Ad
     requires { ⌜ SoundNames (now names) (now index) count ⌝ }
     ensures { λ r. ⌜ AddsName (now (names .entry)) (now (index .entry)) count (now (path .entry)) (now (names .exit)) (now (index .exit)) r ⌝ }
 {
-    let b = bucket(path);
-    let s = seek(names, index, count, path, b);
+    let s = seek(names, index, count, path);
     if s.number < count {
         return Added::Old(s.number);
     }
@@ -336,7 +351,7 @@ pub fn add(names: &mut [u8], index: &mut [u32], count: usize, path: &[u8]) -> Ad
         return Added::Full;
     }
     copy_at(names, from, path);
-    enter(index, count, b, from + path.len(), s.place);
+    enter(index, count, s.bucket, from + path.len(), s.place);
     Added::New(count)
 }
 

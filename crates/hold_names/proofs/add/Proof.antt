@@ -8,11 +8,8 @@ use borrow.Author.Needs.{needs}
 use Rattle.hold_names.proofs.add.Statement.{statement}
 use Rattle.hold_names.proofs.add.Tie as tie
 
-bucket-requires : tie.Need-bucket-requires
-bucket-requires c κs = search needs
-
 seek-requires : tie.Need-seek-requires
-seek-requires c κs = (c .before .before .before .before .before .before .pre, c .before .before .bucket .ensures)
+seek-requires c κs = c .before .before .before .before .before .pre
 
 same-length : tie.Need-same-length
 same-length c = search needs
@@ -36,7 +33,7 @@ start-requires : tie.Need-start-requires
 start-requires c κs = search needs
 
 sub-if3 : tie.Need-sub-if3
-sub-if3 c = omega (arith, used-held (c .before .before .before .before .before .before .before .before .before .before .before .before .pre .holds), c .before .before .before .before .before .before .before .before .before .before .before .before .pre .holds .within, c .start .ensures)
+sub-if3 c = omega (arith, used-held (c .before .before .before .before .before .before .before .before .before .before .before .pre .holds), c .before .before .before .before .before .before .before .before .before .before .before .pre .holds .within, c .start .ensures)
 
 same-length-5 : tie.Need-same-length-5
 same-length-5 c = search needs
@@ -48,13 +45,13 @@ returns-3 : tie.Need-returns-3
 returns-3 c = full-bytes (sought-none (c .before .before .before .before .before .before .seek .ensures) (c .before .before .before .before .if1 .left)) refl (omega (arith, c .before .before .before .if2 .left)) (c .before .start .ensures) (c .if3 .taken)
 
 copy-at-requires : tie.Need-copy-at-requires
-copy-at-requires c κs = omega (arith, used-held (c .before .before .before .before .before .before .before .before .before .before .before .before .before .before .pre .holds), c .before .before .before .before .before .before .before .before .before .before .before .before .before .before .pre .holds .within, c .before .before .start .ensures, c .before .if3 .left)
+copy-at-requires c κs = omega (arith, used-held (c .before .before .before .before .before .before .before .before .before .before .before .before .before .pre .holds), c .before .before .before .before .before .before .before .before .before .before .before .before .before .pre .holds .within, c .before .before .start .ensures, c .before .if3 .left)
 
 add-enter : tie.Need-add-enter
 add-enter c = search needs
 
 enter-requires : tie.Need-enter-requires
-enter-requires c κs = (c .before .before .before .before .before .before .before .before .before .before .before .before .before .before .before .before .before .before .pre .holds .room, omega (arith, c .before .before .before .before .before .before .before .before .if2 .left), omega (arith, c .before .before .before .before .before .before .before .before .before .before .before .before .before .before .bucket .ensures, bucket-small (c .before .before .before .before .before .before .before .before .before .before .before .before .before .before .before .before .before .before .args .path .now)), omega (arith, used-held (c .before .before .before .before .before .before .before .before .before .before .before .before .before .before .before .before .before .before .pre .holds), c .before .before .before .before .before .before .before .before .before .before .before .before .before .before .before .before .before .before .pre .holds .within, c .before .before .before .before .before .before .before .before .before .before .before .before .before .before .before .before .before .before .pre .holds .small, c .before .before .before .before .before .before .start .ensures, c .before .before .before .before .before .if3 .left), c .before .before .before .before .before .before .before .before .before .before .before .before .before .before .before .before .before .before .pre .holds .search .few, c .before .before .before .before .before .before .before .before .before .before .before .seek .ensures .within)
+enter-requires c κs = (c .before .before .before .before .before .before .before .before .before .before .before .before .before .before .before .before .before .pre .holds .room, omega (arith, c .before .before .before .before .before .before .before .before .if2 .left), omega (arith, c .before .before .before .before .before .before .before .before .before .before .before .seek .ensures .home, bucket-small (c .before .before .before .before .before .before .before .before .before .before .before .before .before .before .before .before .before .args .path .now)), omega (arith, used-held (c .before .before .before .before .before .before .before .before .before .before .before .before .before .before .before .before .before .pre .holds), c .before .before .before .before .before .before .before .before .before .before .before .before .before .before .before .before .before .pre .holds .within, c .before .before .before .before .before .before .before .before .before .before .before .before .before .before .before .before .before .pre .holds .small, c .before .before .before .before .before .before .start .ensures, c .before .before .before .before .before .if3 .left), c .before .before .before .before .before .before .before .before .before .before .before .before .before .before .before .before .before .pre .holds .search .few, c .before .before .before .before .before .before .before .before .before .before .before .seek .ensures .within)
 
 same-length-7 : tie.Need-same-length-7
 same-length-7 c = search needs
@@ -63,13 +60,12 @@ same-length-8 : tie.Need-same-length-8
 same-length-8 c = search needs
 
 returns-4 : tie.Need-returns-4
-returns-4 c = rw (c .before .before .before .before .before .before .copy-at .ensures) (add-new (c .before .before .before .before .before .before .before .before .before .before .before .before .before .before .seek .ensures) (sought-none (c .before .before .before .before .before .before .before .before .before .before .before .before .before .before .seek .ensures) (c .before .before .before .before .before .before .before .before .before .before .before .before .if1 .left)) (omega (arith, c .before .before .before .before .before .before .before .before .before .before .before .if2 .left)) (c .before .before .before .before .before .before .before .before .before .start .ensures) (c .before .before .before .before .before .before .before .before .if3 .left) (c .before .before .before .before .before .before .before .before .before .before .before .before .before .before .before .before .before .bucket .ensures) (c .before .before .enter .ensures) (c .before .before .enter .kept .0))
+returns-4 c = rw (c .before .before .before .before .before .before .copy-at .ensures) (add-new (c .before .before .before .before .before .before .before .before .before .before .before .before .before .before .seek .ensures) (sought-none (c .before .before .before .before .before .before .before .before .before .before .before .before .before .before .seek .ensures) (c .before .before .before .before .before .before .before .before .before .before .before .before .if1 .left)) (omega (arith, c .before .before .before .before .before .before .before .before .before .before .before .if2 .left)) (c .before .before .before .before .before .before .before .before .before .start .ensures) (c .before .before .before .before .before .before .before .before .if3 .left) (c .before .before .enter .ensures) (c .before .before .enter .kept .0))
 
 pub add-spec : {M : Type 1} → statement M
 add-spec =
     tie.close
     (tie.spec
-    bucket-requires
     seek-requires
     same-length
     same-length-2

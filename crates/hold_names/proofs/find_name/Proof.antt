@@ -1,14 +1,10 @@
 -- `hold_names::find_name` meets its contract.
 use Rattle.hold_names.proofs.Steps.{sought-at, sought-none}
-use borrow.Author.Needs.{needs}
 use Rattle.hold_names.proofs.find_name.Statement.{statement}
 use Rattle.hold_names.proofs.find_name.Tie as tie
 
-bucket-requires : tie.Need-bucket-requires
-bucket-requires c κs = search needs
-
 seek-requires : tie.Need-seek-requires
-seek-requires c κs = (c .before .before .before .before .pre, c .bucket .ensures)
+seek-requires c κs = c .before .before .before .pre
 
 returns : tie.Need-returns
 returns c = sought-at (c .before .before .seek .ensures) (c .if1 .taken)
@@ -17,4 +13,4 @@ returns-2 : tie.Need-returns-2
 returns-2 c = sought-none (c .before .before .seek .ensures) (c .if1 .left)
 
 pub find-name-spec : {M : Type 1} → statement M
-find-name-spec = tie.close (tie.spec bucket-requires seek-requires returns returns-2)
+find-name-spec = tie.close (tie.spec seek-requires returns returns-2)
