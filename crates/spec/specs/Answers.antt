@@ -72,7 +72,7 @@ pub data Place : Type 0 where
   plain : ℕ → Place
   inText : ℕ → ℕ → Place
 
-abbrev nextText : Place → Place
+abbrev pub nextText : Place → Place
 nextText (plain n) = plain n
 nextText (inText k p) = inText (suc k) p
 
