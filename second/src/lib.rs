@@ -3,6 +3,7 @@
 
 pub mod answer;
 pub mod ask;
+pub mod bundle;
 pub mod bytes;
 pub mod card;
 pub mod cases;

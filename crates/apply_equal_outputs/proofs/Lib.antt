@@ -1,4 +1,4 @@
 pub mod Sorting
-pub mod Rising
+pub mod Members
 pub mod Repeats
 pub mod Behind

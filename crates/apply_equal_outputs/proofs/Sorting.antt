@@ -19,7 +19,9 @@ use Rattle.scan_raw.specs.Texts.{PathNext}
 use Rattle.cut_forms.specs.Paths.{PathsAt}
 use Rattle.cut_forms.proofs.Walks.{walk-on}
 use Rattle.arena.specs.Inserted.{inserted, Shifted}
-use Rattle.arena.proofs.Inserting.{each-inserted}
+use Rattle.arena.specs.Rising.{PathBetween}
+use Rattle.arena.proofs.Inserting.{each-inserted, map-inserted}
+use Rattle.arena.proofs.Rising.{between-all, between-lower, between-higher, inserted-rising}
 use Rattle.hold_bindings.specs.Log.{Logged}
 use Rattle.hold_bindings.specs.Held.{HoldsBindings}
 use Rattle.expand_parts.specs.Runs.{expandedBy, ExpandReady}
@@ -28,9 +30,9 @@ use Rattle.hold_reading.specs.declared.Counts.{Counts}
 use Rattle.apply_equal_outputs.specs.declared.TablePlace.the-variants.{Taken, Free}
 use Rattle.apply_path_checks.specs.Checks.{pathOf}
 use Rattle.apply_equal_outputs.specs.Kept.{tableStart}
-use Rattle.apply_equal_outputs.specs.Sorted.{PathBetween, entryOf, rawOf, OutputLies, pathsOf, OutputsSorted, PlaceAsks, PathOrdered, Belongs, PlaceIn, Added, TwiceAsks, ComparesOutputs, Twice}
+use Rattle.apply_equal_outputs.specs.Sorted.{entryOf, rawOf, OutputLies, pathsOf, OutputsSorted, PlaceAsks, PathOrdered, Belongs, PlaceIn, Added, TwiceAsks, ComparesOutputs, Twice}
 use Rattle.apply_path_checks.proofs.Wrong.{path-held, expanded-cons, expanded-none}
-use Rattle.apply_equal_outputs.proofs.Rising.{between-all, between-lower, between-higher, among-at, free-among, among-inserted, inserted-rising}
+use Rattle.apply_equal_outputs.proofs.Members.{among-at, free-among, among-inserted}
 use Rattle.apply_equal_outputs.proofs.Repeats.{repeats, repeats-begin, repeats-found, repeats-on, repeats-end}
 use Rattle.apply_path_checks.proofs.Walking.{ready-path}
 
@@ -59,12 +61,6 @@ pub entry-small : {t l texts bind : List ℕ} {count from to : ℕ} → PlaceAsk
 entry-small p = omega (arith, p .forward, p .within, p .short)
 
 -- ---- the paths of a table
-
-map-inserted : {A B : Type 0} (f : A → B) (l : List A) (p : ℕ) (x : A) → map f (inserted l p x) ≡ inserted (map f l) p (f x)
-map-inserted f [] zero x = refl
-map-inserted f [] (suc p) x = refl
-map-inserted f (y ∷ l) zero x = refl
-map-inserted f (y ∷ l) (suc p) x = ap (λ (r : List _). f y ∷ r) (map-inserted f l p x)
 
 getD-map : {A B : Type 0} (f : A → B) (l : List A) (k : ℕ) (d : A) (e : B) → k < length l → getD (map f l) k e ≡ f (getD l k d)
 getD-map f [] k d e h = absurd (not-suc-le-zero h)

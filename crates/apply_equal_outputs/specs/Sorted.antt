@@ -5,7 +5,7 @@ use mathlib.Core.List.{List, [], map}
 use mathlib.Core.Option.{none}
 use mathlib.Core.Path.{_≡_}
 use lib.ListN.{length, take, getD}
-use Rattle.lists.specs.Bytes.{eqBytes, lessBytes}
+use Rattle.lists.specs.Bytes.{eqBytes}
 use Rattle.lists.specs.Order.{orderBytes}
 use Rattle.lists.specs.Parts.{part}
 use Rattle.lists.specs.declared.Order.{Order}
@@ -14,6 +14,7 @@ use Rattle.spec.specs.Dollars.{badDollar}
 use Rattle.spec.specs.Limits.{maxManifest}
 use Rattle.spec.specs.Reading.{Reading}
 use Rattle.spec.specs.Statements.{expanded, twice}
+use Rattle.arena.specs.Rising.{RisingPaths, PathBetween}
 use Rattle.scan_classes.specs.Table.{classes}
 use Rattle.cut_forms.specs.Paths.{PathsAt}
 use Rattle.hold_bindings.specs.Log.{Logged}
@@ -24,17 +25,6 @@ use Rattle.apply_equal_outputs.specs.declared.TablePlace.{TablePlace}
 use Rattle.apply_equal_outputs.specs.declared.TablePlace.the-variants.{Taken, Free}
 use Rattle.apply_path_checks.specs.Checks.{pathOf}
 use Rattle.apply_equal_outputs.specs.Kept.{tableStart, ColumnsKept}
-
--- ---- rising lists
-
-pub record RisingPaths (ps : List (List ℕ)) : Type 0 where
-  pub less : (i j : ℕ) → i < j → j < length ps → lessBytes (getD ps i []) (getD ps j []) ≡ true
-
--- Those before `low` are less than x, those from `high` on are greater.
-pub record PathBetween (ps : List (List ℕ)) (x : List ℕ) (low high : ℕ) : Type 0 where
-  pub within : high ≤ length ps
-  pub before : (i : ℕ) → i < low → lessBytes (getD ps i []) x ≡ true
-  pub after : (i : ℕ) → high ≤ i → i < length ps → lessBytes x (getD ps i []) ≡ true
 
 -- ---- the table
 

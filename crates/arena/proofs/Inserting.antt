@@ -1,7 +1,7 @@
 -- A list with one entry put in: what stands where, and what holds of each entry and of each two.
-use Prim.Native.Nat.{ℕ, suc, _+_, _-_, _≤_, _<_}
-use mathlib.Core.List.{List, _∷_}
-use mathlib.Core.Path.{_≡_, _∙_, ap}
+use Prim.Native.Nat.{ℕ, zero, suc, _+_, _-_, _≤_, _<_}
+use mathlib.Core.List.{List, [], _∷_, map}
+use mathlib.Core.Path.{_≡_, refl, _∙_, ap}
 use native.Mathlib.Decide.{decLt}
 use native.Mathlib.Omega.{arith}
 use lib.ListN.{length, take, drop, getD, length-append, length-take, length-drop, List·getD-append}
@@ -71,3 +71,10 @@ module _ {A : Type 0} (l : List A) (p : ℕ) (x d : A) (h : p ≤ length l) wher
           (let z : k + 1 - 1 ≡ k = omega arith in after-inserted (k + 1) (omega arith) ∙ ap (λ (n : ℕ). getD l n d) z),
         )
       ]
+
+-- what is made of each entry is put in likewise
+pub map-inserted : {A B : Type 0} (f : A → B) (l : List A) (p : ℕ) (x : A) → map f (inserted l p x) ≡ inserted (map f l) p (f x)
+map-inserted f [] zero x = refl
+map-inserted f [] (suc p) x = refl
+map-inserted f (y ∷ l) zero x = refl
+map-inserted f (y ∷ l) (suc p) x = ap (λ (r : List _). f y ∷ r) (map-inserted f l p x)

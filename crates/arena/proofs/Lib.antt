@@ -1,3 +1,4 @@
 pub mod Laws
 pub mod Inserting
 pub mod Shifting
+pub mod Rising

@@ -2,7 +2,7 @@
 ghost use mathlib.Core.Path.{_≡_};
 ghost use Prim.Native.Nat.{_+_, _≤_};
 ghost use lib.ListN.{length};
-ghost use Rattle.spec.specs.Card.{recordAt, soundHeader, soundRecord, soundNames, soundCard};
+ghost use Rattle.spec.specs.Card.{recordAt, soundLayout, soundHeader, soundRecord, soundNames, soundCard};
 ghost use Rattle.scan_card.specs.Fields.{Headed};
 use byteorder::less;
 use scan_numbers::long;
@@ -25,26 +25,36 @@ pub fn sound(card: &[u8]) -> bool
 fn sound_header(card: &[u8]) -> bool
     ensures { λ r. ⌜ r ≡ soundHeader (now (card .entry)) ⌝ }
 {
-    if card.len() < 16 {
+    if !sound_layout(card) {
         return false;
     }
     if CARD < card.len() {
         return false;
     }
-    let n = word(card, 0);
-    if RECORDS < n {
+    if RECORDS < word(card, 0) {
         return false;
     }
-    if word(card, 4) != 16 {
+    true
+}
+
+// Whether the header lays out its records and the names behind them, however many; a bundle has it too.
+pub fn sound_layout(s: &[u8]) -> bool
+    ensures { λ r. ⌜ r ≡ soundLayout (now (s .entry)) ⌝ }
+{
+    if s.len() < 16 {
         return false;
     }
-    if word(card, 8) != 16 + 16 * n {
+    let n = word(s, 0);
+    if word(s, 4) != 16 {
         return false;
     }
-    if word(card, 12) != card.len() {
+    if word(s, 8) != 16 + 16 * n {
         return false;
     }
-    if card.len() < 16 + 16 * n {
+    if word(s, 12) != s.len() {
+        return false;
+    }
+    if s.len() < 16 + 16 * n {
         return false;
     }
     true

@@ -1,13 +1,15 @@
 -- The table of section "When the planner says no": each row's number, in its order, and its place.
-use Prim.Native.Nat.{ℕ, _≤_}
+use Prim.Native.Nat.{ℕ, zero, suc, _+_, _-_, _≤_, _<_}
 use mathlib.Core.Bool.{true, false}
-use lib.ListN.{length}
-use borrow.Author.Tests.{le-leb}
+use lib.ListN.{length, getD}
+use native.Mathlib.Nat.{not-suc-le-zero, le-of-suc-le-suc}
+use native.Mathlib.Omega.{arith}
+use borrow.Author.Tests.{le-leb, lt-leb}
 use mathlib.Core.Path.{_≡_, refl}
 use mathlib.Core.List.{List, [], _∷_, map}
 use Rattle.spec.specs.declared.Refusal.{Refusal}
 use Rattle.spec.specs.declared.Refusal.the-variants.{ShortBuffer, LongManifest, BadByte, BadLine, BadDollar, NotYet, BadRule, BadPath, OverLimit, BadVersion, BadCard, BadTarget, NoRoot, Circle, MissingSource, EndlessText, LongText, NoCommand}
-use Rattle.spec.specs.Answers.{numberOfRefusal, placeOfRefusal, refusalSays, inText, spot, placed}
+use Rattle.spec.specs.Answers.{numberOfRefusal, placeOfRefusal, refusalSays, inText, spot, baseOf, placed}
 
 abbrev rows : ℕ → List Refusal
 rows p =
@@ -30,3 +32,12 @@ in-texts p = refl
 pub one-text : (m : List ℕ) (r : Refusal) → refusalSays r .text ≡ true → placeOfRefusal r ≤ length m → placed (m ∷ []) (refusalSays r) ≡ inText 0 (placeOfRefusal r)
 unfolding placed spot placeOfRefusal
 one-text m r e h = rw (e, le-leb (refusalSays r .value) (length m) h) refl
+
+-- an offset in text k, its end too, is one place past the base of that text, and the other way round
+pub spot-base : (ts : List (List ℕ)) (k i : ℕ) → k < length ts → i ≤ length (getD ts k []) → spot ts (baseOf ts k + i) ≡ inText k i
+unfolding spot baseOf
+spot-base [] k i h l = absurd (not-suc-le-zero h)
+spot-base (t ∷ ts) zero i h l = let z : 0 + i ≡ i = omega arith in rw (z, le-leb i (length t) l)
+spot-base (t ∷ ts) (suc k) i h l =
+    let z : suc (length t) + baseOf ts k + i - suc (length t) ≡ baseOf ts k + i = omega arith in
+    rw (lt-leb (suc (length t) + baseOf ts k + i) (length t) (omega arith), z, spot-base ts k i (le-of-suc-le-suc h) l)

@@ -9,6 +9,7 @@ pub mod Promises
 pub mod Marked
 pub mod WrongPlanners
 pub mod Answers
+pub mod Bundle
 pub mod Manifests
 pub mod Outcomes
 pub mod Demands

@@ -1,5 +1,5 @@
 -- The answers of the two asks as document 01's numbers and values.
-use Prim.Native.Nat.{ℕ, suc, _-_}
+use Prim.Native.Nat.{ℕ, zero, suc, _+_, _-_}
 use mathlib.Core.Bool.{Bool, true, false}
 use mathlib.Core.List.{List, [], _∷_}
 use lib.Dec.{leb}
@@ -72,7 +72,7 @@ pub data Place : Type 0 where
   plain : ℕ → Place
   inText : ℕ → ℕ → Place
 
-abbrev nextText : Place → Place
+abbrev pub nextText : Place → Place
 nextText (plain n) = plain n
 nextText (inText k p) = inText (suc k) p
 
@@ -80,6 +80,12 @@ nextText (inText k p) = inText (suc k) p
 unfoldable pub spot : List (List ℕ) → ℕ → Place
 spot [] p = plain p
 spot (t ∷ ts) p = ifB (leb p (length t)) (λ _. inText 0 p) (λ _. nextText (spot ts (p - suc (length t))))
+
+-- where text k begins among them
+unfoldable pub baseOf : List (List ℕ) → ℕ → ℕ
+baseOf [] k = 0
+baseOf (t ∷ ts) zero = 0
+baseOf (t ∷ ts) (suc k) = suc (length t) + baseOf ts k
 
 unfoldable pub placed : List (List ℕ) → Said → Place
 unfolding spot

@@ -1,5 +1,5 @@
 -- The time card: which bytes are a sound one, and the time of each file on it.
-use Prim.Native.Nat.{ℕ, zero, suc, _+_, _*_}
+use Prim.Native.Nat.{ℕ, zero, suc, _+_, _*_, _/_, _%_}
 use mathlib.Core.List.{List, [], _∷_}
 use mathlib.Core.Bool.{Bool, true, false, _&&_}
 use lib.Dec.{eqb, leb}
@@ -12,6 +12,11 @@ use Rattle.spec.specs.Limits.{maxRecords, maxCard, maxPath, maxTime}
 unfoldable pub littleEndian : List ℕ → ℕ
 littleEndian [] = 0
 littleEndian (b ∷ s) = b + 256 * littleEndian s
+
+-- a number as so many bytes
+abbrev pub inBytes : ℕ → ℕ → List ℕ
+inBytes zero n = []
+inBytes (suc k) n = n % 256 ∷ inBytes k (n / 256)
 
 -- the number of `size` bytes at an offset
 unfoldable pub numberAt : ℕ → ℕ → List ℕ → ℕ
@@ -63,10 +68,15 @@ rising (e ∷ []) = true
 rising (e ∷ f ∷ l) = lessBytes (e .name) (f .name) && rising (f ∷ l)
 
 -- "A header of counts and offsets, 4 bytes each: count n, offset of records (16), offset of names (16 + 16n), total length."
-unfoldable pub soundHeader : List ℕ → Bool
+unfoldable pub soundLayout : List ℕ → Bool
 unfolding numberAt
-soundHeader s =
-    leb 16 (length s) && leb (length s) maxCard && leb (numberAt 0 4 s) maxRecords && eqb (numberAt 4 4 s) 16 && eqb (numberAt 8 4 s) (16 + 16 * numberAt 0 4 s) && eqb (numberAt 12 4 s) (length s) && leb (numberAt 8 4 s) (length s)
+soundLayout s =
+    leb 16 (length s) && eqb (numberAt 4 4 s) 16 && eqb (numberAt 8 4 s) (16 + 16 * numberAt 0 4 s) && eqb (numberAt 12 4 s) (length s) && leb (numberAt 8 4 s) (length s)
+
+-- "n is at most 1,024, the card at most 49,152 bytes"
+unfoldable pub soundHeader : List ℕ → Bool
+unfolding numberAt soundLayout
+soundHeader s = soundLayout s && leb (length s) maxCard && leb (numberAt 0 4 s) maxRecords
 
 -- the records, the names, and the files that they tell of
 unfoldable pub cardRecords : List ℕ → List CardRecord

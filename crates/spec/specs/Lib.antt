@@ -11,6 +11,7 @@ pub mod Sound
 pub mod Text
 pub mod Shell
 pub mod Card
+pub mod Bundle
 pub mod Targets
 pub mod Graph
 pub mod Stale

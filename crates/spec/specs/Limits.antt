@@ -34,6 +34,10 @@ maxWritten = 60000
 abbrev pub maxManifest : ℕ
 maxManifest = 49152
 
+-- "a lent bundle .. 1 to 64 records" (document 02)
+abbrev pub maxBundle : ℕ
+maxBundle = 64
+
 -- the highest place in texts of so many bytes together, 64 of them at most, laid end to end with one place between two
 abbrev pub maxPlace : ℕ
 maxPlace = maxManifest + 63

@@ -1,5 +1,5 @@
 -- The marked cases of document 01, M1 to M10, as one table, from the bytes of manifests, cards and target lists. `proofs/Marked.antt` proves it.
-use Prim.Native.Nat.{ℕ, suc, _+_, _*_, _/_, _%_, zero}
+use Prim.Native.Nat.{ℕ, _+_, _*_}
 use Prim.Native.String.{String}
 use mathlib.Core.List.{List, [], _∷_, _++_}
 use mathlib.Core.Path.{_≡_}
@@ -8,17 +8,12 @@ use lib.ListN.{length}
 use Rattle.lists.specs.Text.{bytes}
 use Rattle.spec.specs.declared.Wanted.the-variants.{Command}
 use Rattle.spec.specs.Reading.{Step}
-use Rattle.spec.specs.Card.{Entry, soundCard, cardEntries, timeIn}
+use Rattle.spec.specs.Card.{inBytes, Entry, soundCard, cardEntries, timeIn}
 use Rattle.spec.specs.declared.PlanAnswer.{PlanAnswer}
 use Rattle.spec.specs.Answers.{planSays}
 use Rattle.spec.specs.Promises.{AnswerIs, filled, refused14, PlanPromise}
 use Rattle.spec.specs.PlanAsk.{PlanOutcome, inputsOf, planAsk, listed}
 use Rattle.spec.specs.TextAsk.{TextOutcome, textAsk, text}
-
--- a number as so many little-endian bytes
-abbrev pub inBytes : ℕ → ℕ → List ℕ
-inBytes zero n = []
-inBytes (suc k) n = n % 256 ∷ inBytes k (n / 256)
 
 abbrev pub on : String → ℕ → Entry
 on n t = record { name = bytes n; time = t }

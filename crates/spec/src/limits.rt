@@ -20,6 +20,8 @@ pub const WRITTEN: usize = 60000;
 
 pub const MANIFEST: usize = 49152;
 
+pub const BUNDLE: usize = 64;
+
 pub const RECORDS: usize = 1024;
 
 pub const CARD: usize = 49152;

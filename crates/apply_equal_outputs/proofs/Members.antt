@@ -1,49 +1,18 @@
--- RisingPaths lists: halving finds where one more belongs, and put in there it leaves the list rising.
+-- The members of a rising list, before and after one more is put in.
 use Prim.Native.Nat.{ℕ, zero, suc, _+_, _<_}
 use mathlib.Core.Bool.{Bool, true, false, _||_}
 use mathlib.Core.List.{List, [], _∷_, _++_}
 use mathlib.Core.Path.{_≡_, refl, sym, _∙_, ap}
-use native.Mathlib.Decide.{decLt}
 use native.Mathlib.Nat.{not-suc-le-zero, le-of-suc-le-suc}
 use native.Mathlib.Omega.{arith}
 use lib.ListN.{length, take, drop, getD, take-append-drop}
 use Rattle.lists.specs.Tests.{or-false}
-use Rattle.lists.specs.Bytes.{eqBytes, lessBytes, eq-eqBytes, ne-eqBytes, less-trans, less-ne}
+use Rattle.lists.specs.Bytes.{eqBytes, eq-eqBytes, ne-eqBytes}
 use Rattle.lists.specs.Members.{any, any-append}
 use Rattle.spec.specs.Basics.{among}
 use Rattle.arena.specs.Inserted.{inserted}
-use Rattle.arena.proofs.Inserting.{pairs-inserted}
-use Rattle.apply_equal_outputs.specs.Sorted.{RisingPaths, PathBetween}
-
--- ---- where x belongs
-
-pub between-all : (ps : List (List ℕ)) (x : List ℕ) → PathBetween ps x 0 (length ps)
-between-all ps x = record { within = omega arith; before = λ i a. absurd (not-suc-le-zero a); after = λ i a b. absurd (omega arith) }
-
-module _ {ps : List (List ℕ)} {x : List ℕ} {low high : ℕ} (b : PathBetween ps x low high) (r : RisingPaths ps) {mid : ℕ} (below : mid < high) where
-  pub between-lower : lessBytes x (getD ps mid []) ≡ true → PathBetween ps x low mid
-  between-lower e =
-      record {
-        within = omega (arith, b .within);
-        before = b .before;
-        after = λ i a h. elim (decLt mid i) [
-          | yes p ↦ less-trans x (getD ps mid []) (getD ps i []) e (r .less mid i p h)
-          | no p ↦ (let q : mid ≡ i = omega arith in rw (← q) e)
-        ];
-      }
-
-  pub between-higher : lessBytes (getD ps mid []) x ≡ true → PathBetween ps x (mid + 1) high
-  between-higher e =
-      record {
-        within = b .within;
-        before = λ i a. elim (decLt i mid) [
-          | yes p ↦ less-trans (getD ps i []) (getD ps mid []) x (r .less i mid p (omega (arith, b .within))) e
-          | no p ↦ (let q : mid ≡ i = omega arith in rw (← q) e)
-        ];
-        after = b .after;
-      }
-
--- ---- members
+use Rattle.arena.specs.Rising.{PathBetween}
+use Rattle.arena.proofs.Rising.{between-none}
 
 among-cons : (q p : List ℕ) (ps : List (List ℕ)) → among q (p ∷ ps) ≡ eqBytes q p || among q ps
 unfolding among any
@@ -68,8 +37,7 @@ among-none x [] f = refl
 among-none x (p ∷ ps) f = or-false (eqBytes x p) (among x ps) (ne-eqBytes x p (f 0 (omega arith))) (among-none x ps (λ i a. f (suc i) (omega arith)))
 
 pub free-among : {ps : List (List ℕ)} {x : List ℕ} {p : ℕ} → PathBetween ps x p p → among x ps ≡ false
-free-among {ps} {x} {p} b =
-    among-none x ps (λ i a q. elim (decLt i p) [ yes h ↦ less-ne (b .before i h) (sym q) | no h ↦ less-ne (b .after i (omega arith) a) q ])
+free-among {ps} {x} b = among-none x ps (between-none b)
 
 pub among-inserted : (q : List ℕ) (ps : List (List ℕ)) (p : ℕ) (x : List ℕ) → among q (inserted ps p x) ≡ eqBytes q x || among q ps
 among-inserted q ps p x =
@@ -81,9 +49,3 @@ among-inserted q ps p x =
     or-middle true true c = refl
     or-middle true false c = refl
     or-middle false b c = refl
-
--- ---- the list with x put in
-
-pub inserted-rising : {ps : List (List ℕ)} {x : List ℕ} {p : ℕ} → RisingPaths ps → PathBetween ps x p p → RisingPaths (inserted ps p x)
-inserted-rising {ps} {x} {p} r b =
-    record { less = pairs-inserted ps p x [] (b .within) (λ s t. lessBytes s t ≡ true) (r .less) (b .before) (b .after) }
