@@ -169,7 +169,13 @@ pub fn current_scope(bind: &[u32]) -> usize
 }
 
 // The newest entry of a name that is seen from a scope: its own, or the first outward that has one.
-pub fn newest_from(texts: &[u8], bind: &[u32], count: usize, scope: usize, wanted: &[u8]) -> FoundEntry
+pub fn newest_from(
+    texts: &[u8],
+    bind: &[u32],
+    count: usize,
+    scope: usize,
+    wanted: &[u8],
+) -> FoundEntry
     requires { ⌜ HasScope (now texts) (now bind) count scope ⌝ }
     ensures { λ r. ⌜ ((log : List Logged) → HoldsBindings log (now (texts .entry)) (now (bind .entry)) count → r ≡ newestFrom scope (now (wanted .entry)) log) ⌝ }
 {
