@@ -6,7 +6,7 @@ use Rattle.text_lookup.proofs.of_file.Statement.{statement}
 use Rattle.text_lookup.proofs.of_file.Tie as tie
 
 newest-from-requires : tie.Need-newest-from-requires
-newest-from-requires c κs = let a = c .before .before .before .before .pre in record { log = a .log; held = a .scope .bound; below = a .scope .scope-low }
+newest-from-requires c κs = let a = c .before .before .before .pre in record { log = a .log; held = a .scope .bound; below = a .scope .scope-low }
 
 enum-known-k : tie.Need-enum-known-k
 enum-known-k c = search needs
