@@ -8,7 +8,7 @@ use Rattle.lists.specs.Members.{any}
 use Rattle.spec.specs.Basics.{isEmpty}
 use Rattle.spec.specs.Limits.{maxManifest, maxValue}
 use Rattle.spec.specs.Dollars.{expand}
-use Rattle.spec.specs.Reading.{Reading, fileVar, isMade}
+use Rattle.spec.specs.Reading.{Reading, varFrom, fileVar, isMade}
 use Rattle.spec.specs.Statements.{expanded}
 use Rattle.scan_classes.specs.Table.{classes}
 use Rattle.cut_forms.specs.Paths.{PathsAt}
