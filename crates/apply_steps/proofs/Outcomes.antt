@@ -120,7 +120,7 @@ module _ (start : ℕ) {l : List ℕ} {bs : Buffers} {c : Counts} {p : BuildPlac
       → ((g : Scoping) → bindings.HoldsScopes g (bs .bind) → j ≡ g .current) → {e : Counts} → PutsStep graph₁ (c .paths) n j d graph′ e
       → WritesStep l bs c start p names′ index′ graph′ (Goes e OpenStep)
   unfolding joined expandedLine variablesOf
-  write-goes few {graph₁} {d} f {n} r {i} o {e} j =
+  write-goes few {graph₁} {d} f {n} r {j = i} o {e} j =
       record {
         agrees = λ b s log rd w k.
             let b′ = expandedLine rd b in
@@ -151,12 +151,14 @@ module _ {t l : List ℕ} {bs : Buffers} {word : List ℕ} {c : Counts} {p : Bui
         few = few;
       }
 
+  pub write-scopes : (bindings.maxRows ≤ length (bs .bind)) × bindings.SoundScopes (bs .bind)
+  write-scopes =
+      let h = a .whole .holds .bound .held in
+      (h .rows .bind-long, record { scoping = scopingOf (a .whole .log); held = h .scopes })
+
   module _ {names′ index′ graph′ : List ℕ} {d : Counts} (f : Four l bs c p names′ index′ graph′ (On d)) where
     pub write-rule : bindings.SoundBindings (bs .texts) (bs .bind) (d .entries)
     write-rule = record { log = a .whole .log; held = four-held (a .whole .holds) (a .stands) f .bound .held }
-
-    pub write-scopes : bindings.SoundScopes (bs .bind)
-    write-scopes = record { scoping = scopingOf (a .whole .log); held = a .whole .holds .bound .held .scopes }
 
     pub write-columns : c .steps < maxSteps → {n : ℕ} (name : List ℕ) → ((log : List Logged) → bindings.HoldsBindings log (bs .texts) (bs .bind) (d .entries) → n ≡ ruleNumber name log)
         → {j : ℕ} → ((g : Scoping) → bindings.HoldsScopes g (bs .bind) → j ≡ g .current) → PutStepAsks graph′ (c .paths) n j d
