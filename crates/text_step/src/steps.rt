@@ -78,13 +78,5 @@ pub fn asked(texts: &[u8], bind: &[u32], graph: &[u32], c: Counts, step: usize) 
     if rule == 0 {
         return StepAsked::NoCommand;
     }
-    StepAsked::Step(picked(
-        texts,
-        bind,
-        graph,
-        c,
-        step,
-        rule - 1,
-        both / SCOPE_UNIT,
-    ))
+    StepAsked::Step(picked(texts, bind, graph, c, step, rule - 1, both / SCOPE_UNIT))
 }
