@@ -4,14 +4,15 @@ use mathlib.Core.List.{List, [], _∷_, _++_, append-assoc, append-nil}
 use mathlib.Core.Path.{_≡_, refl, sym, _∙_, ap}
 use native.Mathlib.Decide.{decLe}
 use native.Mathlib.Omega.{arith}
-use lib.ListN.{length, take, drop, getD, set, length-append, length-take, length-drop, length-set}
-use lib.Seq.{take-take, take-at, drop-at, take-append-le, take-append-seam, drop-append-seam, drop-cons, drop-nil, drop-set-lt, getD-take, getD-append-add, take-suc-set, take-length, length-take-le, paste, length-paste, take-paste}
+use lib.ListN.{length, take, drop, getD, set, length-append, length-take, length-drop, length-set, drop-of-length-le}
+use lib.Seq.{take-take, take-at, drop-at, take-append-le, take-append-seam, drop-append-seam, drop-cons, drop-nil, drop-drop, drop-set-lt, getD-take, getD-append-add, take-suc-set, take-length, length-take-le, paste, length-paste, take-paste}
 use Rattle.lists.specs.Parts.{part, part-to-end, drop-take}
 use Rattle.spec.specs.Limits.{maxName}
 use Rattle.arena.specs.Inserted.{inserted, Shifted}
 use Rattle.hold_bindings.specs.Log.{Logged, noEntry, entryAt, asOf}
-use Rattle.hold_bindings.specs.Held.{maxEntries, maxTexts, maxRows, rowsEnd, textsOf, rowOf, rowsOf, valuesIn, ShortNames, indexIn, Rows, HoldsBindings, HasEntry, EntryRoom, HasRoom, entryStart, Row, PlaceOf, Pushed}
+use Rattle.hold_bindings.specs.Held.{maxEntries, maxTexts, maxRows, rowsEnd, scopesAt, currentAt, parentsAt, textsOf, rowOf, rowsOf, valuesIn, ShortNames, indexIn, Rows, HoldsBindings, HasEntry, EntryRoom, HasRoom, entryStart, Row, PlaceOf, Pushed}
 use Rattle.hold_bindings.proofs.Indexing.{nothing-indexed, indexed-more}
+use Rattle.hold_bindings.proofs.Scopes.{scoping-other, scopes-kept, scopes-begun}
 
 -- ---- lengths
 
@@ -52,7 +53,7 @@ prefix-last p q r t h =
 
 -- ---- nothing is held yet
 
-pub held-none : (texts bind : List ℕ) → maxTexts ≤ length texts → maxRows ≤ length bind → HoldsBindings [] texts bind 0
+pub held-none : (texts bind : List ℕ) → maxTexts ≤ length texts → maxRows ≤ length bind → HoldsBindings [] texts (set (set (set bind scopesAt 1) currentAt 0) parentsAt 0) 0
 unfolding textsOf rowsOf valuesIn
 held-none texts bind t b =
     record {
@@ -63,12 +64,19 @@ held-none texts bind t b =
             names = tt;
             values = omega arith;
             texts-long = t;
-            bind-long = b;
+            bind-long = simp length-set b;
             texts-held = refl;
             bind-held = refl;
           };
       index = nothing-indexed;
+      scopes = scopes-begun bind b;
     }
+
+-- Lists that agree from one place on agree from any later one.
+beyond : (l m : List ℕ) (a b : ℕ) → a ≤ b → drop a l ≡ drop a m → drop b l ≡ drop b m
+beyond l m a b h e =
+    let z : a + (b - a) ≡ b = omega arith in
+    rw (← z, ← drop-drop (b - a) a l, ← drop-drop (b - a) a m, e)
 
 -- ---- the newest entry
 
@@ -291,9 +299,23 @@ module _ {log : List Logged} {texts bind : List ℕ} {count : ℕ} {e : Logged} 
       ∙ ap (λ (l : List ℕ). inserted (take count l) p count) (part-to-end bind′ rowsEnd ∙ w .behind)
       ∙ ap (inserted (indexIn bind count) p) (r .held .rows .counted)
 
+  -- What lies from the scopes on stays.
+  scopes-back : drop scopesAt back ≡ drop scopesAt bind
+  scopes-back =
+      let end : drop (length bind′ - rowsEnd) (drop rowsEnd bind′) ≡ [] = drop-of-length-le (drop rowsEnd bind′) {i = length bind′ - rowsEnd} (simp length-drop (omega arith)) in
+      sym (drop-drop maxEntries rowsEnd back)
+      ∙ ap (drop maxEntries)
+      (drop-at (take rowsEnd bind′) (m ++ drop (length bind′ - rowsEnd) (drop rowsEnd bind′)) rowsEnd (length-take-le rowsEnd bind′ (omega (arith, roomy)))
+      ∙ ap (λ (r : List ℕ). m ++ r) end
+      ∙ append-nil m)
+      ∙ beyond m (part bind′ rowsEnd (length bind′)) (count + 1) maxEntries (omega (arith, r .few)) (x .beyond)
+      ∙ ap (drop maxEntries) (part-to-end bind′ rowsEnd ∙ w .behind)
+      ∙ drop-drop maxEntries rowsEnd bind
+
   pub entry-held : HoldsBindings (e ∷ log) texts′ back (count + 1)
   entry-held =
       record {
         rows = rows-kept (w .rows log r) length-back front-back;
         index = rw index-back (indexed-more e log (r .held .index) (place .between log (r .held)));
+        scopes = rw (scoping-other e log (r .binds)) (scopes-kept (r .held .scopes) scopes-back);
       }

@@ -1,4 +1,5 @@
 pub mod Lookups
 pub mod Indexing
+pub mod Scopes
 pub mod Entries
 pub mod Seeking

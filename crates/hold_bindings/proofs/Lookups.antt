@@ -12,10 +12,10 @@ use Rattle.lists.specs.Tests.{split}
 use Rattle.lists.specs.Bytes.{eqBytes}
 use Rattle.lists.specs.Members.{any}
 use Rattle.spec.specs.Basics.{orElse, among}
-use Rattle.spec.specs.Reading.{Rule, boundTo, fileVar, hasKey, keysOf}
+use Rattle.spec.specs.Reading.{Rule, boundTo, hasKey, keysOf}
 use Rattle.hold_bindings.specs.declared.FoundEntry.{FoundEntry}
 use Rattle.hold_bindings.specs.declared.FoundEntry.the-variants.{At, Missing}
-use Rattle.hold_bindings.specs.Log.{Logged, ofFile, ofRules, ofKeys, ofBlock, entryAt, isNamed, newest, isAt, valueOf, boundOf, boundBy, rulesIn, rulesOf, newestRule, keysAt, withKey, Owner, Owned}
+use Rattle.hold_bindings.specs.Log.{Logged, ofScope, ofRules, ofKeys, ofBlock, entryAt, isNamed, newest, isAt, valueOf, boundOf, boundBy, rulesIn, rulesOf, newestRule, keysAt, withKey, Owner, Owned}
 
 -- ---- numbers of entries
 
@@ -68,13 +68,8 @@ find-newest o n (e ∷ l) =
     (λ (p : eqb (e .owner) o ≡ false). rw p older)
 
 -- "An unset name expands to nothing."
--- nothing where there is no value
 abbrev pub orEmpty : Option (List ℕ) → List ℕ
 orEmpty o = orElse o (λ v. v) λ _. []
-
-pub var-newest : (n : List ℕ) (log : List Logged) → fileVar (boundBy ofFile log) n ≡ orEmpty (valueOf (newest ofFile n log) log)
-unfolding fileVar
-var-newest n log = ap orEmpty (find-newest ofFile n log)
 
 pub key-newest : (o : ℕ) (n : List ℕ) (log : List Logged) → hasKey n (boundBy o log) ≡ isAt (newest o n log)
 unfolding hasKey among any boundBy newest isNamed isAt
@@ -93,8 +88,8 @@ pub keys-not-step : (k s : ℕ) → ofKeys k ≡ ofBlock s → ⊥
 keys-not-step k s e = omega arith
 
 module _ (steps entries : ℕ) where
-  pub owner-file : Owner steps entries ofFile
-  owner-file = record { key = λ k e. absurd (omega arith); line = λ s e. absurd (omega arith) }
+  pub owner-scope : (j : ℕ) → Owner steps entries (ofScope j)
+  owner-scope j = record { key = λ k e. absurd (omega arith); line = λ s e. absurd (omega arith) }
 
   pub owner-rules : Owner steps entries ofRules
   owner-rules = record { key = λ k e. absurd (omega arith); line = λ s e. absurd (omega arith) }

@@ -1,5 +1,5 @@
--- What the lent buffers hold of a log: names and values end to end in `texts`; in `bind` a row of three numbers for each entry, and behind the room for
--- all rows the log's index.
+-- What the lent buffers hold of a log: names and values end to end in `texts`; in `bind` a row of three numbers for each entry, behind the room for
+-- all rows the log's index, and behind that one its scopes.
 use Prim.Native.Nat.{ℕ, zero, suc, _+_, _*_, _≤_, _<_}
 use mathlib.Core.List.{List, [], _∷_, _++_}
 use mathlib.Core.Path.{_≡_}
@@ -7,12 +7,16 @@ use lib.ListN.{length, take, drop, getD}
 use Rattle.lists.specs.Parts.{part}
 use Rattle.spec.specs.Limits.{maxRules, maxBindings, maxName, maxWritten}
 use Rattle.hold_bindings.specs.declared.ValuePlace.{ValuePlace}
-use Rattle.hold_bindings.specs.Log.{Logged, entryAt}
+use Rattle.hold_bindings.specs.Log.{Logged, ofMarks, entryAt, Scoping, scopingOf}
 use Rattle.hold_bindings.specs.Index.{Indexed, KeyBetween}
 
--- "128 rules, 1,024 bindings .. declared names 64 bytes .. all paths and values read so far .. 60,000 bytes together"
+-- as many scopes as files may be opened (document 02 [1])
+abbrev pub maxScopes : ℕ
+maxScopes = 64
+
+-- "128 rules, 1,024 bindings .. declared names 64 bytes .. all paths and values read so far .. 60,000 bytes together"; and two marks for each scope
 abbrev pub maxEntries : ℕ
-maxEntries = maxBindings + maxRules
+maxEntries = maxBindings + maxRules + 2 * maxScopes
 
 abbrev pub maxTexts : ℕ
 maxTexts = maxWritten + maxEntries * maxName
@@ -21,11 +25,21 @@ maxTexts = maxWritten + maxEntries * maxName
 abbrev pub rowsEnd : ℕ
 rowsEnd = 3 * maxEntries
 
+-- where the scopes begin: how many there are, the current one, and for each its parent and one more, or 0
+abbrev pub scopesAt : ℕ
+scopesAt = rowsEnd + maxEntries
+
+abbrev pub currentAt : ℕ
+currentAt = scopesAt + 1
+
+abbrev pub parentsAt : ℕ
+parentsAt = scopesAt + 2
+
 abbrev pub maxRows : ℕ
-maxRows = rowsEnd + maxEntries
+maxRows = parentsAt + maxScopes
 
 abbrev pub maxOwner : ℕ
-maxOwner = 2 + 2 * maxEntries
+maxOwner = 5 + 3 * maxEntries
 
 unfoldable pub textsOf : List Logged → List ℕ
 textsOf [] = []
@@ -66,10 +80,24 @@ pub record Rows (log : List Logged) (texts bind : List ℕ) (count : ℕ) : Type
   pub texts-held : take (length (textsOf log)) texts ≡ textsOf log
   pub bind-held : take (length (rowsOf log)) bind ≡ rowsOf log
 
--- The log is held, with its index.
+-- The number for a scope that has these scopes around it.
+pub data Parent (outers : List (List ℕ)) (k : ℕ) : List ℕ → ℕ → Type 0 where
+  top : Parent outers k [] 0
+  inside : {p : ℕ} → p < k → Parent outers k (p ∷ getD outers p []) (suc p)
+
+-- The scopes of the log are held.
+pub record HoldsScopes (g : Scoping) (bind : List ℕ) : Type 0 where
+  pub counted : getD bind scopesAt 0 ≡ length (g .outers)
+  pub now : getD bind currentAt 0 ≡ g .current
+  pub below : g .current < length (g .outers)
+  pub few : length (g .outers) ≤ maxScopes
+  pub parents : (k : ℕ) → k < length (g .outers) → Parent (g .outers) k (getD (g .outers) k []) (getD bind (parentsAt + k) 0)
+
+-- The log is held, with its index and its scopes.
 pub record HoldsBindings (log : List Logged) (texts bind : List ℕ) (count : ℕ) : Type 0 where
   pub rows : Rows log texts bind count
   pub index : Indexed log (indexIn bind count)
+  pub scopes : HoldsScopes (scopingOf log) bind
 
 -- Some log is held; it has an entry k; and it has room for one more.
 pub record SoundBindings (texts bind : List ℕ) (count : ℕ) : Type 0 where
@@ -85,6 +113,8 @@ pub record HasEntry (texts bind : List ℕ) (k : ℕ) : Type 0 where
 pub record EntryRoom (log : List Logged) (texts bind : List ℕ) (count : ℕ) (e : Logged) : Type 0 where
   pub held : HoldsBindings log texts bind count
   pub few : count < maxEntries
+  -- no mark, which changes the scopes too
+  pub binds : e .owner ≡ ofMarks → ⊥
   pub owner : e .owner ≤ maxOwner
   pub name : length (e .name) ≤ maxName
   pub value : valuesIn log + length (e .value) ≤ maxWritten
@@ -92,6 +122,16 @@ pub record EntryRoom (log : List Logged) (texts bind : List ℕ) (count : ℕ) (
 pub record HasRoom (texts bind : List ℕ) (count : ℕ) (e : Logged) : Type 0 where
   pub log : List Logged
   pub room : EntryRoom log texts bind count e
+
+-- Some scopes are held; and the log that is held has scope k.
+pub record SoundScopes (bind : List ℕ) : Type 0 where
+  pub scoping : Scoping
+  pub held : HoldsScopes scoping bind
+
+pub record HasScope (texts bind : List ℕ) (count k : ℕ) : Type 0 where
+  pub log : List Logged
+  pub held : HoldsBindings log texts bind count
+  pub below : k < length (scopingOf log .outers)
 
 -- ------------------------------------------------------------------ one entry in the buffers
 

@@ -4,9 +4,9 @@ ghost use mathlib.Core.List.{List, _∷_};
 ghost use Prim.Native.Nat.{ℕ, _+_, _*_, _^_, _≤_, _<_};
 ghost use lib.ListN.{length, set};
 ghost use Rattle.lists.specs.Bytes.{lessBytes};
-ghost use Rattle.hold_bindings.specs.Log.{Logged, logged, entryAt, isNamed, newest};
+ghost use Rattle.hold_bindings.specs.Log.{Logged, logged, entryAt, isNamed, newest, Scoping, scopingOf, newestFrom};
 ghost use Rattle.hold_bindings.specs.Index.{keyAt};
-ghost use Rattle.hold_bindings.specs.Held.{HoldsBindings, SoundBindings, HasEntry, HasRoom, EntryRoom, entryStart, ValueAt, PlaceOf, Pushed};
+ghost use Rattle.hold_bindings.specs.Held.{maxRows, scopesAt, currentAt, parentsAt, HoldsScopes, HoldsBindings, SoundBindings, SoundScopes, HasScope, HasEntry, HasRoom, EntryRoom, entryStart, ValueAt, PlaceOf, Pushed};
 use arena::insert;
 use byteorder::equal;
 use byteorder::less;
@@ -17,8 +17,11 @@ use spec::limits::NAME;
 use spec::limits::RULES;
 use spec::limits::WRITTEN;
 
-// The most entries that a manifest may have.
-const ENTRIES: usize = BINDINGS + RULES;
+// The most scopes that there may be.
+pub const SCOPES: usize = 64;
+
+// The most entries that a manifest may have: bindings, rules, and two marks for each scope.
+pub const ENTRIES: usize = BINDINGS + RULES + 2 * SCOPES;
 
 // Where the index begins: behind three numbers for each entry.
 const INDEX: usize = 3 * ENTRIES;
@@ -26,7 +29,14 @@ const INDEX: usize = 3 * ENTRIES;
 // Room for the texts of all entries, and for the rows and the index.
 pub const TEXTS: usize = WRITTEN + ENTRIES * NAME;
 
-pub const ROWS: usize = INDEX + ENTRIES;
+// Behind the index: how many scopes there are, the current one, and for each its parent and one more, or 0.
+const SCOPE_COUNT: usize = INDEX + ENTRIES;
+
+const CURRENT: usize = SCOPE_COUNT + 1;
+
+const PARENTS: usize = SCOPE_COUNT + 2;
+
+pub const ROWS: usize = PARENTS + SCOPES;
 
 // The number of an entry, if there is one.
 pub enum FoundEntry {
@@ -138,6 +148,60 @@ pub fn newest(texts: &[u8], bind: &[u32], count: usize, owner: usize, wanted: &[
         return FoundEntry::At(k);
     }
     FoundEntry::Missing
+}
+
+// Makes the table one of no entries and of one scope.
+pub fn begin(bind: &mut [u32])
+    requires { ⌜ maxRows ≤ length (now bind) ⌝ }
+    ensures { λ _. ⌜ now (bind .exit) ≡ set (set (set (now (bind .entry)) scopesAt 1) currentAt 0) parentsAt 0 ⌝ }
+{
+    bind[SCOPE_COUNT] = 1;
+    bind[CURRENT] = 0;
+    bind[PARENTS] = 0;
+}
+
+// The scope that is read in.
+pub fn current_scope(bind: &[u32]) -> usize
+    requires { ⌜ (maxRows ≤ length (now bind)) × SoundScopes (now bind) ⌝ }
+    ensures { λ r. ⌜ ((g : Scoping) → HoldsScopes g (now (bind .entry)) → r ≡ g .current) ⌝ }
+{
+    at(bind, CURRENT)
+}
+
+// The newest entry of a name that is seen from a scope: its own, or the first outward that has one.
+pub fn newest_from(
+    texts: &[u8],
+    bind: &[u32],
+    count: usize,
+    scope: usize,
+    wanted: &[u8],
+) -> FoundEntry
+    requires { ⌜ HasScope (now texts) (now bind) count scope ⌝ }
+    ensures { λ r. ⌜ ((log : List Logged) → HoldsBindings log (now (texts .entry)) (now (bind .entry)) count → r ≡ newestFrom scope (now (wanted .entry)) log) ⌝ }
+{
+    let mut k = scope;
+    loop {
+        match newest(texts, bind, count, 3 * k, wanted) {
+            FoundEntry::At(e) => {
+                return FoundEntry::At(e);
+            }
+            FoundEntry::Missing => {
+                let parent = at(bind, PARENTS + k);
+                if parent == 0 {
+                    return FoundEntry::Missing;
+                }
+                k = parent - 1;
+            }
+        }
+    }
+}
+
+// The same from the scope that is read in.
+pub fn newest_seen(texts: &[u8], bind: &[u32], count: usize, wanted: &[u8]) -> FoundEntry
+    requires { ⌜ SoundBindings (now texts) (now bind) count ⌝ }
+    ensures { λ r. ⌜ ((log : List Logged) → HoldsBindings log (now (texts .entry)) (now (bind .entry)) count → r ≡ newestFrom (scopingOf log .current) (now (wanted .entry)) log) ⌝ }
+{
+    newest_from(texts, bind, count, current_scope(bind), wanted)
 }
 
 // The three numbers of entry k.

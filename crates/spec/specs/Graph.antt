@@ -19,7 +19,7 @@ unfoldable pub nonOrderOnly : Step → List ℕ
 nonOrderOnly s = s .ins ++ s .implicit
 
 abbrev pub noStep : Step
-noStep = record { outs = []; ins = []; implicit = []; orderOnly = []; rule = []; block = [] }
+noStep = record { outs = []; ins = []; implicit = []; orderOnly = []; rule = []; block = []; scope = 0 }
 
 abbrev pub stepAt : List Step → ℕ → Step
 stepAt steps s = getD steps s noStep

@@ -44,7 +44,7 @@ command manifest s = textAsk manifest s Command 8192
 
 -- the phony step that makes file f of these explicit inputs
 abbrev pub phonyStepOf : ℕ → List ℕ → Step
-phonyStepOf f ins = record { outs = f ∷ []; ins = ins; implicit = []; orderOnly = []; rule = bytes "phony"; block = [] }
+phonyStepOf f ins = record { outs = f ∷ []; ins = ins; implicit = []; orderOnly = []; rule = bytes "phony"; block = []; scope = 0 }
 
 -- count 1, records at 16, names at 32, 33 bytes in all; the record (offset 0, length 1, time 5); the name
 abbrev pub cardOfA : List ℕ

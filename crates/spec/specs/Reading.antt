@@ -1,8 +1,9 @@
 -- What has been read of a manifest, and what is looked up in it.
-use Prim.Native.Nat.{ℕ, suc}
+use Prim.Native.Nat.{ℕ, zero, suc}
 use mathlib.Core.List.{List, [], _∷_, _++_, map}
 use mathlib.Core.Option.{Option, none, some}
 use mathlib.Core.Bool.{Bool, _||_}
+use lib.ListN.{length, getD}
 use Rattle.lists.specs.Tests.{ifB}
 use Rattle.lists.specs.Text.{bytes}
 use Rattle.lists.specs.Bytes.{eqBytes}
@@ -19,7 +20,24 @@ pub record Rule : Type 0 where
   pub name : List ℕ
   pub keys : List Bound
 
--- a build step: its files by number, its rule's name, its block's bindings, newest first
+-- A scope: the scopes around it, the nearest first, and its own variables, newest first. There is one for the manifest; document 02 [1] will enter
+-- others, each "a new one that sees the parent's variables and changes none".
+pub record Scope : Type 0 where
+  pub outer : List ℕ
+  pub own : List Bound
+
+-- file variables: the scopes by number, as they were entered, and the one that is read in
+pub record Variables : Type 0 where
+  pub scopes : List Scope
+  pub current : ℕ
+
+abbrev pub noScope : Scope
+noScope = record { outer = []; own = [] }
+
+abbrev pub scopeAt : List Scope → ℕ → Scope
+scopeAt scopes k = getD scopes k noScope
+
+-- a build step: its files by number, its rule's name, its block's bindings, newest first, and the scope that its line stands in
 pub record Step : Type 0 where
   pub outs : List ℕ
   pub ins : List ℕ
@@ -27,12 +45,13 @@ pub record Step : Type 0 where
   pub orderOnly : List ℕ
   pub rule : List ℕ
   pub block : List Bound
+  pub scope : ℕ
 
--- what a manifest has said so far: rules newest first, file variables newest first; "Steps are numbered from 0 as written, files from 0 by first
+-- what a manifest has said so far: rules newest first, file variables; "Steps are numbered from 0 as written, files from 0 by first
 -- mention"; the files named by `default`; and the counts of bindings, mentions and bytes that the limits speak of
 pub record Reading : Type 0 where
   pub rules : List Rule
-  pub vars : List Bound
+  pub vars : Variables
   pub files : List (List ℕ)
   pub steps : List Step
   pub defaults : List ℕ
@@ -41,7 +60,7 @@ pub record Reading : Type 0 where
   pub written : ℕ
 
 abbrev pub nothingRead : Reading
-nothingRead = record { rules = []; vars = []; files = []; steps = []; defaults = []; bindings = 0; mentions = 0; written = 0 }
+nothingRead = record { rules = []; vars = record { scopes = noScope ∷ []; current = 0 }; files = []; steps = []; defaults = []; bindings = 0; mentions = 0; written = 0 }
 
 -- what the newest binding of a name binds it to: "a later line replaces it", "last one wins"
 unfoldable pub boundTo : List ℕ → List Bound → Option (List ℕ)
@@ -49,10 +68,30 @@ unfolding eqBytes
 boundTo n [] = none
 boundTo n (b ∷ l) = ifB (eqBytes n (b .name)) (λ _. some (b .value)) (λ _. boundTo n l)
 
+-- the variables of these scopes, one scope after another
+unfoldable pub ownVars : List Scope → List ℕ → List Bound
+ownVars scopes [] = []
+ownVars scopes (k ∷ ks) = scopeAt scopes k .own ++ ownVars scopes ks
+
+-- what is seen from a scope: its own variables, then those of the scopes around it
+unfoldable pub seenFrom : List Scope → ℕ → List Bound
+unfolding ownVars
+seenFrom scopes k = ownVars scopes (k ∷ scopeAt scopes k .outer)
+
 -- "An unset name expands to nothing."
-unfoldable pub fileVar : List Bound → List ℕ → List ℕ
-unfolding boundTo
-fileVar vars n = orElse (boundTo n vars) (λ v. v) λ _. []
+unfoldable pub varFrom : List Scope → ℕ → List ℕ → List ℕ
+unfolding boundTo seenFrom
+varFrom scopes k n = orElse (boundTo n (seenFrom scopes k)) (λ v. v) λ _. []
+
+-- a file variable, as it then stands
+abbrev pub fileVar : Variables → List ℕ → List ℕ
+fileVar vars = varFrom (vars .scopes) (vars .current)
+
+-- one binding more in a scope
+unfoldable pub bindIn : ℕ → Bound → List Scope → List Scope
+bindIn k b [] = []
+bindIn zero b (s ∷ l) = record { outer = s .outer; own = b ∷ s .own } ∷ l
+bindIn (suc k) b (s ∷ l) = s ∷ bindIn k b l
 
 -- is this name bound here
 unfoldable pub hasKey : List ℕ → List Bound → Bool

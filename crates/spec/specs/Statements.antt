@@ -14,7 +14,7 @@ use Rattle.spec.specs.Basics.{isEmpty, among, sum}
 use Rattle.spec.specs.Limits.{maxSteps, maxFiles, maxRules, maxBindings, maxMentions, maxName, maxPath, maxValue, maxWritten}
 use Rattle.spec.specs.Dollars.{expand}
 use Rattle.spec.specs.Forms.{Form, ruleForm, buildForm, defaultForm, bindingForm, BuildLine}
-use Rattle.spec.specs.Reading.{Rule, Step, Reading, fileVar, hasKey, declared, mention, numbersOf, isMade}
+use Rattle.spec.specs.Reading.{Bound, Rule, Variables, Step, Reading, varFrom, fileVar, bindIn, hasKey, declared, mention, numbersOf, isMade}
 use Rattle.version.specs.Version.{refusedVersion}
 
 -- the open block: none, a rule's (with the start of its line and what it holds so far), or a build step's
@@ -71,7 +71,7 @@ addKey start ruleStart r n raw rd =
 
 -- "Paths and block values are expanded at once with the file's variables as they then stand."
 unfoldable pub expanded : Reading → List (List ℕ) → List (List ℕ)
-unfolding expand fileVar
+unfolding expand varFrom
 expanded rd raw = map (expand (fileVar (rd .vars))) raw
 
 -- is one of them there again
@@ -114,7 +114,7 @@ addStep start b rd =
     ifB (not (declared (b .rule) rd)) (λ _. refused (BadRule start)) λ _.
     ifB (badPaths (b .outs) (inputsOfLine b) rd) (λ _. refused (BadPath start)) λ _.
     ifB (overPaths (b .outs ++ inputsOfLine b) || overCounts after || leb maxSteps (length (rd .steps))) (λ _. refused (OverLimit start)) λ _.
-    goesOn after (buildBlock (record { outs = numbersOf (after .files) (b .outs); ins = numbersOf (after .files) (b .ins); implicit = numbersOf (after .files) (b .implicit); orderOnly = numbersOf (after .files) (b .orderOnly); rule = b .rule; block = [] }))
+    goesOn after (buildBlock (record { outs = numbersOf (after .files) (b .outs); ins = numbersOf (after .files) (b .ins); implicit = numbersOf (after .files) (b .implicit); orderOnly = numbersOf (after .files) (b .orderOnly); rule = b .rule; block = []; scope = rd .vars .current }))
 
 -- ------------------------------------------------------------------ variables
 
@@ -131,12 +131,17 @@ addToBlock start s n v rd =
     ifB (overBinding n v after) (λ _. refused (OverLimit start)) λ _.
     goesOn after
     (buildBlock
-    (record { outs = s .outs; ins = s .ins; implicit = s .implicit; orderOnly = s .orderOnly; rule = s .rule; block = record { name = n; value = v } ∷ s .block }))
+    (record { outs = s .outs; ins = s .ins; implicit = s .implicit; orderOnly = s .orderOnly; rule = s .rule; block = record { name = n; value = v } ∷ s .block; scope = s .scope }))
+
+-- a binding more in the scope that is read in
+abbrev pub bound : Bound → Variables → Variables
+bound b vars = record { scopes = bindIn (vars .current) b (vars .scopes); current = vars .current }
 
 -- the newest binding of a name is the first: "a later line replaces it"
 unfoldable pub setVar : List ℕ → List ℕ → Reading → Reading
+unfolding bindIn
 setVar n v rd =
-    record { rules = rd .rules; vars = record { name = n; value = v } ∷ rd .vars; files = rd .files; steps = rd .steps; defaults = rd .defaults; bindings = rd .bindings; mentions = rd .mentions; written = rd .written }
+    record { rules = rd .rules; vars = bound (record { name = n; value = v }) (rd .vars); files = rd .files; steps = rd .steps; defaults = rd .defaults; bindings = rd .bindings; mentions = rd .mentions; written = rd .written }
 
 -- "`ninja_required_version` at file level is checked at once": "version malformed or above OURS" (10)
 unfoldable pub wrongVersion : List ℕ → List ℕ → Bool
@@ -172,7 +177,7 @@ addDefaults start ps rd =
 
 -- a statement, where no block is open
 unfoldable pub statement : ℕ → Form → Reading → Outcome
-unfolding startRule addStep expandedLine addDefaults expanded addVar expand fileVar
+unfolding startRule addStep expandedLine addDefaults expanded addVar expand varFrom
 statement start (ruleForm n) rd = startRule start n rd
 statement start (buildForm b) rd = addStep start (expandedLine rd b) rd
 statement start (defaultForm ps) rd = addDefaults start (expanded rd ps) rd
@@ -180,7 +185,7 @@ statement start (bindingForm n raw) rd = addVar start n (expand (fileVar (rd .va
 
 -- "An indented line belongs to the open rule or build block; with none open it is refused with 4."
 unfoldable pub blockLine : ℕ → Block → List ℕ → List ℕ → Reading → Outcome
-unfolding addKey addToBlock expand fileVar
+unfolding addKey addToBlock expand varFrom
 blockLine start noBlock n raw rd = refused (BadLine start)
 blockLine start (ruleBlock ruleStart r) n raw rd = addKey start ruleStart r n raw rd
 blockLine start (buildBlock s) n raw rd = addToBlock start s n (expand (fileVar (rd .vars)) raw) rd

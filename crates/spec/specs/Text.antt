@@ -18,7 +18,7 @@ use Rattle.spec.specs.Bytes.{space, newline, letter, digit}
 use Rattle.spec.specs.Dollars.{expand, refs}
 use Rattle.spec.specs.Graph.{stepAt}
 use Rattle.spec.specs.Limits.{maxText}
-use Rattle.spec.specs.Reading.{Step, Reading, boundTo, fileVar, keysOf, numberOf}
+use Rattle.spec.specs.Reading.{Step, Reading, boundTo, varFrom, keysOf, numberOf}
 
 -- ------------------------------------------------------------------ a rule's keys
 
@@ -95,11 +95,11 @@ pub data Found : Type 0 where
 
 -- "looked up as: `in`, `in_newline`, `out`; the block; the rule ..; the file, as its variables stand at the end of the manifest"
 unfoldable pub lookupBy : Spelling → Reading → Step → List ℕ → Found
-unfolding ofStep boundTo keysOf fileVar
+unfolding ofStep boundTo keysOf varFrom
 lookupBy spell rd s n =
     orElse (ofStep spell rd s n) asIs λ _.
     orElse (boundTo n (s .block)) asIs λ _.
-    orElse (boundTo n (keysOf (s .rule) (rd .rules))) ofRule λ _. asIs (fileVar (rd .vars) n)
+    orElse (boundTo n (keysOf (s .rule) (rd .rules))) ofRule λ _. asIs (varFrom (rd .vars .scopes) (s .scope) n)
 
 -- names hold their quotes in every text that is looked up for a step (reading 02.10)
 abbrev pub lookup : Reading → Step → List ℕ → Found

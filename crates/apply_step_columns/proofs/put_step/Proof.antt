@@ -27,11 +27,17 @@ put-requires c κs = put-first (c .before .before .before .before .before .befor
 add-put-2 : tie.Need-add-put-2
 add-put-2 c = search needs
 
+mul-put : tie.Need-mul-put
+mul-put c = let a = c .before .before .before .before .before .before .before .before .before .before .before .before .before .pre in omega (arith, a .few)
+
+add-put-3 : tie.Need-add-put-3
+add-put-3 c = let a = c .before .before .before .before .before .before .before .before .before .before .before .before .before .pre in omega (arith, a .few, a .small)
+
 put-requires-2 : tie.Need-put-requires-2
 put-requires-2 c κs = put-second (c .before .before .before .before .before .before .before .before .before .before .step-end .ensures) (c .before .before .before .before .before .before .before .before .make .ensures) (c .before .before .before .before .phony-bit .ensures) (c .before .before .before .put .ensures) (c .before .before .before .before .before .before .before .before .before .before .before .before .before .pre)
 
-add-t12 : tie.Need-add-t12
-add-t12 c = search needs
+add-t16 : tie.Need-add-t16
+add-t16 c = search needs
 
 same-length : tie.Need-same-length
 same-length c = search needs
@@ -50,7 +56,9 @@ put-step-spec =
     phony-bit-requires
     put-requires
     add-put-2
+    mul-put
+    add-put-3
     put-requires-2
-    add-t12
+    add-t16
     same-length
     returns)

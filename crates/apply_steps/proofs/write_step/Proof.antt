@@ -1,7 +1,7 @@
 -- `apply_steps::write_step` meets its contract.
 use mathlib.Core.Path.{_∙_, refl}
 use native.Mathlib.Omega.{arith}
-use Rattle.apply_steps.proofs.Outcomes.{write-many, write-over, write-goes, write-four, write-rule, write-columns}
+use Rattle.apply_steps.proofs.Outcomes.{write-many, write-over, write-goes, write-four, write-rule, write-scopes, write-columns}
 use Rattle.apply_steps.proofs.write_step.Statement.{statement}
 use Rattle.apply_steps.proofs.write_step.Tie as tie
 
@@ -26,26 +26,29 @@ part-rule-number-end c = omega (arith, c .before .before .before .before .before
 rule-number-requires : tie.Need-rule-number-requires
 rule-number-requires c κs = write-rule (c .before .before .before .before .before .before .before .before .before .before .before .before .before .before .before .before .before .before .before .before .before .before .before .before .before .before .before .pre) (rw (c .before .before .d .given .1) at (c .before .before .before .before .before .before .before .before .before .before .before .before .four .ensures .promise))
 
+current-scope-requires : tie.Need-current-scope-requires
+current-scope-requires c κs = write-scopes (c .before .before .before .before .before .before .before .before .before .before .before .before .before .before .before .before .before .before .before .before .before .before .before .before .before .before .before .before .before .pre)
+
 put-step-requires : tie.Need-put-step-requires
-put-step-requires c κs = write-columns (c .before .before .before .before .before .before .before .before .before .before .before .before .before .before .before .before .before .before .before .before .before .before .before .before .before .before .before .before .before .pre) (rw (c .before .before .before .before .d .given .1) at (c .before .before .before .before .before .before .before .before .before .before .before .before .before .before .four .ensures .promise)) (c .before .before .before .before .before .before .before .before .before .before .before .before .before .before .before .before .before .before .before .if1 .left) _ (c .before .rule-number .ensures)
+put-step-requires c κs = write-columns (c .before .before .before .before .before .before .before .before .before .before .before .before .before .before .before .before .before .before .before .before .before .before .before .before .before .before .before .before .before .before .pre) (rw (c .before .before .before .before .before .d .given .1) at (c .before .before .before .before .before .before .before .before .before .before .before .before .before .before .before .four .ensures .promise)) (c .before .before .before .before .before .before .before .before .before .before .before .before .before .before .before .before .before .before .before .before .if1 .left) _ (c .before .before .rule-number .ensures) (c .current-scope .ensures)
 
 enum-told : tie.Need-enum-told
 enum-told c = c .match .keys2
 
 same-length : tie.Need-same-length
-same-length c = c .before .before .before .before .before .before .before .before .before .before .before .before .before .before .before .before .before .four .kept .1 .1 .1 .0
+same-length c = c .before .before .before .before .before .before .before .before .before .before .before .before .before .before .before .before .before .before .four .kept .1 .1 .1 .0
 
 same-length-2 : tie.Need-same-length-2
-same-length-2 c = c .before .before .before .before .before .before .before .before .before .before .before .before .before .before .before .before .before .four .kept .1 .1 .1 .1 .0
+same-length-2 c = c .before .before .before .before .before .before .before .before .before .before .before .before .before .before .before .before .before .before .four .kept .1 .1 .1 .1 .0
 
 same-length-3 : tie.Need-same-length-3
-same-length-3 c = c .before .before .put-step .kept .0 ∙ c .before .before .before .before .before .before .before .before .before .before .before .before .before .before .before .before .before .four .kept .1 .1 .1 .1 .1 .1 .1 .0
+same-length-3 c = c .before .before .put-step .kept .0 ∙ c .before .before .before .before .before .before .before .before .before .before .before .before .before .before .before .before .before .before .four .kept .1 .1 .1 .1 .1 .1 .1 .0
 
 same-length-4 : tie.Need-same-length-4
-same-length-4 c = c .before .before .before .before .before .before .before .before .before .before .before .before .before .before .before .before .before .four .kept .1 .1 .1 .1 .1 .1 .1 .1 .0
+same-length-4 c = c .before .before .before .before .before .before .before .before .before .before .before .before .before .before .before .before .before .before .four .kept .1 .1 .1 .1 .1 .1 .1 .1 .0
 
 returns-2 : tie.Need-returns-2
-returns-2 c = record { space = (record { names = record { long = same-length c }; index = record { long = same-length-2 c }; texts = record { long = refl }; bind = record { long = refl }; graph = record { long = same-length-3 c } }, record { long = same-length-4 c }); promise = write-goes (c .before .before .before .before .before .before .before .before .before .before .before .before .before .before .before .before .before .before .before .before .before .before .before .before .before .before .before .before .before .before .before .before .args .s .start) (c .before .before .before .before .before .before .before .before .before .before .before .before .before .before .before .before .before .before .before .before .before .before .if1 .left) (rw (c .before .before .before .before .before .before .before .d .given .1) at (c .before .before .before .before .before .before .before .before .before .before .before .before .before .before .before .before .before .four .ensures .promise)) (c .before .before .before .before .rule-number .ensures) (c .before .before .put-step .ensures) }
+returns-2 c = record { space = (record { names = record { long = same-length c }; index = record { long = same-length-2 c }; texts = record { long = refl }; bind = record { long = refl }; graph = record { long = same-length-3 c } }, record { long = same-length-4 c }); promise = write-goes (c .before .before .before .before .before .before .before .before .before .before .before .before .before .before .before .before .before .before .before .before .before .before .before .before .before .before .before .before .before .before .before .before .before .args .s .start) (c .before .before .before .before .before .before .before .before .before .before .before .before .before .before .before .before .before .before .before .before .before .before .before .if1 .left) (rw (c .before .before .before .before .before .before .before .before .d .given .1) at (c .before .before .before .before .before .before .before .before .before .before .before .before .before .before .before .before .before .before .four .ensures .promise)) (c .before .before .before .before .before .rule-number .ensures) (c .before .before .before .current-scope .ensures) (c .before .before .put-step .ensures) }
 
 same-length-5 : tie.Need-same-length-5
 same-length-5 c = c .before .before .before .before .before .before .before .before .before .before .four .kept .1 .1 .1 .0
@@ -73,6 +76,7 @@ write-step-spec =
     part-rule-number-start
     part-rule-number-end
     rule-number-requires
+    current-scope-requires
     put-step-requires
     enum-told
     same-length
