@@ -15,6 +15,7 @@ use spec::TextAnswer;
 use spec::Wanted;
 use spec::limits::VALUE;
 use spec::limits::WRITTEN;
+use text_step::StepText;
 use text_step::text_of;
 
 // With a text buffer of 8,192 bytes at least.
@@ -47,8 +48,7 @@ pub fn text_buffered(manifest: &[u8], step: usize, wanted: Wanted, buffer: &mut 
             &bind,
             &graph,
             c,
-            step,
-            wanted,
+            StepText { step, wanted },
             buffer,
         ),
         ReadAnswer::Refused(r) => {

@@ -5,8 +5,8 @@ use byteorder::equal;
 use hold_bindings::FoundEntry;
 use hold_bindings::newest;
 
-// The step that is asked for: its number, the entry of its rule's declaration in the table of bindings, how many entries and files there are, and where
-// its outputs and its explicit inputs start and end among the mentions.
+// The step that is asked for: its number, the entry of its rule's declaration in the table of bindings, how many entries and files there are, where
+// its outputs and its explicit inputs start and end among the mentions, and how many rule texts deep its text may still go.
 pub struct Asked {
     pub step: usize,
     pub rule: usize,
@@ -15,6 +15,7 @@ pub struct Asked {
     pub outs: usize,
     pub ins: usize,
     pub rest: usize,
+    pub depth: usize,
 }
 
 // Where the text of a name is.

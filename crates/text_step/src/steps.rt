@@ -13,6 +13,7 @@ use hold_reading::columns::RULE_START;
 use hold_reading::columns::step_end;
 use slices::words::at;
 use text_lookup::Asked;
+use text_recursion::DEEP;
 
 // The declaration that a rule's name stands for, where entry k declares a rule of that name.
 fn declaration(texts: &[u8], bind: &[u32], count: usize, k: usize) -> usize
@@ -53,6 +54,7 @@ fn picked(texts: &[u8], bind: &[u32], graph: &[u32], c: Counts, step: usize, k: 
         outs,
         ins,
         rest,
+        depth: DEEP,
     }
 }
 

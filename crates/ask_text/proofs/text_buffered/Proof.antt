@@ -64,7 +64,7 @@ zero-from-requires : tie.Need-zero-from-requires
 zero-from-requires c κs = tt
 
 same-length : tie.Need-same-length
-same-length c = c .before .before .text-of .kept .1 .1 .1 .1 .1 .1 .1 .1 .1 .0
+same-length c = c .before .before .text-of .kept .1 .1 .1 .1 .1 .1 .1 .1 .0
 
 returns : tie.Need-returns
 returns c = written _ _ (c .before .before .before .before .before .before .before .before .before .before .before .before .before .before .before .before .before .before .before .before .before .before .before .before .before .before .before .before .before .before .pre) (read-accepted _ _ (c .before .before .before .before .before .before .before .before .before .before .before .before .before .before .before .before .before .before .before .read-manifest .ensures .promise) (c .before .before .before .before .before .before .before .before .before .before .before .c .given .1)) (c .before .before .text-of .ensures)
