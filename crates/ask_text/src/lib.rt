@@ -10,7 +10,7 @@ use hold_bindings::TEXTS;
 use hold_names::NUMBERS;
 use hold_reading::columns::COLUMNS_ROOM;
 use scan_classes::table;
-use slices::bytes::zero_from;
+use slices::bytes::zero_bytes_from;
 use spec::TextAnswer;
 use spec::Wanted;
 use spec::limits::VALUE;
@@ -52,7 +52,7 @@ pub fn text_buffered(manifest: &[u8], step: usize, wanted: Wanted, buffer: &mut 
             buffer,
         ),
         ReadAnswer::Refused(r) => {
-            zero_from(buffer, 0);
+            zero_bytes_from(buffer, 0);
             TextAnswer::Refused(r)
         }
     }

@@ -3,6 +3,7 @@ use Prim.Native.Nat.{ℕ, _≤_}
 use mathlib.Core.Bool.{true, false}
 use lib.ListN.{length}
 use borrow.Author.Tests.{le-leb}
+use native.Mathlib.Omega.{arith}
 use mathlib.Core.Path.{_≡_, refl}
 use mathlib.Core.List.{List, [], _∷_, map}
 use Rattle.spec.specs.declared.Refusal.{Refusal}
@@ -30,3 +31,25 @@ in-texts p = refl
 pub one-text : (m : List ℕ) (r : Refusal) → refusalSays r .text ≡ true → placeOfRefusal r ≤ length m → placed (m ∷ []) (refusalSays r) ≡ inText 0 (placeOfRefusal r)
 unfolding placed spot placeOfRefusal
 one-text m r e h = rw (e, le-leb (refusalSays r .value) (length m) h) refl
+
+-- 0 is the number of an answer
+pub refusal-not-0 : (r : Refusal) → numberOfRefusal r ≡ 0 → ⊥
+unfolding numberOfRefusal
+refusal-not-0 ShortBuffer e = omega arith
+refusal-not-0 LongManifest e = omega arith
+refusal-not-0 (BadByte p) e = omega arith
+refusal-not-0 (BadLine p) e = omega arith
+refusal-not-0 (BadDollar p) e = omega arith
+refusal-not-0 (NotYet p) e = omega arith
+refusal-not-0 (BadRule p) e = omega arith
+refusal-not-0 (BadPath p) e = omega arith
+refusal-not-0 (OverLimit p) e = omega arith
+refusal-not-0 (BadVersion p) e = omega arith
+refusal-not-0 BadCard e = omega arith
+refusal-not-0 (BadTarget p) e = omega arith
+refusal-not-0 NoRoot e = omega arith
+refusal-not-0 (Circle n) e = omega arith
+refusal-not-0 (MissingSource f) e = omega arith
+refusal-not-0 (EndlessText s) e = omega arith
+refusal-not-0 (LongText s) e = omega arith
+refusal-not-0 (NoCommand s) e = omega arith

@@ -177,13 +177,13 @@ fn texts_by(
         ends,
     ) {
         Walked::Stopped(n, end) => {
-            slices::bytes::zero_from(bytes, end);
-            slices::words::zero_from(ends, n);
+            slices::bytes::zero_bytes_from(bytes, end);
+            slices::words::zero_words_from(ends, n);
             TextsAnswer::Written(n)
         }
         Walked::Refused(r) => {
-            slices::bytes::zero_from(bytes, 0);
-            slices::words::zero_from(ends, 0);
+            slices::bytes::zero_bytes_from(bytes, 0);
+            slices::words::zero_words_from(ends, 0);
             TextsAnswer::Refused(r)
         }
     }

@@ -17,7 +17,7 @@ use Rattle.text_references.proofs.Turns.{expand-bytes, expand-name, refs-bytes,
 use Rattle.text_lookup.specs.declared.Asked.{Asked}
 use Rattle.text_recursion.specs.Depth.{goesDeep}
 use Rattle.text_recursion.proofs.Depths.{none-first, none-later}
-use Rattle.text_buffer.specs.Puts.{Open}
+use Rattle.text_buffer.specs.Puts.{OpenText}
 use Rattle.text_buffer.proofs.Parts.{open-on}
 use Rattle.text_memo.specs.declared.Draft.{Draft}
 use Rattle.text_memo.specs.Draft.{Remembers, Drafted, WritesDraft}
@@ -40,7 +40,7 @@ pub record Progress (rd : Reading) (s : Step) (raw : List ℕ) (depth : ℕ) (be
 pub record Writing (t : List ℕ) (bs : Buffers) (a : Asked) (raw before : List ℕ) (d : Draft) (now : List ℕ) (x : Draft) (i : ℕ) : Type 0 where
   pub ask : RawTextAsk t bs a raw before d
   pub ready : ReferencesReady t raw i
-  pub free : Open now (x .at)
+  pub free : OpenText now (x .at)
   pub long : length now ≡ length before
   pub done : (log : List Logged) (rd : Reading) (s : Step) → Here bs a log rd s → any (goesDeep rd s (a .depth)) (refs raw) ≡ false
       → Remembers (textOf rd s deep) before d → Progress rd s raw (a .depth) before d now x i

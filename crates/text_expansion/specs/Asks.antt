@@ -15,7 +15,7 @@ use Rattle.text_lookup.specs.declared.Source.{Source}
 use Rattle.text_lookup.specs.declared.Source.the-variants.{Value}
 use Rattle.text_lookup.specs.Scope.{meaning, There}
 use Rattle.text_recursion.specs.Depth.{goesDeep}
-use Rattle.text_buffer.specs.Puts.{Open}
+use Rattle.text_buffer.specs.Puts.{OpenText}
 use Rattle.text_memo.specs.declared.Draft.{Draft}
 use Rattle.text_memo.specs.Draft.{Remembers, Drafted}
 use Rattle.text_expansion.specs.Here.{StepFiles, Here}
@@ -29,7 +29,7 @@ pub record StepFilesAsk (names index graph : List ℕ) (a : Asked) (from to : �
   pub first : a .outs ≤ from
   pub ordered : from ≤ to
   pub last : to ≤ a .rest
-  pub free : Open buffer (d .at)
+  pub free : OpenText buffer (d .at)
 
 -- ------------------------------------------------------------------ what is written as it is
 
@@ -37,7 +37,7 @@ pub record PlainAsk (bs : Buffers) (a : Asked) (source : Source) (buffer : List 
   pub reading : Reading
   pub step : Step
   pub files : StepFiles (bs .names) (bs .index) (bs .graph) a reading step
-  pub free : Open buffer (d .at)
+  pub free : OpenText buffer (d .at)
   pub value : (k : ℕ) → source ≡ Value k → There (bs .texts) (bs .bind) a k
 
 pub record WritesPlain (bs : Buffers) (a : Asked) (source : Source) (before : List ℕ) (d : Draft) (after : List ℕ) (r : Draft) : Type 0 where

@@ -8,7 +8,7 @@ use hold_keys::key_name;
 use hold_keys::key_names;
 use hold_keys::number_of;
 use hold_reading::Counts;
-use slices::bytes::zero_from;
+use slices::bytes::zero_bytes_from;
 use spec::Key;
 use spec::Refusal;
 use spec::TextAnswer;
@@ -100,15 +100,15 @@ pub fn text_at(
     ensures { λ r. ⌜ TextAt (buffers (now (names .entry)) (now (index .entry)) (now (texts .entry)) (now (bind .entry)) (now (graph .entry))) a key (now (buffer .entry)) (now (buffer .exit)) r ⌝ }
 {
     if leads_back(t, texts, bind, a, key) {
-        zero_from(buffer, 0);
+        zero_bytes_from(buffer, 0);
         return TextAnswer::Refused(Refusal::EndlessText(a.step));
     }
     let n = write_key(t, names, index, texts, bind, graph, a, key, buffer);
     if TEXT < n {
-        zero_from(buffer, 0);
+        zero_bytes_from(buffer, 0);
         return TextAnswer::Refused(Refusal::LongText(a.step));
     }
-    zero_from(buffer, n);
+    zero_bytes_from(buffer, n);
     TextAnswer::Written(n)
 }
 
@@ -139,7 +139,7 @@ pub fn text_of(
     let step = x.step;
     match asked(texts, bind, graph, c, step) {
         StepAsked::NoCommand => {
-            zero_from(buffer, 0);
+            zero_bytes_from(buffer, 0);
             TextAnswer::Refused(Refusal::NoCommand(step))
         }
         StepAsked::Step(a) => {
