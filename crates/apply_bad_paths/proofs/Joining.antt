@@ -21,7 +21,7 @@ use Rattle.apply_path_checks.specs.Checks.{wrongPath, PathAsks, AnyWrong}
 use Rattle.apply_path_checks.proofs.Wrong.{any-input, any-output}
 use Rattle.apply_equal_outputs.specs.Kept.{ColumnsKept}
 use Rattle.apply_equal_outputs.specs.Sorted.{RoomAsks, Twice}
-use Rattle.apply_bad_paths.specs.Asks.{BuildLineAsks, InputsChecked, Checked}
+use Rattle.apply_bad_paths.specs.Asks.{BuildLineAsks, InputsChecked, PathsChecked}
 use Rattle.hold_reading.specs.Buffers.{Buffers}
 
 -- ---- the inputs
@@ -81,11 +81,11 @@ module _ {l : List ℕ} {bs : Buffers} {c : Counts} {p : BuildPlaces} {r : Bool}
       bad-parts (expandedLine rd b .outs) (inputsOfLine (expandedLine rd b)) rd
       ∙ ap (λ (x : Bool). x || (any isEmpty (inputsOfLine (expandedLine rd b)) || twice (expandedLine rd b .outs))) (sym (a .answer (b .outs) (w .outs) log rd h))
 
-  pub line-output : r ≡ true → Checked l bs c p (bs .graph) true
+  pub line-output : r ≡ true → PathsChecked l bs c p (bs .graph) true
   line-output e = record { kept = kept-same (bs .graph); answer = λ b w log rd h. sym (line-parts b w rd h ∙ rw e) }
 
   module _ (e : r ≡ false) {s : Bool} (i : InputsChecked l bs c p s) where
-    pub line-input : s ≡ true → Checked l bs c p (bs .graph) true
+    pub line-input : s ≡ true → PathsChecked l bs c p (bs .graph) true
     line-input f = record { kept = kept-same (bs .graph); answer = λ b w log rd h. sym (line-parts b w rd h ∙ rw (e, sym (i .answer b w log rd h) ∙ f)) }
 
     twice-outs : {graph′ : List ℕ} {u : Bool} → Twice l (bs .texts) (bs .bind) (bs .graph) c (p .outs) graph′ u → (b : BuildLine) → Stands l p b → {log : List Logged} (rd : Reading) → HoldsReading log bs c rd
@@ -93,7 +93,7 @@ module _ {l : List ℕ} {bs : Buffers} {c : Counts} {p : BuildPlaces} {r : Bool}
     unfolding expandedLine
     twice-outs x b w {log} rd h = sym (x .answer (b .outs) (w .outs) log rd (h .bound))
 
-    pub line-twice : s ≡ false → {graph′ : List ℕ} {u : Bool} → Twice l (bs .texts) (bs .bind) (bs .graph) c (p .outs) graph′ u → Checked l bs c p graph′ u
+    pub line-twice : s ≡ false → {graph′ : List ℕ} {u : Bool} → Twice l (bs .texts) (bs .bind) (bs .graph) c (p .outs) graph′ u → PathsChecked l bs c p graph′ u
     line-twice f x =
         record {
           kept = x .kept;

@@ -35,7 +35,7 @@ pub record InputsChecked (l : List ℕ) (bs : Buffers) (c : Counts) (p : BuildPl
   pub answer : (b : BuildLine) → Stands l p b → (log : List Logged) (rd : Reading) → HoldsReading log bs c rd → r ≡ any isEmpty (inputsOfLine (expandedLine rd b))
 
 -- "empty path, output made twice (also within one step)" (8)
-pub record Checked (l : List ℕ) (bs : Buffers) (c : Counts) (p : BuildPlaces) (graph′ : List ℕ) (r : Bool) : Type 0 where
+pub record PathsChecked (l : List ℕ) (bs : Buffers) (c : Counts) (p : BuildPlaces) (graph′ : List ℕ) (r : Bool) : Type 0 where
   pub kept : ColumnsKept (bs .graph) graph′
   pub answer : (b : BuildLine) → Stands l p b → (log : List Logged) (rd : Reading) → HoldsReading log bs c rd
       → r ≡ badPaths (expandedLine rd b .outs) (inputsOfLine (expandedLine rd b)) rd

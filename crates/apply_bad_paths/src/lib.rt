@@ -1,6 +1,6 @@
 // The refusals under 8 of a build line: an empty path, an output of an earlier step, two equal outputs.
 ghost use Rattle.lists.specs.Lent.{Spare, Leaves};
-ghost use Rattle.apply_bad_paths.specs.Asks.{BuildLineAsks, InputsChecked, Checked};
+ghost use Rattle.apply_bad_paths.specs.Asks.{BuildLineAsks, InputsChecked, PathsChecked};
 ghost use Rattle.hold_reading.specs.Buffers.{buffers};
 use apply_equal_outputs::has_equal_outputs;
 use apply_path_checks::PathKind;
@@ -59,7 +59,7 @@ pub fn bad_paths(
     c: Counts,
 ) -> bool
     requires { ⌜ BuildLineAsks (now t) (now l) (buffers (now names) (now index) (now texts) (now bind) (now graph)) (now word) c p ⌝ }
-    ensures { λ r. ⌜ Leaves (Spare (now (word .entry)) (now (word .exit))) (Checked (now (l .entry)) (buffers (now (names .entry)) (now (index .entry)) (now (texts .entry)) (now (bind .entry)) (now (graph .entry))) c p (now (graph .exit)) r) ⌝ }
+    ensures { λ r. ⌜ Leaves (Spare (now (word .entry)) (now (word .exit))) (PathsChecked (now (l .entry)) (buffers (now (names .entry)) (now (index .entry)) (now (texts .entry)) (now (bind .entry)) (now (graph .entry))) c p (now (graph .exit)) r) ⌝ }
 {
     let outs = PathList {
         start: p.outs,

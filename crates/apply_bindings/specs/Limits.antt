@@ -33,6 +33,6 @@ pub record EntryReady (texts bind : List ℕ) (c : Counts) (e : Logged) : Type 0
   pub fits : EntryFits c e
 
 -- this entry was put into the table
-pub record Put (texts bind : List ℕ) (c : Counts) (e : Logged) (texts′ bind′ : List ℕ) (r : Counts) : Type 0 where
+pub record PutsBinding (texts bind : List ℕ) (c : Counts) (e : Logged) (texts′ bind′ : List ℕ) (r : Counts) : Type 0 where
   pub counted : r ≡ countedMore (length (e .value)) c
   pub held : (log : List Logged) (rd : Reading) → HoldsBound log texts bind c rd → HoldsBindings (e ∷ log) texts′ bind′ (c .entries + 1)

@@ -3,7 +3,7 @@ ghost use mathlib.Core.Path.{_≡_};
 ghost use Prim.Native.Nat.{_≤_};
 ghost use Rattle.spec.specs.Limits.{maxBindings, maxWritten};
 ghost use Rattle.hold_bindings.specs.Log.{logged};
-ghost use Rattle.apply_bindings.specs.Limits.{bindingOver, EntryReady, Put};
+ghost use Rattle.apply_bindings.specs.Limits.{bindingOver, EntryReady, PutsBinding};
 use hold_bindings::push;
 use hold_reading::Counts;
 use spec::limits::BINDINGS;
@@ -38,7 +38,7 @@ pub fn push_binding(
     value: &[u8],
 ) -> Counts
     requires { ⌜ EntryReady (now texts) (now bind) c (logged owner (now name) (now value)) ⌝ }
-    ensures { λ r. ⌜ Put (now (texts .entry)) (now (bind .entry)) c (logged owner (now (name .entry)) (now (value .entry))) (now (texts .exit)) (now (bind .exit)) r ⌝ }
+    ensures { λ r. ⌜ PutsBinding (now (texts .entry)) (now (bind .entry)) c (logged owner (now (name .entry)) (now (value .entry))) (now (texts .exit)) (now (bind .exit)) r ⌝ }
 {
     let entries = c.entries;
     push(texts, bind, entries, owner, name, value);

@@ -19,7 +19,7 @@ use Rattle.hold_reading.specs.declared.LineAnswer.the-variants.{Refused}
 use Rattle.hold_reading.specs.Held.{HoldsBound, HoldsReading, refuses}
 use Rattle.hold_reading.specs.Adds.{AddsFiles}
 use Rattle.apply_equal_outputs.specs.Kept.{ColumnsKept}
-use Rattle.apply_bad_paths.specs.Asks.{Checked}
+use Rattle.apply_bad_paths.specs.Asks.{PathsChecked}
 use Rattle.apply_equal_outputs.proofs.Behind.{held-kept, whole-kept}
 use Rattle.apply_steps.specs.Asks.{StepAsks, WritesStep}
 use Rattle.apply_builds.specs.Asks.{BuildAsks}
@@ -36,7 +36,7 @@ module _ {l : List ℕ} {bs : Buffers} {c : Counts} {p : BuildPlaces} (start : �
   unfolding addStep
   line-unknown e w = record { agrees = λ log rd h. rw (rule-known w h ∙ e) refuses }
 
-  module _ (e : r ≡ true) {graph₁ : List ℕ} {s : Bool} (k : Checked l bs c p graph₁ s) where
+  module _ (e : r ≡ true) {graph₁ : List ℕ} {s : Bool} (k : PathsChecked l bs c p graph₁ s) where
     pub line-bad : s ≡ true → {b : BuildLine} → Stands l p b → {names′ index′ graph′ : List ℕ}
         → AddsFiles bs c (λ rd. addStep start (expandedLine rd b) rd) names′ index′ graph′ (Refused (BadPath start))
     unfolding addStep

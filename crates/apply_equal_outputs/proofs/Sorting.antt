@@ -30,7 +30,7 @@ use Rattle.hold_reading.specs.declared.Counts.{Counts}
 use Rattle.apply_equal_outputs.specs.declared.TablePlace.the-variants.{Taken, Free}
 use Rattle.apply_path_checks.specs.Checks.{pathOf}
 use Rattle.apply_equal_outputs.specs.Kept.{tableStart}
-use Rattle.apply_equal_outputs.specs.Sorted.{entryOf, rawOf, OutputLies, pathsOf, OutputsSorted, PlaceAsks, PathOrdered, Belongs, PlaceIn, Added, TwiceAsks, ComparesOutputs, Twice}
+use Rattle.apply_equal_outputs.specs.Sorted.{entryOf, rawOf, OutputLies, pathsOf, OutputsSorted, PlaceAsks, PathOrdered, Belongs, PlaceIn, PathAdded, TwiceAsks, ComparesOutputs, Twice}
 use Rattle.apply_path_checks.proofs.Wrong.{path-held, expanded-cons, expanded-none}
 use Rattle.apply_equal_outputs.proofs.Members.{among-at, free-among, among-inserted}
 use Rattle.apply_equal_outputs.proofs.Repeats.{repeats, repeats-begin, repeats-found, repeats-on, repeats-end}
@@ -170,7 +170,7 @@ module _ {l texts bind : List ℕ} {c : Counts} {from to : ℕ} {table : List �
 
 module _ {l texts bind : List ℕ} {c : Counts} {from to : ℕ} {table : List ℕ} {n : ℕ} where
   pub path-taken : ((log : List Logged) (rd : Reading) → HoldsBound log texts bind c rd → among (pathOf rd (part l from to)) (pathsOf rd l (take n table)) ≡ true)
-      → Added l texts bind c from to table n table true
+      → PathAdded l texts bind c from to table n table true
   path-taken h =
       record {
         long = refl;
@@ -180,7 +180,7 @@ module _ {l texts bind : List ℕ} {c : Counts} {from to : ℕ} {table : List �
 
   module _ {p : ℕ} (h : Belongs l texts bind c from to (take n table) p) where
     pub path-added : {t : List ℕ} → PlaceAsks t l texts bind (c .entries) from to → OutputsSorted l texts bind c (take n table) → {table′ : List ℕ} → Shifted table n p (entryOf from to) table′
-        → Added l texts bind c from to table n table′ false
+        → PathAdded l texts bind c from to table n table′ false
     path-added a s {table′} x =
         record {
           long = x .long;
@@ -241,7 +241,7 @@ module _ {l texts bind : List ℕ} {c : Counts} {start : ℕ} {table₀ table : 
         let (us, q, u) = walk-on p v in
         (us, u, λ log rd b. s log rd b ∙ ap (λ (r : List (List ℕ)). repeats (pathsOf rd l (take n table)) (expanded rd r)) q ∙ rw (expanded-cons rd (part l from to) us))
 
-    module _ {table′ : List ℕ} {r : Bool} (a : Added l texts bind c from to table n table′ r) where
+    module _ {table′ : List ℕ} {r : Bool} (a : PathAdded l texts bind c from to table n table′ r) where
       pub scan-found : r ≡ true → ComparesOutputs l texts bind c start table₀ table′ true
       scan-found e =
           record {

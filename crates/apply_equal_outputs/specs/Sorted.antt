@@ -91,7 +91,7 @@ pub record Grown (l texts bind : List ℕ) (c : Counts) (from to : ℕ) (old new
   pub members : (log : List Logged) (rd : Reading) → HoldsBound log texts bind c rd → (p : List ℕ) → among p (pathsOf rd l new) ≡ eqBytes p (pathOf rd (part l from to)) || among p (pathsOf rd l old)
 
 -- whether the path is one of the first n entries' paths
-pub record Added (l texts bind : List ℕ) (c : Counts) (from to : ℕ) (table : List ℕ) (n : ℕ) (table′ : List ℕ) (r : Bool) : Type 0 where
+pub record PathAdded (l texts bind : List ℕ) (c : Counts) (from to : ℕ) (table : List ℕ) (n : ℕ) (table′ : List ℕ) (r : Bool) : Type 0 where
   pub long : length table′ ≡ length table
   pub answer : (log : List Logged) (rd : Reading) → HoldsBound log texts bind c rd → r ≡ among (pathOf rd (part l from to)) (pathsOf rd l (take n table))
   pub grown : r ≡ false → Grown l texts bind c from to (take n table) (take (n + 1) table′)

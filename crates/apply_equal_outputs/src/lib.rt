@@ -1,5 +1,5 @@
 // Two equal outputs in a line. The outputs so far stand in a table that is sorted by what they expand to, so each is compared with few others.
-ghost use Rattle.apply_equal_outputs.specs.Sorted.{EntryAsks, PathOrdered, SortedAsks, PlaceIn, AddAsks, Added, TableAsks, ComparesOutputs, RoomAsks, Twice};
+ghost use Rattle.apply_equal_outputs.specs.Sorted.{EntryAsks, PathOrdered, SortedAsks, PlaceIn, AddAsks, PathAdded, TableAsks, ComparesOutputs, RoomAsks, Twice};
 use arena::insert;
 use cut_forms::ListPath;
 use cut_forms::paths::next_listed;
@@ -82,7 +82,7 @@ fn is_taken(
     n: usize,
 ) -> bool
     requires { ⌜ AddAsks (now t) (now l) (now texts) (now bind) c from to (now table) n ⌝ }
-    ensures { λ r. ⌜ Added (now (l .entry)) (now (texts .entry)) (now (bind .entry)) c from to (now (table .entry)) n (now (table .exit)) r ⌝ }
+    ensures { λ r. ⌜ PathAdded (now (l .entry)) (now (texts .entry)) (now (bind .entry)) c from to (now (table .entry)) n (now (table .exit)) r ⌝ }
 {
     match place_for(t, l, from, to, texts, bind, c, &table[..n]) {
         TablePlace::Taken => true,

@@ -13,7 +13,7 @@ use Rattle.spec.specs.Lines.{Line, linesOf, isComment}
 use Rattle.spec.specs.Reading.{Reading, nothingRead}
 use Rattle.spec.specs.Statements.{Block, noBlock, Outcome}
 use Rattle.spec.specs.Manifest.{close, andThen, readLine, readLines}
-use Rattle.scan_lines.specs.Endings.{linesFrom}
+use Rattle.scan_lines.specs.Endings.{linesAt}
 use Rattle.scan_lines.proofs.Ends.{lines-begin, lines-end}
 use Rattle.scan_cursor.specs.declared.LineBounds.{LineBounds}
 use Rattle.scan_cursor.specs.Spans.{lineOf, LineSpan, LineHere, onlyComments, NextLine}
@@ -51,14 +51,14 @@ past-comments (l ∷ ls) ks rd b e =
     (past-comments ls ks rd b (and-right (isComment (l .text)) (onlyComments ls) e))
 
 -- the lines from place i on say what those from the next line on say
-from-next : {m : List ℕ} {i : ℕ} {s : LineBounds} (n : NextLine m i s) (rd : Reading) (b : Block) → readLines (linesFrom (s .start) (drop (s .start) m)) rd b ≡ readLines (linesFrom i (drop i m)) rd b
+from-next : {m : List ℕ} {i : ℕ} {s : LineBounds} (n : NextLine m i s) (rd : Reading) (b : Block) → readLines (linesAt (s .start) (drop (s .start) m)) rd b ≡ readLines (linesAt i (drop i m)) rd b
 from-next n rd b = rw (n .lines) (sym (past-comments (n .passed) _ rd b (n .comments)))
 
 -- before the lines from place i on
 pub record Reached (m : List ℕ) (bs : Buffers) (c : Counts) (o : Open) (i : ℕ) : Type 0 where
   pub within : i ≤ length m
   pub between : BetweenLines bs c o
-  pub left : readLines (linesFrom i (drop i m)) (between .reading) (between .block) ≡ readLines (linesOf m) nothingRead noBlock
+  pub left : readLines (linesAt i (drop i m)) (between .reading) (between .block) ≡ readLines (linesOf m) nothingRead noBlock
 
 pub turn-begin : {t m : List ℕ} {bs : Buffers} {word : List ℕ} → TopAsk t m bs word → Reached m bs noCounts Nothing 0
 unfolding sum
@@ -136,7 +136,7 @@ module _ {m : List ℕ} {bs : Buffers} {c : Counts} {o : Open} {s : LineBounds} 
     pub turn-span : LineSpan m (s .start) s
     turn-span = w .here .span h
 
-    turn-left : andThen (readLine (lineOf i (part m i (s .end)) (s .ended)) (b .reading) (b .block)) (readLines (linesFrom (s .next) (drop (s .next) m)))
+    turn-left : andThen (readLine (lineOf i (part m i (s .end)) (s .ended)) (b .reading) (b .block)) (readLines (linesAt (s .next) (drop (s .next) m)))
         ≡ readLines (linesOf m) nothingRead noBlock
     unfolding readLines
     turn-left = rw (turn-span .lines) at (w .reached .left)

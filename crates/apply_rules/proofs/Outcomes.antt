@@ -24,7 +24,7 @@ use Rattle.hold_reading.specs.Held.{joined, OpensBlock, nothing, aRule, aStep, 
 use Rattle.hold_reading.specs.Binds.{SoundBlock, countedRule, Binds, goes, Meets}
 use Rattle.hold_reading.proofs.Grow.{newest-rule-below, bound-room, bound-rule, bound-key, beside-same, beside-rule, beside-key}
 use Rattle.hold_reading.proofs.Lift.{joined-none, none-bound, refused-by}
-use Rattle.apply_bindings.specs.Limits.{bindingOver, EntryReady, Put}
+use Rattle.apply_bindings.specs.Limits.{bindingOver, EntryReady, PutsBinding}
 use Rattle.apply_bindings.proofs.Entries.{over-counted, within}
 use Rattle.hold_rules.specs.Tests.{OfRule, keyed, badKey}
 use Rattle.hold_rules.proofs.Lookups.{keyed-held, bad-held, key-short}
@@ -103,7 +103,7 @@ module _ (start head k : ℕ) (n raw : List ℕ) {log : List Logged} {texts bind
   key-over (aRule {r = r} o) d f m h q = rw (bad-test r o d ∙ h, over-test r d f m h ∙ q)
 
   key-goes : {b : Block} → OpensBlock log b (OpenRule head k) → HoldsBound log texts bind c (joined rd b) → length (joined rd b .files) ≤ maxFiles → joined rd b .mentions ≤ maxMentions
-      → badKey k n log ≡ false → bindingOver (length n) (length raw) c ≡ false → {texts′ bind′ : List ℕ} {c′ : Counts} → Put texts bind c (logged (ofKeys k) n raw) texts′ bind′ c′
+      → badKey k n log ≡ false → bindingOver (length n) (length raw) c ≡ false → {texts′ bind′ : List ℕ} {c′ : Counts} → PutsBinding texts bind c (logged (ofKeys k) n raw) texts′ bind′ c′
       → Binds log c (joined rd b) texts′ bind′ (blockLine start b n raw rd) (Goes c′ (OpenRule head k))
   unfolding joined withRule blockLine addKey
   key-goes (aRule {r = r} o) d f m h q p =
@@ -132,7 +132,7 @@ module _ (start head k : ℕ) (n raw : List ℕ) {texts bind : List ℕ} {c : Co
               (key-over start head k n raw rd (w .opens) (w .bound) (w .few-files) (w .few-mentions) (sym (e log (w .bound .held)) ∙ h) q);
         }
 
-    pub keys-go : {texts′ bind′ : List ℕ} {c′ : Counts} → bindingOver (length n) (length raw) c ≡ false → Put texts bind c (logged (ofKeys k) n raw) texts′ bind′ c′
+    pub keys-go : {texts′ bind′ : List ℕ} {c′ : Counts} → bindingOver (length n) (length raw) c ≡ false → PutsBinding texts bind c (logged (ofKeys k) n raw) texts′ bind′ c′
         → Meets texts bind c (OpenRule head k) (λ rd b. blockLine start b n raw rd) texts′ bind′ (Goes c′ (OpenRule head k))
     keys-go q p =
         record {

@@ -11,7 +11,7 @@ use Rattle.hold_reading.specs.Held.{endIn, phonyStart, madeStart, ruleStart, sc
 use Rattle.apply_files.specs.Lines.{LineHeld, Columns}
 use Rattle.apply_files.proofs.Columns.{graph-long, mentions-fit, made-fit, set-made, read-mention, read-end, push-phony, push-rule}
 use Rattle.hold_reading.specs.declared.Counts.{Counts}
-use Rattle.apply_step_columns.specs.StepColumns.{setAll, Laid, Part, MakeAsks, MarksMade, StepReady, PutStepAsks, newestEnd, phonyBit, withStepRule, countedStep, PutsStep}
+use Rattle.apply_step_columns.specs.StepColumns.{setAll, Laid, StepPart, MakeAsks, MarksMade, StepReady, PutStepAsks, newestEnd, phonyBit, withStepRule, countedStep, PutsStep}
 
 pub length-set-all : (v : ℕ) (fs made : List ℕ) → length (setAll v fs made) ≡ length made
 unfolding setAll
@@ -32,7 +32,7 @@ pub record Making (graph₀ : List ℕ) (from to v : ℕ) (graph : List ℕ) (i 
   pub long : length graph ≡ length graph₀
   pub begun : from ≤ i
   pub within : i ≤ to
-  pub lines : (h : LineHeld) → Laid graph₀ h → Part from to h → Left graph i to v from h
+  pub lines : (h : LineHeld) → Laid graph₀ h → StepPart from to h → Left graph i to v from h
 
 pub make-begin : {graph : List ℕ} {from to v : ℕ} → MakeAsks graph from to v → Making graph from to v graph from
 make-begin a =
@@ -52,10 +52,10 @@ module _ {graph₀ : List ℕ} {from to v : ℕ} {graph : List ℕ} {i : ℕ} (x
   make-in b = omega (arith, x .asks .some .within, graph-long (here .columns), mentions-fit (here .columns))
 
   module _ (b : i < to) {f : ℕ} (e : f ≡ getD graph i 0) where
-    is-mention : (h : LineHeld) → Laid graph₀ h → Part from to h → f ≡ getD (h .mentions) i 0
+    is-mention : (h : LineHeld) → Laid graph₀ h → StepPart from to h → f ≡ getD (h .mentions) i 0
     is-mention h l p = e ∙ read-mention (x .lines h l p .columns) i (omega (arith, p .within))
 
-    file-low : (h : LineHeld) → Laid graph₀ h → Part from to h → f < length (h .made)
+    file-low : (h : LineHeld) → Laid graph₀ h → StepPart from to h → f < length (h .made)
     file-low h l p = rw (is-mention h l p) (p .low i (omega (arith, p .within)))
 
     pub make-low : f < maxFiles

@@ -50,7 +50,7 @@ withMade v fs h =
     }
 
 -- a part of the mentions is of files that are there
-pub record Part (from to : ℕ) (h : LineHeld) : Type 0 where
+pub record StepPart (from to : ℕ) (h : LineHeld) : Type 0 where
   pub ordered : from ≤ to
   pub within : to ≤ length (h .mentions)
   pub low : (i : ℕ) → i < length (h .mentions) → getD (h .mentions) i 0 < length (h .made)
@@ -58,11 +58,11 @@ pub record Part (from to : ℕ) (h : LineHeld) : Type 0 where
 pub record MakeAsks (graph : List ℕ) (from to v : ℕ) : Type 0 where
   pub line : LineHeld
   pub laid : Laid graph line
-  pub some : Part from to line
+  pub some : StepPart from to line
   pub small : v < 2 ^ 32
 
 pub record MarksMade (graph : List ℕ) (from to v : ℕ) (graph′ : List ℕ) : Type 0 where
-  pub laid : (h : LineHeld) → Laid graph h → Part from to h → Laid graph′ (withMade v (part (h .mentions) from to) h)
+  pub laid : (h : LineHeld) → Laid graph h → StepPart from to h → Laid graph′ (withMade v (part (h .mentions) from to) h)
 
 -- ------------------------------------------------------------------ the step
 
@@ -73,7 +73,7 @@ newestEnd c h = endAt (h .ends) (c .steps) outsEnd
 -- the line has its ends, its outputs start at `from`, and there is room for its step
 pub record StepReady (from : ℕ) (c : Counts) (h : LineHeld) : Type 0 where
   pub ended : endPlace (c .steps) outsEnd < length (h .ends)
-  pub outs : Part from (newestEnd c h) h
+  pub outs : StepPart from (newestEnd c h) h
   pub phony : length (h .phony) ≡ c .steps
   pub ruled : length (h .ruleOf) ≡ c .steps
   pub few : c .steps < maxSteps

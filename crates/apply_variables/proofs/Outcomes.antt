@@ -23,7 +23,7 @@ use Rattle.hold_reading.specs.Held.{joined, OpensBlock, nothing, aStep, HoldsBo
 use Rattle.hold_reading.specs.Binds.{Known, SoundBlock, Binds, goes, Meets}
 use Rattle.hold_reading.proofs.Grow.{bound-var, bound-line, beside-var, beside-line}
 use Rattle.hold_reading.proofs.Lift.{joined-none, none-bound, refused-by}
-use Rattle.apply_bindings.specs.Limits.{bindingOver, EntryReady, Put}
+use Rattle.apply_bindings.specs.Limits.{bindingOver, EntryReady, PutsBinding}
 use Rattle.apply_bindings.proofs.Entries.{over-counted, within}
 use Rattle.apply_variables.proofs.Values.{value-held, written-word}
 
@@ -41,7 +41,7 @@ module _ (start : ℕ) (n v : List ℕ) {texts bind : List ℕ} {c : Counts} (h 
 
   -- k is the scope that is read in.
   pub var-goes : {texts′ bind′ : List ℕ} {c′ : Counts} {k : ℕ} → ((g : Scoping) → HoldsScopes g bind → k ≡ g .current) → wrongVersion n v ≡ false
-      → Put texts bind c (logged (ofScope k) n v) texts′ bind′ c′
+      → PutsBinding texts bind c (logged (ofScope k) n v) texts′ bind′ c′
       → Meets texts bind c Nothing (λ rd b. addVar start n v rd) texts′ bind′ (Goes c′ Nothing)
   unfolding joined addVar
   var-goes {texts′} {bind′} {k = k} s q p =
@@ -106,7 +106,7 @@ module _ (start : ℕ) (n raw : List ℕ) {log : List Logged} {texts bind : List
 
   line-bound : {b : Block} → OpensBlock log b OpenStep → HoldsBound log texts bind c (joined rd b) → length (joined rd b .files) ≤ maxFiles → joined rd b .mentions ≤ maxMentions
       → expand (fileVar (rd .vars)) raw ≡ v → bindingOver (length n) (length v) c ≡ false → {texts′ bind′ : List ℕ} {c′ : Counts}
-      → Put texts bind c (logged (5 + 3 * (c .steps - 1)) n v) texts′ bind′ c′ → Binds log c (joined rd b) texts′ bind′ (blockLine start b n raw rd) (Goes c′ OpenStep)
+      → PutsBinding texts bind c (logged (5 + 3 * (c .steps - 1)) n v) texts′ bind′ c′ → Binds log c (joined rd b) texts′ bind′ (blockLine start b n raw rd) (Goes c′ OpenStep)
   unfolding joined withStep blockLine addToBlock
   line-bound (aStep {s = s}) d f m e h {texts′} {bind′} p =
       let z : c .steps - 1 ≡ length (rd .steps) = omega (arith, d .steps-counted, length-append (rd .steps) (s ∷ [])) in
@@ -132,7 +132,7 @@ module _ (start : ℕ) (n raw : List ℕ) {texts bind word word′ : List ℕ} {
       }
 
   pub line-goes : {texts′ bind′ : List ℕ} {c′ : Counts} → k ≤ length word → bindingOver (length n) (length (take k word′)) c ≡ false
-      → Put texts bind c (logged (5 + 3 * (c .steps - 1)) n (take k word′)) texts′ bind′ c′
+      → PutsBinding texts bind c (logged (5 + 3 * (c .steps - 1)) n (take k word′)) texts′ bind′ c′
       → Meets texts bind c OpenStep (λ rd b. blockLine start b n raw rd) texts′ bind′ (Goes c′ OpenStep)
   line-goes l h p =
       record {

@@ -12,7 +12,7 @@ use hold_bindings::TEXTS;
 use hold_names::NUMBERS;
 use hold_reading::columns::COLUMNS_ROOM;
 use scan_classes::table;
-use slices::words::zero_from;
+use slices::words::zero_words_from;
 use spec::PlanAnswer;
 use spec::limits::VALUE;
 use spec::limits::WRITTEN;
@@ -41,7 +41,7 @@ pub fn plan_buffered(manifest: &[u8], card: &[u8], targets: &[u8], list: &mut [u
     ) {
         ReadAnswer::Accepted(c) => plan_read(card, targets, &names, &index, &graph, c, list),
         ReadAnswer::Refused(r) => {
-            zero_from(list, 0);
+            zero_words_from(list, 0);
             PlanAnswer::Refused(r)
         }
     }

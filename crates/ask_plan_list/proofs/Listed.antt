@@ -5,9 +5,9 @@ use mathlib.Core.Path.{ap, fun-ext}
 use mathlib.Core.List.{List}
 use lib.ListN.{length}
 use Rattle.spec.specs.declared.PlanAnswer.the-variants.{Listed}
-use Rattle.spec.specs.Answers.{planSays}
+use Rattle.spec.specs.Answers.{planSays, says}
 use Rattle.spec.specs.PlanAsk.{rootsOf, planListed}
-use Rattle.spec.specs.Promises.{counts, PlanMeets}
+use Rattle.spec.specs.Promises.{PlanMeets}
 use Rattle.graph_list.specs.Listing.{StaleListAsked, StaleListed}
 use Rattle.ask_plan_list.specs.Stages.{OrderAsked, PlansListed}
 
@@ -27,5 +27,5 @@ module _ {mentions ends phony made times order list : List ℕ} where
       record {
         plans = λ i rd s o.
             let t = rw (fun-ext (s .timed)) at (l (rd .steps) (length (rd .files)) (rootsOf i rd) (s .held) o) in
-            record { says = ap counts (t .counted); leaves = t .shown };
+            record { says = ap (says 0) (t .counted); leaves = t .shown };
       }

@@ -16,9 +16,9 @@ use Rattle.spec.specs.declared.PlanAnswer.{PlanAnswer}
 use Rattle.spec.specs.declared.PlanAnswer.the-variants.{Refused}
 use Rattle.spec.specs.Reading.{Reading}
 use Rattle.spec.specs.Graph.{before, needed, hasOrder}
-use Rattle.spec.specs.Answers.{numberOfRefusal, placeOfRefusal, planSays}
+use Rattle.spec.specs.Answers.{numberOfRefusal, placeOfRefusal, planSays, says}
 use Rattle.spec.specs.PlanAsk.{Inputs, rootsOf, planOrdered}
-use Rattle.spec.specs.Promises.{PlanMeets, refused14}
+use Rattle.spec.specs.Promises.{PlanMeets}
 use Rattle.spec.proofs.Graph.{in-before, in-needed}
 use Rattle.hold_columns.specs.Columns.{makersIn, beforeIn, neededIn, FilesMade}
 use Rattle.hold_columns.proofs.Makers.{makers-small}
@@ -63,7 +63,7 @@ module _ {mentions ends phony made times roots list : List ℕ} where
             rw (circle-not-whole (needed (rd .steps) (rootsOf i rd)) (before (rd .steps)) real) (record {
               circle = c .circle;
               real = circle-as (λ t. in-needed (rd .steps) (rootsOf i rd)) (λ t w m. in-before (rd .steps) t) real;
-              shown = record { says = ap refused14 (c .shown .counted); leaves = c .shown .shown };
+              shown = record { says = ap (says 14) (c .shown .counted); leaves = c .shown .shown };
             });
       }
 

@@ -7,7 +7,7 @@ use ask_target_files::NumberedTargets;
 use ask_target_files::number_targets;
 use hold_reading::Counts;
 use scan_card::sound;
-use slices::words::zero_from;
+use slices::words::zero_words_from;
 use spec::PlanAnswer;
 use spec::Refusal;
 use spec::limits::FILES;
@@ -31,7 +31,7 @@ fn number_then_plan(
     let files = c.files;
     match number_targets(targets, names, index, files, numbers) {
         NumberedTargets::Bad(place) => {
-            zero_from(list, 0);
+            zero_words_from(list, 0);
             PlanAnswer::Refused(Refusal::BadTarget(place))
         }
         NumberedTargets::All(n) => {
@@ -83,7 +83,7 @@ pub fn plan_read(
     ensures { λ r. ⌜ PlansRead (now (card .entry)) (now (targets .entry)) (now (names .entry)) (now (index .entry)) (now (graph .entry)) c (now (list .entry)) r (now (list .exit)) ⌝ }
 {
     if !sound(card) {
-        zero_from(list, 0);
+        zero_words_from(list, 0);
         return PlanAnswer::Refused(Refusal::BadCard);
     }
     plan_targets(card, targets, names, index, graph, c, list)

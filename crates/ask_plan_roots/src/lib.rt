@@ -5,7 +5,7 @@ ghost use Rattle.ask_plan_list.specs.Stages.{StageAsked};
 ghost use Rattle.ask_plan_roots.specs.Roots.{PlansFrom, PlansTops, PlansRooted, RootsSpaceAsked, RootedAsked};
 use ask_plan_order::plan_ordered;
 use graph_roots::tops;
-use slices::words::zero_from;
+use slices::words::zero_words_from;
 use spec::PlanAnswer;
 use spec::Refusal;
 use spec::limits::FILES;
@@ -30,7 +30,7 @@ fn plan_from(
     if phony.len() == 0 {
         return plan_ordered(mentions, ends, phony, made, times, roots, list);
     }
-    zero_from(list, 0);
+    zero_words_from(list, 0);
     PlanAnswer::Refused(Refusal::NoRoot)
 }
 

@@ -17,7 +17,7 @@ use Rattle.spec.proofs.Sources.{missing-lowest, none-missing, missing-none}
 use Rattle.hold_columns.specs.Columns.{makerIn}
 use Rattle.hold_columns.proofs.Makers.{in-makerIn, makerIn-in}
 use Rattle.hold_columns.proofs.Held.{held-makers, held-inputs}
-use Rattle.graph_sources.specs.Sources.{Absent, Wanted, LowestMissing}
+use Rattle.graph_sources.specs.Sources.{Absent, SourceWanted, LowestMissing}
 use Rattle.ask_plan_list.specs.Stages.{Staged, OrderOf}
 
 module _ {i : Inputs} {rd : Reading} {mentions ends phony made times order : List ℕ} (s : Staged i rd mentions ends phony made times) (o : OrderOf i rd order) where
@@ -33,7 +33,7 @@ module _ {i : Inputs} {rd : Reading} {mentions ends phony made times order : Lis
       go (suc m) e = absurd (n m (in-makers (rd .steps) f .0 (rw (held-makers (s .held)) at (makerIn-in made f e))))
 
   -- what is wanted and absent by the columns is a missing needed source
-  is-missing : (f : ℕ) → f < length made → Wanted mentions ends (rootsOf i rd) order f → Absent times made f → MissingIn i rd f
+  is-missing : (f : ℕ) → f < length made → SourceWanted mentions ends (rootsOf i rd) order f → Absent times made f → MissingIn i rd f
   is-missing f b w a = record {
     file = rw (s .held .counted) at b;
     absent = sym (s .timed f) ∙ a .0;
@@ -46,7 +46,7 @@ module _ {i : Inputs} {rd : Reading} {mentions ends phony made times order : Lis
     };
   }
 
-  missing-is : (f : ℕ) → MissingIn i rd f → Wanted mentions ends (rootsOf i rd) order f × Absent times made f
+  missing-is : (f : ℕ) → MissingIn i rd f → SourceWanted mentions ends (rootsOf i rd) order f × Absent times made f
   missing-is f w = (
     elim (w .source .needed) [
       | inl k ↦ inl k

@@ -2,7 +2,7 @@
 ghost use Rattle.ask_plan_sources.specs.Sources.{SourcesAsked, PlansSources};
 use ask_plan_list::plan_listed;
 use graph_sources::missing_source;
-use slices::words::zero_from;
+use slices::words::zero_words_from;
 use spec::PlanAnswer;
 use spec::Refusal;
 
@@ -22,7 +22,7 @@ pub fn plan_sources(
 {
     let f = missing_source(mentions, ends, made, times, roots, order);
     if f < made.len() {
-        zero_from(list, 0);
+        zero_words_from(list, 0);
         return PlanAnswer::Refused(Refusal::MissingSource(f));
     }
     plan_listed(mentions, ends, phony, made, times, order, list)

@@ -22,7 +22,7 @@ use Rattle.scan_targets.specs.declared.NextTarget.the-variants.{End, Bad as Bad
 use Rattle.scan_targets.specs.Next.{nextIn}
 use Rattle.scan_targets.proofs.Walk.{namesFrom, Turn, Walking, walk-malformed, walk-begin, walk-end, walk-bad, walk-turn, walk-missing, walk-more}
 use Rattle.ask_target_files.specs.declared.NumberedTargets.the-variants.{All, Bad}
-use Rattle.ask_target_files.specs.Numbered.{Asked, targetNumbersOf, NumbersTargets}
+use Rattle.ask_target_files.specs.Numbered.{NumberingAsked, targetNumbersOf, NumbersTargets}
 
 -- the numbers of the names up to a place are there, whatever names are held
 pub record Walked (targets names index : List ℕ) (count : ℕ) (start : List ℕ) (from n : ℕ) (out : List ℕ) : Type 0 where
@@ -39,7 +39,7 @@ module _ {targets names index : List ℕ} {count : ℕ} where
   pub form-bad : {out : List ℕ} → malformed targets ≡ true → NumbersTargets targets names index count out (Bad 0)
   form-bad h = record { says = λ files d. walk-malformed files targets h }
 
-  pub begin : {out : List ℕ} → Asked names index count out → malformed targets ≡ false → Walked targets names index count out 0 0 out
+  pub begin : {out : List ℕ} → NumberingAsked names index count out → malformed targets ≡ false → Walked targets names index count out 0 0 out
   begin a h =
       let w = walk-begin [] targets h in
       record { same = refl; named = a .named; room = a .room; within = w .within; short = w .short; few = omega arith; low = λ i b. absurd (not-suc-le-zero b); walks = λ files d. walk-begin files targets h }

@@ -11,7 +11,7 @@ use Rattle.hold_names.specs.Table.{HoldsNames, SoundNames}
 use Rattle.ask_target_files.specs.declared.NumberedTargets.{NumberedTargets}
 use Rattle.ask_target_files.specs.declared.NumberedTargets.the-variants.{All, Bad}
 
-pub record Asked (names index : List ℕ) (count : ℕ) (out : List ℕ) : Type 0 where
+pub record NumberingAsked (names index : List ℕ) (count : ℕ) (out : List ℕ) : Type 0 where
   pub named : SoundNames names index count
   -- each name takes two bytes at least
   pub room : maxTargets ≤ length out

@@ -1,6 +1,6 @@
 // The names of a target list as numbers of files, or 12.
 ghost use Rattle.lists.specs.Lent.{Spare, Leaves};
-ghost use Rattle.ask_target_files.specs.Numbered.{Asked, NumbersTargets};
+ghost use Rattle.ask_target_files.specs.Numbered.{NumberingAsked, NumbersTargets};
 use hold_names::FoundName;
 use hold_names::find_name;
 use scan_targets::NextTarget;
@@ -22,7 +22,7 @@ pub fn number_targets(
     count: usize,
     out: &mut [u32],
 ) -> NumberedTargets
-    requires { ⌜ Asked (now names) (now index) count (now out) ⌝ }
+    requires { ⌜ NumberingAsked (now names) (now index) count (now out) ⌝ }
     ensures { λ r. ⌜ Leaves (Spare (now (out .entry)) (now (out .exit))) (NumbersTargets (now (targets .entry)) (now (names .entry)) (now (index .entry)) count (now (out .exit)) r) ⌝ }
 {
     if bad_form(targets) {

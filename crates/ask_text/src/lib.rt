@@ -10,11 +10,12 @@ use hold_bindings::TEXTS;
 use hold_names::NUMBERS;
 use hold_reading::columns::COLUMNS_ROOM;
 use scan_classes::table;
-use slices::bytes::zero_from;
+use slices::bytes::zero_bytes_from;
 use spec::TextAnswer;
 use spec::Wanted;
 use spec::limits::VALUE;
 use spec::limits::WRITTEN;
+use text_step::StepText;
 use text_step::text_of;
 
 // With a text buffer of 8,192 bytes at least.
@@ -47,12 +48,11 @@ pub fn text_buffered(manifest: &[u8], step: usize, wanted: Wanted, buffer: &mut 
             &bind,
             &graph,
             c,
-            step,
-            wanted,
+            StepText { step, wanted },
             buffer,
         ),
         ReadAnswer::Refused(r) => {
-            zero_from(buffer, 0);
+            zero_bytes_from(buffer, 0);
             TextAnswer::Refused(r)
         }
     }

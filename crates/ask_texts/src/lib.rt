@@ -58,8 +58,8 @@ pub fn texts_buffered(
             ends,
         ),
         ReadAnswer::Refused(r) => {
-            slices::bytes::zero_from(bytes, 0);
-            slices::words::zero_from(ends, 0);
+            slices::bytes::zero_bytes_from(bytes, 0);
+            slices::words::zero_words_from(ends, 0);
             TextsAnswer::Refused(r)
         }
     }

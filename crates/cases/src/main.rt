@@ -171,34 +171,8 @@ fn counted(t: Tally, m: Met, name: &[u8]) -> Tally {
     }
 }
 
-// Every ask of a case.
-fn ask_all(
-    fd: i32,
-    count: usize,
-    t: Tally,
-    name: &[u8],
-    manifest: &[u8],
-    card: &[u8],
-    targets: &[u8],
-    list: &mut [u32],
-    buf: &mut [u8],
-    bytes: &mut [u8],
-) -> Tally {
-    let mut tally = t;
-    let mut i = 0;
-    while i < count {
-        let m = ask_next(fd, manifest, card, targets, list, buf, bytes);
-        if !m.whole {
-            return cut_off(tally);
-        }
-        tally = counted(tally, m, name);
-        i += 1;
-    }
-    tally
-}
-
 // Every ask of a case whose parts are read.
-fn ask_parts(
+fn ask_all(
     fd: i32,
     h: CaseHead,
     t: Tally,
@@ -217,18 +191,17 @@ fn ask_parts(
     let manifest = &input[a..b];
     let card = &input[b..c];
     let targets = &input[c..d];
-    ask_all(
-        fd,
-        h.asks,
-        t,
-        name,
-        manifest,
-        card,
-        targets,
-        list,
-        buf,
-        bytes,
-    )
+    let mut tally = t;
+    let mut i = 0;
+    while i < h.asks {
+        let m = ask_next(fd, manifest, card, targets, list, buf, bytes);
+        if !m.whole {
+            return cut_off(tally);
+        }
+        tally = counted(tally, m, name);
+        i += 1;
+    }
+    tally
 }
 
 fn with_case(t: Tally) -> Tally {
@@ -261,7 +234,7 @@ fn case_next(
     if !read_part(fd, input, d) {
         return cut_off(t);
     }
-    ask_parts(fd, h, with_case(t), input, list, buf, bytes)
+    ask_all(fd, h, with_case(t), input, list, buf, bytes)
 }
 
 // Every case. The count of turns only shows that the loop ends.

@@ -15,7 +15,7 @@ use Rattle.spec.specs.Basics.{isEmpty}
 use Rattle.spec.specs.Bytes.{colon, bar}
 use Rattle.spec.specs.Lines.{startsWith}
 use Rattle.spec.specs.Forms.{Cut, fits, fails, noForm, then, gap, nameOf, ruleWord, Paths, pathsUp, paths, Form, BuildLine, countBars, pathsBehind, cutInputs, afterOutputs, cutBuild}
-use Rattle.cut_forms.specs.Inputs.{lineEnd, oneBar, twoBars, otherByte, barsAt, inputsOf, cutOrderOnly, afterImplicit, afterInputs}
+use Rattle.cut_forms.specs.Inputs.{lineEnd, oneBar, twoBars, otherByte, barsAt, withInputs, cutOrderOnly, afterImplicit, afterInputs}
 use Rattle.scan_tokens.proofs.Places.{at-cons, at-end}
 use Rattle.cut_forms.specs.declared.Fault.{Fault}
 use Rattle.cut_forms.specs.declared.Head.{Head}
@@ -62,9 +62,9 @@ unfolding paths pathsUp
 no-paths l = record { within = le-refl (length l); rest = []; cut = rw (at-end l (length l) (le-refl (length l))) }
 
 module _ {l : List ℕ} {h : Head} {b : BuildLine} {i : List (List ℕ)} (k : HeadAt l h b i) where
-  pub inputs-at : {x : Cut Form} {p q : ℕ} {m o : List (List ℕ)} → x ≡ inputsOf b i m o → PathsAt l p m → PathsAt l q o
+  pub inputs-at : {x : Cut Form} {p q : ℕ} {m o : List (List ℕ)} → x ≡ withInputs b i m o → PathsAt l p m → PathsAt l q o
       → BuildAt l x (record { outs = h .outs; rule = h .rule; ins = h .ins; implicit = p; order = q })
-  unfolding inputsOf
+  unfolding withInputs
   inputs-at {m = m} {o = o} e pm po =
       record {
         line = record { outs = b .outs; rule = b .rule; ins = i; implicit = m; orderOnly = o };
@@ -85,7 +85,7 @@ module _ {l : List ℕ} {h : Head} {b : BuildLine} {i : List (List ℕ)} (k : He
 -- the inputs behind the explicit ones, as the rules say them
 abbrev behindBars : BuildLine → List (List ℕ) → List ℕ → Cut Form
 behindBars b i s =
-    then (pathsBehind 1 s) λ m. then (pathsBehind 2 (m .rest)) λ o. ifB (isEmpty (o .rest)) (λ _. inputsOf b i (m .raw) (o .raw)) (λ _. fails noForm)
+    then (pathsBehind 1 s) λ m. then (pathsBehind 2 (m .rest)) λ o. ifB (isEmpty (o .rest)) (λ _. withInputs b i (m .raw) (o .raw)) (λ _. fails noForm)
 
 then-same : (c : Cut Paths) (f g : Paths → Cut Form) → ((p : Paths) → f p ≡ g p) → then c f ≡ then c g
 unfolding then
@@ -94,7 +94,7 @@ then-same (fails e) f g h = refl
 
 module _ (b : BuildLine) (i : List (List ℕ)) where
   order-behind : (m : List (List ℕ)) (s : List ℕ)
-      → (then (pathsBehind 2 s) λ o. ifB (isEmpty (o .rest)) (λ _. inputsOf b i m (o .raw)) (λ _. fails noForm)) ≡ afterImplicit b i m (barsAt s)
+      → (then (pathsBehind 2 s) λ o. ifB (isEmpty (o .rest)) (λ _. withInputs b i m (o .raw)) (λ _. fails noForm)) ≡ afterImplicit b i m (barsAt s)
   unfolding pathsBehind afterImplicit barsAt startsWith
   order-behind m [] = refl
   order-behind m (x ∷ []) = split (eqb x bar) (λ (e : eqb x bar ≡ true). rw e) (λ (e : eqb x bar ≡ false). rw e)
@@ -105,7 +105,7 @@ module _ (b : BuildLine) (i : List (List ℕ)) where
 
   -- what follows bars in a list of inputs
   abbrev orders : Paths → Cut Form
-  orders m = then (pathsBehind 2 (m .rest)) λ o. ifB (isEmpty (o .rest)) (λ _. inputsOf b i (m .raw) (o .raw)) (λ _. fails noForm)
+  orders m = then (pathsBehind 2 (m .rest)) λ o. ifB (isEmpty (o .rest)) (λ _. withInputs b i (m .raw) (o .raw)) (λ _. fails noForm)
 
   implicit-same : (s : List ℕ) → then (paths s) orders ≡ afterInputs b i (oneBar s)
   unfolding afterInputs
@@ -142,7 +142,7 @@ module _ (b : BuildLine) (i m : List (List ℕ)) where
     unfolding cutOrderOnly
     order-more h = rw (w .cut, at-cons l end h)
 
-    pub order-ends : length l ≤ end → cutOrderOnly b i m (drop at l) ≡ inputsOf b i m (w .raw)
+    pub order-ends : length l ≤ end → cutOrderOnly b i m (drop at l) ≡ withInputs b i m (w .raw)
     unfolding cutOrderOnly
     order-ends h = rw (w .cut, at-end l end h)
 
@@ -171,7 +171,7 @@ module _ (outs : List (List ℕ)) where
 
   module _ {l : List ℕ} {from to : ℕ} (n : NameEnds l from to (ruleWord (nameOf (drop from l)))) where
     inputs-from : cutInputs outs (drop from l) ≡ then (paths (drop to l)) (λ i. afterInputs (headOf outs (part l from to)) (i .raw) (barsAt (i .rest)))
-    unfolding cutInputs inputsOf
+    unfolding cutInputs withInputs
     inputs-from =
         rw (n .cut, ← (n .reads .rest))
         (then-same (paths (drop to l)) (λ i. behindBars (headOf outs (part l from to)) (i .raw) (i .rest))

@@ -12,7 +12,7 @@ use Rattle.lists.specs.Parts.{part, part-none}
 use Rattle.lists.specs.Runs.{isNot, afterRun, Reads, part-run}
 use Rattle.spec.specs.Bytes.{dollar}
 use Rattle.spec.specs.Dollars.{literal, joins, wrong, element, badDollar}
-use Rattle.scan_dollars.specs.Element.{restOf, FoundElement, FoundName}
+use Rattle.scan_dollars.specs.Element.{restOf, FoundElement, DollarName}
 use Rattle.scan_raw.proofs.Pieces.{sound-not-bad}
 use Rattle.expand_parts.specs.declared.Run.{Run}
 use Rattle.expand_parts.specs.Runs.{expandedBy, bytesOf, RunPlaced, leftOf, BeginsRun, Variable, ExpandReady}
@@ -67,7 +67,7 @@ module _ (raw texts bind : List ℕ) (count i : ℕ) (h : i < length raw) (s : b
           gives = λ log q. ap (expandedBy log) (dollar-here raw i h s d) ∙ expand-join _ (drop (i + 1) raw) (f .is) ∙ sym (rw (part-none raw n n (le-refl n)));
         }
 
-    pub name-begins : {a e n : ℕ} {r : Run} → FoundName raw (i + 1) a e n (element (drop (i + 1) raw)) → Variable (part raw a e) raw texts bind count n r → BeginsRun raw texts bind count i r
+    pub name-begins : {a e n : ℕ} {r : Run} → DollarName raw (i + 1) a e n (element (drop (i + 1) raw)) → Variable (part raw a e) raw texts bind count n r → BeginsRun raw texts bind count i r
     unfolding leftOf expandedBy restOf
     name-begins {a} {e} {n} {r} f v =
         record {

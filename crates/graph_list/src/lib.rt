@@ -9,7 +9,7 @@ use graph_stale::stale_commands;
 use hold_columns::inputs;
 use hold_columns::maker;
 use slices::words::at;
-use slices::words::zero_from;
+use slices::words::zero_words_from;
 use spec::limits::STEPS;
 
 // Are all makers of these files clear.
@@ -103,7 +103,7 @@ fn list_pending(
         pending[s] = 0;
         s = next_ready(mentions, ends, made, order, pending, clear);
     }
-    zero_from(list, count);
+    zero_words_from(list, count);
     count
 }
 

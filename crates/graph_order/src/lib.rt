@@ -11,7 +11,7 @@ ghost use Rattle.graph_order.specs.Walk.{OpenInput, Finds, Starts, Explo
 use hold_columns::inputs;
 use hold_columns::maker;
 use slices::words::at;
-use slices::words::zero_from;
+use slices::words::zero_words_from;
 use spec::limits::STEPS;
 
 // How a walk ends: with so many steps in order, or with a circle, at these places of the path.
@@ -189,7 +189,7 @@ pub fn fill(list: &mut [u32], l: &[u32])
         list[i] = l[i];
         i += 1;
     }
-    zero_from(list, l.len());
+    zero_words_from(list, l.len());
 }
 
 // Puts the steps at these places of the path at the front of the list, and zeros after them; their number.

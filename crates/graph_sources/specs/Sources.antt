@@ -18,14 +18,14 @@ pub record Lowered (times made fs : List ℕ) (before r : ℕ) : Type 0 where
   pub least : (f : ℕ) → f ∈ fs → Absent times made f → r ≤ f
 
 -- "a target or an input of a needed step"
-abbrev pub Wanted : List ℕ → List ℕ → List ℕ → List ℕ → ℕ → Type 0
-Wanted mentions ends roots order f = (f ∈ roots) ⊎ ((s : ℕ) × (s ∈ order) × (f ∈ inputsIn mentions ends s))
+abbrev pub SourceWanted : List ℕ → List ℕ → List ℕ → List ℕ → ℕ → Type 0
+SourceWanted mentions ends roots order f = (f ∈ roots) ⊎ ((s : ℕ) × (s ∈ order) × (f ∈ inputsIn mentions ends s))
 
 -- r is the lowest missing source that is wanted, or n where there is none
 pub record LowestMissing (mentions ends made times roots order : List ℕ) (n r : ℕ) : Type 0 where
   pub within : r ≤ n
-  pub found : r < n → Wanted mentions ends roots order r × Absent times made r
-  pub least : (f : ℕ) → Wanted mentions ends roots order f → Absent times made f → r ≤ f
+  pub found : r < n → SourceWanted mentions ends roots order r × Absent times made r
+  pub least : (f : ℕ) → SourceWanted mentions ends roots order f → Absent times made f → r ≤ f
 
 -- what the search asks: sound tables, a time for each file, and steps
 pub record SourceAsked (mentions ends made times roots order : List ℕ) : Type 0 where

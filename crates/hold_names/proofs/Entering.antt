@@ -15,7 +15,7 @@ use Rattle.lists.specs.Parts.{part, part-to-end}
 use Rattle.spec.specs.Limits.{maxFiles}
 use Rattle.arena.specs.Inserted.{inserted, Shifted}
 use Rattle.arena.proofs.Inserting.{each-inserted, pairs-inserted, has-inserted, keeps-inserted}
-use Rattle.hold_names.specs.Table.{sortedFrom, headsFrom, maxNumbers, buckets, sparesAt, bucketOf, pairBase, pairAt, firstIn, secondIn, sparesIn, sparesOf, nameAt, Sorted, Stands, Placed, Searched, Between, Spared, Entered}
+use Rattle.hold_names.specs.Table.{sortedFrom, headsFrom, maxNumbers, buckets, sparesAt, bucketOf, pairBase, pairAt, firstIn, secondIn, sparesIn, sparesOf, nameAt, Sorted, StandsIn, Placed, Searched, Between, Spared, Entered}
 use Rattle.hold_names.proofs.Buckets.{bucket-small, name-old, name-new}
 
 -- ---- no name
@@ -132,7 +132,7 @@ module _ {index : List ℕ} {count : ℕ} {files : List (List ℕ)} (x : Searche
   pub searched-first : (to : ℕ) → pairAt index (bucketOf p) ≡ 0 → Searched (set (set index count to) (headsFrom + bucketOf p) (count + 1)) (count + 1) more
   searched-first to e =
       searched-head to (count + 1) (omega arith) (omega arith) (λ l. omega arith)
-      (λ k q. absurd (⊎-elim (λ (c : firstIn index (bucketOf p) ≡ suc k). omega (arith, e)) (⊎-elim (λ (c : secondIn index (bucketOf p) ≡ suc k). omega (arith, e)) (λ (c : (0 < secondIn index (bucketOf p)) × Stands k (sparesOf index)). omega (arith, e, c .0))) q))
+      (λ k q. absurd (⊎-elim (λ (c : firstIn index (bucketOf p) ≡ suc k). omega (arith, e)) (⊎-elim (λ (c : secondIn index (bucketOf p) ≡ suc k). omega (arith, e)) (λ (c : (0 < secondIn index (bucketOf p)) × StandsIn k (sparesOf index)). omega (arith, e, c .0))) q))
       (inl (omega (arith, pair-now to (count + 1))))
 
   pub searched-second : (to : ℕ) → 0 < pairAt index (bucketOf p) → pairAt index (bucketOf p) < pairBase
@@ -141,7 +141,7 @@ module _ {index : List ℕ} {count : ℕ} {files : List (List ℕ)} (x : Searche
       let v = pairAt index (bucketOf p) + (count + 1) * pairBase in
       searched-head to v (omega (arith, x .first (bucketOf p) (bucket-small p))) (omega arith) (λ l. omega arith)
       (λ k q. ⊎-elim (λ (c : firstIn index (bucketOf p) ≡ suc k). inl (omega (arith, e, c, pair-now to v)))
-      (⊎-elim (λ (c : secondIn index (bucketOf p) ≡ suc k). absurd (omega (arith, e))) (λ (c : (0 < secondIn index (bucketOf p)) × Stands k (sparesOf index)). absurd (omega (arith, e, c .0)))) q)
+      (⊎-elim (λ (c : secondIn index (bucketOf p) ≡ suc k). absurd (omega (arith, e))) (λ (c : (0 < secondIn index (bucketOf p)) × StandsIn k (sparesOf index)). absurd (omega (arith, e, c .0)))) q)
       (inr (inl (omega (arith, e, pair-now to v))))
 
   -- one of the sorted ones
@@ -173,7 +173,7 @@ module _ {index : List ℕ} {count : ℕ} {files : List (List ℕ)} (x : Searche
         rw (pair-kept c l, order-more)
         (⊎-elim (λ (e : firstIn index c ≡ suc k). inl e)
         (⊎-elim (λ (e : secondIn index c ≡ suc k). inr (inl e))
-        (λ (e : (0 < secondIn index c) × Stands k order).
+        (λ (e : (0 < secondIn index c) × StandsIn k order).
         let (i, d, g) = e .1 in
         let (j, m, n) = keeps-inserted order place count 0 here i d in
         inr (inr (e .0, (j, m, n ∙ g))))) q)

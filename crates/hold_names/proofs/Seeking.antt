@@ -16,7 +16,7 @@ use Rattle.lists.specs.declared.Order.the-variants.{Less, Equal, Greater}
 use Rattle.spec.specs.Reading.{numberOf}
 use Rattle.hold_names.specs.declared.Matched.{Matched}
 use Rattle.hold_names.specs.declared.Sought.{Sought}
-use Rattle.hold_names.specs.Table.{headsFrom, bucketOf, pairBase, pairAt, firstIn, secondIn, sparesIn, sparesOf, nameAt, Stands, Placed, HoldsNames, SoundNames, NamesFile, onOrder, halvings, comparesFrom, comparesOf, maxCompares, Between, MatchesName, Halves, SeeksSecond, SeeksName}
+use Rattle.hold_names.specs.Table.{headsFrom, bucketOf, pairBase, pairAt, firstIn, secondIn, sparesIn, sparesOf, nameAt, StandsIn, Placed, HoldsNames, SoundNames, NamesFile, onOrder, halvings, comparesFrom, comparesOf, maxCompares, Between, MatchesName, Halves, SeeksSecond, SeeksName}
 use Rattle.hold_names.proofs.Numbers.{number-missing}
 use Rattle.hold_names.proofs.Buckets.{bucket-small, first-stands, among-nowhere}
 use Rattle.hold_names.proofs.Halving.{reach-all, halvings-few}
@@ -157,7 +157,7 @@ nowhere-held {index = index} {files = files} h path g =
     (among-nowhere path files (λ k l e. g k (rw (ap bucketOf e) at (h .search .placed k (omega (arith, h .counted)))) e)))
 
 -- The path is none of the sorted names.
-not-sorted : {files : List (List ℕ)} {order path : List ℕ} {place : ℕ} → Between files order path place place → (k : ℕ) → Stands k order → nameAt files k ≡ path → ⊥
+not-sorted : {files : List (List ℕ)} {order path : List ℕ} {place : ℕ} → Between files order path place place → (k : ℕ) → StandsIn k order → nameAt files k ≡ path → ⊥
 not-sorted {files} {order} {path} {place} z k s e =
     let (i, l, q) = s in
     let w : nameAt files (getD order i 0) ≡ path = ap (nameAt files) q ∙ e in
@@ -194,7 +194,7 @@ module _ {names index : List ℕ} {count : ℕ} (path : List ℕ) (sound : Sound
         within = omega arith;
         number = λ files h. nowhere-held h path
             (λ k p n. ⊎-elim (λ (c : firstIn index home ≡ suc k). omega (arith, f, c))
-            (⊎-elim (λ (c : secondIn index home ≡ suc k). none files h (omega (arith, c))) (λ (c : (0 < secondIn index home) × Stands k (sparesOf index)). none files h (c .0))) p);
+            (⊎-elim (λ (c : secondIn index home ≡ suc k). none files h (omega (arith, c))) (λ (c : (0 < secondIn index home) × StandsIn k (sparesOf index)). none files h (c .0))) p);
         compares = λ files h. rw f (sym (compares-none path files (comparesFrom path files (secondIn index home) (more files))));
         place = λ files h g l. absurd (none files h l);
       }
@@ -240,7 +240,7 @@ module _ {names index : List ℕ} {count : ℕ} (path : List ℕ) (sound : Sound
           (λ k w n. ⊎-elim
           (λ (c : firstIn index home ≡ suc k). let y : pair % pairBase - 1 ≡ k = omega (arith, c, first-is) in other-ne path (nameAt files (pair % pairBase - 1)) (p .other files h) (rw y n))
           (⊎-elim (λ (c : secondIn index home ≡ suc k). g k (sym second-is ∙ c) n)
-          (λ (c : (0 < secondIn index home) × Stands k (sparesOf index)). not-sorted (z (rw second-is at (c .0))) k (c .1) n)) w)
+          (λ (c : (0 < secondIn index home) × StandsIn k (sparesOf index)). not-sorted (z (rw second-is at (c .0))) k (c .1) n)) w)
 
       pub seek-on : SeeksName names index count path (record { bucket = b; number = r .number; compares = r .compares; place = r .place })
       seek-on =

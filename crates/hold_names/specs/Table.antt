@@ -90,12 +90,12 @@ pub record Sorted (files : List (List ℕ)) (order : List ℕ) : Type 0 where
   pub below : (i : ℕ) → i < length order → getD order i 0 < length files
   pub rising : (i j : ℕ) → i < j → j < length order → lessBytes (nameAt files (getD order i 0)) (nameAt files (getD order j 0)) ≡ true
 
-abbrev pub Stands : ℕ → List ℕ → Type 0
-Stands k order = (i : ℕ) × (i < length order) × (getD order i 0 ≡ k)
+abbrev pub StandsIn : ℕ → List ℕ → Type 0
+StandsIn k order = (i : ℕ) × (i < length order) × (getD order i 0 ≡ k)
 
 -- name k is one of the two of bucket b, or that one is full and k is sorted among the others
 abbrev pub Placed : List ℕ → ℕ → ℕ → Type 0
-Placed index b k = (firstIn index b ≡ suc k) ⊎ ((secondIn index b ≡ suc k) ⊎ ((0 < secondIn index b) × Stands k (sparesOf index)))
+Placed index b k = (firstIn index b ≡ suc k) ⊎ ((secondIn index b ≡ suc k) ⊎ ((0 < secondIn index b) × StandsIn k (sparesOf index)))
 
 -- where each of the names is looked for
 pub record Searched (index : List ℕ) (count : ℕ) (files : List (List ℕ)) : Type 0 where

@@ -14,7 +14,7 @@ use byteorder::lesser;
 use lists::Order;
 use slices::bytes::copy_at;
 use slices::words::at;
-use slices::words::zero_part;
+use slices::words::zero_words_in;
 use spec::limits::FILES;
 
 // The numbers lie in three parts: where each name ends, the sorted names, the names of each bucket.
@@ -123,7 +123,7 @@ pub fn clear(index: &mut [u32])
     requires { ⌜ maxNumbers ≤ length (now index) ⌝ }
     ensures { λ _. ⌜ now (index .exit) ≡ zeroed (now (index .entry)) headsFrom maxNumbers ⌝ }
 {
-    zero_part(index, HEADS, NUMBERS);
+    zero_words_in(index, HEADS, NUMBERS);
 }
 
 // One compare more than n.

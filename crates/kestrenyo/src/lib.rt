@@ -7,7 +7,7 @@ ghost use Rattle.answers.specs.Numbers.{said};
 ghost use Rattle.text_batch.specs.TextsAsk.{textsAsk};
 ghost use Rattle.text_batch.specs.TextsPromise.{textsSays, TextsMeets};
 ghost use Rattle.status_record.specs.Record.{firstStatus, movedTo, startAt, finishAt};
-ghost use Rattle.status_line.specs.LineAsk.{lineOutcome, LineMeets};
+ghost use Rattle.status_line.specs.LineAsk.{lineOutcome, StatusLineMeets};
 ghost use Rattle.status_numbers.specs.Numbers.{statusHeld, recordOf};
 ghost use Rattle.kestrenyo.specs.Tells.{Tells, TellsNumbers};
 ghost use Rattle.kestrenyo.specs.Wants.{wantedOf};
@@ -145,7 +145,7 @@ pub extern "C" fn kestrenyo_status_line(
     format: &[u8],
     buffer: &mut [u8],
 ) -> Said
-    ensures { λ r. ⌜ Tells (λ said. LineMeets (lineOutcome (statusHeld status) (now (format .entry)) (length (now (buffer .entry)))) (now (buffer .entry)) said (now (buffer .exit))) r ⌝ }
+    ensures { λ r. ⌜ Tells (λ said. StatusLineMeets (lineOutcome (statusHeld status) (now (format .entry)) (length (now (buffer .entry)))) (now (buffer .entry)) said (now (buffer .exit))) r ⌝ }
 {
     in_two(record_line(status, format, buffer))
 }

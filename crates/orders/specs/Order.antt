@@ -18,19 +18,19 @@ pub record Lists (Want : ℕ → Type 0) (l : List ℕ) : Type 0 where
   pub no-others : (s : ℕ) → s ∈ l → Want s
 
 -- those of them that stand before s are listed
-abbrev pub After : (ℕ → Type 0) → (ℕ → ℕ → Type 0) → List ℕ → ℕ → Type 0
-After Want Before l s = (m : ℕ) → Before m s → Want m → m ∈ l
+abbrev pub ComesAfter : (ℕ → Type 0) → (ℕ → ℕ → Type 0) → List ℕ → ℕ → Type 0
+ComesAfter Want Before l s = (m : ℕ) → Before m s → Want m → m ∈ l
 
 -- an "order of the needed steps [that] has each one after the makers of all its inputs"
 pub record IsOrder (Want : ℕ → Type 0) (Before : ℕ → ℕ → Type 0) (l : List ℕ) : Type 0 where
   pub lists : Lists Want l
-  pub after : Each (After Want Before) l
+  pub after : Each (ComesAfter Want Before) l
 
 -- one "of them not yet listed whose [steps before it] are all listed"
 pub record Ready (Want : ℕ → Type 0) (Before : ℕ → ℕ → Type 0) (l : List ℕ) (s : ℕ) : Type 0 where
   pub wanted : Want s
   pub new : s ∉ l
-  pub after : After Want Before l s
+  pub after : ComesAfter Want Before l s
 
 pub record Lowest (Want : ℕ → Type 0) (Before : ℕ → ℕ → Type 0) (l : List ℕ) (s : ℕ) : Type 0 where
   pub ready : Ready Want Before l s

@@ -9,8 +9,8 @@ use lib.Seq.{paste, take-paste, take-length, take-suc-set, take-suc, drop-length
 use Rattle.io.specs.Digits.{digits, Fewest}
 use Rattle.lists.specs.Fill.{zeroed}
 use Rattle.lists.specs.Text.{bytes}
-use Rattle.spec.specs.Answers.{Said}
-use Rattle.spec.specs.Promises.{filled, refused14}
+use Rattle.spec.specs.Answers.{Said, says}
+use Rattle.spec.specs.Promises.{filled}
 use Rattle.printing.specs.Lines.{decimal, worded, refusedText, refusedLine, spaced, circleLine, circleOutput, headOf, stepLineOf}
 use Rattle.printing.specs.Writes.{stepRoom, PutsInLine, PutsUpTo, LeavesOutput}
 use Rattle.printing.proofs.Digits.{decimal-of}
@@ -125,11 +125,11 @@ regroup : (a n w l : List ℕ) → a ++ (n ++ w) ++ l ++ n ≡ a ++ n ++ (w ++ l
 regroup a n w l = simp append-assoc
 
 -- the refusal, a line end and the word, and the steps
-pub said-circle : (l : List ℕ) {d e f g h : List ℕ} {i j m r : ℕ} → length g ≡ length d → PutsUpTo 52 (refusedText (refused14 (length l))) d 0 e i
+pub said-circle : (l : List ℕ) {d e f g h : List ℕ} {i j m r : ℕ} → length g ≡ length d → PutsUpTo 52 (refusedText (says 14 (length l))) d 0 e i
     → PutsInLine (10 ∷ bytes "circle") e i f j → PutsUpTo (21 * length l) (spaced l) f j g m → LeavesOutput (take m g ++ (10 ∷ [])) g r h → LeavesOutput (circleOutput l) d r h
 unfolding circleOutput refusedLine circleLine
 said-circle l k p w q t =
-    rw (regroup (refusedText (refused14 (length l))) (10 ∷ []) (bytes "circle") (spaced l)) at (ended-law k (puts-then (puts-then (p .puts) w) (q .puts)) t)
+    rw (regroup (refusedText (says 14 (length l))) (10 ∷ []) (bytes "circle") (spaced l)) at (ended-law k (puts-then (puts-then (p .puts) w) (q .puts)) t)
 
 -- What is left in the lent buffer lies within it.
 pub leaves-within : {out lent exit : List ℕ} {n : ℕ} → length exit ≡ length lent → LeavesOutput out lent n exit → n ≤ length exit

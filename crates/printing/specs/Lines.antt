@@ -5,8 +5,7 @@ use lib.Dec.{ltb}
 use lib.ListN.{length}
 use Rattle.lists.specs.Tests.{ifB}
 use Rattle.lists.specs.Text.{bytes}
-use Rattle.spec.specs.Answers.{Said}
-use Rattle.spec.specs.Promises.{refused14}
+use Rattle.spec.specs.Answers.{Said, says}
 
 -- A number in decimal digits, the highest first and with no leading zero. The first argument bounds the digits: n itself is more than n has.
 unfoldable pub decimalUp : ℕ → ℕ → List ℕ
@@ -51,7 +50,7 @@ circleLine l = bytes "circle" ++ spaced l ++ newlineBytes
 -- after a 14: the refusal's line, then the circle's
 unfoldable pub circleOutput : List ℕ → List ℕ
 unfolding refusedLine circleLine
-circleOutput circle = refusedLine (refused14 (length circle)) ++ circleLine circle
+circleOutput circle = refusedLine (says 14 (length circle)) ++ circleLine circle
 
 -- "a line for each listed step, with its place in the list, the list's length and its `command` text"
 unfoldable pub headOf : ℕ → ℕ → List ℕ

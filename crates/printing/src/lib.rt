@@ -7,7 +7,7 @@ ghost use Rattle.printing.specs.Lines.{decimal, worded, noWork, refusedT
 ghost use Rattle.printing.specs.Writes.{lineRoom, stepRoom, PutsInLine, PutsUpTo, LeavesOutput};
 use answers::Numbers;
 use slices::bytes::copy_at;
-use slices::bytes::zero_from;
+use slices::bytes::zero_bytes_from;
 use slices::words::at;
 
 // Writes s from place `from` on, and gives the place behind it.
@@ -44,7 +44,7 @@ fn end_line(line: &mut [u8], from: usize) -> usize
     ensures { λ r. ⌜ LeavesOutput (take from (now (line .entry)) ++ (10 ∷ [])) (now (line .entry)) r (now (line .exit)) ⌝ }
 {
     line[from] = b'\n';
-    zero_from(line, from + 1);
+    zero_bytes_from(line, from + 1);
     from + 1
 }
 
@@ -117,7 +117,7 @@ fn put_head(line: &mut [u8], from: usize, place: usize, count: usize) -> usize
 }
 
 // "a line for each listed step, with its place in the list, the list's length and its `command` text", from place `from` on.
-pub fn put_step(line: &mut [u8], from: usize, place: usize, count: usize, text: &[u8]) -> usize
+pub fn put_step_line(line: &mut [u8], from: usize, place: usize, count: usize, text: &[u8]) -> usize
     requires { ⌜ from + (length (now text) + stepRoom) ≤ length (now line) ⌝ }
     ensures { λ r. ⌜ PutsUpTo (length (now (text .entry)) + stepRoom) (stepLineOf place count (now (text .entry))) (now (line .entry)) from (now (line .exit)) r ⌝ }
 {

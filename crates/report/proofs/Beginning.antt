@@ -20,7 +20,8 @@ use Rattle.report.specs.Output.{Checks, fine, stopped, checkTexts, check
 use Rattle.report.specs.Begins.{whole, refusal, toCome, startsAs, wholeOutput, refusing, checkedOpening, listOpening, planOpening, OpensReport, HeldBy, OpensHolding, writtenBy, StartWithin, Rooms, Planned, BeginsReport}
 use Rattle.report.specs.declared.Checked.the-variants.{All, Refused}
 use Rattle.report.specs.Held.{AllFine, CheckedIs}
-use Rattle.report.proofs.Early.{not-0, not-14}
+use Rattle.spec.proofs.Answers.{refusal-not-0}
+use Rattle.report.proofs.Early.{not-14}
 use Rattle.report.proofs.Texts.{front-filled, fits-filled}
 
 pub opens-whole : {out d f : List ℕ} {n : ℕ} → LeavesOutput out d n f → OpensReport (wholeOutput out) d (Whole n) f
@@ -138,7 +139,7 @@ module _ (i : Inputs) (room : ℕ) where
   plan-fits (noPlan r) e list exit s k m =
       let n : s .number ≡ numberOfRefusal r = ap (λ (x : Said). x .number) (m .says) in
       record {
-        listed-fits = λ (z : s .number ≡ 0). absurd (not-0 r (sym n ∙ z));
+        listed-fits = λ (z : s .number ≡ 0). absurd (refusal-not-0 r (sym n ∙ z));
         circle-fits = λ (z : s .number ≡ 14). absurd (eqb-false (numberOfRefusal r) 14 (not-14 i room e) (sym n ∙ z));
       }
 
@@ -214,7 +215,7 @@ module _ (i : Inputs) (room : ℕ) (list line listExit : List ℕ) {r : Begun} {
       record { within = b .0; right = record { circle = m .circle; real = m .real; shown = b .1 } }
   plan-right (noPlan x) e m =
       let n : s .number ≡ numberOfRefusal x = ap (λ (y : Said). y .number) (m .says) in
-      let a : s .number ≡ 0 → ⊥ = λ (z : s .number ≡ 0). not-0 x (sym n ∙ z) in
+      let a : s .number ≡ 0 → ⊥ = λ (z : s .number ≡ 0). refusal-not-0 x (sym n ∙ z) in
       let c : s .number ≡ 14 → ⊥ = λ (z : s .number ≡ 14). eqb-false (numberOfRefusal x) 14 (not-14 i room e) (sym n ∙ z) in
       let q : OpensReport (refusing (refusedLine s)) line r exit = rw (planned-refused (i .manifest) s listExit a c) at p in
       let b = refusal-written (i .manifest) listExit (refusedLine s) line j q in

@@ -10,7 +10,7 @@ use lib.ListN.{length}
 use borrow.Author.Tests.{leb-true, ne-eqb, not-true}
 use Rattle.lists.specs.Tests.{ifB, split}
 use Rattle.spec.specs.declared.Refusal.{Refusal}
-use Rattle.spec.specs.declared.Refusal.the-variants.{ShortBuffer, LongManifest, BadByte, BadLine, BadDollar, NotYet, BadRule, BadPath, OverLimit, BadVersion, BadCard, BadTarget, NoRoot, Circle, MissingSource, EndlessText, LongText, NoCommand}
+use Rattle.spec.specs.declared.Refusal.the-variants.{ShortBuffer, BadByte, BadLine, BadRule, BadPath, OverLimit, BadVersion, BadCard, BadTarget, NoRoot, MissingSource}
 use Rattle.lists.specs.Text.{bytes}
 use Rattle.lists.specs.Members.{any}
 use Rattle.spec.specs.Basics.{isEmpty, orElse}
@@ -26,7 +26,7 @@ use Rattle.spec.specs.Manifest.{withRule, close, andThen, faultOf, ifCut, inden
 use Rattle.spec.specs.Card.{soundCard}
 use Rattle.spec.specs.Targets.{badTarget}
 use Rattle.spec.specs.Graph.{hasOrder, noRoot}
-use Rattle.spec.specs.PlanAsk.{Inputs, PlanOutcome, listed, circular, noPlan, targetFiles, rootsOf, missingSource, onRefusal, refusedIf, refusedAt, planListed, planSources, planOrdered, planRooted, planTargets, planRead, planManifest, planAsk}
+use Rattle.spec.specs.PlanAsk.{Inputs, PlanOutcome, listed, circular, noPlan, targetFiles, rootsOf, missingSource, planListed, planSources, planOrdered, planRooted, planTargets, planRead, planManifest, planAsk}
 
 abbrev early : Outcome → Bool
 early (goesOn rd b) = true
@@ -167,11 +167,11 @@ either-plan true o t p q = p
 either-plan false o t p q = q
 
 -- a check that may refuse, ahead of the rest
-if-other : (b : Bool) (r : Refusal) (f : Unit {0} → PlanOutcome) → Other (noPlan r) → Other (f tt) → Other (onRefusal (refusedIf b r) f)
+if-other : (b : Bool) (r : Refusal) (f : Unit {0} → PlanOutcome) → Other (noPlan r) → Other (f tt) → Other (ifB b (λ _. noPlan r) f)
 if-other true r f p q = p
 if-other false r f p q = q
 
-at-other : (o : Option ℕ) (r : ℕ → Refusal) (f : Unit {0} → PlanOutcome) → ((n : ℕ) → Other (noPlan (r n))) → Other (f tt) → Other (onRefusal (refusedAt o r) f)
+at-other : (o : Option ℕ) (r : ℕ → Refusal) (f : Unit {0} → PlanOutcome) → ((n : ℕ) → Other (noPlan (r n))) → Other (f tt) → Other (orElse o (λ p. noPlan (r p)) f)
 at-other none r f p q = q
 at-other (some n) r f p q = p n
 
@@ -203,25 +203,3 @@ ask-other i room =
 
 pub not-14 : (i : Inputs) (room : ℕ) {r : Refusal} → planAsk i room ≡ noPlan r → eqb (numberOfRefusal r) 14 ≡ false
 not-14 i room {r} e = not-true (eqb (numberOfRefusal r) 14) (rw e at (ask-other i room))
-
--- No refusal has the number 0.
-pub not-0 : (r : Refusal) → numberOfRefusal r ≡ 0 → ⊥
-unfolding numberOfRefusal
-not-0 ShortBuffer e = omega arith
-not-0 LongManifest e = omega arith
-not-0 (BadByte p) e = omega arith
-not-0 (BadLine p) e = omega arith
-not-0 (BadDollar p) e = omega arith
-not-0 (NotYet p) e = omega arith
-not-0 (BadRule p) e = omega arith
-not-0 (BadPath p) e = omega arith
-not-0 (OverLimit p) e = omega arith
-not-0 (BadVersion p) e = omega arith
-not-0 BadCard e = omega arith
-not-0 (BadTarget p) e = omega arith
-not-0 NoRoot e = omega arith
-not-0 (Circle n) e = omega arith
-not-0 (MissingSource f) e = omega arith
-not-0 (EndlessText s) e = omega arith
-not-0 (LongText s) e = omega arith
-not-0 (NoCommand s) e = omega arith

@@ -11,7 +11,7 @@ use Rattle.spec.specs.Promises.{filled}
 use Rattle.answers.specs.declared.Numbers.{Numbers as Two}
 use Rattle.printing.specs.Lines.{stepLineOf}
 use Rattle.printing.specs.Writes.{stepRoom, PutsUpTo, LeavesOutput}
-use Rattle.report.specs.declared.Asked.the-variants.{Held, Refused as NotHeld}
+use Rattle.report.specs.declared.TextsRead.the-variants.{Held, Refused as NotHeld}
 use Rattle.report.specs.declared.Checked.the-variants.{All, Refused}
 use Rattle.report.specs.declared.Lines.{Lines}
 use Rattle.report.specs.Output.{fine, checkTexts}

@@ -12,20 +12,20 @@ use Rattle.spec.specs.declared.Refusal.{Refusal}
 use Rattle.spec.specs.declared.Wanted.the-variants.{Command}
 use Rattle.spec.specs.Basics.{concat}
 use Rattle.spec.specs.Limits.{maxText}
-use Rattle.spec.specs.Answers.{Said, refusalSays, numberOfRefusal}
+use Rattle.spec.specs.Answers.{Said, refusalSays, numberOfRefusal, says}
 use Rattle.spec.specs.Manifest.{Read, accepted, refusedWith, readManifest}
 use Rattle.spec.specs.TextAsk.{TextOutcome, text, noText, textRead, textAsk}
-use Rattle.spec.specs.Promises.{filled, counts}
+use Rattle.spec.specs.Promises.{filled}
 use Rattle.answers.specs.declared.Numbers.{Numbers as Two}
 use Rattle.answers.specs.Numbers.{said}
 use Rattle.text_batch.specs.declared.TextsAnswer.the-variants.{Written, Refused}
 use Rattle.text_batch.specs.TextsAsk.{TextsOutcome, texts, noTexts, inFront, onText, hasRoom, textsFrom, endable, textsAsk, endsFrom}
 use Rattle.text_batch.specs.TextsPromise.{textsSays, Are, TextsMeets}
 use Rattle.text_batch.proofs.Asked.{onRead, each-asked, texts-leading, texts-progress}
-use Rattle.report.specs.declared.Asked.the-variants.{Held, Refused as NotHeld}
+use Rattle.report.specs.declared.TextsRead.the-variants.{Held, Refused as NotHeld}
 use Rattle.report.specs.Output.{commandText, stopped, afterText, checkTexts, stepLine, stepLines}
 use Rattle.report.specs.Held.{TextsInOrder, cutTexts, AreCommands, textLines, TextsWanted, HoldsSome, AskedIs}
-use Rattle.report.proofs.Early.{not-0}
+use Rattle.spec.proofs.Answers.{refusal-not-0}
 
 -- What is filled begins with what it is filled with, which fits.
 pub front-filled : (l lent : List ℕ) → take (length l) (filled l lent) ≡ l
@@ -153,7 +153,7 @@ module _ (manifest : List ℕ) where
 
 module _ (manifest steps bytes ends bytesExit endsExit : List ℕ) (w : TextsWanted steps bytes ends) where
   held-of : (ts : List (List ℕ)) (n : ℕ) → textsAsk manifest steps Command (length bytes) (length ends) ≡ texts ts → length endsExit ≡ length ends
-      → Are (textsSays (Written n)) bytesExit endsExit (counts (length ts)) (filled (concat ts) bytes) (filled (endsFrom 0 ts) ends)
+      → Are (textsSays (Written n)) bytesExit endsExit (says 0 (length ts)) (filled (concat ts) bytes) (filled (endsFrom 0 ts) ends)
       → HoldsSome manifest steps bytesExit endsExit n
   unfolding textsSays commandText filled
   held-of ts n q k a =
@@ -176,12 +176,12 @@ module _ (manifest steps bytes ends bytesExit endsExit : List ℕ) (w : TextsWan
       → TextsMeets o bytes ends (textsSays (Written n)) bytesExit endsExit → HoldsSome manifest steps bytesExit endsExit n
   unfolding TextsMeets textsSays numberOfRefusal
   held-by (texts ts) n q k m = held-of ts n q k m
-  held-by (noTexts r) n q k m = absurd (not-0 r (sym (ap (λ (x : Said). x .number) (m .says))))
+  held-by (noTexts r) n q k m = absurd (refusal-not-0 r (sym (ap (λ (x : Said). x .number) (m .says))))
 
   refused-by : (o : TextsOutcome) (r : Refusal) → textsAsk manifest steps Command (length bytes) (length ends) ≡ o
       → TextsMeets o bytes ends (textsSays (Refused r)) bytesExit endsExit → stopped (refusalSays r) ≡ checkTexts manifest steps
   unfolding TextsMeets textsSays numberOfRefusal
-  refused-by (texts ts) r q m = absurd (not-0 r (ap (λ (x : Said). x .number) (m .says)))
+  refused-by (texts ts) r q m = absurd (refusal-not-0 r (ap (λ (x : Said). x .number) (m .says)))
   refused-by (noTexts x) r q m = ap stopped (m .says) ∙ texts-refused manifest steps (length bytes) (length ends) x (w .rooms .bytes-room) (w .some) q
 
   pub asked-held : (n : ℕ) → length endsExit ≡ length ends

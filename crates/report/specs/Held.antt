@@ -9,8 +9,8 @@ use Rattle.spec.specs.TextAsk.{text}
 use Rattle.answers.specs.Numbers.{said}
 use Rattle.printing.specs.Lines.{stepLineOf}
 use Rattle.printing.specs.Writes.{stepRoom, LeavesOutput}
-use Rattle.report.specs.declared.Asked.{Asked}
-use Rattle.report.specs.declared.Asked.the-variants.{Held, Refused as NotHeld}
+use Rattle.report.specs.declared.TextsRead.{TextsRead}
+use Rattle.report.specs.declared.TextsRead.the-variants.{Held, Refused as NotHeld}
 use Rattle.report.specs.declared.Checked.{Checked}
 use Rattle.report.specs.declared.Checked.the-variants.{All, Refused}
 use Rattle.report.specs.declared.Lines.{Lines}
@@ -63,7 +63,7 @@ pub record HoldsSome (manifest steps bytes ends : List ℕ) (n : ℕ) : Type 0 w
   pub some : 0 < n
   pub held : HeldTexts manifest steps bytes ends n
 
-unfoldable pub AskedIs : List ℕ → List ℕ → List ℕ → List ℕ → Asked → Type 0
+unfoldable pub AskedIs : List ℕ → List ℕ → List ℕ → List ℕ → TextsRead → Type 0
 unfolding checkTexts
 AskedIs manifest steps bytes ends (Held n) = HoldsSome manifest steps bytes ends n
 AskedIs manifest steps bytes ends (NotHeld x) = stopped (said x) ≡ checkTexts manifest steps

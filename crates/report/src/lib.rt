@@ -9,17 +9,17 @@ use answers::of_plan;
 use answers::of_refusal;
 use asks::plan;
 use asks::texts;
-use printing::put_step;
+use printing::put_step_line;
 use printing::say_circle;
 use printing::say_no_work;
 use printing::say_refused;
-use slices::bytes::zero_from;
+use slices::bytes::zero_bytes_from;
 use slices::words::at;
 use spec::Wanted;
 use text_batch::TextsAnswer;
 
 // What a reading for texts gives: how many leading steps have their texts in the buffers, or the first refusal.
-pub enum Asked {
+pub enum TextsRead {
     Held(usize),
     Refused(Numbers),
 }
@@ -45,13 +45,13 @@ pub struct Lines {
 }
 
 // One reading: the texts of as many of the steps as have room.
-fn ask_texts(manifest: &[u8], steps: &[u32], bytes: &mut [u8], ends: &mut [u32]) -> Asked
+fn ask_texts(manifest: &[u8], steps: &[u32], bytes: &mut [u8], ends: &mut [u32]) -> TextsRead
     requires { ⌜ TextsWanted (now steps) (now bytes) (now ends) ⌝ }
     ensures { λ r. ⌜ AskedIs (now (manifest .entry)) (now (steps .entry)) (now (bytes .exit)) (now (ends .exit)) r ⌝ }
 {
     match texts(manifest, steps, Wanted::Command, bytes, ends) {
-        TextsAnswer::Written(n) => Asked::Held(n),
-        TextsAnswer::Refused(r) => Asked::Refused(of_refusal(r)),
+        TextsAnswer::Written(n) => TextsRead::Held(n),
+        TextsAnswer::Refused(r) => TextsRead::Refused(of_refusal(r)),
     }
 }
 
@@ -63,13 +63,13 @@ fn check_texts(manifest: &[u8], steps: &[u32], bytes: &mut [u8], ends: &mut [u32
     let mut i = 0;
     while i < steps.len() {
         match ask_texts(manifest, &steps[i..], bytes, ends) {
-            Asked::Held(n) => {
+            TextsRead::Held(n) => {
                 if n == steps.len() {
                     return Checked::All(n);
                 }
                 i += n;
             }
-            Asked::Refused(n) => {
+            TextsRead::Refused(n) => {
                 return Checked::Refused(n);
             }
         }
@@ -93,7 +93,7 @@ fn begin_list(
     }
     match check_texts(manifest, steps, bytes, ends) {
         Checked::All(held) => {
-            zero_from(line, 0);
+            zero_bytes_from(line, 0);
             Begun::Steps(steps.len(), held)
         }
         Checked::Refused(n) => Begun::Refusal(say_refused(line, n)),
@@ -154,9 +154,9 @@ fn hold_next(
         return held;
     }
     match ask_texts(manifest, steps, bytes, ends) {
-        Asked::Held(n) => n,
+        TextsRead::Held(n) => n,
         // never met: all texts are checked
-        Asked::Refused(_) => 0,
+        TextsRead::Refused(_) => 0,
     }
 }
 
@@ -170,11 +170,11 @@ fn text_lines(place: usize, count: usize, bytes: &[u8], ends: &[u32], out: &mut 
     let mut behind = 0;
     while i < ends.len() {
         let end = at(ends, i);
-        behind = put_step(out, behind, place + i + 1, count, &bytes[from..end]);
+        behind = put_step_line(out, behind, place + i + 1, count, &bytes[from..end]);
         from = end;
         i += 1;
     }
-    zero_from(out, behind);
+    zero_bytes_from(out, behind);
     behind
 }
 

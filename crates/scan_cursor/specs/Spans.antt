@@ -6,7 +6,7 @@ use mathlib.Core.Path.{_≡_}
 use lib.ListN.{length, drop}
 use Rattle.lists.specs.Parts.{part}
 use Rattle.spec.specs.Lines.{Line, isComment}
-use Rattle.scan_lines.specs.Endings.{linesFrom}
+use Rattle.scan_lines.specs.Endings.{linesAt}
 use Rattle.scan_cursor.specs.declared.LineBounds.{LineBounds}
 
 -- a line of the manifest by its start, its bytes without the newline that ends it, and whether such a newline is there
@@ -19,7 +19,7 @@ pub record LineSpan (m : List ℕ) (i : ℕ) (s : LineBounds) : Type 0 where
   pub within : s .end ≤ length m
   pub on : i < s .next
   pub most : s .next ≤ length m
-  pub lines : linesFrom i (drop i m) ≡ lineOf i (part m i (s .end)) (s .ended) ∷ linesFrom (s .next) (drop (s .next) m)
+  pub lines : linesAt i (drop i m) ≡ lineOf i (part m i (s .end)) (s .ended) ∷ linesAt (s .next) (drop (s .next) m)
 
 -- The line that starts at place i, or the manifest's end.
 pub record LineHere (m : List ℕ) (i : ℕ) (s : LineBounds) : Type 0 where
@@ -39,4 +39,4 @@ pub record NextLine (m : List ℕ) (i : ℕ) (s : LineBounds) : Type 0 where
   pub here : LineHere m (s .start) s
   pub passed : List Line
   pub comments : onlyComments passed ≡ true
-  pub lines : linesFrom i (drop i m) ≡ passed ++ linesFrom (s .start) (drop (s .start) m)
+  pub lines : linesAt i (drop i m) ≡ passed ++ linesAt (s .start) (drop (s .start) m)

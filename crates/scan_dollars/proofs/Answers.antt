@@ -9,7 +9,7 @@ use Rattle.scan_dollars.specs.declared.Escape.the-variants.{Byte, Join, 
 use Rattle.scan_dollars.specs.declared.After.{After}
 use Rattle.scan_dollars.specs.declared.After.the-variants.{To, Bad as Unsound}
 use Rattle.spec.specs.Dollars.{Element, literal, joins, wrong, element}
-use Rattle.scan_dollars.specs.Element.{restOf, FoundElement, FoundName, TellsElement, DollarPassed, PastAt}
+use Rattle.scan_dollars.specs.Element.{restOf, FoundElement, DollarName, TellsElement, DollarPassed, PastAt}
 
 -- ---- `dollar`
 
@@ -22,7 +22,7 @@ module _ (s : List ℕ) (at : ℕ) (x : Element) (r : Escape) (t : TellsElement 
   unfolding TellsElement
   tells-join e = rw e at t
 
-  pub tells-name : {a b n : ℕ} → r ≡ Name a b n → FoundName s at a b n x
+  pub tells-name : {a b n : ℕ} → r ≡ Name a b n → DollarName s at a b n x
   unfolding TellsElement
   tells-name e = rw e at t
 

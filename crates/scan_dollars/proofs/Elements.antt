@@ -19,7 +19,7 @@ use Rattle.spec.specs.Forms.{nameOf, afterName}
 use Rattle.scan_classes.proofs.Sorted.{sorted}
 use Rattle.scan_dollars.specs.declared.Escape.{Escape}
 use Rattle.scan_dollars.specs.declared.Escape.the-variants.{Byte, Join, Name, Bad}
-use Rattle.scan_dollars.specs.Element.{restOf, FoundElement, FoundName, TellsElement, DollarPassed}
+use Rattle.scan_dollars.specs.Element.{restOf, FoundElement, DollarName, TellsElement, DollarPassed}
 use Rattle.scan_tokens.proofs.Places.{at-cons, at-end, not-empty}
 use Rattle.scan_tokens.proofs.Names.{part-name}
 
@@ -40,7 +40,7 @@ module _ {s : List ℕ} {i e : ℕ} (a : Reads afterName s i e) where
       unfolding braced
       braced-empty l = rw (← (a .rest), at-cons s e h, k, ← (part-name a), part-none s i e l)
 
-      pub braced-name : i < e → FoundName s i i e (e + 1) (braced (nameOf (drop i s)) (afterName (drop i s)))
+      pub braced-name : i < e → DollarName s i i e (e + 1) (braced (nameOf (drop i s)) (afterName (drop i s)))
       unfolding braced
       braced-name l =
           let n : length (part s i e) ≡ 0 → ⊥ = λ z. omega (arith, length-part s i e (a .within)) in
@@ -90,7 +90,7 @@ module _ (s : List ℕ) {at k : ℕ} (h : at < length s) (c : k ≡ classOf (get
   here : element (drop at s) ≡ byClass k (getD s at 0) (drop (at + 1) s)
   here = rw (at-cons s at h, c) (element-class (getD s at 0) (drop (at + 1) s))
 
-  pub short-begins : {e : ℕ} → k ≡ 1 → Reads (afterRun shortByte) s at e → FoundName s at at e e (element (drop at s))
+  pub short-begins : {e : ℕ} → k ≡ 1 → Reads (afterRun shortByte) s at e → DollarName s at at e e (element (drop at s))
   unfolding byClass
   short-begins {e} p a =
       record {
@@ -131,7 +131,7 @@ pub passed-join : {s : List ℕ} {at n : ℕ} → FoundElement s at n (element (
 unfolding restOf
 passed-join f = record { forward = f .forward; within = f .within; rest = ap restOf (f .is) }
 
-pub passed-name : {s : List ℕ} {at a b n : ℕ} → FoundName s at a b n (element (drop at s)) → DollarPassed s at n
+pub passed-name : {s : List ℕ} {at a b n : ℕ} → DollarName s at a b n (element (drop at s)) → DollarPassed s at n
 unfolding restOf
 passed-name f = record { forward = f .found .forward; within = f .found .within; rest = ap restOf (f .found .is) }
 

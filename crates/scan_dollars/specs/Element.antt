@@ -24,7 +24,7 @@ pub record FoundElement (s : List ℕ) (at next : ℕ) (x y : Element) : Type 0 
   pub within : next ≤ length s
   pub is : x ≡ y
 
-pub record FoundName (s : List ℕ) (at from to next : ℕ) (x : Element) : Type 0 where
+pub record DollarName (s : List ℕ) (at from to next : ℕ) (x : Element) : Type 0 where
   pub ordered : from ≤ to
   pub before : to ≤ next
   pub found : FoundElement s at next x (names (part s from to) (drop next s))
@@ -32,7 +32,7 @@ pub record FoundName (s : List ℕ) (at from to next : ℕ) (x : Element) : Type
 unfoldable pub TellsElement : List ℕ → ℕ → Element → Escape → Type 0
 TellsElement s at x (Byte b next) = FoundElement s at next x (literal b (drop next s))
 TellsElement s at x (Join next) = FoundElement s at next x (joins (drop next s))
-TellsElement s at x (Name from to next) = FoundName s at from to next x
+TellsElement s at x (Name from to next) = DollarName s at from to next x
 TellsElement s at x Bad = x ≡ wrong
 
 -- where what follows it starts, if it is sound

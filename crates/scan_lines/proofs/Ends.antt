@@ -15,10 +15,10 @@ use Rattle.lists.specs.Tests.{split, differ}
 use Rattle.lists.specs.Parts.{part}
 use Rattle.lists.specs.Runs.{Reads, afterRun, run-stops}
 use Rattle.spec.specs.Bytes.{newline, space, hash, dollar}
-use Rattle.spec.specs.Lines.{At, indent, comment, body, escape, lineTurn, endsLine, withByte, linesFrom as Rules·linesFrom, linesOf, isSpace, startsWith, isComment}
+use Rattle.spec.specs.Lines.{At, indent, comment, body, escape, lineTurn, endsLine, withByte, linesFrom, linesOf, isSpace, startsWith, isComment}
 use Rattle.scan_lines.specs.declared.LineEnd.{LineEnd}
 use Rattle.scan_lines.specs.declared.LineEnd.the-variants.{Ended, Comment as CommentEnded, Open}
-use Rattle.scan_lines.specs.Endings.{linesFrom, endFrom, EndsAt, EndAt, LineEnded, openLine, LineOpen, LineAt}
+use Rattle.scan_lines.specs.Endings.{linesAt, endFrom, EndsAt, EndAt, LineEnded, openLine, LineOpen, LineAt}
 use Rattle.scan_tokens.proofs.Places.{Going, going-on, at-cons, at-end}
 
 -- ---- one byte, or an escape
@@ -104,10 +104,10 @@ ends-newline escape b t = differ t refl
 pub record Splits (q : At) (at : ℕ) (s r : List ℕ) : Type 0 where
   pub text : List ℕ
   pub is : text ++ (newline ∷ r) ≡ s
-  pub lines : Rules·linesFrom q at s ≡ record { start = at; text = text; ended = true } ∷ Rules·linesFrom indent (at + suc (length text)) r
+  pub lines : linesFrom q at s ≡ record { start = at; text = text; ended = true } ∷ linesFrom indent (at + suc (length text)) r
 
 line-split : (q : At) (at : ℕ) (s r : List ℕ) → endFrom q s ≡ some r → Splits q at s r
-unfolding endFrom Rules·linesFrom withByte
+unfolding endFrom linesFrom withByte
 line-split q at [] r e = absurd (let z : true ≡ false = cc in differ refl z)
 line-split q at (b ∷ s) r e =
     split (endsLine q b)
@@ -121,11 +121,11 @@ line-split q at (b ∷ s) r e =
     record {
       text = b ∷ w .text;
       is = ap (λ (l : List ℕ). b ∷ l) (w .is);
-      lines = rw t (ap (withByte at b) (w .lines) ∙ ap (λ (n : ℕ). record { start = at; text = b ∷ w .text; ended = true } ∷ Rules·linesFrom indent n r) (sym z));
+      lines = rw t (ap (withByte at b) (w .lines) ∙ ap (λ (n : ℕ). record { start = at; text = b ∷ w .text; ended = true } ∷ linesFrom indent n r) (sym z));
     })
 
-open-lines : (q : At) (at : ℕ) (s : List ℕ) → endFrom q s ≡ none → Rules·linesFrom q at s ≡ openLine at s
-unfolding endFrom Rules·linesFrom withByte openLine
+open-lines : (q : At) (at : ℕ) (s : List ℕ) → endFrom q s ≡ none → linesFrom q at s ≡ openLine at s
+unfolding endFrom linesFrom withByte openLine
 open-lines q at [] e = refl
 open-lines q at (b ∷ s) e =
     split (endsLine q b) (λ (t : endsLine q b ≡ true). let f : some s ≡ none = rw t at e in cc)
@@ -219,12 +219,12 @@ module _ {m : List ℕ} {i k : ℕ} (a : Reads (afterRun isSpace) m i k) where
 
 -- ---- the lines of a manifest, one after the other
 
-pub lines-begin : (m : List ℕ) → linesOf m ≡ linesFrom 0 m
+pub lines-begin : (m : List ℕ) → linesOf m ≡ linesAt 0 m
 unfolding linesOf
 lines-begin m = refl
 
-pub lines-end : (m : List ℕ) (i : ℕ) → length m ≤ i → linesFrom i (drop i m) ≡ []
-unfolding Rules·linesFrom
+pub lines-end : (m : List ℕ) (i : ℕ) → length m ≤ i → linesAt i (drop i m) ≡ []
+unfolding linesFrom
 lines-end m i h = rw (at-end m i h)
 
 open-some : (at b : ℕ) (s : List ℕ) → openLine at (b ∷ s) ≡ record { start = at; text = b ∷ s; ended = false } ∷ []
@@ -232,8 +232,8 @@ unfolding openLine
 open-some at b s = refl
 
 module _ (m : List ℕ) {i : ℕ} (h : i < length m) where
-  pub lines-next : {e : ℕ} → LineEnded m i e → linesFrom i (drop i m) ≡ record { start = i; text = part m i e; ended = true } ∷ linesFrom (e + 1) (drop (e + 1) m)
+  pub lines-next : {e : ℕ} → LineEnded m i e → linesAt i (drop i m) ≡ record { start = i; text = part m i e; ended = true } ∷ linesAt (e + 1) (drop (e + 1) m)
   lines-next a = a .lines
 
-  pub lines-last : LineOpen m i → linesFrom i (drop i m) ≡ record { start = i; text = drop i m; ended = false } ∷ []
+  pub lines-last : LineOpen m i → linesAt i (drop i m) ≡ record { start = i; text = drop i m; ended = false } ∷ []
   lines-last a = a .lines ∙ rw (at-cons m i h) (open-some i _ _)

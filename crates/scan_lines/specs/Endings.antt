@@ -7,7 +7,7 @@ use mathlib.Core.Path.{_≡_}
 use lib.ListN.{length, drop}
 use Rattle.lists.specs.Tests.{ifB}
 use Rattle.lists.specs.Parts.{part}
-use Rattle.spec.specs.Lines.{At, indent, comment, lineTurn, endsLine, Line, linesFrom as Rules·linesFrom, isComment, isBlank, isIndented}
+use Rattle.spec.specs.Lines.{At, indent, comment, lineTurn, endsLine, Line, linesFrom, isComment, isBlank, isIndented}
 use Rattle.scan_lines.specs.declared.LineEnd.{LineEnd}
 use Rattle.scan_lines.specs.declared.LineEnd.the-variants.{Ended, Comment as CommentEnded, Open}
 use Rattle.scan_lines.specs.declared.LineKind.{LineKind}
@@ -16,8 +16,8 @@ use Rattle.scan_lines.specs.declared.LineKind.the-variants.{Comment, Bla
 -- ---- lines
 
 -- the lines from this offset on, with these bytes
-abbrev pub linesFrom : ℕ → List ℕ → List Line
-linesFrom at s = Rules·linesFrom indent at s
+abbrev pub linesAt : ℕ → List ℕ → List Line
+linesAt at s = linesFrom indent at s
 
 -- what follows the newline that ends the present line, if it is ended
 unfoldable pub endFrom : At → List ℕ → Option (List ℕ)
@@ -39,7 +39,7 @@ EndAt q m i Open = endFrom q (drop i m) ≡ none
 pub record LineEnded (m : List ℕ) (i e : ℕ) : Type 0 where
   pub forward : i ≤ e
   pub within : e < length m
-  pub lines : linesFrom i (drop i m) ≡ record { start = i; text = part m i e; ended = true } ∷ linesFrom (e + 1) (drop (e + 1) m)
+  pub lines : linesAt i (drop i m) ≡ record { start = i; text = part m i e; ended = true } ∷ linesAt (e + 1) (drop (e + 1) m)
 
 -- the line that starts at this offset with these bytes, which no newline ends; there is none at the manifest's end
 unfoldable pub openLine : ℕ → List ℕ → List Line
@@ -53,7 +53,7 @@ pub record CommentAt (m : List ℕ) (i e : ℕ) : Type 0 where
 
 -- The manifest ends inside the line that starts at place i.
 pub record LineOpen (m : List ℕ) (i : ℕ) : Type 0 where
-  pub lines : linesFrom i (drop i m) ≡ openLine i (drop i m)
+  pub lines : linesAt i (drop i m) ≡ openLine i (drop i m)
 
 unfoldable pub LineAt : List ℕ → ℕ → LineEnd → Type 0
 LineAt m i (Ended e) = LineEnded m i e

@@ -34,7 +34,7 @@ pub fn copy_at(dst: &mut [u8], at: usize, src: &[u8])
 }
 
 // Zeroes the places from `from` up to, not including, `to`.
-pub fn zero_part(buf: &mut [u8], from: usize, to: usize)
+pub fn zero_bytes_in(buf: &mut [u8], from: usize, to: usize)
     requires { ⌜ (from ≤ to) × (to ≤ length (now buf)) ⌝ }
     ensures { λ _. ⌜ now (buf .exit) ≡ zeroed (now (buf .entry)) from to ⌝ }
 {
@@ -46,11 +46,11 @@ pub fn zero_part(buf: &mut [u8], from: usize, to: usize)
 }
 
 // Zeroes the places from `from` to the end.
-pub fn zero_from(buf: &mut [u8], from: usize)
+pub fn zero_bytes_from(buf: &mut [u8], from: usize)
     ensures { λ _. ⌜ now (buf .exit) ≡ zeroed (now (buf .entry)) from (length (now (buf .entry))) ⌝ }
 {
     let n = buf.len();
     if from < n {
-        zero_part(buf, from, n);
+        zero_bytes_in(buf, from, n);
     }
 }

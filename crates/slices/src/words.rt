@@ -18,7 +18,7 @@ pub fn at(a: &[u32], i: usize) -> usize
 }
 
 // Zeroes the places from `from` up to, not including, `to`.
-pub fn zero_part(buf: &mut [u32], from: usize, to: usize)
+pub fn zero_words_in(buf: &mut [u32], from: usize, to: usize)
     requires { ⌜ (from ≤ to) × (to ≤ length (now buf)) ⌝ }
     ensures { λ _. ⌜ now (buf .exit) ≡ zeroed (now (buf .entry)) from to ⌝ }
 {
@@ -30,11 +30,11 @@ pub fn zero_part(buf: &mut [u32], from: usize, to: usize)
 }
 
 // Zeroes the places from `from` to the end.
-pub fn zero_from(buf: &mut [u32], from: usize)
+pub fn zero_words_from(buf: &mut [u32], from: usize)
     ensures { λ _. ⌜ now (buf .exit) ≡ zeroed (now (buf .entry)) from (length (now (buf .entry))) ⌝ }
 {
     let n = buf.len();
     if from < n {
-        zero_part(buf, from, n);
+        zero_words_in(buf, from, n);
     }
 }

@@ -41,3 +41,25 @@ spot-base (t ∷ ts) zero i h l = let z : 0 + i ≡ i = omega arith in rw (z, le
 spot-base (t ∷ ts) (suc k) i h l =
     let z : suc (length t) + baseOf ts k + i - suc (length t) ≡ baseOf ts k + i = omega arith in
     rw (lt-leb (suc (length t) + baseOf ts k + i) (length t) (omega arith), z, spot-base ts k i (le-of-suc-le-suc h) l)
+
+-- 0 is the number of an answer
+pub refusal-not-0 : (r : Refusal) → numberOfRefusal r ≡ 0 → ⊥
+unfolding numberOfRefusal
+refusal-not-0 ShortBuffer e = omega arith
+refusal-not-0 LongManifest e = omega arith
+refusal-not-0 (BadByte p) e = omega arith
+refusal-not-0 (BadLine p) e = omega arith
+refusal-not-0 (BadDollar p) e = omega arith
+refusal-not-0 (NotYet p) e = omega arith
+refusal-not-0 (BadRule p) e = omega arith
+refusal-not-0 (BadPath p) e = omega arith
+refusal-not-0 (OverLimit p) e = omega arith
+refusal-not-0 (BadVersion p) e = omega arith
+refusal-not-0 BadCard e = omega arith
+refusal-not-0 (BadTarget p) e = omega arith
+refusal-not-0 NoRoot e = omega arith
+refusal-not-0 (Circle n) e = omega arith
+refusal-not-0 (MissingSource f) e = omega arith
+refusal-not-0 (EndlessText s) e = omega arith
+refusal-not-0 (LongText s) e = omega arith
+refusal-not-0 (NoCommand s) e = omega arith

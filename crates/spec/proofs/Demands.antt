@@ -10,9 +10,10 @@ use mathlib.Core.Path.{_≡_, refl, _∙_, ap, subst}
 use borrow.Author.Tests.{eqb-true, eqb-false, ltb-false, le-ltb, not-false}
 use lib.Dec.{eqb, ltb}
 use lib.ListN.{length}
-use Rattle.lists.specs.Tests.{split}
+use Rattle.lists.specs.Tests.{ifB, split}
 use Rattle.lists.specs.Members.{once-below}
 use Rattle.orders.specs.Order.{first-difference, least-order}
+use Rattle.spec.specs.Basics.{orElse}
 use Rattle.spec.specs.declared.Refusal.{Refusal}
 use Rattle.spec.specs.declared.Refusal.the-variants.{ShortBuffer, BadCard, BadTarget, NoRoot, MissingSource}
 use Rattle.spec.specs.declared.Wanted.{Wanted}
@@ -21,13 +22,13 @@ use Rattle.spec.specs.Reading.{Reading}
 use Rattle.spec.specs.Manifest.{Read, accepted, refusedWith, readManifest}
 use Rattle.spec.specs.Card.{soundCard}
 use Rattle.spec.specs.Targets.{badTarget}
-use Rattle.spec.specs.Answers.{Said, numberOfRefusal, refusalSays}
+use Rattle.spec.specs.Answers.{Said, numberOfRefusal, refusalSays, says}
 use Rattle.spec.specs.Graph.{hasOrder, noRoot}
 use Rattle.spec.specs.Stale.{verdictsOf, listOf}
 use Rattle.spec.specs.Words.{NeededCircle}
-use Rattle.spec.specs.PlanAsk.{Inputs, PlanOutcome, listed, circular, noPlan, targetFiles, rootsOf, cardTime, missingSource, refusedIf, refusedAt, onRefusal, planListed, planSources, planOrdered, planRooted, planTargets, planRead, planManifest, planAsk}
+use Rattle.spec.specs.PlanAsk.{Inputs, PlanOutcome, listed, circular, noPlan, targetFiles, rootsOf, cardTime, missingSource, planListed, planSources, planOrdered, planRooted, planTargets, planRead, planManifest, planAsk}
 use Rattle.spec.specs.TextAsk.{TextOutcome, text, noText, textAsk}
-use Rattle.spec.specs.Promises.{filled, leftBy, counts, AnswerIs, Shows, PlanMeets, TextMeets}
+use Rattle.spec.specs.Promises.{filled, leftBy, AnswerIs, Shows, PlanMeets, TextMeets}
 use Rattle.spec.proofs.Manifests.{of-reading, accepted-few}
 use Rattle.spec.proofs.Graph.{needed-low}
 use Rattle.spec.proofs.Sources.{missing-lowest, none-missing}
@@ -55,13 +56,13 @@ module _ (i : Inputs) (lent : List ℕ) (said : Said) (exit : List ℕ) where
 
   -- a check that refuses with a number below 14 is one of those ahead of circles; else what comes after it is looked at
   after-test : (b : Bool) (r : Refusal) (f : Unit {0} → PlanOutcome) → 0 < numberOfRefusal r → numberOfRefusal r < 14
-      → Meets (onRefusal (refusedIf b r) f) → (b ≡ false → Meets (f tt) → Ahead) → Ahead
+      → Meets (ifB b (λ _. noPlan r) f) → (b ≡ false → Meets (f tt) → Ahead) → Ahead
   unfolding PlanMeets
   after-test true r f l h m go = refused-with r l h m
   after-test false r f l h m go = go refl m
 
   after-place : (o : Option ℕ) (r : ℕ → Refusal) (f : Unit {0} → PlanOutcome) → ((p : ℕ) → 0 < numberOfRefusal (r p))
-      → ((p : ℕ) → numberOfRefusal (r p) < 14) → Meets (onRefusal (refusedAt o r) f) → (o ≡ none → Meets (f tt) → Ahead) → Ahead
+      → ((p : ℕ) → numberOfRefusal (r p) < 14) → Meets (orElse o (λ p. noPlan (r p)) f) → (o ≡ none → Meets (f tt) → Ahead) → Ahead
   unfolding PlanMeets
   after-place none r f l h m go = go refl m
   after-place (some p) r f l h m go = refused-with (r p) (l p) (h p) m
@@ -166,7 +167,7 @@ module _ (i : Inputs) (rd : Reading) where
           listed = λ d. absurd (omega (arith, n, d));
         }
 
-    from-list : has ≡ true → lost ≡ none → AnswerIs said exit (counts (length steps)) (filled steps lent) → PlansPast i rd lent said exit
+    from-list : has ≡ true → lost ≡ none → AnswerIs said exit (says 0 (length steps)) (filled steps lent) → PlansPast i rd lent said exit
     from-list h e p =
         let n : said .number ≡ 0 = number p in
         let none-is = none-missing i rd e in
@@ -179,7 +180,7 @@ module _ (i : Inputs) (rd : Reading) where
           listed = λ d. record { list = steps; listing = listing h; shown = p };
         }
 
-    from-15 : has ≡ true → (o : Option ℕ) → lost ≡ o → PlanMeets (onRefusal (refusedAt o MissingSource) (λ _. planListed i rd)) lent said exit
+    from-15 : has ≡ true → (o : Option ℕ) → lost ≡ o → PlanMeets (orElse o (λ f. noPlan (MissingSource f)) (λ _. planListed i rd)) lent said exit
         → PlansPast i rd lent said exit
     unfolding PlanMeets planListed
     from-15 h none e m = from-list h e m

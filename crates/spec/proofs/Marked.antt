@@ -7,12 +7,12 @@ use lib.ListN.{length}
 use Rattle.lists.specs.Text.{bytes}
 use Rattle.lists.specs.Members.{_∈_, here, there, Once, once-head}
 use Rattle.spec.specs.declared.PlanAnswer.{PlanAnswer}
-use Rattle.spec.specs.Answers.{Said, planSays}
+use Rattle.spec.specs.Answers.{Said, planSays, says}
 use Rattle.spec.specs.Card.{soundCard, cardEntries, timeIn}
 use Rattle.spec.specs.PlanAsk.{inputsOf, planAsk, circular}
 use Rattle.spec.specs.TextAsk.{textAsk}
 use Rattle.spec.specs.Words.{Needed}
-use Rattle.spec.specs.Promises.{filled, refused14, AnswerIs, Shows, PlanMeets, PlanPromise}
+use Rattle.spec.specs.Promises.{filled, AnswerIs, Shows, PlanMeets, PlanPromise}
 use Rattle.spec.specs.Marked.{cardOf, phonyStepOf, Marked}
 use Rattle.spec.proofs.Graph.{needed-low}
 
@@ -21,7 +21,7 @@ only-zero [] b o f = absurd (omega arith)
 only-zero (x ∷ []) b o f = ap (λ (n : ℕ). n ∷ []) (f x (here refl))
 only-zero (x ∷ y ∷ l) b o f = absurd (once-head x (y ∷ l) o (here (f x (here refl) ∙ sym (f y (there (here refl))))))
 
-shows-zero : (lent exit : List ℕ) (said : Said) → Shows (phonyStepOf 0 (0 ∷ []) ∷ []) (0 ∷ []) lent said exit → AnswerIs said exit (refused14 1) (filled (0 ∷ []) lent)
+shows-zero : (lent exit : List ℕ) (said : Said) → Shows (phonyStepOf 0 (0 ∷ []) ∷ []) (0 ∷ []) lent said exit → AnswerIs said exit (says 14 1) (filled (0 ∷ []) lent)
 shows-zero lent exit said p =
     let e : p .circle ≡ 0 ∷ [] = only-zero (p .circle) (p .real .one-or-more) (p .real .once) (λ s h. lowest (p .real .wanted s h)) in
     rw e at (p .shown)
@@ -34,7 +34,7 @@ unfolding planAsk
 m7-circular = refl
 
 m7-right : (lent : List ℕ) (answer : PlanAnswer) (exit : List ℕ) → length lent ≡ 512
-    → PlanPromise (inputsOf (bytes "build a: phony a\n") (cardOf []) (bytes "a\n")) lent answer exit → AnswerIs (planSays answer) exit (refused14 1) (filled (0 ∷ []) lent)
+    → PlanPromise (inputsOf (bytes "build a: phony a\n") (cardOf []) (bytes "a\n")) lent answer exit → AnswerIs (planSays answer) exit (says 14 1) (filled (0 ∷ []) lent)
 unfolding PlanMeets
 m7-right lent answer exit room p =
     let e : planAsk (inputsOf (bytes "build a: phony a\n") (cardOf []) (bytes "a\n")) (length lent) ≡ circular (phonyStepOf 0 (0 ∷ []) ∷ []) (0 ∷ []) = rw room m7-circular in

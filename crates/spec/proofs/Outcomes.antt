@@ -9,6 +9,7 @@ use lib.Dec.{leb, ltb}
 use lib.ListN.{length}
 use borrow.Author.Tests.{ltb-false}
 use Rattle.lists.specs.Tests.{ifB, split}
+use Rattle.spec.specs.Basics.{orElse}
 use Rattle.spec.specs.declared.Refusal.{Refusal}
 use Rattle.spec.specs.declared.Refusal.the-variants.{ShortBuffer, EndlessText, LongText, NoCommand}
 use Rattle.spec.specs.declared.Wanted.{Wanted}
@@ -18,7 +19,7 @@ use Rattle.spec.specs.Reading.{Reading, isPhony}
 use Rattle.spec.specs.Manifest.{Read, accepted, refusedWith, readManifest}
 use Rattle.spec.specs.Graph.{stepAt}
 use Rattle.spec.specs.Text.{leadsBack, deep, nameText, nameRefusal}
-use Rattle.spec.specs.TextAsk.{TextOutcome, text, noText, wantedName, orText, nameOutcome, textOfStep, textRead, textAsk}
+use Rattle.spec.specs.TextAsk.{TextOutcome, text, noText, wantedName, nameOutcome, textOfStep, textRead, textAsk}
 use Rattle.spec.proofs.Manifests.{OfReading, of-reading}
 
 -- a refusal other than 14
@@ -53,8 +54,8 @@ module _ (room : ℕ) where
   either-text true x y p q = p
   either-text false x y p q = q
 
-  or-text : (b : Bool) (r : Refusal) (o : Option Refusal) (t : Unit {0} → List ℕ) → Not14 r → (b ≡ false → TextWithin room (orText o t))
-      → TextWithin room (orText (ifB b (λ _. some r) (λ _. o)) t)
+  or-text : (b : Bool) (r : Refusal) (o : Option Refusal) (t : Unit {0} → List ℕ) → Not14 r → (b ≡ false → TextWithin room (orElse o noText (λ _. text (t tt))))
+      → TextWithin room (orElse (ifB b (λ _. some r) (λ _. o)) noText (λ _. text (t tt)))
   or-text true r o t n p = n
   or-text false r o t n p = p refl
 

@@ -2,12 +2,13 @@
 use Prim.Native.Nat.{ℕ, _-_}
 use native.Mathlib.Omega.{arith}
 use mathlib.Core.Path.{_≡_, refl, sym, _∙_}
-use mathlib.Core.Bool.{true, false, not}
+use mathlib.Core.Bool.{Bool, true, false, not}
 use mathlib.Core.Option.{Option, none, some}
 use mathlib.Core.List.{List, []}
 use lib.Dec.{ltb}
 use lib.ListN.{length}
-use Rattle.lists.specs.Tests.{split}
+use Rattle.lists.specs.Tests.{ifB, split}
+use Rattle.spec.specs.Basics.{orElse}
 use Rattle.lists.specs.Fill.{zeroed, zeroed-all}
 use Rattle.orders.specs.Circle.{circleOf}
 use Rattle.spec.specs.declared.Refusal.{Refusal}
@@ -23,7 +24,7 @@ use Rattle.spec.specs.Manifest.{Read, accepted, refusedWith, readManifes
 use Rattle.spec.specs.Card.{soundCard}
 use Rattle.spec.specs.Targets.{badTarget}
 use Rattle.spec.specs.Graph.{before, needed, hasOrder, noRoot}
-use Rattle.spec.specs.PlanAsk.{Inputs, PlanOutcome, listed, circular, noPlan, rootsOf, targetFiles, missingSource, onRefusal, refusedIf, refusedAt, planListed, planSources, planOrdered, planRooted, planTargets, planRead, planManifest, planAsk}
+use Rattle.spec.specs.PlanAsk.{Inputs, PlanOutcome, listed, circular, noPlan, rootsOf, targetFiles, missingSource, planListed, planSources, planOrdered, planRooted, planTargets, planRead, planManifest, planAsk}
 use Rattle.spec.specs.TextAsk.{TextOutcome, text, noText, textAsk}
 use Rattle.spec.specs.Answers.{Said, planSays, textSays}
 use Rattle.spec.specs.Promises.{filled, leftBy, AnswerIs, PlanMeets, PlanPromise, TextMeets, TextPromise}
@@ -41,14 +42,18 @@ Sound (circular steps roots) = hasOrder steps roots ≡ false
 Sound (noPlan r) = Unit {0}
 
 -- a check before it does not matter
-after-sound : (o : Option Refusal) (f : Unit {0} → PlanOutcome) → Sound (f tt) → Sound (onRefusal o f)
-after-sound none f s = s
-after-sound (some r) f s = tt
+after-test : (b : Bool) (r : Refusal) (f : Unit {0} → PlanOutcome) → Sound (f tt) → Sound (ifB b (λ _. noPlan r) f)
+after-test true r f s = tt
+after-test false r f s = s
+
+after-place : (o : Option ℕ) (r : ℕ → Refusal) (f : Unit {0} → PlanOutcome) → Sound (f tt) → Sound (orElse o (λ p. noPlan (r p)) f)
+after-place none r f s = s
+after-place (some p) r f s = tt
 
 module _ (i : Inputs) (rd : Reading) where
   sources-sound : Sound (planSources i rd)
   unfolding planSources planListed
-  sources-sound = after-sound (refusedAt (missingSource (i .card) rd (rootsOf i rd)) MissingSource) (λ _. planListed i rd) tt
+  sources-sound = after-place (missingSource (i .card) rd (rootsOf i rd)) MissingSource (λ _. planListed i rd) tt
 
   ordered-sound : Sound (planOrdered i rd)
   unfolding planOrdered
@@ -59,9 +64,9 @@ module _ (i : Inputs) (rd : Reading) where
   read-sound : Sound (planRead i rd)
   unfolding planRead planTargets planRooted
   read-sound =
-      after-sound (refusedIf (not (soundCard (i .card))) BadCard) (λ _. planTargets i rd)
-      (after-sound (refusedAt (badTarget (rd .files) (i .targets)) BadTarget) (λ _. planRooted i rd)
-      (after-sound (refusedIf (noRoot rd (targetFiles (i .targets) rd)) NoRoot) (λ _. planOrdered i rd) ordered-sound))
+      after-test (not (soundCard (i .card))) BadCard (λ _. planTargets i rd)
+      (after-place (badTarget (rd .files) (i .targets)) BadTarget (λ _. planRooted i rd)
+      (after-test (noRoot rd (targetFiles (i .targets) rd)) NoRoot (λ _. planOrdered i rd) ordered-sound))
 
 manifest-sound : (i : Inputs) (r : Read) → Sound (planManifest i r)
 unfolding planManifest

@@ -12,14 +12,14 @@ use Rattle.lists.specs.Tests.{ifB, split, differ, and-left, and-right, or-left,
 use Rattle.lists.specs.Text.{bytes}
 use Rattle.spec.specs.Bytes.{between, letter, digit}
 use Rattle.spec.specs.Text.{quote, safeByte, insideQuotes, quoted, joinedBy}
-use Rattle.spec.specs.Shell.{backslash, blank, plainByte, Word, startedBy, outside, within, wordFrom, firstWord, ReadsAs}
+use Rattle.spec.specs.Shell.{backslash, shellBlank, plainByte, ShellWord, startedBy, outside, within, wordFrom, firstWord, ReadsAs}
 
 -- ---- bytes
 
 -- outside of quotes the byte stands for itself
 unfoldable literal : ℕ → Bool
-unfolding blank plainByte
-literal b = not (eqb b quote) && (not (eqb b backslash) && (not (blank b) && plainByte b))
+unfolding shellBlank plainByte
+literal b = not (eqb b quote) && (not (eqb b backslash) && (not (shellBlank b) && plainByte b))
 
 -- no byte past the letters is safe
 high-safe : (b : ℕ) → 123 ≤ b → safeByte b ≡ false
@@ -41,30 +41,30 @@ safe-literal b s =
 literal-read : (b : ℕ) (s : List ℕ) → literal b ≡ true → wordFrom outside (b ∷ s) ≡ startedBy b (wordFrom outside s)
 unfolding literal wordFrom
 literal-read b s h =
-    let r = and-right (not (eqb b quote)) (not (eqb b backslash) && (not (blank b) && plainByte b)) h in
-    let t = and-right (not (eqb b backslash)) (not (blank b) && plainByte b) r in
-    rw (not-true (eqb b quote) (and-left (not (eqb b quote)) (not (eqb b backslash) && (not (blank b) && plainByte b)) h), not-true (eqb b backslash) (and-left (not (eqb b backslash)) (not (blank b) && plainByte b) r), not-true (blank b) (and-left (not (blank b)) (plainByte b) t), and-right (not (blank b)) (plainByte b) t)
+    let r = and-right (not (eqb b quote)) (not (eqb b backslash) && (not (shellBlank b) && plainByte b)) h in
+    let t = and-right (not (eqb b backslash)) (not (shellBlank b) && plainByte b) r in
+    rw (not-true (eqb b quote) (and-left (not (eqb b quote)) (not (eqb b backslash) && (not (shellBlank b) && plainByte b)) h), not-true (eqb b backslash) (and-left (not (eqb b backslash)) (not (shellBlank b) && plainByte b) r), not-true (shellBlank b) (and-left (not (shellBlank b)) (plainByte b) t), and-right (not (shellBlank b)) (plainByte b) t)
 
-literal-not-blank : (b : ℕ) → literal b ≡ true → blank b ≡ false
+literal-not-blank : (b : ℕ) → literal b ≡ true → shellBlank b ≡ false
 unfolding literal
 literal-not-blank b h =
-    let r = and-right (not (eqb b quote)) (not (eqb b backslash) && (not (blank b) && plainByte b)) h in
-    not-true (blank b) (and-left (not (blank b)) (plainByte b) (and-right (not (eqb b backslash)) (not (blank b) && plainByte b) r))
+    let r = and-right (not (eqb b quote)) (not (eqb b backslash) && (not (shellBlank b) && plainByte b)) h in
+    not-true (shellBlank b) (and-left (not (shellBlank b)) (plainByte b) (and-right (not (eqb b backslash)) (not (shellBlank b) && plainByte b) r))
 
 -- ---- the end of a word
 
 -- the text is at its end or goes on with a blank
 unfoldable pub ends : List ℕ → Bool
-unfolding blank
+unfolding shellBlank
 ends [] = true
-ends (b ∷ s) = blank b
+ends (b ∷ s) = shellBlank b
 
 -- the word ends here
 ended : (s : List ℕ) → ends s ≡ true → wordFrom outside s ≡ some (record { word = []; behind = s })
 unfolding ends wordFrom
 ended [] h = refl
 ended (b ∷ s) h =
-    let apart : (k : ℕ) → blank k ≡ false → eqb b k ≡ false = λ k z. ne-eqb b k (λ e. differ h (ap blank e ∙ z)) in
+    let apart : (k : ℕ) → shellBlank k ≡ false → eqb b k ≡ false = λ k z. ne-eqb b k (λ e. differ h (ap shellBlank e ∙ z)) in
     rw (apart quote refl, apart backslash refl, h)
 
 -- ---- names
@@ -76,7 +76,7 @@ safe-read (b ∷ n) s h e =
     literal-read b (n ++ s) (safe-literal b (and-left (safeByte b) (all safeByte n) h))
     ∙ ap (startedBy b) (safe-read n s (and-right (safeByte b) (all safeByte n) h) e)
 
-started : (b : ℕ) {n s : List ℕ} {w : Option Word} → w ≡ some (record { word = n; behind = s }) → startedBy b w ≡ some (record { word = b ∷ n; behind = s })
+started : (b : ℕ) {n s : List ℕ} {w : Option ShellWord} → w ≡ some (record { word = n; behind = s }) → startedBy b w ≡ some (record { word = b ∷ n; behind = s })
 unfolding startedBy
 started b e = ap (startedBy b) e
 
@@ -108,13 +108,13 @@ inside-read (b ∷ n) s h e =
     (λ (q : eqb b quote ≡ true). rw q (quote-read (insideQuotes n ++ (quote ∷ s)) ∙ rw (eqb-true b quote q) (started quote rest)))
     (λ (q : eqb b quote ≡ false). rw q (within-read b (insideQuotes n ++ (quote ∷ s)) q z ∙ started b rest))
 
-starts : (b : ℕ) (s : List ℕ) → blank b ≡ false → firstWord (b ∷ s) ≡ wordFrom outside (b ∷ s)
+starts : (b : ℕ) (s : List ℕ) → shellBlank b ≡ false → firstWord (b ∷ s) ≡ wordFrom outside (b ∷ s)
 unfolding firstWord
 starts b s z = ap (λ (t : Bool). ifB t (λ _. none) (λ _. wordFrom outside (b ∷ s))) z
 
 -- "Names hold their quotes": for any bytes but 0 the shell reads the quoted name as the name, and goes on behind it
 pub quoted-read : (n s : List ℕ) → (n ≡ [] → ⊥) → has 0 n ≡ false → ends s ≡ true → firstWord (quoted n ++ s) ≡ some (record { word = n; behind = s })
-unfolding quoted all blank
+unfolding quoted all shellBlank
 quoted-read [] s f h e = absurd (f refl)
 quoted-read (b ∷ n) s f h e =
     split (all safeByte (b ∷ n))
@@ -134,7 +134,7 @@ FileNames [] = Unit {0}
 FileNames (n ∷ l) = FileName n × FileNames l
 
 -- `$in`, `$out` and `$in_newline` are read as the names that they join
-pub joined-read : (c : ℕ) → blank c ≡ true → (names : List (List ℕ)) → FileNames names → ReadsAs c names (joinedBy c (map quoted names))
+pub joined-read : (c : ℕ) → shellBlank c ≡ true → (names : List (List ℕ)) → FileNames names → ReadsAs c names (joinedBy c (map quoted names))
 unfolding joinedBy ends
 joined-read c z [] h = refl
 joined-read c z (n ∷ []) h = ap firstWord (sym (append-nil (quoted n))) ∙ quoted-read n [] (h .0 .some-byte) (h .0 .no-zero) refl

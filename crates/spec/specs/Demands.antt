@@ -13,7 +13,7 @@ use Rattle.orders.specs.Order.{IsOrder}
 use Rattle.spec.specs.declared.Refusal.{Refusal}
 use Rattle.spec.specs.declared.Wanted.{Wanted}
 use Rattle.spec.specs.Limits.{leastList}
-use Rattle.spec.specs.Answers.{Said, numberOfRefusal, refusalSays}
+use Rattle.spec.specs.Answers.{Said, numberOfRefusal, refusalSays, says}
 use Rattle.spec.specs.Reading.{Step, Reading}
 use Rattle.spec.specs.Manifest.{accepted, readManifest}
 use Rattle.spec.specs.Card.{soundCard}
@@ -23,7 +23,7 @@ use Rattle.spec.specs.Stale.{Verdict}
 use Rattle.spec.specs.Words.{Needed, Missing, Upstream, NeededOrder, NeededCircle, RightVerdicts, Stale, StaleList}
 use Rattle.spec.specs.PlanAsk.{Inputs, targetFiles, rootsOf, cardTime, planAsk}
 use Rattle.spec.specs.TextAsk.{textAsk}
-use Rattle.spec.specs.Promises.{filled, counts, refused14, AnswerIs, Shows, PlanMeets, TextMeets}
+use Rattle.spec.specs.Promises.{filled, AnswerIs, Shows, PlanMeets, TextMeets}
 
 -- ------------------------------------------------------------------ the checks ahead of circles
 
@@ -54,10 +54,10 @@ pub data ChecksAhead (i : Inputs) (room : ℕ) (said : Said) : Type 0 where
 -- `Circle` says which circles may be written out: for a plan those of `CircleRead`, for a text none.
 pub data Demand1 (Circle : List ℕ → Type 0) (lent : List ℕ) (said : Said) (exit : List ℕ) : Type 0 where
   -- the count of a list or a text, which has room in the buffer and stands there; "what lies beyond it is zero"
-  answers : (l : List ℕ) → length l ≤ length lent → AnswerIs said exit (counts (length l)) (filled l lent)
+  answers : (l : List ℕ) → length l ≤ length lent → AnswerIs said exit (says 0 (length l)) (filled l lent)
       → Demand1 Circle lent said exit
   -- "14 writes the circle's steps": 14 with the length of a circle, which has room in the buffer and stands there
-  shows : (c : List ℕ) → Circle c → length c ≤ length lent → AnswerIs said exit (refused14 (length c)) (filled c lent)
+  shows : (c : List ℕ) → Circle c → length c ≤ length lent → AnswerIs said exit (says 14 (length c)) (filled c lent)
       → Demand1 Circle lent said exit
   -- "1 touches nothing"
   short : (r : Refusal) → numberOfRefusal r ≡ 1 → AnswerIs said exit (refusalSays r) lent → Demand1 Circle lent said exit
@@ -106,7 +106,7 @@ pub record Listing (i : Inputs) (rd : Reading) (list : List ℕ) : Type 0 where
 pub record ListShown (i : Inputs) (rd : Reading) (lent : List ℕ) (said : Said) (exit : List ℕ) : Type 0 where
   pub list : List ℕ
   pub listing : Listing i rd list
-  pub shown : AnswerIs said exit (counts (length list)) (filled list lent)
+  pub shown : AnswerIs said exit (says 0 (length list)) (filled list lent)
 
 -- ------------------------------------------------------------------ demand 3
 

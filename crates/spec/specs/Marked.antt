@@ -10,8 +10,8 @@ use Rattle.spec.specs.declared.Wanted.the-variants.{Command}
 use Rattle.spec.specs.Reading.{Step}
 use Rattle.spec.specs.Card.{inBytes, Entry, soundCard, cardEntries, timeIn}
 use Rattle.spec.specs.declared.PlanAnswer.{PlanAnswer}
-use Rattle.spec.specs.Answers.{planSays}
-use Rattle.spec.specs.Promises.{AnswerIs, filled, refused14, PlanPromise}
+use Rattle.spec.specs.Answers.{planSays, says}
+use Rattle.spec.specs.Promises.{AnswerIs, filled, PlanPromise}
 use Rattle.spec.specs.PlanAsk.{PlanOutcome, inputsOf, planAsk, listed}
 use Rattle.spec.specs.TextAsk.{TextOutcome, textAsk, text}
 
@@ -71,7 +71,7 @@ pub record Marked : Type 0 where
   pub m6 : command (bytes "v = 1\nrule r\n  command = x $v\nbuild a: r\nv = 2\n") 0 ≡ text (bytes "x 2")
   -- (M7) `build a: phony a`, target a: 14, circle 0: whatever answers must say so, and write that circle
   pub m7 : (lent : List ℕ) (answer : PlanAnswer) (exit : List ℕ) → length lent ≡ 512
-      → PlanPromise (inputsOf (bytes "build a: phony a\n") (cardOf []) (bytes "a\n")) lent answer exit → AnswerIs (planSays answer) exit (refused14 1) (filled (0 ∷ []) lent)
+      → PlanPromise (inputsOf (bytes "build a: phony a\n") (cardOf []) (bytes "a\n")) lent answer exit → AnswerIs (planSays answer) exit (says 14 1) (filled (0 ∷ []) lent)
   -- (M8) a circle no target reaches: no 14
   pub m8 : plan (bytes "build a: phony a\nbuild b: phony\n") [] "b\n" ≡ listed []
   -- (M9) order-only input newer: fresh

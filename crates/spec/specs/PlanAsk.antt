@@ -1,14 +1,15 @@
 -- The plan ask whole.
 use Prim.Native.Nat.{ℕ}
 use mathlib.Core.List.{List, [], map}
-use mathlib.Core.Option.{Option, none, some}
-use mathlib.Core.Bool.{Bool, true, false, not, _&&_}
+use mathlib.Core.Option.{Option}
+use mathlib.Core.Bool.{not, _&&_}
 use lib.Dec.{eqb, ltb}
 use lib.ListN.{length, getD}
 use Rattle.spec.specs.declared.Refusal.{Refusal}
 use Rattle.spec.specs.declared.Refusal.the-variants.{ShortBuffer, BadCard, BadTarget, NoRoot, MissingSource}
 use Rattle.lists.specs.Tests.{ifB}
 use Rattle.lists.specs.Members.{find, upTo}
+use Rattle.spec.specs.Basics.{orElse}
 use Rattle.spec.specs.Limits.{leastList}
 use Rattle.spec.specs.Reading.{Step, Reading, numberOf}
 use Rattle.spec.specs.Manifest.{Read, accepted, refusedWith, readManifest}
@@ -55,21 +56,6 @@ rootsOf i rd = roots rd (targetFiles (i .targets) rd)
 
 -- ------------------------------------------------------------------ the checks from 11 on, each with what comes after it
 
--- a check that refuses, or what comes after it
-abbrev pub onRefusal : Option Refusal → (Unit {0} → PlanOutcome) → PlanOutcome
-onRefusal none goOn = goOn tt
-onRefusal (some r) goOn = noPlan r
-
--- this refusal, if so
-abbrev pub refusedIf : Bool → Refusal → Option Refusal
-refusedIf true r = some r
-refusedIf false r = none
-
--- this refusal at the place, if there is one
-abbrev pub refusedAt : Option ℕ → (ℕ → Refusal) → Option Refusal
-refusedAt none r = none
-refusedAt (some place) r = some (r place)
-
 -- the list
 unfoldable pub planListed : Inputs → Reading → PlanOutcome
 unfolding listOf cardTime roots targetFiles
@@ -78,7 +64,7 @@ planListed i rd = listed (listOf (rd .steps) (cardTime (i .card) rd) (rootsOf i 
 -- 15, then the list
 unfoldable pub planSources : Inputs → Reading → PlanOutcome
 unfolding missingSource roots targetFiles planListed
-planSources i rd = onRefusal (refusedAt (missingSource (i .card) rd (rootsOf i rd)) MissingSource) λ _. planListed i rd
+planSources i rd = orElse (missingSource (i .card) rd (rootsOf i rd)) (λ f. noPlan (MissingSource f)) λ _. planListed i rd
 
 -- 14, then 15
 unfoldable pub planOrdered : Inputs → Reading → PlanOutcome
@@ -88,17 +74,17 @@ planOrdered i rd = ifB (hasOrder (rd .steps) (rootsOf i rd)) (λ _. planSources 
 -- 13, then 14
 unfoldable pub planRooted : Inputs → Reading → PlanOutcome
 unfolding noRoot targetFiles planOrdered
-planRooted i rd = onRefusal (refusedIf (noRoot rd (targetFiles (i .targets) rd)) NoRoot) λ _. planOrdered i rd
+planRooted i rd = ifB (noRoot rd (targetFiles (i .targets) rd)) (λ _. noPlan NoRoot) λ _. planOrdered i rd
 
 -- 12, then 13
 unfoldable pub planTargets : Inputs → Reading → PlanOutcome
 unfolding badTarget planRooted
-planTargets i rd = onRefusal (refusedAt (badTarget (rd .files) (i .targets)) BadTarget) λ _. planRooted i rd
+planTargets i rd = orElse (badTarget (rd .files) (i .targets)) (λ place. noPlan (BadTarget place)) λ _. planRooted i rd
 
 -- 11, then 12: "then 11 to 15 for a plan"
 unfoldable pub planRead : Inputs → Reading → PlanOutcome
 unfolding soundCard planTargets
-planRead i rd = onRefusal (refusedIf (not (soundCard (i .card))) BadCard) λ _. planTargets i rd
+planRead i rd = ifB (not (soundCard (i .card))) (λ _. noPlan BadCard) λ _. planTargets i rd
 
 -- ------------------------------------------------------------------ the ask
 

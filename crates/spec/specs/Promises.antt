@@ -1,7 +1,6 @@
 -- What the two asks promise, for every input: the answer, and every number of the lent buffer.
 use Prim.Native.Nat.{ℕ, _-_}
 use mathlib.Core.List.{List, [], _++_}
-use mathlib.Core.Bool.{false}
 use mathlib.Core.Path.{_≡_}
 use lib.Dec.{eqb}
 use lib.ListN.{length, replicate}
@@ -10,7 +9,7 @@ use Rattle.spec.specs.declared.Refusal.{Refusal}
 use Rattle.spec.specs.declared.PlanAnswer.{PlanAnswer}
 use Rattle.spec.specs.declared.TextAnswer.{TextAnswer}
 use Rattle.spec.specs.declared.Wanted.{Wanted}
-use Rattle.spec.specs.Answers.{numberOfRefusal, Said, refusalSays, planSays, textSays}
+use Rattle.spec.specs.Answers.{Said, says, refusalSays, numberOfRefusal, planSays, textSays}
 use Rattle.spec.specs.Reading.{Step}
 use Rattle.spec.specs.Words.{NeededCircle}
 use Rattle.spec.specs.PlanAsk.{Inputs, PlanOutcome, planAsk, listed, circular, noPlan}
@@ -30,23 +29,15 @@ pub record AnswerIs (said : Said) (exit : List ℕ) (right : Said) (left : List 
   pub says : said ≡ right
   pub leaves : exit ≡ left
 
--- an answer: "their count"
-abbrev pub counts : ℕ → Said
-counts n = record { number = 0; text = false; value = n }
-
--- 14, with "the circle's length" as its place
-abbrev pub refused14 : ℕ → Said
-refused14 n = record { number = 14; text = false; value = n }
-
 -- "14 writes the circle's steps": the one outcome that is left open, "any circle as described above will do, and the place is the length of the one written"
 pub record Shows (steps : List Step) (roots lent : List ℕ) (said : Said) (exit : List ℕ) : Type 0 where
   pub circle : List ℕ
   pub real : NeededCircle steps roots circle
-  pub shown : AnswerIs said exit (refused14 (length circle)) (filled circle lent)
+  pub shown : AnswerIs said exit (says 14 (length circle)) (filled circle lent)
 
--- what an answer must say and the buffer at exit must hold, by the outcome and the buffer at entry
+-- what an answer must say and the buffer at exit must hold, by the outcome and the buffer at entry; a list is answered with 0 and "their count"
 unfoldable pub PlanMeets : PlanOutcome → List ℕ → Said → List ℕ → Type 0
-PlanMeets (listed l) lent said exit = AnswerIs said exit (counts (length l)) (filled l lent)
+PlanMeets (listed l) lent said exit = AnswerIs said exit (says 0 (length l)) (filled l lent)
 PlanMeets (circular steps roots) lent said exit = Shows steps roots lent said exit
 PlanMeets (noPlan r) lent said exit = AnswerIs said exit (refusalSays r) (leftBy r lent)
 
@@ -55,7 +46,7 @@ abbrev pub PlanPromise : Inputs → List ℕ → PlanAnswer → List ℕ → Typ
 PlanPromise i lent answer exit = PlanMeets (planAsk i (length lent)) lent (planSays answer) exit
 
 unfoldable pub TextMeets : TextOutcome → List ℕ → Said → List ℕ → Type 0
-TextMeets (text t) lent said exit = AnswerIs said exit (counts (length t)) (filled t lent)
+TextMeets (text t) lent said exit = AnswerIs said exit (says 0 (length t)) (filled t lent)
 TextMeets (noText r) lent said exit = AnswerIs said exit (refusalSays r) (leftBy r lent)
 
 -- the text ask: manifest, step, what is wanted, text buffer at entry, answer, text buffer at exit

@@ -16,8 +16,8 @@ abbrev pub backslash : ℕ
 backslash = 92
 
 -- 2.3: an unquoted <newline> or <blank> ends a word
-unfoldable pub blank : ℕ → Bool
-blank b = eqb b space || eqb b 9 || eqb b newline
+unfoldable pub shellBlank : ℕ → Bool
+shellBlank b = eqb b space || eqb b 9 || eqb b newline
 
 -- 2.2: `| & ; < > ( ) $`, backquote and double quote always, and `* ? [ # ~ = %` in some places, mean more than themselves; `{ } ! ^ , ]` do to some shells.
 -- Bytes that are no printing ASCII ones are left to the locale.
@@ -26,12 +26,12 @@ unfolding between has
 plainByte b = between 33 126 b && not (has b (bytes "|&;<>()$`\"*?[#~=%{}!^,]"))
 
 -- what is read: the word, and the text behind it
-pub record Word : Type 0 where
+pub record ShellWord : Type 0 where
   pub word : List ℕ
   pub behind : List ℕ
 
 -- one byte more in front of the word
-unfoldable pub startedBy : ℕ → Option Word → Option Word
+unfoldable pub startedBy : ℕ → Option ShellWord → Option ShellWord
 startedBy b none = none
 startedBy b (some w) = some (record { word = b ∷ w .word; behind = w .behind })
 
@@ -44,15 +44,15 @@ pub data Quoting : Type 0 where
 -- 2.2.2: "Enclosing characters in single-quotes ( '' ) shall preserve the literal value of each character within the single-quotes. A single-quote cannot
 -- occur within single-quotes." 2.2.1: "A <backslash> that is not quoted shall preserve the literal value of the following character, with the exception of a
 -- <newline>", which continues the line. No argument of a command holds a byte 0.
-unfoldable pub wordFrom : Quoting → List ℕ → Option Word
-unfolding blank plainByte startedBy
+unfoldable pub wordFrom : Quoting → List ℕ → Option ShellWord
+unfolding shellBlank plainByte startedBy
 wordFrom outside [] = some (record { word = []; behind = [] })
 wordFrom within [] = none
 wordFrom escaped [] = none
 wordFrom outside (b ∷ s) =
     ifB (eqb b quote) (λ _. wordFrom within s) λ _.
     ifB (eqb b backslash) (λ _. wordFrom escaped s) λ _.
-    ifB (blank b) (λ _. some (record { word = []; behind = b ∷ s })) λ _.
+    ifB (shellBlank b) (λ _. some (record { word = []; behind = b ∷ s })) λ _.
     ifB (plainByte b) (λ _. startedBy b (wordFrom outside s)) λ _. none
 wordFrom within (b ∷ s) =
     ifB (eqb b quote) (λ _. wordFrom outside s) λ _.
@@ -62,10 +62,10 @@ wordFrom escaped (b ∷ s) =
     ifB (eqb b 0) (λ _. none) λ _. startedBy b (wordFrom outside s)
 
 -- the word that a text starts with; an empty text and one that starts with a blank start with none
-unfoldable pub firstWord : List ℕ → Option Word
+unfoldable pub firstWord : List ℕ → Option ShellWord
 unfolding wordFrom
 firstWord [] = none
-firstWord (b ∷ s) = ifB (blank b) (λ _. none) λ _. wordFrom outside (b ∷ s)
+firstWord (b ∷ s) = ifB (shellBlank b) (λ _. none) λ _. wordFrom outside (b ∷ s)
 
 -- the text is these words, with one byte c between
 abbrev pub ReadsAs : ℕ → List (List ℕ) → List ℕ → Type 0

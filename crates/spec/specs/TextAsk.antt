@@ -2,7 +2,6 @@
 use Prim.Native.Nat.{ℕ}
 use mathlib.Core.List.{List}
 use mathlib.Core.Bool.{_||_}
-use mathlib.Core.Option.{Option, none, some}
 use lib.Dec.{leb, ltb}
 use lib.ListN.{length}
 use Rattle.spec.specs.declared.Refusal.{Refusal}
@@ -13,6 +12,7 @@ use Rattle.spec.specs.declared.Wanted.{Wanted}
 use Rattle.spec.specs.declared.Wanted.the-variants.{Command, Description}
 use Rattle.lists.specs.Tests.{ifB}
 use Rattle.lists.specs.Text.{bytes}
+use Rattle.spec.specs.Basics.{orElse}
 use Rattle.spec.specs.Limits.{maxText}
 use Rattle.spec.specs.Reading.{Reading, isPhony}
 use Rattle.spec.specs.Manifest.{Read, accepted, refusedWith, readManifest}
@@ -33,14 +33,10 @@ unfoldable pub wantedKey : Wanted → Key
 wantedKey Command = commandKey
 wantedKey Description = descriptionKey
 
-abbrev pub orText : Option Refusal → (Unit {0} → List ℕ) → TextOutcome
-orText none t = text (t tt)
-orText (some r) t = noText r
-
 -- the text of a name of a command step, or what refuses it
 unfoldable pub nameOutcome : ℕ → List ℕ → Reading → TextOutcome
 unfolding nameRefusal textBy
-nameOutcome s n rd = orText (nameRefusal rd s n) (λ _. nameText rd s n)
+nameOutcome s n rd = orElse (nameRefusal rd s n) noText (λ _. text (nameText rd s n))
 
 -- "18, 16, 17 for a text"
 unfoldable pub textOfStep : ℕ → List ℕ → Reading → TextOutcome

@@ -11,8 +11,8 @@ use Rattle.lists.specs.Tests.{split}
 use Rattle.spec.specs.Limits.{maxText}
 use Rattle.text_buffer.specs.Puts.{PutsText}
 use Rattle.text_buffer.proofs.Parts.{puts-then, puts-over}
-use Rattle.status_line.specs.declared.Piece.{Piece}
-use Rattle.status_line.specs.declared.Piece.the-variants.{Number, Tenths, Seconds, Byte}
+use Rattle.status_line.specs.declared.StatusPiece.{StatusPiece}
+use Rattle.status_line.specs.declared.StatusPiece.the-variants.{Number, Tenths, Seconds, Byte}
 use Rattle.status_line.specs.Pieces.{digitOf, decimalWithin, decimalOf, tenthsText, secondsText, pieceText}
 
 -- any bound will do that is above the number
@@ -72,19 +72,19 @@ only-digit n {d} {before} {after} {place} {r} t e k =
     subst (λ (x : List ℕ). PutsText before place x after r) (sym (decimal-one n t)) (subst (λ (x : ℕ). PutsText before place (x ∷ []) after r) e k)
 
 -- ---- by the piece
-module _ {p : Piece} {before after : List ℕ} {place r : ℕ} where
+module _ {p : StatusPiece} {before after : List ℕ} {place r : ℕ} where
   pub piece-number : {n : ℕ} → p ≡ Number n → PutsText before place (decimalOf n) after r → PutsText before place (pieceText p) after r
   unfolding pieceText
-  piece-number e h = subst (λ (x : Piece). PutsText before place (pieceText x) after r) (sym e) h
+  piece-number e h = subst (λ (x : StatusPiece). PutsText before place (pieceText x) after r) (sym e) h
 
   pub piece-tenths : {n : ℕ} → p ≡ Tenths n → PutsText before place (tenthsText n) after r → PutsText before place (pieceText p) after r
   unfolding pieceText
-  piece-tenths e h = subst (λ (x : Piece). PutsText before place (pieceText x) after r) (sym e) h
+  piece-tenths e h = subst (λ (x : StatusPiece). PutsText before place (pieceText x) after r) (sym e) h
 
   pub piece-seconds : {n : ℕ} → p ≡ Seconds n → PutsText before place (secondsText n) after r → PutsText before place (pieceText p) after r
   unfolding pieceText
-  piece-seconds e h = subst (λ (x : Piece). PutsText before place (pieceText x) after r) (sym e) h
+  piece-seconds e h = subst (λ (x : StatusPiece). PutsText before place (pieceText x) after r) (sym e) h
 
   pub piece-byte : {b : ℕ} → p ≡ Byte b → PutsText before place (b ∷ []) after r → PutsText before place (pieceText p) after r
   unfolding pieceText
-  piece-byte e h = subst (λ (x : Piece). PutsText before place (pieceText x) after r) (sym e) h
+  piece-byte e h = subst (λ (x : StatusPiece). PutsText before place (pieceText x) after r) (sym e) h

@@ -14,10 +14,10 @@ use Rattle.text_buffer.specs.Puts.{PutsText}
 use Rattle.status_record.specs.declared.Status.{Status}
 use Rattle.status_line.specs.declared.WrongPlace.{WrongPlace}
 use Rattle.status_line.specs.declared.WrongPlace.the-variants.{At, Nowhere}
-use Rattle.status_line.specs.declared.LineAnswer.the-variants.{Written, Refused}
+use Rattle.status_line.specs.declared.StatusLineAnswer.the-variants.{Written, Refused}
 use Rattle.status_line.specs.declared.LineRefusal.the-variants.{ShortBuffer, BadPlaceholder, LongLine}
 use Rattle.status_line.specs.Line.{wrongFrom, lineFrom}
-use Rattle.status_line.specs.LineAsk.{lineSays, fittingLine, soundFormat, lineOutcome, leftByLine, LineMeets}
+use Rattle.status_line.specs.LineAsk.{lineSays, fittingLine, soundFormat, lineOutcome, leftByLine, StatusLineMeets}
 use mathlib.Core.Bool.{false}
 
 -- a buffer of the same length, all zero
@@ -28,14 +28,14 @@ cleared mid lent exit n e = e ∙ zeroed-all mid ∙ ap zeros (n ∙ sym (none (
     none : (k : ℕ) → k - 0 ≡ k
     none k = omega arith
 
-pub fill-over : {l lent mid exit : List ℕ} {n : ℕ} → PutsText lent 0 l mid n → maxText < n → exit ≡ zeroed mid 0 (length mid) → LineMeets (fittingLine l) lent (lineSays (Refused LongLine)) exit
-unfolding fittingLine LineMeets leftByLine lineSays
+pub fill-over : {l lent mid exit : List ℕ} {n : ℕ} → PutsText lent 0 l mid n → maxText < n → exit ≡ zeroed mid 0 (length mid) → StatusLineMeets (fittingLine l) lent (lineSays (Refused LongLine)) exit
+unfolding fittingLine StatusLineMeets leftByLine lineSays
 fill-over {l} {lent} {mid} {exit} {n} p h e =
     let o : maxText < 0 + length l = p .over h in
     rw (lt-ltb maxText (length l) (omega arith)) (record { says = refl; leaves = cleared mid lent exit (p .long) e })
 
-pub fill-fits : {l lent mid exit : List ℕ} {n : ℕ} → PutsText lent 0 l mid n → n ≤ maxText → exit ≡ zeroed mid n (length mid) → LineMeets (fittingLine l) lent (lineSays (Written n)) exit
-unfolding fittingLine LineMeets lineSays zeroed filled
+pub fill-fits : {l lent mid exit : List ℕ} {n : ℕ} → PutsText lent 0 l mid n → n ≤ maxText → exit ≡ zeroed mid n (length mid) → StatusLineMeets (fittingLine l) lent (lineSays (Written n)) exit
+unfolding fittingLine StatusLineMeets lineSays zeroed filled
 fill-fits {l} {lent} {mid} {exit} {n} p h e =
     let f = p .fits h in
     let c : n ≡ length l = omega (arith, f .count) in
@@ -50,8 +50,8 @@ fill-fits {l} {lent} {mid} {exit} {n} p h e =
         ∙ ap (λ (k : ℕ). l ++ zeros (length lent - k)) c
 
 -- ---- the whole ask
-pub line-short : (s : Status) (f lent : List ℕ) → length lent < maxText → LineMeets (lineOutcome s f (length lent)) lent (lineSays (Refused ShortBuffer)) lent
-unfolding lineOutcome LineMeets leftByLine lineSays
+pub line-short : (s : Status) (f lent : List ℕ) → length lent < maxText → StatusLineMeets (lineOutcome s f (length lent)) lent (lineSays (Refused ShortBuffer)) lent
+unfolding lineOutcome StatusLineMeets leftByLine lineSays
 line-short s f lent h = rw (lt-ltb (length lent) maxText h) (record { says = refl; leaves = refl })
 
 judged : (s : Status) (f lent : List ℕ) → maxText ≤ length lent → lineOutcome s f (length lent) ≡ soundFormat (wrongFrom 0 false f) (lineFrom s false f)
@@ -59,8 +59,8 @@ unfolding lineOutcome
 judged s f lent h = rw (le-ltb (length lent) maxText h)
 
 pub line-wrong : (s : Status) (f lent : List ℕ) {exit : List ℕ} {p : ℕ} → maxText ≤ length lent → At p ≡ wrongFrom 0 false f → exit ≡ zeroed lent 0 (length lent)
-    → LineMeets (lineOutcome s f (length lent)) lent (lineSays (Refused (BadPlaceholder p))) exit
-unfolding soundFormat LineMeets leftByLine lineSays
+    → StatusLineMeets (lineOutcome s f (length lent)) lent (lineSays (Refused (BadPlaceholder p))) exit
+unfolding soundFormat StatusLineMeets leftByLine lineSays
 line-wrong s f lent {exit} {p} h w e = rw (judged s f lent h, ← w) (record { says = refl; leaves = cleared lent lent exit refl e })
 
 pub line-sound : (s : Status) (f lent : List ℕ) → maxText ≤ length lent → Nowhere ≡ wrongFrom 0 false f → lineOutcome s f (length lent) ≡ fittingLine (lineFrom s false f)

@@ -10,10 +10,10 @@ use borrow.Author.Tests.{eq-eqb, ne-eqb}
 use lib.ListN.{length, drop, getD}
 use lib.Seq.{drop-cons, drop-length}
 use Rattle.spec.specs.Limits.{maxText}
-use Rattle.text_buffer.specs.Puts.{Open, PutsText}
+use Rattle.text_buffer.specs.Puts.{OpenText, PutsText}
 use Rattle.text_buffer.proofs.Parts.{puts-none, puts-then, puts-over}
 use Rattle.status_record.specs.declared.Status.{Status}
-use Rattle.status_line.specs.declared.Piece.{Piece}
+use Rattle.status_line.specs.declared.StatusPiece.{StatusPiece}
 use Rattle.status_line.specs.Pieces.{pieceOf, pieceText}
 use Rattle.status_line.specs.Line.{nextState, elementText, lineFrom}
 
@@ -25,7 +25,7 @@ pub record Lining (s : Status) (format before buffer : List ℕ) (n i : ℕ) (af
   pub puts : PutsText before 0 done buffer n
   pub rest : lineFrom s false format ≡ done ++ lineFrom s after (drop i format)
 
-pub line-begin : (s : Status) (format : List ℕ) {before : List ℕ} → Open before 0 → Lining s format before before 0 0 false
+pub line-begin : (s : Status) (format : List ℕ) {before : List ℕ} → OpenText before 0 → Lining s format before before 0 0 false
 line-begin s format o = record { within = omega arith; low = omega arith; done = []; puts = puts-none o; rest = refl }
 
 step : (s : Status) (a : Bool) (b : ℕ) (l : List ℕ) → lineFrom s a (b ∷ l) ≡ elementText s a b ++ lineFrom s (nextState a b) l
@@ -66,16 +66,16 @@ module _ {s : Status} {format before buffer : List ℕ} {n i : ℕ} {a : Bool} (
       (sym (h .rest ∙ ap (λ (x : List ℕ). h .done ++ lineFrom s a x) (ap (λ (k : ℕ). drop k format) (le-antisymm (h .within) l) ∙ drop-length format) ∙ ap (λ (x : List ℕ). h .done ++ x) (ended s a) ∙ append-nil (h .done)))
       (h .puts)
 
-  pub line-open : Open before 0 → Open buffer n
+  pub line-open : OpenText before 0 → OpenText buffer n
   line-open o = record { room = subst (λ (k : ℕ). maxText ≤ k) (sym (h .puts .long)) (o .room); low = h .low }
 
 -- ---- what one byte of the format adds
-pub element-piece : (s : Status) (b : ℕ) {a : Bool} {p : Piece} {before after : List ℕ} {place r : ℕ} → a ≡ true → p ≡ pieceOf s b → PutsText before place (pieceText p) after r
+pub element-piece : (s : Status) (b : ℕ) {a : Bool} {p : StatusPiece} {before after : List ℕ} {place r : ℕ} → a ≡ true → p ≡ pieceOf s b → PutsText before place (pieceText p) after r
     → PutsText before place (elementText s a b) after r
 unfolding elementText
-element-piece s b {before = before} {after} {place} {r} t e h = rw t (subst (λ (x : Piece). PutsText before place (pieceText x) after r) e h)
+element-piece s b {before = before} {after} {place} {r} t e h = rw t (subst (λ (x : StatusPiece). PutsText before place (pieceText x) after r) e h)
 
-pub element-none : (s : Status) {b : ℕ} {a : Bool} {before : List ℕ} {place : ℕ} → a ≡ false → b ≡ 37 → Open before place → PutsText before place (elementText s a b) before place
+pub element-none : (s : Status) {b : ℕ} {a : Bool} {before : List ℕ} {place : ℕ} → a ≡ false → b ≡ 37 → OpenText before place → PutsText before place (elementText s a b) before place
 unfolding elementText
 element-none s {b} t e o = rw (t, eq-eqb b 37 e) (puts-none o)
 

@@ -9,7 +9,7 @@ use mathlib.Core.Path.{_≡_, refl, sym, ap, _∙_}
 use lib.ListN.{length, drop, getD}
 use lib.Seq.{drop-cons, drop-length}
 use Rattle.status_line.specs.declared.WrongPlace.the-variants.{At, Nowhere}
-use Rattle.status_line.specs.Line.{badKey, nextState, wrongEnd, wrongFrom}
+use Rattle.status_line.specs.Line.{wrongKey, nextState, wrongEnd, wrongFrom}
 
 -- the first i bytes are sound, and `after` says whether the last of them begins a placeholder
 pub record Looking (format : List ℕ) (i : ℕ) (after : Bool) : Type 0 where
@@ -20,16 +20,16 @@ pub record Looking (format : List ℕ) (i : ℕ) (after : Bool) : Type 0 where
 pub look-begin : (format : List ℕ) → Looking format 0 false
 look-begin format = record { within = omega arith; begun = λ e. absurd (true≢false (sym e)); rest = refl }
 
-pub bad-after : (a : Bool) (b : ℕ) → badKey a b ≡ true → a ≡ true
-unfolding badKey
+pub bad-after : (a : Bool) (b : ℕ) → wrongKey a b ≡ true → a ≡ true
+unfolding wrongKey
 bad-after true b e = refl
 bad-after false b e = e
 
-step : (i : ℕ) (a : Bool) (b : ℕ) (l : List ℕ) → badKey a b ≡ false → wrongFrom i a (b ∷ l) ≡ wrongFrom (suc i) (nextState a b) l
+step : (i : ℕ) (a : Bool) (b : ℕ) (l : List ℕ) → wrongKey a b ≡ false → wrongFrom i a (b ∷ l) ≡ wrongFrom (suc i) (nextState a b) l
 unfolding wrongFrom
 step i a b l e = rw e
 
-stop : (i : ℕ) (a : Bool) (b : ℕ) (l : List ℕ) → badKey a b ≡ true → wrongFrom i a (b ∷ l) ≡ At (i - 1)
+stop : (i : ℕ) (a : Bool) (b : ℕ) (l : List ℕ) → wrongKey a b ≡ true → wrongFrom i a (b ∷ l) ≡ At (i - 1)
 unfolding wrongFrom
 stop i a b l e = rw e
 
@@ -38,10 +38,10 @@ unfolding wrongFrom
 ended i a = refl
 
 module _ {format : List ℕ} {i : ℕ} {a : Bool} (h : Looking format i a) where
-  pub look-bad : i < length format → badKey a (getD format i 0) ≡ true → At (i - 1) ≡ wrongFrom 0 false format
+  pub look-bad : i < length format → wrongKey a (getD format i 0) ≡ true → At (i - 1) ≡ wrongFrom 0 false format
   look-bad l e = sym (h .rest ∙ ap (wrongFrom i a) (drop-cons format i 0 l) ∙ stop i a (getD format i 0) (drop (suc i) format) e)
 
-  pub look-on : {b : Bool} → i < length format → badKey a (getD format i 0) ≡ false → b ≡ nextState a (getD format i 0) → Looking format (i + 1) b
+  pub look-on : {b : Bool} → i < length format → wrongKey a (getD format i 0) ≡ false → b ≡ nextState a (getD format i 0) → Looking format (i + 1) b
   look-on {b} l e n =
       record {
         within = omega arith;

@@ -24,10 +24,10 @@ knownKey k =
     (λ _. eqb k 37)))))))))
 
 -- a byte behind a `%` that names no placeholder
-unfoldable pub badKey : Bool → ℕ → Bool
+unfoldable pub wrongKey : Bool → ℕ → Bool
 unfolding knownKey
-badKey true b = not (knownKey b)
-badKey false b = false
+wrongKey true b = not (knownKey b)
+wrongKey false b = false
 
 -- whether the next byte stands behind a `%` that begins a placeholder
 unfoldable pub nextState : Bool → ℕ → Bool
@@ -41,9 +41,9 @@ wrongEnd i false = Nowhere
 
 -- "Another `%` is refusal 21 there": the first one's place, where i is the place of the next byte
 unfoldable pub wrongFrom : ℕ → Bool → List ℕ → WrongPlace
-unfolding badKey nextState wrongEnd
+unfolding wrongKey nextState wrongEnd
 wrongFrom i a [] = wrongEnd i a
-wrongFrom i a (b ∷ l) = ifB (badKey a b) (λ _. At (i - 1)) (λ _. wrongFrom (suc i) (nextState a b) l)
+wrongFrom i a (b ∷ l) = ifB (wrongKey a b) (λ _. At (i - 1)) (λ _. wrongFrom (suc i) (nextState a b) l)
 
 -- what one byte of the format adds to the line
 unfoldable pub elementText : Status → Bool → ℕ → List ℕ

@@ -13,8 +13,8 @@ use Rattle.status_line.specs.declared.WrongPlace.{WrongPlace}
 use Rattle.status_line.specs.declared.WrongPlace.the-variants.{At, Nowhere}
 use Rattle.status_line.specs.declared.LineRefusal.{LineRefusal}
 use Rattle.status_line.specs.declared.LineRefusal.the-variants.{ShortBuffer, BadPlaceholder, LongLine}
-use Rattle.status_line.specs.declared.LineAnswer.{LineAnswer}
-use Rattle.status_line.specs.declared.LineAnswer.the-variants.{Written, Refused}
+use Rattle.status_line.specs.declared.StatusLineAnswer.{StatusLineAnswer}
+use Rattle.status_line.specs.declared.StatusLineAnswer.the-variants.{Written, Refused}
 use Rattle.status_line.specs.Line.{wrongFrom, lineFrom}
 
 -- each refusal's number and place
@@ -23,7 +23,7 @@ lineRefusalSays ShortBuffer = says 1 0
 lineRefusalSays (BadPlaceholder p) = says 21 p
 lineRefusalSays LongLine = says 17 0
 
-unfoldable pub lineSays : LineAnswer → Said
+unfoldable pub lineSays : StatusLineAnswer → Said
 unfolding lineRefusalSays
 lineSays (Written n) = says 0 n
 lineSays (Refused r) = lineRefusalSays r
@@ -55,6 +55,6 @@ leftByLine (BadPlaceholder p) lent = filled [] lent
 leftByLine LongLine lent = filled [] lent
 
 -- what an answer must say and the buffer at exit must hold, by the outcome and the buffer at entry
-unfoldable pub LineMeets : LineOutcome → List ℕ → Said → List ℕ → Type 0
-LineMeets (printed l) lent said exit = AnswerIs said exit (says 0 (length l)) (filled l lent)
-LineMeets (noLine r) lent said exit = AnswerIs said exit (lineRefusalSays r) (leftByLine r lent)
+unfoldable pub StatusLineMeets : LineOutcome → List ℕ → Said → List ℕ → Type 0
+StatusLineMeets (printed l) lent said exit = AnswerIs said exit (says 0 (length l)) (filled l lent)
+StatusLineMeets (noLine r) lent said exit = AnswerIs said exit (lineRefusalSays r) (leftByLine r lent)

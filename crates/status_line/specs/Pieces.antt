@@ -7,22 +7,22 @@ use Rattle.status_rates.specs.Rates.{tenthsOf}
 use Rattle.status_rates.specs.declared.Rate.{Rate}
 use Rattle.status_rates.specs.declared.Rate.the-variants.{Unknown, Known}
 use Rattle.status_record.specs.declared.Status.{Status}
-use Rattle.status_line.specs.declared.Piece.{Piece}
-use Rattle.status_line.specs.declared.Piece.the-variants.{Number, Tenths, Seconds, Byte}
+use Rattle.status_line.specs.declared.StatusPiece.{StatusPiece}
+use Rattle.status_line.specs.declared.StatusPiece.the-variants.{Number, Tenths, Seconds, Byte}
 
 -- "`%p` is 100 times started over total, cut downwards, without a sign, 100 for a total of 0"
 unfoldable pub percentOf : ℕ → ℕ → ℕ
 percentOf started total = ifB (eqb total 0) (λ _. 100) (λ _. started * 100 / total)
 
 -- "unknown, printed `?`"; else "in tenths"
-unfoldable pub ratePiece : Rate → Piece
+unfoldable pub ratePiece : Rate → StatusPiece
 unfolding tenthsOf
 ratePiece Unknown = Byte 63
 ratePiece (Known r) = Tenths (tenthsOf r)
 
 -- "the manual's status placeholders `%s %t %p %r %u %f %o %c %e %%`": started, total, percent started, running, not started, finished, the overall and the current rate, the elapsed
 -- seconds, and a `%`
-unfoldable pub pieceOf : Status → ℕ → Piece
+unfoldable pub pieceOf : Status → ℕ → StatusPiece
 unfolding percentOf ratePiece
 pieceOf s k =
     ifB (eqb k 115) (λ _. Number (s .started))
@@ -60,7 +60,7 @@ unfoldable pub secondsText : ℕ → List ℕ
 unfolding decimalOf
 secondsText n = decimalOf (n / 1000) ++ (46 ∷ digitOf (n / 100) ∷ digitOf (n / 10) ∷ digitOf n ∷ [])
 
-unfoldable pub pieceText : Piece → List ℕ
+unfoldable pub pieceText : StatusPiece → List ℕ
 unfolding decimalOf tenthsText secondsText
 pieceText (Number n) = decimalOf n
 pieceText (Tenths n) = tenthsText n

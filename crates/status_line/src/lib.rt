@@ -3,11 +3,11 @@ ghost use mathlib.Core.Path.{_≡_};
 ghost use mathlib.Core.Bool.{false};
 ghost use Prim.Native.Nat.{_-_};
 ghost use lib.ListN.{length};
-ghost use Rattle.text_buffer.specs.Puts.{Open, PutsText};
+ghost use Rattle.text_buffer.specs.Puts.{OpenText, PutsText};
 ghost use Rattle.status_line.specs.Pieces.{percentOf, digitOf, decimalOf, tenthsText, secondsText, ratePiece, pieceOf, pieceText};
-ghost use Rattle.status_line.specs.Line.{knownKey, badKey, nextState, wrongFrom, elementText, lineFrom};
-ghost use Rattle.status_line.specs.LineAsk.{fittingLine, lineOutcome, lineSays, LineMeets};
-use slices::bytes::zero_from;
+ghost use Rattle.status_line.specs.Line.{knownKey, wrongKey, nextState, wrongFrom, elementText, lineFrom};
+ghost use Rattle.status_line.specs.LineAsk.{fittingLine, lineOutcome, lineSays, StatusLineMeets};
+use slices::bytes::zero_bytes_from;
 use spec::limits::TEXT;
 use status_rates::Rate;
 use status_rates::tenths;
@@ -16,7 +16,7 @@ use text_buffer::put_byte;
 use text_buffer::put_bytes;
 
 // What a placeholder is written as.
-pub enum Piece {
+pub enum StatusPiece {
     Number(u64),
     Tenths(u64),
     Seconds(u64),
@@ -35,7 +35,7 @@ pub enum LineRefusal {
     LongLine,
 }
 
-pub enum LineAnswer {
+pub enum StatusLineAnswer {
     Written(usize),
     Refused(LineRefusal),
 }
@@ -67,23 +67,23 @@ fn waiting(started: u32, total: u32) -> u64
 }
 
 // "unknown, printed `?`"
-fn rate_piece(r: Rate) -> Piece
+fn rate_piece(r: Rate) -> StatusPiece
     ensures { λ p. ⌜ p ≡ ratePiece r ⌝ }
 {
     match r {
-        Rate::Known(x) => Piece::Tenths(wide(tenths(x))),
-        Rate::Unknown => Piece::Byte(b'?'),
+        Rate::Known(x) => StatusPiece::Tenths(wide(tenths(x))),
+        Rate::Unknown => StatusPiece::Byte(b'?'),
     }
 }
 
-fn overall_piece(s: Status) -> Piece
+fn overall_piece(s: Status) -> StatusPiece
     ensures { λ p. ⌜ p ≡ ratePiece (s .overall) ⌝ }
 {
     let r = s.overall;
     rate_piece(r)
 }
 
-fn current_piece(s: Status) -> Piece
+fn current_piece(s: Status) -> StatusPiece
     ensures { λ p. ⌜ p ≡ ratePiece (s .current) ⌝ }
 {
     let r = s.current;
@@ -91,26 +91,26 @@ fn current_piece(s: Status) -> Piece
 }
 
 // What a placeholder stands for, by the byte behind its `%`.
-fn piece_at(s: Status, key: u8) -> Piece
+fn piece_at(s: Status, key: u8) -> StatusPiece
     ensures { λ p. ⌜ p ≡ pieceOf s key ⌝ }
 {
     if key == b's' {
-        return Piece::Number(wide(s.started));
+        return StatusPiece::Number(wide(s.started));
     }
     if key == b't' {
-        return Piece::Number(wide(s.total));
+        return StatusPiece::Number(wide(s.total));
     }
     if key == b'p' {
-        return Piece::Number(percent(s.started, s.total));
+        return StatusPiece::Number(percent(s.started, s.total));
     }
     if key == b'r' {
-        return Piece::Number(wide(s.running));
+        return StatusPiece::Number(wide(s.running));
     }
     if key == b'u' {
-        return Piece::Number(waiting(s.started, s.total));
+        return StatusPiece::Number(waiting(s.started, s.total));
     }
     if key == b'f' {
-        return Piece::Number(wide(s.finished));
+        return StatusPiece::Number(wide(s.finished));
     }
     if key == b'o' {
         return overall_piece(s);
@@ -119,9 +119,9 @@ fn piece_at(s: Status, key: u8) -> Piece
         return current_piece(s);
     }
     if key == b'e' {
-        return Piece::Seconds(wide(s.last));
+        return StatusPiece::Seconds(wide(s.last));
     }
-    Piece::Byte(b'%')
+    StatusPiece::Byte(b'%')
 }
 
 fn digit(n: u64) -> u8
@@ -132,7 +132,7 @@ fn digit(n: u64) -> u8
 
 // A number in decimal.
 fn put_decimal(n: u64, buffer: &mut [u8], place: usize) -> usize
-    requires { ⌜ Open (now buffer) place ⌝ }
+    requires { ⌜ OpenText (now buffer) place ⌝ }
     ensures { λ r. ⌜ PutsText (now (buffer .entry)) place (decimalOf n) (now (buffer .exit)) r ⌝ }
 {
     if n < 10 {
@@ -147,7 +147,7 @@ fn put_decimal(n: u64, buffer: &mut [u8], place: usize) -> usize
 
 // "printed in tenths"
 fn put_tenths(n: u64, buffer: &mut [u8], place: usize) -> usize
-    requires { ⌜ Open (now buffer) place ⌝ }
+    requires { ⌜ OpenText (now buffer) place ⌝ }
     ensures { λ r. ⌜ PutsText (now (buffer .entry)) place (tenthsText n) (now (buffer .exit)) r ⌝ }
 {
     let next = put_decimal(n / 10, buffer, place);
@@ -160,7 +160,7 @@ fn put_tenths(n: u64, buffer: &mut [u8], place: usize) -> usize
 
 // "`%e` is seconds with three decimals, exactly the milliseconds"
 fn put_seconds(n: u64, buffer: &mut [u8], place: usize) -> usize
-    requires { ⌜ Open (now buffer) place ⌝ }
+    requires { ⌜ OpenText (now buffer) place ⌝ }
     ensures { λ r. ⌜ PutsText (now (buffer .entry)) place (secondsText n) (now (buffer .exit)) r ⌝ }
 {
     let next = put_decimal(n / 1000, buffer, place);
@@ -171,15 +171,15 @@ fn put_seconds(n: u64, buffer: &mut [u8], place: usize) -> usize
     put_bytes(buffer, next, &tail)
 }
 
-fn put_piece(p: Piece, buffer: &mut [u8], place: usize) -> usize
-    requires { ⌜ Open (now buffer) place ⌝ }
+fn put_piece(p: StatusPiece, buffer: &mut [u8], place: usize) -> usize
+    requires { ⌜ OpenText (now buffer) place ⌝ }
     ensures { λ r. ⌜ PutsText (now (buffer .entry)) place (pieceText p) (now (buffer .exit)) r ⌝ }
 {
     match p {
-        Piece::Number(n) => put_decimal(n, buffer, place),
-        Piece::Tenths(n) => put_tenths(n, buffer, place),
-        Piece::Seconds(n) => put_seconds(n, buffer, place),
-        Piece::Byte(b) => put_byte(buffer, place, b),
+        StatusPiece::Number(n) => put_decimal(n, buffer, place),
+        StatusPiece::Tenths(n) => put_tenths(n, buffer, place),
+        StatusPiece::Seconds(n) => put_seconds(n, buffer, place),
+        StatusPiece::Byte(b) => put_byte(buffer, place, b),
     }
 }
 
@@ -218,8 +218,8 @@ fn known_key(b: u8) -> bool
 }
 
 // Whether this byte stands behind a `%` and names no placeholder.
-fn bad_key(after: bool, b: u8) -> bool
-    ensures { λ r. ⌜ r ≡ badKey after b ⌝ }
+fn wrong_key(after: bool, b: u8) -> bool
+    ensures { λ r. ⌜ r ≡ wrongKey after b ⌝ }
 {
     if after {
         if known_key(b) {
@@ -247,7 +247,7 @@ fn first_wrong(format: &[u8]) -> WrongPlace
     let mut after = false;
     let mut i = 0;
     while i < format.len() {
-        if bad_key(after, format[i]) {
+        if wrong_key(after, format[i]) {
             return WrongPlace::At(i - 1);
         }
         after = next_state(after, format[i]);
@@ -261,7 +261,7 @@ fn first_wrong(format: &[u8]) -> WrongPlace
 
 // What one byte of the format adds to the line.
 fn put_element(s: Status, after: bool, b: u8, buffer: &mut [u8], place: usize) -> usize
-    requires { ⌜ Open (now buffer) place ⌝ }
+    requires { ⌜ OpenText (now buffer) place ⌝ }
     ensures { λ r. ⌜ PutsText (now (buffer .entry)) place (elementText s after b) (now (buffer .exit)) r ⌝ }
 {
     if after {
@@ -274,7 +274,7 @@ fn put_element(s: Status, after: bool, b: u8, buffer: &mut [u8], place: usize) -
 }
 
 fn put_line(s: Status, format: &[u8], buffer: &mut [u8]) -> usize
-    requires { ⌜ Open (now buffer) 0 ⌝ }
+    requires { ⌜ OpenText (now buffer) 0 ⌝ }
     ensures { λ r. ⌜ PutsText (now (buffer .entry)) 0 (lineFrom s false (now (format .entry))) (now (buffer .exit)) r ⌝ }
 {
     let mut after = false;
@@ -292,31 +292,31 @@ fn put_line(s: Status, format: &[u8], buffer: &mut [u8]) -> usize
 }
 
 // The line of a sound format, or 17.
-fn fill_line(s: Status, format: &[u8], buffer: &mut [u8]) -> LineAnswer
-    requires { ⌜ Open (now buffer) 0 ⌝ }
-    ensures { λ r. ⌜ LineMeets (fittingLine (lineFrom s false (now (format .entry)))) (now (buffer .entry)) (lineSays r) (now (buffer .exit)) ⌝ }
+fn fill_line(s: Status, format: &[u8], buffer: &mut [u8]) -> StatusLineAnswer
+    requires { ⌜ OpenText (now buffer) 0 ⌝ }
+    ensures { λ r. ⌜ StatusLineMeets (fittingLine (lineFrom s false (now (format .entry)))) (now (buffer .entry)) (lineSays r) (now (buffer .exit)) ⌝ }
 {
     let n = put_line(s, format, buffer);
     if TEXT < n {
-        zero_from(buffer, 0);
-        return LineAnswer::Refused(LineRefusal::LongLine);
+        zero_bytes_from(buffer, 0);
+        return StatusLineAnswer::Refused(LineRefusal::LongLine);
     }
-    zero_from(buffer, n);
-    LineAnswer::Written(n)
+    zero_bytes_from(buffer, n);
+    StatusLineAnswer::Written(n)
 }
 
 // The line of a status as it stands: 1, 21, 17, or the bytes written.
-pub fn line(s: Status, format: &[u8], buffer: &mut [u8]) -> LineAnswer
-    ensures { λ r. ⌜ LineMeets (lineOutcome s (now (format .entry)) (length (now (buffer .entry)))) (now (buffer .entry)) (lineSays r) (now (buffer .exit)) ⌝ }
+pub fn line(s: Status, format: &[u8], buffer: &mut [u8]) -> StatusLineAnswer
+    ensures { λ r. ⌜ StatusLineMeets (lineOutcome s (now (format .entry)) (length (now (buffer .entry)))) (now (buffer .entry)) (lineSays r) (now (buffer .exit)) ⌝ }
 {
     if buffer.len() < TEXT {
-        return LineAnswer::Refused(LineRefusal::ShortBuffer);
+        return StatusLineAnswer::Refused(LineRefusal::ShortBuffer);
     }
     let w = first_wrong(format);
     match w {
         WrongPlace::At(p) => {
-            zero_from(buffer, 0);
-            LineAnswer::Refused(LineRefusal::BadPlaceholder(p))
+            zero_bytes_from(buffer, 0);
+            StatusLineAnswer::Refused(LineRefusal::BadPlaceholder(p))
         }
         WrongPlace::Nowhere => fill_line(s, format, buffer),
     }

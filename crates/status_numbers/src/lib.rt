@@ -5,11 +5,11 @@ ghost use Prim.Native.Nat.{min};
 ghost use lib.ListN.{length};
 ghost use Rattle.answers.specs.Numbers.{said};
 ghost use Rattle.status_record.specs.Record.{firstStatus, movedTo, startAt, finishAt};
-ghost use Rattle.status_line.specs.LineAsk.{lineOutcome, lineSays, lineRefusalSays, LineMeets};
+ghost use Rattle.status_line.specs.LineAsk.{lineOutcome, lineSays, lineRefusalSays, StatusLineMeets};
 ghost use Rattle.status_numbers.specs.Numbers.{rateHeld, rateFlag, rateNumber, statusHeld, recordOf};
 use answers::Numbers;
-use status_line::LineAnswer;
 use status_line::LineRefusal;
+use status_line::StatusLineAnswer;
 use status_line::line;
 use status_rates::Rate;
 use status_record::DAY;
@@ -194,21 +194,21 @@ fn of_line_refusal(r: LineRefusal) -> Numbers
     }
 }
 
-fn of_line(a: LineAnswer) -> Numbers
+fn of_line(a: StatusLineAnswer) -> Numbers
     ensures { λ x. ⌜ said x ≡ lineSays a ⌝ }
 {
     match a {
-        LineAnswer::Written(n) => Numbers {
+        StatusLineAnswer::Written(n) => Numbers {
             number: 0,
             text: false,
             value: n,
         },
-        LineAnswer::Refused(r) => of_line_refusal(r),
+        StatusLineAnswer::Refused(r) => of_line_refusal(r),
     }
 }
 
 pub fn record_line(r: StatusRecord, format: &[u8], buffer: &mut [u8]) -> Numbers
-    ensures { λ x. ⌜ LineMeets (lineOutcome (statusHeld r) (now (format .entry)) (length (now (buffer .entry)))) (now (buffer .entry)) (said x) (now (buffer .exit)) ⌝ }
+    ensures { λ x. ⌜ StatusLineMeets (lineOutcome (statusHeld r) (now (format .entry)) (length (now (buffer .entry)))) (now (buffer .entry)) (said x) (now (buffer .exit)) ⌝ }
 {
     of_line(line(status_held(r), format, buffer))
 }

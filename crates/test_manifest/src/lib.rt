@@ -118,11 +118,11 @@ fn clear_all(
 )
     ensures { λ _. ⌜ Cleared (buffers (now (names .entry)) (now (index .entry)) (now (texts .entry)) (now (bind .entry)) (now (graph .entry))) (buffers (now (names .exit)) (now (index .exit)) (now (texts .exit)) (now (bind .exit)) (now (graph .exit))) ⌝ }
 {
-    slices::bytes::zero_from(names, 0);
-    slices::words::zero_from(index, 0);
-    slices::bytes::zero_from(texts, 0);
-    slices::words::zero_from(bind, 0);
-    slices::words::zero_from(graph, 0);
+    slices::bytes::zero_bytes_from(names, 0);
+    slices::words::zero_words_from(index, 0);
+    slices::bytes::zero_bytes_from(texts, 0);
+    slices::words::zero_words_from(bind, 0);
+    slices::words::zero_words_from(graph, 0);
 }
 
 // The reader with what a total entry promises of its buffers: a refusal leaves them all zero, and the word buffer is zero in any case.
@@ -140,7 +140,7 @@ fn read_or_clear(
     ensures { λ r. ⌜ ReadWhole (now (m .entry)) (buffers (now (names .entry)) (now (index .entry)) (now (texts .entry)) (now (bind .entry)) (now (graph .entry))) (now (word .entry)) r (buffers (now (names .exit)) (now (index .exit)) (now (texts .exit)) (now (bind .exit)) (now (graph .exit))) (now (word .exit)) ⌝ }
 {
     let a = read_manifest(t, m, names, index, texts, bind, graph, word);
-    slices::bytes::zero_from(word, 0);
+    slices::bytes::zero_bytes_from(word, 0);
     match a {
         ReadAnswer::Accepted(c) => ReadAnswer::Accepted(c),
         ReadAnswer::Refused(r) => {

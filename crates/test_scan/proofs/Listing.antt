@@ -17,7 +17,7 @@ use Rattle.scan_targets.specs.declared.NextTarget.the-variants.{End, Bad, Name}
 use Rattle.scan_targets.specs.Next.{nextIn}
 use Rattle.scan_targets.proofs.Walk.{namesFrom, Turn, turn}
 use Rattle.test_scan.specs.Targets.{goodNames}
-use Rattle.test_scan.specs.Cards.{isListed, listed}
+use Rattle.test_scan.specs.Cards.{isListed, cardListed}
 use Rattle.test_scan.proofs.Adding.{good-more, good-end, good-bad}
 
 -- ---- one name
@@ -44,7 +44,7 @@ listed-once card p =
 pub record Counting (card list : List ℕ) (from n : ℕ) : Type 0 where
   pub few : n ≤ from
   pub within : from ≤ length list
-  pub all : listed card (goodNames (targetsOf list)) ≡ n + listed card (goodNames (namesFrom list from))
+  pub all : cardListed card (goodNames (targetsOf list)) ≡ n + cardListed card (goodNames (namesFrom list from))
 
 module _ {card list : List ℕ} where
   pub counting-begin : Counting card list 0 0
@@ -52,21 +52,21 @@ module _ {card list : List ℕ} where
   counting-begin = record { few = omega arith; within = omega arith; all = rw zero-add }
 
   module _ {from n : ℕ} (w : Counting card list from n) where
-    pub counting-end : {r : NextTarget} → r ≡ nextIn (namesFrom list from) → r ≡ End → n ≡ listed card (goodNames (targetsOf list))
-    unfolding listed
-    counting-end a e = let z : listed card (goodNames (namesFrom list from)) ≡ 0 = rw (good-end list from a e) in omega (arith, w .all, z)
+    pub counting-end : {r : NextTarget} → r ≡ nextIn (namesFrom list from) → r ≡ End → n ≡ cardListed card (goodNames (targetsOf list))
+    unfolding cardListed
+    counting-end a e = let z : cardListed card (goodNames (namesFrom list from)) ≡ 0 = rw (good-end list from a e) in omega (arith, w .all, z)
 
-    pub counting-bad : {r : NextTarget} → r ≡ nextIn (namesFrom list from) → r ≡ Bad → n ≡ listed card (goodNames (targetsOf list))
-    unfolding listed
-    counting-bad a e = let z : listed card (goodNames (namesFrom list from)) ≡ 0 = rw (good-bad list from a e) in omega (arith, w .all, z)
+    pub counting-bad : {r : NextTarget} → r ≡ nextIn (namesFrom list from) → r ≡ Bad → n ≡ cardListed card (goodNames (targetsOf list))
+    unfolding cardListed
+    counting-bad a e = let z : cardListed card (goodNames (namesFrom list from)) ≡ 0 = rw (good-bad list from a e) in omega (arith, w .all, z)
 
     pub counting-turn : {r : NextTarget} → r ≡ nextIn (namesFrom list from) → {end : ℕ} → r ≡ Name end → Turn list from end
     counting-turn a {end} e = turn list from end (sym e ∙ a)
 
     pub counting-more : {end : ℕ} → Turn list from end → {k : ℕ} → k ≡ isListed card (part list from end) → Counting card list (end + 1) (n + k)
-    unfolding listed
+    unfolding cardListed
     counting-more {end} t {k} e =
-        let z : listed card (goodNames (namesFrom list from)) ≡ isListed card (part list from end) + listed card (goodNames (namesFrom list (end + 1))) = rw (good-more t) in
+        let z : cardListed card (goodNames (namesFrom list from)) ≡ isListed card (part list from end) + cardListed card (goodNames (namesFrom list (end + 1))) = rw (good-more t) in
         record {
           few = omega (arith, w .few, t .some, e, listed-once card (part list from end));
           within = omega (arith, t .within);

@@ -11,7 +11,7 @@ unfolding cardEntries timeIn
 isListed card p = ifB (eqb (timeIn (cardEntries card) p) 0) (λ _. 0) (λ _. 1)
 
 -- those of these names that have one
-unfoldable pub listed : List ℕ → List (List ℕ) → ℕ
+unfoldable pub cardListed : List ℕ → List (List ℕ) → ℕ
 unfolding isListed
-listed card [] = 0
-listed card (p ∷ ps) = isListed card p + listed card ps
+cardListed card [] = 0
+cardListed card (p ∷ ps) = isListed card p + cardListed card ps

@@ -4,7 +4,7 @@ ghost use mathlib.Core.Bool.{true};
 ghost use Rattle.lists.specs.Tests.{ifB};
 ghost use Rattle.spec.specs.Card.{soundCard, cardEntries, timeIn};
 ghost use Rattle.spec.specs.Targets.{targetsOf};
-ghost use Rattle.test_scan.specs.Cards.{isListed, listed};
+ghost use Rattle.test_scan.specs.Cards.{isListed, cardListed};
 ghost use Rattle.test_scan.specs.Targets.{goodNames};
 use scan_card_lookup::time_of;
 use scan_targets::NextTarget;
@@ -41,7 +41,7 @@ fn is_listed(card: &[u8], name: &[u8]) -> usize
 
 fn count_listed(card: &[u8], list: &[u8]) -> usize
     requires { ⌜ soundCard (now card) ≡ true ⌝ }
-    ensures { λ r. ⌜ r ≡ listed (now (card .entry)) (goodNames (targetsOf (now (list .entry)))) ⌝ }
+    ensures { λ r. ⌜ r ≡ cardListed (now (card .entry)) (goodNames (targetsOf (now (list .entry)))) ⌝ }
 {
     let mut from = 0;
     let mut n: usize = 0;
@@ -64,7 +64,7 @@ fn count_listed(card: &[u8], list: &[u8]) -> usize
 // How many of a list's names the card lists, with its soundness tested once; 0 where it is not sound.
 #[no_mangle]
 pub extern "C" fn kestrenyo_card_listed(card: &[u8], list: &[u8]) -> usize
-    ensures { λ r. ⌜ r ≡ ifB (soundCard (now (card .entry))) (λ _. listed (now (card .entry)) (goodNames (targetsOf (now (list .entry))))) (λ _. 0) ⌝ }
+    ensures { λ r. ⌜ r ≡ ifB (soundCard (now (card .entry))) (λ _. cardListed (now (card .entry)) (goodNames (targetsOf (now (list .entry))))) (λ _. 0) ⌝ }
 {
     if !scan_card::sound(card) {
         return 0;

@@ -12,15 +12,17 @@ use borrow.Author.Tests.{ltb-false}
 use Rattle.lists.specs.Tests.{ifB}
 use Rattle.lists.specs.Fill.{zeros}
 use Rattle.spec.specs.declared.Refusal.{Refusal}
-use Rattle.spec.specs.declared.Refusal.the-variants.{ShortBuffer, LongManifest, BadByte, BadLine, BadDollar, NotYet, BadRule, BadPath, OverLimit, BadVersion, BadCard, BadTarget, NoRoot, Circle, MissingSource, EndlessText, LongText, NoCommand}
+use Rattle.spec.specs.declared.Refusal.the-variants.{EndlessText, LongText, NoCommand}
 use Rattle.spec.specs.declared.TextAnswer.the-variants.{Written, Refused}
+use Rattle.spec.specs.Basics.{orElse}
 use Rattle.spec.specs.Limits.{maxText}
 use Rattle.spec.specs.Answers.{Said, numberOfRefusal, refusalSays, textSays}
 use Rattle.spec.specs.Promises.{filled, TextMeets}
 use Rattle.spec.specs.Reading.{Reading, isPhony}
 use Rattle.spec.specs.Graph.{stepAt}
 use Rattle.spec.specs.Text.{leadsBack, deep, nameText, nameRefusal}
-use Rattle.spec.specs.TextAsk.{TextOutcome, text, noText, orText, nameOutcome, textOfStep}
+use Rattle.spec.specs.TextAsk.{TextOutcome, text, noText, nameOutcome, textOfStep}
+use Rattle.spec.proofs.Answers.{refusal-not-0}
 use Rattle.text_batch.specs.Batch.{IsRefused}
 
 abbrev pub OfStep : TextOutcome → Type 0
@@ -31,8 +33,8 @@ either-text : (b : Bool) (x y : TextOutcome) → OfStep x → OfStep y → OfSte
 either-text true x y p q = p
 either-text false x y p q = q
 
-or-text : (b : Bool) (r : Refusal) (o : Option Refusal) (t : Unit {0} → List ℕ) → 2 ≤ numberOfRefusal r → (b ≡ false → OfStep (orText o t))
-    → OfStep (orText (ifB b (λ _. some r) (λ _. o)) t)
+or-text : (b : Bool) (r : Refusal) (o : Option Refusal) (t : Unit {0} → List ℕ) → 2 ≤ numberOfRefusal r → (b ≡ false → OfStep (orElse o noText (λ _. text (t tt))))
+    → OfStep (orElse (ifB b (λ _. some r) (λ _. o)) noText (λ _. text (t tt)))
 or-text true r o t n p = n
 or-text false r o t n p = p refl
 
@@ -64,27 +66,6 @@ module _ (s : ℕ) (n : List ℕ) (rd : Reading) where
 
 -- ---- by the answer
 
-not-0 : (r : Refusal) → numberOfRefusal r ≡ 0 → ⊥
-unfolding numberOfRefusal
-not-0 ShortBuffer e = omega arith
-not-0 LongManifest e = omega arith
-not-0 (BadByte p) e = omega arith
-not-0 (BadLine p) e = omega arith
-not-0 (BadDollar p) e = omega arith
-not-0 (NotYet p) e = omega arith
-not-0 (BadRule p) e = omega arith
-not-0 (BadPath p) e = omega arith
-not-0 (OverLimit p) e = omega arith
-not-0 (BadVersion p) e = omega arith
-not-0 BadCard e = omega arith
-not-0 (BadTarget p) e = omega arith
-not-0 NoRoot e = omega arith
-not-0 (Circle n) e = omega arith
-not-0 (MissingSource f) e = omega arith
-not-0 (EndlessText s) e = omega arith
-not-0 (LongText s) e = omega arith
-not-0 (NoCommand s) e = omega arith
-
 -- the n bytes at the front of the buffer are the text
 pub record IsWritten (o : TextOutcome) (exit : List ℕ) (n : ℕ) : Type 0 where
   pub written : List ℕ
@@ -104,9 +85,9 @@ is-written (text t) lent {exit} {n} k p =
       short = omega (arith, k, c);
       front = rw (p .leaves) (take-at t (zeros (length lent - length t)) n (sym c));
     }
-is-written (noText r) lent k p = absurd (not-0 r (sym (ap (λ (s : Said). s .number) (p .says))))
+is-written (noText r) lent k p = absurd (refusal-not-0 r (sym (ap (λ (s : Said). s .number) (p .says))))
 
 pub is-refused : (o : TextOutcome) (lent exit : List ℕ) {r : Refusal} → OfStep o → TextMeets o lent (textSays (Refused r)) exit → IsRefused o r
 unfolding TextMeets textSays refusalSays numberOfRefusal
-is-refused (text t) lent exit {r = r} k p = absurd (not-0 r (ap (λ (s : Said). s .number) (p .says)))
+is-refused (text t) lent exit {r = r} k p = absurd (refusal-not-0 r (ap (λ (s : Said). s .number) (p .says)))
 is-refused (noText q) lent exit k p = record { refusal = q; is = refl; says = p .says; known = k }

@@ -6,8 +6,8 @@ use mathlib.Core.Path.{_≡_}
 use lib.ListN.{length}
 use Rattle.spec.specs.declared.Wanted.{Wanted}
 use Rattle.spec.specs.Basics.{concat}
-use Rattle.spec.specs.Answers.{Said, refusalSays}
-use Rattle.spec.specs.Promises.{filled, leftBy, counts}
+use Rattle.spec.specs.Answers.{Said, refusalSays, says}
+use Rattle.spec.specs.Promises.{filled, leftBy}
 use Rattle.text_batch.specs.declared.TextsAnswer.{TextsAnswer}
 use Rattle.text_batch.specs.declared.TextsAnswer.the-variants.{Written, Refused}
 use Rattle.text_batch.specs.TextsAsk.{TextsOutcome, textsAsk, texts, noTexts, endsFrom}
@@ -27,7 +27,7 @@ pub record Are (said : Said) (bytes ends : List ℕ) (right : Said) (bytesLeft e
 unfoldable pub TextsMeets : TextsOutcome → List ℕ → List ℕ → Said → List ℕ → List ℕ → Type 0
 unfolding endsFrom
 TextsMeets (texts ts) bytes ends said bytesExit endsExit =
-    Are said bytesExit endsExit (counts (length ts)) (filled (concat ts) bytes) (filled (endsFrom 0 ts) ends)
+    Are said bytesExit endsExit (says 0 (length ts)) (filled (concat ts) bytes) (filled (endsFrom 0 ts) ends)
 TextsMeets (noTexts r) bytes ends said bytesExit endsExit = Are said bytesExit endsExit (refusalSays r) (leftBy r bytes) (leftBy r ends)
 
 -- the texts ask: manifest, steps, what is wanted, buffers of bytes and of ends at entry, answer, both buffers at exit

@@ -13,6 +13,7 @@ use spec::Refusal;
 use spec::TextAnswer;
 use spec::Wanted;
 use spec::limits::TEXT;
+use text_step::StepText;
 use text_step::text_of;
 
 // What the texts ask answers: the number of texts written, or a refusal.
@@ -34,7 +35,21 @@ pub enum Walked {
     Refused(Refusal),
 }
 
-// Writes the text of a step behind the first `end` bytes, by way of a buffer for one text, if it has room before `room`.
+// What all texts of a walk share: which of a step's two is wanted, and how many bytes they have room in.
+pub struct Batch {
+    pub wanted: Wanted,
+    pub room: usize,
+}
+
+// The next text of a walk: whose it is, how many bytes those before it take, and how many all have room in.
+pub struct NextText {
+    pub step: usize,
+    pub wanted: Wanted,
+    pub end: usize,
+    pub room: usize,
+}
+
+// Writes a text behind those before it, by way of a buffer for one text, if it has room.
 fn put_text(
     t: &[u8; 256],
     names: &[u8],
@@ -43,17 +58,19 @@ fn put_text(
     bind: &[u32],
     graph: &[u32],
     c: Counts,
-    step: usize,
-    wanted: Wanted,
+    x: NextText,
     one: &mut [u8],
     bytes: &mut [u8],
-    end: usize,
-    room: usize,
 ) -> Put
-    requires { ⌜ PutAsk (now t) (buffers (now names) (now index) (now texts) (now bind) (now graph)) c (now one) (now bytes) end room ⌝ }
-    ensures { λ r. ⌜ Leaves (Spare (now (one .entry)) (now (one .exit))) (Puts (buffers (now (names .entry)) (now (index .entry)) (now (texts .entry)) (now (bind .entry)) (now (graph .entry))) c step wanted end room (now (bytes .entry)) (now (bytes .exit)) r) ⌝ }
+    requires { ⌜ PutAsk (now t) (buffers (now names) (now index) (now texts) (now bind) (now graph)) c (now one) (now bytes) (x .end) (x .room) ⌝ }
+    ensures { λ r. ⌜ Leaves (Spare (now (one .entry)) (now (one .exit))) (Puts (buffers (now (names .entry)) (now (index .entry)) (now (texts .entry)) (now (bind .entry)) (now (graph .entry))) c (x .step) (x .wanted) (x .end) (x .room) (now (bytes .entry)) (now (bytes .exit)) r) ⌝ }
 {
-    match text_of(t, names, index, texts, bind, graph, c, step, wanted, one) {
+    let step = x.step;
+    let wanted = x.wanted;
+    let end = x.end;
+    let room = x.room;
+    let asked = StepText { step, wanted };
+    match text_of(t, names, index, texts, bind, graph, c, asked, one) {
         TextAnswer::Written(n) => {
             if room - end < n {
                 return Put::NoRoom;
@@ -74,35 +91,28 @@ fn walk(
     bind: &[u32],
     graph: &[u32],
     c: Counts,
+    b: Batch,
     steps: &[u32],
-    wanted: Wanted,
     one: &mut [u8],
     bytes: &mut [u8],
     ends: &mut [u32],
-    room: usize,
 ) -> Walked
-    requires { ⌜ WalkAsk (now t) (buffers (now names) (now index) (now texts) (now bind) (now graph)) c (now one) (now bytes) room ⌝ }
-    ensures { λ r. ⌜ Leaves (Spare (now (one .entry)) (now (one .exit))) (Walks (buffers (now (names .entry)) (now (index .entry)) (now (texts .entry)) (now (bind .entry)) (now (graph .entry))) c (now (steps .entry)) wanted room (length (now (ends .entry))) (now (bytes .exit)) (now (ends .exit)) r) ⌝ }
+    requires { ⌜ WalkAsk (now t) (buffers (now names) (now index) (now texts) (now bind) (now graph)) c (now one) (now bytes) (b .room) ⌝ }
+    ensures { λ r. ⌜ Leaves (Spare (now (one .entry)) (now (one .exit))) (Walks (buffers (now (names .entry)) (now (index .entry)) (now (texts .entry)) (now (bind .entry)) (now (graph .entry))) c (now (steps .entry)) (b .wanted) (b .room) (length (now (ends .entry))) (now (bytes .exit)) (now (ends .exit)) r) ⌝ }
 {
+    let wanted = b.wanted;
+    let room = b.room;
     let mut end = 0;
     let mut i = 0;
     while i < steps.len() {
         let step = at(steps, i);
-        match put_text(
-            t,
-            names,
-            index,
-            texts,
-            bind,
-            graph,
-            c,
+        let x = NextText {
             step,
             wanted,
-            one,
-            bytes,
             end,
             room,
-        ) {
+        };
+        match put_text(t, names, index, texts, bind, graph, c, x, one, bytes) {
             Put::Ends(e) => {
                 if ends.len() <= i {
                     return Walked::Stopped(i, end);
@@ -151,6 +161,7 @@ fn texts_by(
     ensures { λ r. ⌜ Leaves (Spare (now (one .entry)) (now (one .exit))) (TextsOf (buffers (now (names .entry)) (now (index .entry)) (now (texts .entry)) (now (bind .entry)) (now (graph .entry))) c (now (steps .entry)) wanted (now (bytes .entry)) (now (ends .entry)) (now (bytes .exit)) (now (ends .exit)) r) ⌝ }
 {
     let room = usable(bytes.len());
+    let b = Batch { wanted, room };
     match walk(
         t,
         names,
@@ -159,21 +170,20 @@ fn texts_by(
         bind,
         graph,
         c,
+        b,
         steps,
-        wanted,
         one,
         bytes,
         ends,
-        room,
     ) {
         Walked::Stopped(n, end) => {
-            slices::bytes::zero_from(bytes, end);
-            slices::words::zero_from(ends, n);
+            slices::bytes::zero_bytes_from(bytes, end);
+            slices::words::zero_words_from(ends, n);
             TextsAnswer::Written(n)
         }
         Walked::Refused(r) => {
-            slices::bytes::zero_from(bytes, 0);
-            slices::words::zero_from(ends, 0);
+            slices::bytes::zero_bytes_from(bytes, 0);
+            slices::words::zero_words_from(ends, 0);
             TextsAnswer::Refused(r)
         }
     }

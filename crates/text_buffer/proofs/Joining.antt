@@ -9,7 +9,7 @@ use lib.Seq.{drop-cons}
 use Rattle.spec.specs.Limits.{maxText}
 use Rattle.spec.specs.Text.{quoted, joinedBy}
 use Rattle.hold_names.specs.Table.{HoldsNames}
-use Rattle.text_buffer.specs.Puts.{Open, PutsText, namesIn, headed, FileNameAsk, FileNamesAsk}
+use Rattle.text_buffer.specs.Puts.{OpenText, PutsText, namesIn, headed, FileNameAsk, FileNamesAsk}
 use Rattle.text_buffer.proofs.Parts.{puts-over, puts-then, open-on, Done, done-none, done-on, done-over, done-end}
 
 -- ---- one name
@@ -20,7 +20,7 @@ first c m zero z = refl
 first c m (suc j) z = absurd (omega arith)
 
 module _ {names index fs buffer : List ℕ} {count place i f : ℕ} (a : FileNamesAsk names index count fs buffer place) (b : i < length fs) (e : f ≡ getD fs i 0) where
-  pub name-ask : {now : List ℕ} {n : ℕ} → Open now n → FileNameAsk names index count f now n
+  pub name-ask : {now : List ℕ} {n : ℕ} → OpenText now n → FileNameAsk names index count f now n
   name-ask o = record { named = a .named; low = rw e (a .low i b); free = o }
 
   pub head-first : (c : ℕ) {after : List ℕ} {r : ℕ} → i ≡ 0 → ((files : List (List ℕ)) → HoldsNames names index count files → PutsText buffer place (quoted (getD files f [])) after r)

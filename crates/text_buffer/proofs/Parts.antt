@@ -8,9 +8,9 @@ use native.Mathlib.Omega.{arith}
 use lib.ListN.{length, take, drop, set, length-append, length-set}
 use lib.Seq.{length-take-le, take-all, take-take, take-append-le, take-append-seam, take-suc-set, paste, length-paste}
 use Rattle.spec.specs.Limits.{maxText}
-use Rattle.text_buffer.specs.Puts.{Open, PutsText}
+use Rattle.text_buffer.specs.Puts.{OpenText, PutsText}
 
-pub puts-none : {buffer : List ℕ} {place : ℕ} → Open buffer place → PutsText buffer place [] buffer place
+pub puts-none : {buffer : List ℕ} {place : ℕ} → OpenText buffer place → PutsText buffer place [] buffer place
 puts-none {buffer} {place} o =
     record {
       long = refl;
@@ -34,7 +34,7 @@ puts-over {before} {s} {middle} {place} {q} p h u =
     }
 
 module _ {before s middle : List ℕ} {place q : ℕ} (p : PutsText before place s middle q) (h : q ≤ maxText) where
-  pub open-on : Open before place → Open middle q
+  pub open-on : OpenText before place → OpenText middle q
   open-on o = record { room = rw (p .long) (o .room); low = h }
 
   pub puts-then : {u after : List ℕ} {r : ℕ} → PutsText middle q u after r → PutsText before place (s ++ u) after r
@@ -58,7 +58,7 @@ pub record Done (whole rest before : List ℕ) (place : ℕ) (now : List ℕ) (n
   pub adds : part ++ rest ≡ whole
   pub puts : PutsText before place part now n
 
-pub done-none : {whole rest before : List ℕ} {place : ℕ} → Open before place → rest ≡ whole → Done whole rest before place before place
+pub done-none : {whole rest before : List ℕ} {place : ℕ} → OpenText before place → rest ≡ whole → Done whole rest before place before place
 done-none o e = record { part = []; adds = e; puts = puts-none o }
 
 module _ {whole before now next : List ℕ} {place n r : ℕ} (s rest : List ℕ) (d : Done whole (s ++ rest) before place now n) (low : n ≤ maxText) (p : PutsText now n s next r) where
@@ -72,7 +72,7 @@ pub done-end : {whole before now : List ℕ} {place n : ℕ} → Done whole [] b
 done-end d = rw (← (d .adds), append-nil (d .part)) (d .puts)
 
 -- Written over from the same place on.
-pub puts-again : {before s now u after : List ℕ} {place n r : ℕ} → Open before place → PutsText before place s now n → n ≤ maxText → PutsText now place u after r → PutsText before place u after r
+pub puts-again : {before s now u after : List ℕ} {place n r : ℕ} → OpenText before place → PutsText before place s now n → n ≤ maxText → PutsText now place u after r → PutsText before place u after r
 puts-again {before} {s} {now} {u} {after} {place} {n} o p h q =
     let f = p .fits h in
     let k : length (take place before) ≡ place = length-take-le place before (omega (arith, o .low, o .room)) in
@@ -87,7 +87,7 @@ puts-again {before} {s} {now} {u} {after} {place} {n} o p h q =
 
 -- ---- bytes
 
-module _ (buffer : List ℕ) (place : ℕ) (o : Open buffer place) where
+module _ (buffer : List ℕ) (place : ℕ) (o : OpenText buffer place) where
   pub puts-bytes : (s : List ℕ) {after : List ℕ} → length s ≤ 8192 - place → after ≡ paste buffer place s (length s) → PutsText buffer place s after (place + length s)
   puts-bytes s {after} h e =
       let n : length (take place buffer) ≡ place = length-take-le place buffer (omega (arith, o .low, o .room)) in

@@ -15,7 +15,7 @@ use Rattle.lists.specs.Text.{bytes}
 use Rattle.spec.specs.Bytes.{between, letter, digit}
 use Rattle.spec.specs.Limits.{maxText}
 use Rattle.spec.specs.Text.{quote, safeByte, insideQuotes, quoted}
-use Rattle.text_buffer.specs.Puts.{Open, PutsText, toClose}
+use Rattle.text_buffer.specs.Puts.{OpenText, PutsText, toClose}
 use Rattle.text_buffer.proofs.Parts.{open-on, puts-long, puts-byte, puts-again, Done, done-none, done-on, done-over, done-end}
 
 -- ---- safe bytes
@@ -85,11 +85,11 @@ unfolding insideQuotes
 inside-cons b l = split (eqb b quote) (λ (e : eqb b quote ≡ true). rw e) (λ (e : eqb b quote ≡ false). rw e)
 
 pub record ToClose (name before : List ℕ) (place : ℕ) (now : List ℕ) (n i : ℕ) : Type 0 where
-  pub free : Open now n
+  pub free : OpenText now n
   pub long : length now ≡ length before
   pub done : Done (toClose name) (toClose (drop i name)) before place now n
 
-pub close-begin : (name : List ℕ) {before : List ℕ} {place : ℕ} → Open before place → ToClose name before place before place 0
+pub close-begin : (name : List ℕ) {before : List ℕ} {place : ℕ} → OpenText before place → ToClose name before place before place 0
 close-begin name o = record { free = o; long = refl; done = done-none o refl }
 
 module _ {name before now : List ℕ} {place n i : ℕ} (x : ToClose name before place now n i) where
@@ -148,16 +148,16 @@ length-quoted n =
 pub quoted-long : (buffer : List ℕ) (place : ℕ) (name : List ℕ) → 8192 - place < length name → PutsText buffer place (quoted name) buffer 8193
 quoted-long buffer place name h = puts-long buffer place (quoted name) (omega (arith, length-quoted name))
 
-pub copy-begin : (name : List ℕ) {before : List ℕ} {place : ℕ} → Open before place → length name ≤ 8192 - place → Copying name before place before 0
+pub copy-begin : (name : List ℕ) {before : List ℕ} {place : ℕ} → OpenText before place → length name ≤ 8192 - place → Copying name before place before 0
 copy-begin name {before} {place} o h =
     let e : place + 0 ≡ place = omega arith in
     record { within = omega (arith, o .low); low = omega (arith, o .low); long = refl; room = o .room; done = rw e (done-none o refl); safe = refl }
 
 module _ {name before now : List ℕ} {place i : ℕ} (x : Copying name before place now i) where
-  open-here : Open now (place + i)
+  open-here : OpenText now (place + i)
   open-here = record { room = x .room; low = x .low }
 
-  pub copy-open : Open now place
+  pub copy-open : OpenText now place
   copy-open = record { room = x .room; low = omega (arith, x .low) }
 
   module _ (b : i < length name) where
@@ -179,7 +179,7 @@ module _ {name before now : List ℕ} {place i : ℕ} (x : Copying name before p
           safe = rw (add-one i) (safe-here ∙ rw s);
         }
 
-    pub copy-quoted : safeByte (getD name i 0) ≡ false → Open before place → {after : List ℕ} {r : ℕ} → PutsText now place (quote ∷ toClose name) after r → PutsText before place (quoted name) after r
+    pub copy-quoted : safeByte (getD name i 0) ≡ false → OpenText before place → {after : List ℕ} {r : ℕ} → PutsText now place (quote ∷ toClose name) after r → PutsText before place (quoted name) after r
     unfolding quoted all
     copy-quoted s o p =
         let u : all safeByte name ≡ false = safe-here ∙ rw s in

@@ -8,7 +8,7 @@ use Rattle.spec.specs.Text.{quote, insideQuotes, quoted}
 use Rattle.hold_names.specs.Table.{SoundNames}
 
 -- the buffer has room for a longest text, which is written up to this place
-pub record Open (buffer : List ℕ) (place : ℕ) : Type 0 where
+pub record OpenText (buffer : List ℕ) (place : ℕ) : Type 0 where
   pub room : maxText ≤ length buffer
   pub low : place ≤ maxText
 
@@ -43,10 +43,10 @@ headed c (suc i) n = c ∷ n
 pub record FileNameAsk (names index : List ℕ) (count f : ℕ) (buffer : List ℕ) (place : ℕ) : Type 0 where
   pub named : SoundNames names index count
   pub low : f < count
-  pub free : Open buffer place
+  pub free : OpenText buffer place
 
 -- what writing the names of a list of files asks
 pub record FileNamesAsk (names index : List ℕ) (count : ℕ) (fs buffer : List ℕ) (place : ℕ) : Type 0 where
   pub named : SoundNames names index count
   pub low : (i : ℕ) → i < length fs → getD fs i 0 < count
-  pub free : Open buffer place
+  pub free : OpenText buffer place

@@ -6,7 +6,7 @@ ghost use mathlib.Core.Path.{_≡_};
 ghost use lib.ListN.{length, getD};
 ghost use Rattle.spec.specs.Text.{quote, safeByte, insideQuotes, quoted, joinedBy};
 ghost use Rattle.hold_names.specs.Table.{HoldsNames};
-ghost use Rattle.text_buffer.specs.Puts.{Open, PutsText, FileNameAsk, FileNamesAsk, headed, namesIn, toClose};
+ghost use Rattle.text_buffer.specs.Puts.{OpenText, PutsText, FileNameAsk, FileNamesAsk, headed, namesIn, toClose};
 use hold_names::file_name;
 use slices::bytes::copy_at;
 use slices::words::at;
@@ -14,7 +14,7 @@ use spec::limits::TEXT;
 
 // Writes s from a place on.
 pub fn put_bytes(buffer: &mut [u8], place: usize, s: &[u8]) -> usize
-    requires { ⌜ Open (now buffer) place ⌝ }
+    requires { ⌜ OpenText (now buffer) place ⌝ }
     ensures { λ r. ⌜ PutsText (now (buffer .entry)) place (now (s .entry)) (now (buffer .exit)) r ⌝ }
 {
     if TEXT - place < s.len() {
@@ -25,7 +25,7 @@ pub fn put_bytes(buffer: &mut [u8], place: usize, s: &[u8]) -> usize
 }
 
 pub fn put_byte(buffer: &mut [u8], place: usize, b: u8) -> usize
-    requires { ⌜ Open (now buffer) place ⌝ }
+    requires { ⌜ OpenText (now buffer) place ⌝ }
     ensures { λ r. ⌜ PutsText (now (buffer .entry)) place (b ∷ []) (now (buffer .exit)) r ⌝ }
 {
     if TEXT <= place {
@@ -56,7 +56,7 @@ fn is_safe(b: u8) -> bool
 
 // Writes one byte of a name that stands in quotes, "each single quote inside written as quote, backslash, quote, quote".
 fn put_inside(buffer: &mut [u8], place: usize, b: u8) -> usize
-    requires { ⌜ Open (now buffer) place ⌝ }
+    requires { ⌜ OpenText (now buffer) place ⌝ }
     ensures { λ r. ⌜ PutsText (now (buffer .entry)) place (insideQuotes (b ∷ [])) (now (buffer .exit)) r ⌝ }
 {
     if b == b'\'' {
@@ -67,7 +67,7 @@ fn put_inside(buffer: &mut [u8], place: usize, b: u8) -> usize
 
 // Writes the bytes of a name that stands in quotes, and the quote behind them.
 fn put_to_close(buffer: &mut [u8], place: usize, name: &[u8]) -> usize
-    requires { ⌜ Open (now buffer) place ⌝ }
+    requires { ⌜ OpenText (now buffer) place ⌝ }
     ensures { λ r. ⌜ PutsText (now (buffer .entry)) place (toClose (now (name .entry))) (now (buffer .exit)) r ⌝ }
 {
     let mut n = place;
@@ -84,7 +84,7 @@ fn put_to_close(buffer: &mut [u8], place: usize, name: &[u8]) -> usize
 
 // Writes a name in single quotes.
 fn put_in_quotes(buffer: &mut [u8], place: usize, name: &[u8]) -> usize
-    requires { ⌜ Open (now buffer) place ⌝ }
+    requires { ⌜ OpenText (now buffer) place ⌝ }
     ensures { λ r. ⌜ PutsText (now (buffer .entry)) place (quote ∷ toClose (now (name .entry))) (now (buffer .exit)) r ⌝ }
 {
     let n = put_byte(buffer, place, b'\'');
@@ -97,7 +97,7 @@ fn put_in_quotes(buffer: &mut [u8], place: usize, name: &[u8]) -> usize
 // Writes a name: "a name of only letters, digits and `_ + - . /` stays; any other stands in single quotes". The bytes are told while they are copied,
 // so that a name that stays is gone over once.
 fn put_quoted(buffer: &mut [u8], place: usize, name: &[u8]) -> usize
-    requires { ⌜ Open (now buffer) place ⌝ }
+    requires { ⌜ OpenText (now buffer) place ⌝ }
     ensures { λ r. ⌜ PutsText (now (buffer .entry)) place (quoted (now (name .entry))) (now (buffer .exit)) r ⌝ }
 {
     if TEXT - place < name.len() {

@@ -7,11 +7,11 @@ use Rattle.lists.specs.Parts.{part}
 use Rattle.spec.specs.Dollars.{expand}
 use Rattle.spec.specs.Reading.{Step, Reading}
 use Rattle.spec.specs.Text.{asIs, ofRule, lookup, textOf, deep}
-use Rattle.hold_bindings.specs.Log.{Logged}
+use Rattle.hold_bindings.specs.Log.{Logged, entryAt}
 use Rattle.text_lookup.specs.declared.Asked.{Asked}
 use Rattle.text_lookup.specs.declared.Source.{Source}
 use Rattle.text_lookup.specs.declared.Source.the-variants.{Inputs, InputLines, Outputs, Value, Text, Unset}
-use Rattle.text_lookup.specs.Scope.{InScope, meaning, LooksUp}
+use Rattle.text_lookup.specs.Scope.{InScope, meaning, There, LooksUp}
 use Rattle.text_lookup.proofs.Standing.{found-key, ValueOf}
 use Rattle.text_recursion.proofs.Depths.{not-zero, text-shallow, text-whole, text-as-is}
 use Rattle.text_memo.specs.declared.Span.{Span}
@@ -19,17 +19,55 @@ use Rattle.text_memo.specs.declared.Draft.{Draft}
 use Rattle.text_memo.specs.Draft.{spanFor, Remembered, WrittenPart, Remembers, Drafted, WritesDraft}
 use Rattle.text_memo.proofs.Spans.{drafted-name}
 use Rattle.text_expansion.specs.Here.{Here}
-use Rattle.text_expansion.specs.Asks.{PlainAsk, WritesPlain, RawTextAsk, WritesText, NameTextAsk, WritesName, KeyAsk}
+use Rattle.text_expansion.specs.Asks.{PlainAsk, WritesPlain, RawTextAsk, WritesText, NameTextAsk, WritesName}
 use Rattle.hold_reading.specs.Buffers.{Buffers}
+
+-- a rule's key, by its entry
+pub record KeyAsk (t : List ℕ) (bs : Buffers) (a : Asked) (name : List ℕ) (k : ℕ) (buffer : List ℕ) (d : Draft) : Type 0 where
+  pub ask : NameTextAsk t bs a name buffer d
+  pub there : There (bs .texts) (bs .bind) a k
+  pub found : (log : List Logged) (rd : Reading) (s : Step) → Here bs a log rd s → lookup rd s name ≡ ofRule (entryAt k log .value)
+
+-- the same step, one rule text deeper
+abbrev pub deeper : Asked → Asked
+deeper a =
+    record { step = a .step; rule = a .rule; entries = a .entries; files = a .files; outs = a .outs; ins = a .ins; rest = a .rest; depth = a .depth - 1 }
+
+here-deeper : {bs : Buffers} {a : Asked} {log : List Logged} {rd : Reading} {s : Step} → Here bs a log rd s → Here bs (deeper a) log rd s
+here-deeper h =
+    let c = h .scope in
+    let f = h .files in
+    record {
+      scope =
+          record {
+            bound = c .bound;
+            vars = c .vars;
+            block = c .block;
+            keys = c .keys;
+            sound = c .sound;
+            step-low = c .step-low;
+            rule-low = c .rule-low;
+          };
+      files =
+          record {
+            named = f .named;
+            outs-ordered = f .outs-ordered;
+            ins-ordered = f .ins-ordered;
+            within = f .within;
+            outs = f .outs;
+            ins = f .ins;
+            low = f .low;
+          };
+    }
 
 -- ---- a name
 
-module _ {t : List ℕ} {bs : Buffers} {name before : List ℕ} {a : Asked} {depth : ℕ} {d : Draft} (w : NameTextAsk t bs a name depth before d) where
+module _ {t : List ℕ} {bs : Buffers} {name before : List ℕ} {a : Asked} {d : Draft} (w : NameTextAsk t bs a name before d) where
   pub in-scope : InScope (bs .texts) (bs .bind) a
   in-scope = let q = w .asking in record { log = q .log; reading = q .reading; step = q .step; scope = q .here .scope }
 
   module _ {source : Source} (l : LooksUp (bs .texts) (bs .bind) a (λ rd s. lookup rd s name) source) where
-    pub key-asked : {k : ℕ} → source ≡ Text k → KeyAsk t bs a name k depth before d
+    pub key-asked : {k : ℕ} → source ≡ Text k → KeyAsk t bs a name k before d
     unfolding meaning
     key-asked {k} e =
         record {
@@ -59,12 +97,12 @@ module _ {t : List ℕ} {bs : Buffers} {name before : List ℕ} {a : Asked} {dep
       by-source {log} {rd} {s} (Text j) e n h k = absurd (n j e)
       by-source {log} {rd} {s} Unset e n h k = as-it-is _ h (ap (meaning rd s log) e) k
 
-      pub plain-written : ((k : ℕ) → source ≡ Text k → ⊥) → WritesName bs a name depth before d after r
+      pub plain-written : ((k : ℕ) → source ≡ Text k → ⊥) → WritesName bs a name before d after r
       plain-written n = record { writes = λ log rd s h c k. by-source source refl n h k }
 
 -- ---- a rule's key
 
-module _ {t : List ℕ} {bs : Buffers} {name before : List ℕ} {a : Asked} {k depth : ℕ} {d : Draft} (w : KeyAsk t bs a name k depth before d) where
+module _ {t : List ℕ} {bs : Buffers} {name before : List ℕ} {a : Asked} {k : ℕ} {d : Draft} (w : KeyAsk t bs a name k before d) where
   -- where it stands already
 
   module _ {span : Span} (e : span ≡ spanFor d name) (b : span .from ≤ span .to) where
@@ -73,7 +111,7 @@ module _ {t : List ℕ} {bs : Buffers} {name before : List ℕ} {a : Asked} {k d
         let q = w .ask .asking .remembers in
         record { ordered = b; written = rw e (q .kept name (rw e at b) .written); free = q .free }
 
-    pub again-written : {after : List ℕ} {r : Draft} → WritesDraft before d (part before (span .from) (span .to)) after r → WritesName bs a name depth before d after r
+    pub again-written : {after : List ℕ} {r : Draft} → WritesDraft before d (part before (span .from) (span .to)) after r → WritesName bs a name before d after r
     again-written {after} {r} p =
         record {
           writes = λ log rd s h c q.
@@ -83,17 +121,17 @@ module _ {t : List ℕ} {bs : Buffers} {name before : List ℕ} {a : Asked} {k d
 
   -- its text expanded
 
-  pub depth-left : 1 ≤ depth
+  pub depth-left : 1 ≤ a .depth
   depth-left =
       let q = w .ask .asking in
-      let n : depth ≡ 0 → ⊥ = not-zero (q .reading) (q .step) depth name (w .ask .shallow) in
+      let n : a .depth ≡ 0 → ⊥ = not-zero (q .reading) (q .step) (a .depth) name (w .ask .shallow) in
       omega arith
 
   module _ {raw : List ℕ} (v : ValueOf (bs .texts) (bs .bind) k raw) where
     raw-found : {log : List Logged} {rd : Reading} {s : Step} → Here bs a log rd s → lookup rd s name ≡ ofRule raw
     raw-found {log} {rd} {s} h = w .found log rd s h ∙ ap ofRule (sym (v log (a .entries) (h .scope .bound) (w .there .low)))
 
-    pub text-asked : RawTextAsk t bs a raw (depth - 1) before d
+    pub text-asked : RawTextAsk t bs (deeper a) raw before d
     text-asked =
         let q = w .ask .asking in
         record {
@@ -104,17 +142,17 @@ module _ {t : List ℕ} {bs : Buffers} {name before : List ℕ} {a : Asked} {k d
                 sound = q .here .scope .sound name raw (found-key (q .reading) (q .step) name raw (raw-found (q .here))) .sound;
               };
           low = omega (arith, w .ask .low);
-          asking = q;
-          shallow = text-shallow (q .reading) (q .step) depth name raw (w .ask .shallow) (raw-found (q .here));
+          asking = record { log = q .log; reading = q .reading; step = q .step; here = here-deeper (q .here); remembers = q .remembers };
+          shallow = text-shallow (q .reading) (q .step) (a .depth) name raw (w .ask .shallow) (raw-found (q .here));
         }
 
-    pub key-written : {after : List ℕ} {m r : Draft} → WritesText bs a raw (depth - 1) before d after m → Remembered m name (d .at) r
-        → WritesName bs a name depth before d after r
+    pub key-written : {after : List ℕ} {m r : Draft} → WritesText bs (deeper a) raw before d after m → Remembered m name (d .at) r
+        → WritesName bs a name before d after r
     key-written {after} {m} {r} p e =
         record {
           writes = λ log rd s h c q.
               let f = raw-found h in
-              let z : textOf rd s deep name ≡ expand (textOf rd s deep) raw = text-whole rd s depth name raw c (w .ask .low) f in
-              let o : Drafted (textOf rd s deep) before d (textOf rd s deep name) after m = rw z (p .writes log rd s h (text-shallow rd s depth name raw c f) q) in
+              let z : textOf rd s deep name ≡ expand (textOf rd s deep) raw = text-whole rd s (a .depth) name raw c (w .ask .low) f in
+              let o : Drafted (textOf rd s deep) before d (textOf rd s deep name) after m = rw z (p .writes log rd s (here-deeper h) (text-shallow rd s (a .depth) name raw c f) q) in
               drafted-name q name o e;
         }

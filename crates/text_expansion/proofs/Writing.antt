@@ -17,7 +17,7 @@ use Rattle.text_references.proofs.Turns.{expand-bytes, expand-name, refs-bytes,
 use Rattle.text_lookup.specs.declared.Asked.{Asked}
 use Rattle.text_recursion.specs.Depth.{goesDeep}
 use Rattle.text_recursion.proofs.Depths.{none-first, none-later}
-use Rattle.text_buffer.specs.Puts.{Open}
+use Rattle.text_buffer.specs.Puts.{OpenText}
 use Rattle.text_buffer.proofs.Parts.{open-on}
 use Rattle.text_memo.specs.declared.Draft.{Draft}
 use Rattle.text_memo.specs.Draft.{Remembers, Drafted, WritesDraft}
@@ -37,16 +37,16 @@ pub record Progress (rd : Reading) (s : Step) (raw : List ℕ) (depth : ℕ) (be
   pub drafted : Drafted (textOf rd s deep) before d part now x
   pub shallow : any (goesDeep rd s depth) (refs (drop i raw)) ≡ false
 
-pub record Writing (t : List ℕ) (bs : Buffers) (a : Asked) (raw : List ℕ) (depth : ℕ) (before : List ℕ) (d : Draft) (now : List ℕ) (x : Draft) (i : ℕ) : Type 0 where
-  pub ask : RawTextAsk t bs a raw depth before d
+pub record Writing (t : List ℕ) (bs : Buffers) (a : Asked) (raw before : List ℕ) (d : Draft) (now : List ℕ) (x : Draft) (i : ℕ) : Type 0 where
+  pub ask : RawTextAsk t bs a raw before d
   pub ready : ReferencesReady t raw i
-  pub free : Open now (x .at)
+  pub free : OpenText now (x .at)
   pub long : length now ≡ length before
-  pub done : (log : List Logged) (rd : Reading) (s : Step) → Here bs a log rd s → any (goesDeep rd s depth) (refs raw) ≡ false
-      → Remembers (textOf rd s deep) before d → Progress rd s raw depth before d now x i
+  pub done : (log : List Logged) (rd : Reading) (s : Step) → Here bs a log rd s → any (goesDeep rd s (a .depth)) (refs raw) ≡ false
+      → Remembers (textOf rd s deep) before d → Progress rd s raw (a .depth) before d now x i
 
-pub write-begin : {t : List ℕ} {bs : Buffers} {raw before : List ℕ} {a : Asked} {depth : ℕ} {d : Draft} → RawTextAsk t bs a raw depth before d
-    → Writing t bs a raw depth before d before d 0
+pub write-begin : {t : List ℕ} {bs : Buffers} {raw before : List ℕ} {a : Asked} {d : Draft} → RawTextAsk t bs a raw before d
+    → Writing t bs a raw before d before d 0
 write-begin w =
     record {
       ask = w;
@@ -56,21 +56,21 @@ write-begin w =
       done = λ log rd s h b k. record { part = []; adds = refl; drafted = drafted-none k; shallow = b };
     }
 
-module _ {t : List ℕ} {bs : Buffers} {raw before now : List ℕ} {a : Asked} {depth i : ℕ} {d x : Draft} (w : Writing t bs a raw depth before d now x i) where
+module _ {t : List ℕ} {bs : Buffers} {raw before now : List ℕ} {a : Asked} {i : ℕ} {d x : Draft} (w : Writing t bs a raw before d now x i) where
   -- the reading that the ask speaks of
-  asked : Progress (w .ask .asking .reading) (w .ask .asking .step) raw depth before d now x i
+  asked : Progress (w .ask .asking .reading) (w .ask .asking .step) raw (a .depth) before d now x i
   asked = let q = w .ask .asking in w .done (q .log) (q .reading) (q .step) (q .here) (w .ask .shallow) (q .remembers)
 
   module _ {next : ℕ} {after : List ℕ} {r : Draft} (ready : ReferencesReady t raw next) (u : Reading → Step → List ℕ)
       (e : (rd : Reading) (s : Step) → expand (textOf rd s deep) (drop i raw) ≡ u rd s ++ expand (textOf rd s deep) (drop next raw))
-      (f : (log : List Logged) (rd : Reading) (s : Step) → Here bs a log rd s → any (goesDeep rd s depth) (refs (drop i raw)) ≡ false
+      (f : (log : List Logged) (rd : Reading) (s : Step) → Here bs a log rd s → any (goesDeep rd s (a .depth)) (refs (drop i raw)) ≡ false
       → Remembers (textOf rd s deep) now x → Drafted (textOf rd s deep) now x (u rd s) after r)
-      (g : (rd : Reading) (s : Step) → any (goesDeep rd s depth) (refs (drop i raw)) ≡ false → any (goesDeep rd s depth) (refs (drop next raw)) ≡ false) where
-    turn : (log : List Logged) (rd : Reading) (s : Step) → Here bs a log rd s → Progress rd s raw depth before d now x i → Remembers (textOf rd s deep) before d
+      (g : (rd : Reading) (s : Step) → any (goesDeep rd s (a .depth)) (refs (drop i raw)) ≡ false → any (goesDeep rd s (a .depth)) (refs (drop next raw)) ≡ false) where
+    turn : (log : List Logged) (rd : Reading) (s : Step) → Here bs a log rd s → Progress rd s raw (a .depth) before d now x i → Remembers (textOf rd s deep) before d
         → Drafted (textOf rd s deep) now x (u rd s) after r
     turn log rd s h p k = f log rd s h (p .shallow) (p .drafted .remembers (w .free .low))
 
-    turn-on : r .at ≤ maxText → Writing t bs a raw depth before d after r next
+    turn-on : r .at ≤ maxText → Writing t bs a raw before d after r next
     turn-on b =
         let q = w .ask .asking in
         let o = turn (q .log) (q .reading) (q .step) (q .here) asked (q .remembers) in
@@ -89,7 +89,7 @@ module _ {t : List ℕ} {bs : Buffers} {raw before now : List ℕ} {a : Asked} {
               };
         }
 
-    turn-over : maxText < r .at → WritesText bs a raw depth before d after r
+    turn-over : maxText < r .at → WritesText bs a raw before d after r
     turn-over b =
         record {
           writes = λ log rd s h c k.
@@ -103,12 +103,12 @@ module _ {t : List ℕ} {bs : Buffers} {raw before now : List ℕ} {a : Asked} {
     -- ---- bytes of the text
 
     module _ (b : PiecesStand raw i from to next (plainly (part raw from to))) {after : List ℕ} {r : Draft} (p : WritesDraft now x (part raw from to) after r) where
-      pub bytes-on : r .at ≤ maxText → Writing t bs a raw depth before d after r next
+      pub bytes-on : r .at ≤ maxText → Writing t bs a raw before d after r next
       bytes-on =
           turn-on (ready-on (w .ready) b) (λ rd s. part raw from to) (λ rd s. expand-bytes b (textOf rd s deep)) (λ log rd s h c k. p .drafts (textOf rd s deep) k)
           (λ rd s c. rw (refs-bytes b) at c)
 
-      pub bytes-over : maxText < r .at → WritesText bs a raw depth before d after r
+      pub bytes-over : maxText < r .at → WritesText bs a raw before d after r
       bytes-over =
           turn-over (ready-on (w .ready) b) (λ rd s. part raw from to) (λ rd s. expand-bytes b (textOf rd s deep)) (λ log rd s h c k. p .drafts (textOf rd s deep) k)
           (λ rd s c. rw (refs-bytes b) at c)
@@ -116,13 +116,13 @@ module _ {t : List ℕ} {bs : Buffers} {raw before now : List ℕ} {a : Asked} {
     -- ---- a name
 
     module _ (b : PiecesStand raw i from to next (ref (part raw from to) ∷ [])) where
-      first : (rd : Reading) (s : Step) → any (goesDeep rd s depth) (refs (drop i raw)) ≡ false → goesDeep rd s depth (part raw from to) ≡ false
-      first rd s c = none-first (goesDeep rd s depth) (part raw from to) (refs (drop next raw)) (rw (refs-name b) at c)
+      first : (rd : Reading) (s : Step) → any (goesDeep rd s (a .depth)) (refs (drop i raw)) ≡ false → goesDeep rd s (a .depth) (part raw from to) ≡ false
+      first rd s c = none-first (goesDeep rd s (a .depth)) (part raw from to) (refs (drop next raw)) (rw (refs-name b) at c)
 
-      later : (rd : Reading) (s : Step) → any (goesDeep rd s depth) (refs (drop i raw)) ≡ false → any (goesDeep rd s depth) (refs (drop next raw)) ≡ false
-      later rd s c = none-later (goesDeep rd s depth) (part raw from to) (refs (drop next raw)) (rw (refs-name b) at c)
+      later : (rd : Reading) (s : Step) → any (goesDeep rd s (a .depth)) (refs (drop i raw)) ≡ false → any (goesDeep rd s (a .depth)) (refs (drop next raw)) ≡ false
+      later rd s c = none-later (goesDeep rd s (a .depth)) (part raw from to) (refs (drop next raw)) (rw (refs-name b) at c)
 
-      pub name-asked : NameTextAsk t bs a (part raw from to) depth now x
+      pub name-asked : NameTextAsk t bs a (part raw from to) now x
       name-asked =
           let q = w .ask .asking in
           record {
@@ -132,16 +132,16 @@ module _ {t : List ℕ} {bs : Buffers} {raw before now : List ℕ} {a : Asked} {
             shallow = first (q .reading) (q .step) (asked .shallow);
           }
 
-      module _ {after : List ℕ} {r : Draft} (p : WritesName bs a (part raw from to) depth now x after r) where
-        pub name-on : r .at ≤ maxText → Writing t bs a raw depth before d after r next
+      module _ {after : List ℕ} {r : Draft} (p : WritesName bs a (part raw from to) now x after r) where
+        pub name-on : r .at ≤ maxText → Writing t bs a raw before d after r next
         name-on =
             turn-on (ready-on (w .ready) b) (λ rd s. textOf rd s deep (part raw from to)) (λ rd s. expand-name b (textOf rd s deep)) (λ log rd s h c k. p .writes log rd s h (first rd s c) k) later
 
-        pub name-over : maxText < r .at → WritesText bs a raw depth before d after r
+        pub name-over : maxText < r .at → WritesText bs a raw before d after r
         name-over =
             turn-over (ready-on (w .ready) b) (λ rd s. textOf rd s deep (part raw from to)) (λ rd s. expand-name b (textOf rd s deep)) (λ log rd s h c k. p .writes log rd s h (first rd s c) k) later
 
-  pub write-end : length raw ≤ i → WritesText bs a raw depth before d now x
+  pub write-end : length raw ≤ i → WritesText bs a raw before d now x
   write-end b =
       record {
         writes = λ log rd s h c k.

@@ -6,16 +6,16 @@ use mathlib.Core.Path.{_≡_}
 use Rattle.lists.specs.Members.{any}
 use Rattle.spec.specs.Dollars.{expand, refs}
 use Rattle.spec.specs.Reading.{Step, Reading}
-use Rattle.spec.specs.Text.{asIs, ofRule, lookup, textOf, deep}
+use Rattle.spec.specs.Text.{asIs, textOf, deep}
 use Rattle.scan_classes.specs.Table.{classes}
-use Rattle.hold_bindings.specs.Log.{Logged, entryAt}
+use Rattle.hold_bindings.specs.Log.{Logged}
 use Rattle.text_references.specs.Begins.{ReferencesReady}
 use Rattle.text_lookup.specs.declared.Asked.{Asked}
 use Rattle.text_lookup.specs.declared.Source.{Source}
 use Rattle.text_lookup.specs.declared.Source.the-variants.{Value}
 use Rattle.text_lookup.specs.Scope.{meaning, There}
 use Rattle.text_recursion.specs.Depth.{goesDeep}
-use Rattle.text_buffer.specs.Puts.{Open}
+use Rattle.text_buffer.specs.Puts.{OpenText}
 use Rattle.text_memo.specs.declared.Draft.{Draft}
 use Rattle.text_memo.specs.Draft.{Remembers, Drafted}
 use Rattle.text_expansion.specs.Here.{StepFiles, Here}
@@ -29,7 +29,7 @@ pub record StepFilesAsk (names index graph : List ℕ) (a : Asked) (from to : �
   pub first : a .outs ≤ from
   pub ordered : from ≤ to
   pub last : to ≤ a .rest
-  pub free : Open buffer (d .at)
+  pub free : OpenText buffer (d .at)
 
 -- ------------------------------------------------------------------ what is written as it is
 
@@ -37,7 +37,7 @@ pub record PlainAsk (bs : Buffers) (a : Asked) (source : Source) (buffer : List 
   pub reading : Reading
   pub step : Step
   pub files : StepFiles (bs .names) (bs .index) (bs .graph) a reading step
-  pub free : Open buffer (d .at)
+  pub free : OpenText buffer (d .at)
   pub value : (k : ℕ) → source ≡ Value k → There (bs .texts) (bs .bind) a k
 
 pub record WritesPlain (bs : Buffers) (a : Asked) (source : Source) (before : List ℕ) (d : Draft) (after : List ℕ) (r : Draft) : Type 0 where
@@ -55,32 +55,23 @@ pub record Asking (bs : Buffers) (a : Asked) (buffer : List ℕ) (d : Draft) : T
   pub remembers : Remembers (textOf reading step deep) buffer d
 
 -- a raw text
-pub record RawTextAsk (t : List ℕ) (bs : Buffers) (a : Asked) (raw : List ℕ) (depth : ℕ) (buffer : List ℕ) (d : Draft) : Type 0 where
+pub record RawTextAsk (t : List ℕ) (bs : Buffers) (a : Asked) (raw buffer : List ℕ) (d : Draft) : Type 0 where
   pub ready : ReferencesReady t raw 0
-  pub low : depth ≤ deep
+  pub low : a .depth ≤ deep
   pub asking : Asking bs a buffer d
-  pub shallow : any (goesDeep (asking .reading) (asking .step) depth) (refs raw) ≡ false
+  pub shallow : any (goesDeep (asking .reading) (asking .step) (a .depth)) (refs raw) ≡ false
 
-pub record WritesText (bs : Buffers) (a : Asked) (raw : List ℕ) (depth : ℕ) (before : List ℕ) (d : Draft) (after : List ℕ) (r : Draft) : Type 0 where
-  pub writes : (log : List Logged) (rd : Reading) (s : Step) → Here bs a log rd s → any (goesDeep rd s depth) (refs raw) ≡ false
+pub record WritesText (bs : Buffers) (a : Asked) (raw before : List ℕ) (d : Draft) (after : List ℕ) (r : Draft) : Type 0 where
+  pub writes : (log : List Logged) (rd : Reading) (s : Step) → Here bs a log rd s → any (goesDeep rd s (a .depth)) (refs raw) ≡ false
       → Remembers (textOf rd s deep) before d → Drafted (textOf rd s deep) before d (expand (textOf rd s deep) raw) after r
 
 -- a name
-pub record NameTextAsk (t : List ℕ) (bs : Buffers) (a : Asked) (name : List ℕ) (depth : ℕ) (buffer : List ℕ) (d : Draft) : Type 0 where
+pub record NameTextAsk (t : List ℕ) (bs : Buffers) (a : Asked) (name buffer : List ℕ) (d : Draft) : Type 0 where
   pub table : t ≡ classes
-  pub low : depth ≤ deep
+  pub low : a .depth ≤ deep
   pub asking : Asking bs a buffer d
-  pub shallow : goesDeep (asking .reading) (asking .step) depth name ≡ false
+  pub shallow : goesDeep (asking .reading) (asking .step) (a .depth) name ≡ false
 
-pub record WritesName (bs : Buffers) (a : Asked) (name : List ℕ) (depth : ℕ) (before : List ℕ) (d : Draft) (after : List ℕ) (r : Draft) : Type 0 where
-  pub writes : (log : List Logged) (rd : Reading) (s : Step) → Here bs a log rd s → goesDeep rd s depth name ≡ false
+pub record WritesName (bs : Buffers) (a : Asked) (name before : List ℕ) (d : Draft) (after : List ℕ) (r : Draft) : Type 0 where
+  pub writes : (log : List Logged) (rd : Reading) (s : Step) → Here bs a log rd s → goesDeep rd s (a .depth) name ≡ false
       → Remembers (textOf rd s deep) before d → Drafted (textOf rd s deep) before d (textOf rd s deep name) after r
-
--- a rule's key, by its entry
-pub record KeyAsk (t : List ℕ) (bs : Buffers) (a : Asked) (name : List ℕ) (k depth : ℕ) (buffer : List ℕ) (d : Draft) : Type 0 where
-  pub ask : NameTextAsk t bs a name depth buffer d
-  pub there : There (bs .texts) (bs .bind) a k
-  pub found : (log : List Logged) (rd : Reading) (s : Step) → Here bs a log rd s → lookup rd s name ≡ ofRule (entryAt k log .value)
-
-abbrev pub WritesKey : (bs : Buffers) (a : Asked) (name : List ℕ) (k depth : ℕ) (before : List ℕ) (d : Draft) (after : List ℕ) (r : Draft) → Type 0
-WritesKey bs a name k depth before d after r = WritesName bs a name depth before d after r

@@ -1,5 +1,5 @@
 // A step's text written into the lent buffer: a name's text as it is, or a rule's text expanded by the same lookup. Each rule key is expanded once.
-ghost use Rattle.text_expansion.specs.Asks.{RawTextAsk, NameTextAsk, KeyAsk, WritesText, WritesName, WritesKey};
+ghost use Rattle.text_expansion.specs.Asks.{RawTextAsk, NameTextAsk, WritesText, WritesName};
 ghost use Rattle.hold_reading.specs.Buffers.{buffers};
 use hold_bindings::value;
 use plain::write_plain;
@@ -17,7 +17,7 @@ use text_references::piece_at;
 
 pub mod plain;
 
-// A raw text of a rule, whose names go less than `depth` rule texts deep.
+// A raw text of a rule, whose names go less than `a.depth` rule texts deep.
 fn write_text(
     t: &[u8; 256],
     names: &[u8],
@@ -27,12 +27,11 @@ fn write_text(
     graph: &[u32],
     a: Asked,
     raw: &[u8],
-    depth: usize,
     buffer: &mut [u8],
     d: Draft,
 ) -> Draft
-    requires { ⌜ RawTextAsk (now t) (buffers (now names) (now index) (now texts) (now bind) (now graph)) a (now raw) depth (now buffer) d ⌝ }
-    ensures { λ r. ⌜ WritesText (buffers (now (names .entry)) (now (index .entry)) (now (texts .entry)) (now (bind .entry)) (now (graph .entry))) a (now (raw .entry)) depth (now (buffer .entry)) d (now (buffer .exit)) r ⌝ }
+    requires { ⌜ RawTextAsk (now t) (buffers (now names) (now index) (now texts) (now bind) (now graph)) a (now raw) (now buffer) d ⌝ }
+    ensures { λ r. ⌜ WritesText (buffers (now (names .entry)) (now (index .entry)) (now (texts .entry)) (now (bind .entry)) (now (graph .entry))) a (now (raw .entry)) (now (buffer .entry)) d (now (buffer .exit)) r ⌝ }
 {
     let mut x = d;
     let mut i = 0;
@@ -55,7 +54,6 @@ fn write_text(
                     graph,
                     a,
                     &raw[from..to],
-                    depth,
                     buffer,
                     x,
                 );
@@ -69,7 +67,7 @@ fn write_text(
     x
 }
 
-// The text of a name, which goes less than `depth` rule texts deep.
+// The text of a name, which goes less than `a.depth` rule texts deep. That of a rule's key is copied where it stands already, else expanded.
 pub fn write_name(
     t: &[u8; 256],
     names: &[u8],
@@ -79,70 +77,27 @@ pub fn write_name(
     graph: &[u32],
     a: Asked,
     name: &[u8],
-    depth: usize,
     buffer: &mut [u8],
     d: Draft,
 ) -> Draft
-    requires { ⌜ NameTextAsk (now t) (buffers (now names) (now index) (now texts) (now bind) (now graph)) a (now name) depth (now buffer) d ⌝ }
-    ensures { λ r. ⌜ WritesName (buffers (now (names .entry)) (now (index .entry)) (now (texts .entry)) (now (bind .entry)) (now (graph .entry))) a (now (name .entry)) depth (now (buffer .entry)) d (now (buffer .exit)) r ⌝ }
+    requires { ⌜ NameTextAsk (now t) (buffers (now names) (now index) (now texts) (now bind) (now graph)) a (now name) (now buffer) d ⌝ }
+    ensures { λ r. ⌜ WritesName (buffers (now (names .entry)) (now (index .entry)) (now (texts .entry)) (now (bind .entry)) (now (graph .entry))) a (now (name .entry)) (now (buffer .entry)) d (now (buffer .exit)) r ⌝ }
 {
     let source = lookup(texts, bind, a, name);
     if let Source::Text(k) = source {
-        return write_key(
-            t,
-            names,
-            index,
-            texts,
-            bind,
-            graph,
-            a,
-            name,
-            k,
-            depth,
-            buffer,
-            d,
-        );
+        let span = span_of(d, name);
+        let from = span.from;
+        let to = span.to;
+        if from <= to {
+            return write_again(buffer, d, from, to);
+        }
+        let raw = value(texts, bind, k);
+        let deeper = Asked {
+            depth: a.depth - 1,
+            ..a
+        };
+        let x = write_text(t, names, index, texts, bind, graph, deeper, raw, buffer, d);
+        return remember(x, name, d.at);
     }
     write_plain(names, index, texts, bind, graph, a, source, buffer, d)
-}
-
-// The text of a rule's key, whose raw text is entry k: where it stands already, once more, else expanded.
-fn write_key(
-    t: &[u8; 256],
-    names: &[u8],
-    index: &[u32],
-    texts: &[u8],
-    bind: &[u32],
-    graph: &[u32],
-    a: Asked,
-    name: &[u8],
-    k: usize,
-    depth: usize,
-    buffer: &mut [u8],
-    d: Draft,
-) -> Draft
-    requires { ⌜ KeyAsk (now t) (buffers (now names) (now index) (now texts) (now bind) (now graph)) a (now name) k depth (now buffer) d ⌝ }
-    ensures { λ r. ⌜ WritesKey (buffers (now (names .entry)) (now (index .entry)) (now (texts .entry)) (now (bind .entry)) (now (graph .entry))) a (now (name .entry)) k depth (now (buffer .entry)) d (now (buffer .exit)) r ⌝ }
-{
-    let span = span_of(d, name);
-    let from = span.from;
-    let to = span.to;
-    if from <= to {
-        return write_again(buffer, d, from, to);
-    }
-    let raw = value(texts, bind, k);
-    let x = write_text(
-        t,
-        names,
-        index,
-        texts,
-        bind,
-        graph,
-        a,
-        raw,
-        depth - 1,
-        buffer,
-        d,
-    );
-    remember(x, name, d.at)
 }

@@ -7,7 +7,8 @@ use hold_bindings::newest;
 use hold_bindings::newest_from;
 
 // The step that is asked for: its number, the entry of its rule's declaration in the table of bindings, the scope that its line stands in, how many
-// entries and files there are, and where its outputs and its explicit inputs start and end among the mentions.
+// entries and files there are, where its outputs and its explicit inputs start and end among the mentions, and how many rule texts deep its text may
+// still go.
 pub struct Asked {
     pub step: usize,
     pub rule: usize,
@@ -17,6 +18,7 @@ pub struct Asked {
     pub outs: usize,
     pub ins: usize,
     pub rest: usize,
+    pub depth: usize,
 }
 
 // Where the text of a name is.

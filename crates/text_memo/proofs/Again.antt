@@ -7,7 +7,7 @@ use lib.ListN.{length, take, getD, List·getD-append}
 use lib.Seq.{length-take-le, getD-take}
 use Rattle.lists.specs.Parts.{part, part-none, part-snoc, part-append}
 use Rattle.spec.specs.Limits.{maxText}
-use Rattle.text_buffer.specs.Puts.{Open, PutsText}
+use Rattle.text_buffer.specs.Puts.{OpenText, PutsText}
 use Rattle.text_buffer.proofs.Parts.{puts-none, puts-over, puts-then, open-on}
 use Rattle.text_memo.specs.Draft.{WrittenPart}
 
@@ -15,7 +15,7 @@ pub record Copying (before : List ℕ) (from to place : ℕ) (now : List ℕ) (i
   pub behind : WrittenPart before from to place
   pub forward : from ≤ i
   pub within : i ≤ to
-  pub free : Open now n
+  pub free : OpenText now n
   pub long : length now ≡ length before
   pub puts : PutsText before place (part before from i) now n
 

@@ -15,7 +15,7 @@ use Rattle.lists.specs.Parts.{part, drop-take}
 use Rattle.spec.specs.Limits.{maxText}
 use Rattle.spec.specs.Text.{ruleKeys, keyNumber}
 use Rattle.hold_keys.proofs.Numbers.{one-key}
-use Rattle.text_buffer.specs.Puts.{Open, BytesBehind, PutsText}
+use Rattle.text_buffer.specs.Puts.{OpenText, BytesBehind, PutsText}
 use Rattle.text_buffer.proofs.Parts.{puts-none, puts-over, puts-then, open-on}
 use Rattle.text_memo.specs.declared.Span.{Span}
 use Rattle.text_memo.specs.declared.Draft.{Draft}
@@ -92,7 +92,7 @@ module _ (d : Draft) (name : List ℕ) (from : ℕ) where
 pub part-front : (l : List ℕ) (f e n : ℕ) → e ≤ n → part (take n l) f e ≡ part l f e
 part-front l f e n h = ap (take (e - f)) (drop-take f n l) ∙ take-take (e - f) (n - f) (drop f l) (omega arith)
 
-front-kept : {before s after : List ℕ} {place r : ℕ} → Open before place → BytesBehind before place s after r → take place after ≡ take place before
+front-kept : {before s after : List ℕ} {place r : ℕ} → OpenText before place → BytesBehind before place s after r → take place after ≡ take place before
 front-kept {before} {s} {after} {place} {r} o f =
     let n : length (take place before) ≡ place = length-take-le place before (omega (arith, o .low, o .room)) in
     sym (take-take place r after (omega (arith, f .count)))
@@ -100,12 +100,12 @@ front-kept {before} {s} {after} {place} {r} o f =
     ∙ take-append-le place (take place before) s (omega arith)
     ∙ take-all place (take place before) (omega arith)
 
-part-kept : {before s after : List ℕ} {place r : ℕ} → Open before place → BytesBehind before place s after r → (f e : ℕ) → e ≤ place → part after f e ≡ part before f e
+part-kept : {before s after : List ℕ} {place r : ℕ} → OpenText before place → BytesBehind before place s after r → (f e : ℕ) → e ≤ place → part after f e ≡ part before f e
 part-kept {before} {s} {after} {place} o p f e h =
     sym (part-front after f e place h) ∙ ap (λ (l : List ℕ). part l f e) (front-kept o p) ∙ part-front before f e place h
 
 -- what stands from the old end up to the new one
-pub part-new : {before s after : List ℕ} {place r : ℕ} → Open before place → BytesBehind before place s after r → part after place r ≡ s
+pub part-new : {before s after : List ℕ} {place r : ℕ} → OpenText before place → BytesBehind before place s after r → part after place r ≡ s
 part-new {before} {s} {after} {place} {r} o p =
     let n : length (take place before) ≡ place = length-take-le place before (omega (arith, o .low, o .room)) in
     sym (drop-take place r after) ∙ ap (drop place) (p .bytes) ∙ drop-at (take place before) s place n

@@ -9,7 +9,7 @@ use Rattle.lists.specs.Tests.{ifB}
 use Rattle.lists.specs.Parts.{part}
 use Rattle.spec.specs.Limits.{maxText}
 use Rattle.spec.specs.Text.{ruleKeys, keyNumber}
-use Rattle.text_buffer.specs.Puts.{Open, PutsText}
+use Rattle.text_buffer.specs.Puts.{OpenText, PutsText}
 use Rattle.text_memo.specs.declared.Span.{Span}
 use Rattle.text_memo.specs.declared.Draft.{Draft}
 
@@ -33,7 +33,7 @@ pub record Remembered (d : Draft) (name : List ℕ) (from : ℕ) (r : Draft) : T
 pub record WrittenPart (buffer : List ℕ) (from to place : ℕ) : Type 0 where
   pub ordered : from ≤ to
   pub written : to ≤ place
-  pub free : Open buffer place
+  pub free : OpenText buffer place
 
 -- The spans of a draft hold the texts of their names.
 pub record SpanKept (text : List ℕ → List ℕ) (buffer : List ℕ) (d : Draft) (n : List ℕ) : Type 0 where
@@ -41,7 +41,7 @@ pub record SpanKept (text : List ℕ → List ℕ) (buffer : List ℕ) (d : Draf
   pub is : part buffer (spanFor d n .from) (spanFor d n .to) ≡ text n
 
 pub record Remembers (text : List ℕ → List ℕ) (buffer : List ℕ) (d : Draft) : Type 0 where
-  pub free : Open buffer (d .at)
+  pub free : OpenText buffer (d .at)
   pub kept : (n : List ℕ) → spanFor d n .from ≤ spanFor d n .to → SpanKept text buffer d n
 
 -- s is written behind a draft, and the draft then remembers.

@@ -1,7 +1,7 @@
 // A text being written, with where in it the texts of the rule's keys already stand: each of them is expanded once, and copied where it comes again.
 ghost use mathlib.Core.Path.{_≡_};
 ghost use Rattle.lists.specs.Parts.{part};
-ghost use Rattle.text_buffer.specs.Puts.{Open, PutsText};
+ghost use Rattle.text_buffer.specs.Puts.{OpenText, PutsText};
 ghost use Rattle.text_memo.specs.Draft.{nothing, spanFor, Remembered, WrittenPart, Moved, WritesDraft};
 use hold_keys::RULE_KEYS;
 use hold_keys::key_number;
@@ -86,7 +86,7 @@ pub fn draft_at(d: Draft, at: usize) -> Draft
 
 // Writes bytes.
 pub fn write(buffer: &mut [u8], d: Draft, s: &[u8]) -> Draft
-    requires { ⌜ Open (now buffer) (d .at) ⌝ }
+    requires { ⌜ OpenText (now buffer) (d .at) ⌝ }
     ensures { λ r. ⌜ WritesDraft (now (buffer .entry)) d (now (s .entry)) (now (buffer .exit)) r ⌝ }
 {
     draft_at(d, put_bytes(buffer, d.at, s))

@@ -15,7 +15,7 @@ use Rattle.lists.specs.Runs.{isNot, run, afterRun, Reads, part-run}
 use Rattle.spec.specs.Bytes.{dollar}
 use Rattle.spec.specs.Dollars.{literal, joins, wrong, element, badDollar, pieces, byte}
 use Rattle.spec.specs.Dollars as rules
-use Rattle.scan_dollars.specs.Element.{restOf, FoundElement, FoundName}
+use Rattle.scan_dollars.specs.Element.{restOf, FoundElement, DollarName}
 use Rattle.scan_raw.proofs.Pieces.{pieces-byte, pieces-literal, pieces-join, pieces-name, sound-not-bad}
 use Rattle.expand_parts.proofs.Raw.{sound-run, literal-here, plain-forward, dollar-here, sound-here, sound-next}
 use Rattle.text_references.specs.declared.Piece.{Piece}
@@ -77,7 +77,7 @@ module _ (raw : List ℕ) (i : ℕ) (h : i < length raw) (s : badDollar (drop i 
           gives = ap pieces (dollar-here raw i h s d) ∙ pieces-join (drop (i + 1) raw) (f .is) ∙ sym (rw (part-none raw n n (le-refl n)));
         }
 
-    pub name-begins : {a e n : ℕ} → FoundName raw (i + 1) a e n (element (drop (i + 1) raw)) → BeginsPiece raw i (Name a e n)
+    pub name-begins : {a e n : ℕ} → DollarName raw (i + 1) a e n (element (drop (i + 1) raw)) → BeginsPiece raw i (Name a e n)
     unfolding BeginsPiece restOf
     name-begins {a} {e} {n} f =
         record {

@@ -2,7 +2,7 @@
 use Prim.Native.Nat.{ℕ, _-_, _≤_, _<_}
 use mathlib.Core.List.{List, [], _++_, append-nil}
 use mathlib.Core.Bool.{Bool, true, false, _||_}
-use mathlib.Core.Path.{_≡_, refl, sym, _∙_}
+use mathlib.Core.Path.{_≡_, refl, sym, _∙_, subst}
 use native.Mathlib.Omega.{arith}
 use borrow.Author.Tests.{lt-ltb, le-ltb, lt-leb}
 use lib.Dec.{ltb, leb}
@@ -72,35 +72,35 @@ meets-text {before} {after} {exit} {s} {n} p h e =
 
 -- ---- one step
 
-module _ {t : List ℕ} {bs : Buffers} {before : List ℕ} {a : Asked} (key : Key) (k : ℕ) (w : StepAsk t bs a before) {b : Bool}
+module _ {t : List ℕ} {bs : Buffers} {before : List ℕ} {a : Asked} (key : Key) (w : StepAsk t bs a before) {b : Bool}
     (q : (log : List Logged) (rd : Reading) (s : Step) → Scope (bs .texts) (bs .bind) a log rd s → b ≡ leadsBack rd s deep [] (keyName key)) where
-  pub in-endless : {exit : List ℕ} → b ≡ true → exit ≡ zeroed before 0 (length before) → TextAt bs a k key before exit (Refused (EndlessText k))
+  pub in-endless : {exit : List ℕ} → b ≡ true → exit ≡ zeroed before 0 (length before) → TextAt bs a key before exit (Refused (EndlessText (a .step)))
   unfolding nameOutcome nameRefusal
-  in-endless {exit} e z = record { meets = λ log rd h. rw (sym (q log rd (stepAt (rd .steps) k) (h .scope)) ∙ e) (meets-endless k before before refl z) }
+  in-endless {exit} e z = record { meets = λ log rd h. rw (sym (q log rd (stepAt (rd .steps) (a .step)) (h .scope)) ∙ e) (meets-endless (a .step) before before refl z) }
 
   module _ (e : b ≡ false) where
     pub wants : WholeAsk t bs a (keyName key) before
     wants = record { asked = w; ended = sym (q (w .log) (w .reading) (w .step) (w .here .scope)) ∙ e }
 
     module _ {after : List ℕ} {n : ℕ} (p : WritesWhole bs a (keyName key) before after n) {exit : List ℕ} where
-      pub in-long : maxText < n → exit ≡ zeroed after 0 (length after) → TextAt bs a k key before exit (Refused (LongText k))
+      pub in-long : maxText < n → exit ≡ zeroed after 0 (length after) → TextAt bs a key before exit (Refused (LongText (a .step)))
       unfolding nameOutcome nameRefusal
       in-long h z =
           record {
             meets = λ log rd y.
-                let s = stepAt (rd .steps) k in
+                let s = stepAt (rd .steps) (a .step) in
                 let f : leadsBack rd s deep [] (keyName key) ≡ false = sym (q log rd s (y .scope)) ∙ e in
                 let x = p .writes log rd s y f in
                 let g : ltb maxText (length (textOf rd s deep (keyName key))) ≡ true = lt-ltb maxText (length (textOf rd s deep (keyName key))) (omega (arith, x .over h)) in
-                rw (f, g) (meets-long k before after (x .long) z);
+                rw (f, g) (meets-long (a .step) before after (x .long) z);
           }
 
-      pub in-text : n ≤ maxText → exit ≡ zeroed after n (length after) → TextAt bs a k key before exit (Written n)
+      pub in-text : n ≤ maxText → exit ≡ zeroed after n (length after) → TextAt bs a key before exit (Written n)
       unfolding nameOutcome nameRefusal
       in-text h z =
           record {
             meets = λ log rd y.
-                let s = stepAt (rd .steps) k in
+                let s = stepAt (rd .steps) (a .step) in
                 let f : leadsBack rd s deep [] (keyName key) ≡ false = sym (q log rd s (y .scope)) ∙ e in
                 let x = p .writes log rd s y f in
                 let c = x .fits h .count in
@@ -166,15 +166,17 @@ module _ {bs : Buffers} {c : Counts} {step : ℕ} {a : Asked} (p : Picks (bs .te
         reading = w .reading;
         step = stepAt (w .reading .steps) step;
         here = picked-here (w .holds) (w .sound);
+        whole = p .picked (w .log) (w .reading) (w .holds .bound) (w .holds .graphed) .whole;
       }
 
   pub step-text : {t before exit : List ℕ} {wanted : Wanted} {key : Key} {r : TextAnswer} → TextAsk t bs c before → key ≡ wantedKey wanted
-      → TextAt bs a step key before exit r → TextOf bs c step wanted before exit r
+      → TextAt bs a key before exit r → TextOf bs c step wanted before exit r
   unfolding textOfStep
-  step-text {wanted = wanted} w z q =
+  step-text {before = before} {exit = exit} {wanted = wanted} {key = key} {r = r} w z q =
       record {
         meets = λ log rd h.
             let x = p .picked log rd (h .bound) (h .graphed) in
             let f : leb (length (rd .steps)) step ≡ false = lt-leb (length (rd .steps)) step (x .there) in
-            rw (f, x .command, name-of-key wanted, ← z) (q .meets log rd (picked-here h (sound-any (w .holds .bound) (w .sound) (h .bound))));
+            let m = subst (λ (k : ℕ). Here bs a log rd (stepAt (rd .steps) k) → TextMeets (nameOutcome k (keyName key) rd) before (textSays r) exit) (x .number) (q .meets log rd) in
+            rw (f, x .command, name-of-key wanted, ← z) (m (picked-here h (sound-any (w .holds .bound) (w .sound) (h .bound))));
       }

@@ -15,6 +15,7 @@ use Rattle.lists.specs.Members.{in-at}
 use Rattle.lists.specs.Parts.{part}
 use Rattle.spec.specs.Reading.{Reading, isPhony, keysOf}
 use Rattle.spec.specs.Graph.{stepAt}
+use Rattle.spec.specs.Text.{deep}
 use Rattle.arena.proofs.Laws.{lies-column, lies-read}
 use Rattle.hold_columns.specs.Columns.{outsEnd, insEnd, implicitEnd, lastEnd, endPlace, endAt, stepStart, outsIn, insIn}
 use Rattle.hold_columns.proofs.Places.{start-zero, start-suc, read-ins, read-ins-placed}
@@ -201,7 +202,7 @@ module _ {texts bind graph : List ℕ} {c : Counts} {step k scope : ℕ} (w : Pi
       unfolding keysAt
       keys-found = rw (b .rules) (keys-newest (stepAt (rd .steps) step .rule) log ∙ rw rule-found)
 
-      one : Picked graph c step (record { step = step; rule = rule; scope = scope; entries = c .entries; files = c .files; outs = outs; ins = ins; rest = rest }) log rd
+      one : Picked graph c step (record { step = step; rule = rule; scope = scope; entries = c .entries; files = c .files; outs = outs; ins = ins; rest = rest; depth = deep }) log rd
       one =
           let h = w .there in
           let p = held-sound (g .tables) .placed step (there b g h) in
@@ -216,6 +217,7 @@ module _ {texts bind graph : List ℕ} {c : Counts} {step k scope : ℕ} (w : Pi
             number = refl;
             entries = refl;
             files = refl;
+            whole = refl;
             rule-low = omega (arith, newest-below ofRules (stepAt (rd .steps) step .rule) log rule rule-found, b .held .rows .counted, b .held .rows .few);
             scope = w .stands ∙ stands b g h;
             keys = keys-found;
@@ -227,7 +229,7 @@ module _ {texts bind graph : List ℕ} {c : Counts} {step k scope : ℕ} (w : Pi
             low = λ j l r. mention-low b g j (omega arith);
           }
 
-    pub picks : Picks texts bind graph c step (record { step = step; rule = rule; scope = scope; entries = c .entries; files = c .files; outs = outs; ins = ins; rest = rest })
+    pub picks : Picks texts bind graph c step (record { step = step; rule = rule; scope = scope; entries = c .entries; files = c .files; outs = outs; ins = ins; rest = rest; depth = deep })
     picks = record { picked = λ log rd b g. one b g }
 
 -- ---- by the answer

@@ -3,7 +3,7 @@ use Prim.Native.Nat.{ℕ, _<_}
 use mathlib.Core.List.{List, []}
 use mathlib.Core.Bool.{false}
 use mathlib.Core.Path.{_≡_, sym, _∙_, ap}
-use native.Mathlib.Nat.{le-refl}
+use native.Mathlib.Omega.{arith}
 use lib.ListN.{getD}
 use Rattle.spec.specs.declared.Key.{Key}
 use Rattle.spec.specs.Reading.{Step, Reading}
@@ -25,21 +25,21 @@ shallow rd s n e = sym (leads-back-deep rd s n) ∙ e
 
 module _ {t : List ℕ} {bs : Buffers} {name buffer : List ℕ} {a : Asked} (w : WholeAsk t bs a name buffer) where
   module _ {d : Draft} (z : d ≡ nothing) where
-    pub whole-asked : NameTextAsk t bs a name deep buffer d
+    pub whole-asked : NameTextAsk t bs a name buffer d
     whole-asked =
         let q = w .asked in
         record {
           table = q .table;
-          low = le-refl deep;
+          low = omega (arith, q .whole);
           asking = record { log = q .log; reading = q .reading; step = q .step; here = q .here; remembers = rw z (nothing-remembers (textOf (q .reading) (q .step) deep) buffer (q .room)) };
-          shallow = shallow (q .reading) (q .step) name (w .ended);
+          shallow = rw (q .whole) (shallow (q .reading) (q .step) name (w .ended));
         }
 
-    pub whole-written : {after : List ℕ} {r : Draft} → WritesName bs a name deep buffer d after r → WritesWhole bs a name buffer after (r .at)
+    pub whole-written : {after : List ℕ} {r : Draft} → WritesName bs a name buffer d after r → WritesWhole bs a name buffer after (r .at)
     whole-written p =
         record {
           writes = λ log rd s h q.
-              let o = p .writes log rd s h (shallow rd s name q) (rw z (nothing-remembers (textOf rd s deep) buffer (w .asked .room))) in
+              let o = p .writes log rd s h (rw (w .asked .whole) (shallow rd s name q)) (rw z (nothing-remembers (textOf rd s deep) buffer (w .asked .room))) in
               rw z at (o .puts);
         }
 

@@ -33,6 +33,7 @@ pub record StepAsk (t : List ℕ) (bs : Buffers) (a : Asked) (buffer : List ℕ)
   pub reading : Reading
   pub step : Step
   pub here : Here bs a log reading step
+  pub whole : a .depth ≡ deep
 
 -- the same, for the text of a name that is not endless
 pub record WholeAsk (t : List ℕ) (bs : Buffers) (a : Asked) (name buffer : List ℕ) : Type 0 where
@@ -43,10 +44,10 @@ pub record WritesWhole (bs : Buffers) (a : Asked) (name before after : List ℕ)
   pub writes : (log : List Logged) (rd : Reading) (s : Step) → Here bs a log rd s → leadsBack rd s deep [] name ≡ false
       → PutsText before 0 (textOf rd s deep name) after r
 
--- 16, 17 or the text of a key, and the whole buffer, for the step of this number in any reading that has it there
-pub record TextAt (bs : Buffers) (a : Asked) (step : ℕ) (key : Key) (before after : List ℕ) (r : TextAnswer) : Type 0 where
-  pub meets : (log : List Logged) (rd : Reading) → Here bs a log rd (stepAt (rd .steps) step)
-      → TextMeets (nameOutcome step (keyName key) rd) before (textSays r) after
+-- 16, 17 or the text of a key, and the whole buffer, for the step of the number asked for in any reading that has it there
+pub record TextAt (bs : Buffers) (a : Asked) (key : Key) (before after : List ℕ) (r : TextAnswer) : Type 0 where
+  pub meets : (log : List Logged) (rd : Reading) → Here bs a log rd (stepAt (rd .steps) (a .step))
+      → TextMeets (nameOutcome (a .step) (keyName key) rd) before (textSays r) after
 
 -- ------------------------------------------------------------------ the ask
 

@@ -10,6 +10,7 @@ use Rattle.lists.specs.Parts.{part}
 use Rattle.spec.specs.Limits.{maxSteps}
 use Rattle.spec.specs.Reading.{Reading, isPhony, keysOf}
 use Rattle.spec.specs.Graph.{stepAt}
+use Rattle.spec.specs.Text.{deep}
 use Rattle.hold_columns.specs.Columns.{lastEnd}
 use Rattle.hold_bindings.specs.declared.FoundEntry.the-variants.{At}
 use Rattle.hold_bindings.specs.Log.{Logged, ofRules, ofKeys, entryAt, newest, boundBy}
@@ -52,6 +53,7 @@ pub record Picked (graph : List ℕ) (c : Counts) (step : ℕ) (a : Asked) (log 
   pub number : a .step ≡ step
   pub entries : a .entries ≡ c .entries
   pub files : a .files ≡ c .files
+  pub whole : a .depth ≡ deep
   pub rule-low : a .rule < maxEntries
   pub scope : a .scope ≡ stepAt (rd .steps) step .scope
   pub keys : keysOf (stepAt (rd .steps) step .rule) (rd .rules) ≡ boundBy (ofKeys (a .rule)) log

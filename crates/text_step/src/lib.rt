@@ -8,7 +8,7 @@ use hold_keys::key_name;
 use hold_keys::key_names;
 use hold_keys::number_of;
 use hold_reading::Counts;
-use slices::bytes::zero_from;
+use slices::bytes::zero_bytes_from;
 use spec::Key;
 use spec::Refusal;
 use spec::TextAnswer;
@@ -18,7 +18,6 @@ use steps::asked;
 use text_expansion::write_name;
 use text_lookup::Asked;
 use text_memo::blank;
-use text_recursion::DEEP;
 use text_recursion::leads_back;
 
 pub mod steps;
@@ -27,6 +26,12 @@ pub mod steps;
 pub enum StepAsked {
     NoCommand,
     Step(Asked),
+}
+
+// The text that is asked for: of which step, and which of its two.
+pub struct StepText {
+    pub step: usize,
+    pub wanted: Wanted,
 }
 
 // Writes the text of a name into an empty buffer, and gives where it ends.
@@ -45,19 +50,7 @@ fn write_whole(
     ensures { λ r. ⌜ WritesWhole (buffers (now (names .entry)) (now (index .entry)) (now (texts .entry)) (now (bind .entry)) (now (graph .entry))) a (now (name .entry)) (now (buffer .entry)) (now (buffer .exit)) r ⌝ }
 {
     let d = blank();
-    let x = write_name(
-        t,
-        names,
-        index,
-        texts,
-        bind,
-        graph,
-        a,
-        name,
-        DEEP,
-        buffer,
-        d,
-    );
+    let x = write_name(t, names, index, texts, bind, graph, a, name, buffer, d);
     x.at
 }
 
@@ -100,23 +93,22 @@ pub fn text_at(
     bind: &[u32],
     graph: &[u32],
     a: Asked,
-    step: usize,
     key: Key,
     buffer: &mut [u8],
 ) -> TextAnswer
     requires { ⌜ StepAsk (now t) (buffers (now names) (now index) (now texts) (now bind) (now graph)) a (now buffer) ⌝ }
-    ensures { λ r. ⌜ TextAt (buffers (now (names .entry)) (now (index .entry)) (now (texts .entry)) (now (bind .entry)) (now (graph .entry))) a step key (now (buffer .entry)) (now (buffer .exit)) r ⌝ }
+    ensures { λ r. ⌜ TextAt (buffers (now (names .entry)) (now (index .entry)) (now (texts .entry)) (now (bind .entry)) (now (graph .entry))) a key (now (buffer .entry)) (now (buffer .exit)) r ⌝ }
 {
     if leads_back(t, texts, bind, a, key) {
-        zero_from(buffer, 0);
-        return TextAnswer::Refused(Refusal::EndlessText(step));
+        zero_bytes_from(buffer, 0);
+        return TextAnswer::Refused(Refusal::EndlessText(a.step));
     }
     let n = write_key(t, names, index, texts, bind, graph, a, key, buffer);
     if TEXT < n {
-        zero_from(buffer, 0);
-        return TextAnswer::Refused(Refusal::LongText(step));
+        zero_bytes_from(buffer, 0);
+        return TextAnswer::Refused(Refusal::LongText(a.step));
     }
-    zero_from(buffer, n);
+    zero_bytes_from(buffer, n);
     TextAnswer::Written(n)
 }
 
@@ -138,21 +130,22 @@ pub fn text_of(
     bind: &[u32],
     graph: &[u32],
     c: Counts,
-    step: usize,
-    wanted: Wanted,
+    x: StepText,
     buffer: &mut [u8],
 ) -> TextAnswer
     requires { ⌜ TextAsk (now t) (buffers (now names) (now index) (now texts) (now bind) (now graph)) c (now buffer) ⌝ }
-    ensures { λ r. ⌜ TextOf (buffers (now (names .entry)) (now (index .entry)) (now (texts .entry)) (now (bind .entry)) (now (graph .entry))) c step wanted (now (buffer .entry)) (now (buffer .exit)) r ⌝ }
+    ensures { λ r. ⌜ TextOf (buffers (now (names .entry)) (now (index .entry)) (now (texts .entry)) (now (bind .entry)) (now (graph .entry))) c (x .step) (x .wanted) (now (buffer .entry)) (now (buffer .exit)) r ⌝ }
 {
+    let step = x.step;
     match asked(texts, bind, graph, c, step) {
         StepAsked::NoCommand => {
-            zero_from(buffer, 0);
+            zero_bytes_from(buffer, 0);
             TextAnswer::Refused(Refusal::NoCommand(step))
         }
         StepAsked::Step(a) => {
+            let wanted = x.wanted;
             let key = wanted_key(wanted);
-            text_at(t, names, index, texts, bind, graph, a, step, key, buffer)
+            text_at(t, names, index, texts, bind, graph, a, key, buffer)
         }
     }
 }

@@ -14,6 +14,7 @@ use hold_reading::columns::SCOPE_UNIT;
 use hold_reading::columns::step_end;
 use slices::words::at;
 use text_lookup::Asked;
+use text_recursion::DEEP;
 
 // The declaration that a rule's name stands for, where entry k declares a rule of that name.
 fn declaration(texts: &[u8], bind: &[u32], count: usize, k: usize) -> usize
@@ -63,6 +64,7 @@ fn picked(
         outs,
         ins,
         rest,
+        depth: DEEP,
     }
 }
 

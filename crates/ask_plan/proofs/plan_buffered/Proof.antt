@@ -54,8 +54,8 @@ plan-read-requires c κs = askable (c .before .before .before .before .before .b
 enum-known-r : tie.Need-enum-known-r
 enum-known-r c = c .match .keys2
 
-zero-from-requires : tie.Need-zero-from-requires
-zero-from-requires c κs = tt
+zero-words-from-requires : tie.Need-zero-words-from-requires
+zero-words-from-requires c κs = tt
 
 same-length : tie.Need-same-length
 same-length c = c .before .before .plan-read .kept .1 .1 .1 .1 .1 .1 .0
@@ -64,10 +64,10 @@ returns : tie.Need-returns
 returns c = planned _ _ _ _ (c .before .before .before .before .before .before .before .before .before .before .before .before .before .before .before .before .before .before .before .before .before .before .before .before .before .before .before .before .before .pre) (read-accepted _ _ (c .before .before .before .before .before .before .before .before .before .before .before .before .before .before .before .before .read-manifest .ensures .promise) (c .before .before .before .before .before .before .before .before .c .given .1)) (c .before .before .plan-read .ensures)
 
 same-length-2 : tie.Need-same-length-2
-same-length-2 c = c .before .before .zero-from .kept .0
+same-length-2 c = c .before .before .zero-words-from .kept .0
 
 returns-2 : tie.Need-returns-2
-returns-2 c = unread _ _ _ _ (c .before .before .before .before .before .before .before .before .before .before .before .before .before .before .before .before .before .before .before .before .before .before .before .before .before .before .pre) (read-refused _ _ (c .before .before .before .before .before .before .before .before .before .before .before .before .before .read-manifest .ensures .promise) (c .before .before .before .before .before .r .given .1)) (c .before .before .zero-from .ensures)
+returns-2 c = unread _ _ _ _ (c .before .before .before .before .before .before .before .before .before .before .before .before .before .before .before .before .before .before .before .before .before .before .before .before .before .before .pre) (read-refused _ _ (c .before .before .before .before .before .before .before .before .before .before .before .before .before .read-manifest .ensures .promise) (c .before .before .before .before .before .r .given .1)) (c .before .before .zero-words-from .ensures)
 
 pub plan-buffered-spec : {M : Type 1} → statement M
 plan-buffered-spec =
@@ -87,7 +87,7 @@ plan-buffered-spec =
     slice-aggregate-plan-read-3
     plan-read-requires
     enum-known-r
-    zero-from-requires
+    zero-words-from-requires
     same-length
     returns
     same-length-2

@@ -13,8 +13,8 @@ number-targets-requires c κs = record { named = named (c .before .before .befor
 enum-known-place : tie.Need-enum-known-place
 enum-known-place c = search needs
 
-zero-from-requires : tie.Need-zero-from-requires
-zero-from-requires c κs = search needs
+zero-words-from-requires : tie.Need-zero-words-from-requires
+zero-words-from-requires c κs = search needs
 
 enum-known-n : tie.Need-enum-known-n
 enum-known-n c = search needs
@@ -41,10 +41,10 @@ same-length : tie.Need-same-length
 same-length c = c .before .before .before .before .before .before .before .before .before .number-targets .kept .1 .1 .1 .1 .0
 
 same-length-2 : tie.Need-same-length-2
-same-length-2 c = c .before .before .zero-from .kept .0
+same-length-2 c = c .before .before .zero-words-from .kept .0
 
 returns : tie.Need-returns
-returns c = record { space = (record { long = refl }, record { long = same-length c }); promise = bad-target (c .before .before .zero-from .ensures) (c .before .before .before .before .before .before .before .before .before .number-targets .ensures .promise) (c .before .before .before .before .before .place .given .1) }
+returns c = record { space = (record { long = refl }, record { long = same-length c }); promise = bad-target (c .before .before .zero-words-from .ensures) (c .before .before .before .before .before .before .before .before .before .number-targets .ensures .promise) (c .before .before .before .before .before .place .given .1) }
 
 same-length-3 : tie.Need-same-length-3
 same-length-3 c = c .before .before .before .before .before .before .before .before .fill-times .kept .1 .1 .1 .1 .0
@@ -64,7 +64,7 @@ number-then-plan-spec =
     (tie.spec
     number-targets-requires
     enum-known-place
-    zero-from-requires
+    zero-words-from-requires
     enum-known-n
     fill-times-requires
     slice-reshare-prefix-plan-columns

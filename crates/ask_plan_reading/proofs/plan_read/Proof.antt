@@ -9,14 +9,14 @@ use Rattle.ask_plan_reading.proofs.plan_read.Tie as tie
 sound-requires : tie.Need-sound-requires
 sound-requires c κs = search needs
 
-zero-from-requires : tie.Need-zero-from-requires
-zero-from-requires c κs = search needs
+zero-words-from-requires : tie.Need-zero-words-from-requires
+zero-words-from-requires c κs = search needs
 
 same-length : tie.Need-same-length
-same-length c = c .before .before .zero-from .kept .0
+same-length c = c .before .before .zero-words-from .kept .0
 
 returns : tie.Need-returns
-returns c = bad-card (sym (c .before .before .before .before .before .sound .ensures) ∙ not-true _ (c .before .before .before .before .if1 .taken)) (c .before .before .zero-from .ensures)
+returns c = bad-card (sym (c .before .before .before .before .before .sound .ensures) ∙ not-true _ (c .before .before .before .before .if1 .taken)) (c .before .before .zero-words-from .ensures)
 
 plan-targets-requires : tie.Need-plan-targets-requires
 plan-targets-requires c κs = record { asked = c .before .before .before .before .before .before .before .before .before .pre; sound = sym (c .before .before .sound .ensures) ∙ not-false _ (c .before .if1 .left) }
@@ -32,7 +32,7 @@ plan-read-spec =
     tie.close
     (tie.spec
     sound-requires
-    zero-from-requires
+    zero-words-from-requires
     same-length
     returns
     plan-targets-requires

@@ -22,14 +22,14 @@ same-length-2 c = search needs
 returns-2 : tie.Need-returns-2
 returns-2 c = stepless (c .before .before .before .before .if2 .taken) (c .before .before .plan-ordered2 .ensures)
 
-zero-from-requires : tie.Need-zero-from-requires
-zero-from-requires c κs = search needs
+zero-words-from-requires : tie.Need-zero-words-from-requires
+zero-words-from-requires c κs = search needs
 
 same-length-3 : tie.Need-same-length-3
 same-length-3 c = search needs
 
 returns-3 : tie.Need-returns-3
-returns-3 c = rootless (c .before .before .before .before .before .if1 .left) (c .before .before .before .before .if2 .left) (c .before .before .zero-from .ensures)
+returns-3 c = rootless (c .before .before .before .before .before .if1 .left) (c .before .before .before .before .if2 .left) (c .before .before .zero-words-from .ensures)
 
 pub plan-from-spec : {M : Type 1} → statement M
 plan-from-spec =
@@ -41,6 +41,6 @@ plan-from-spec =
     plan-ordered-requires-2
     same-length-2
     returns-2
-    zero-from-requires
+    zero-words-from-requires
     same-length-3
     returns-3)

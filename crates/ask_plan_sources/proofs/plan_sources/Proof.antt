@@ -7,14 +7,14 @@ use Rattle.ask_plan_sources.proofs.plan_sources.Tie as tie
 missing-source-requires : tie.Need-missing-source-requires
 missing-source-requires c κs = ask-missing (c .before .before .before .before .before .before .before .before .pre)
 
-zero-from-requires : tie.Need-zero-from-requires
-zero-from-requires c κs = search needs
+zero-words-from-requires : tie.Need-zero-words-from-requires
+zero-words-from-requires c κs = search needs
 
 same-length : tie.Need-same-length
 same-length c = search needs
 
 returns : tie.Need-returns
-returns c = missing (c .before .before .before .before .before .missing-source .ensures) (c .before .before .before .before .if1 .taken) (c .before .before .zero-from .ensures)
+returns c = missing (c .before .before .before .before .before .missing-source .ensures) (c .before .before .before .before .if1 .taken) (c .before .before .zero-words-from .ensures)
 
 plan-listed-requires : tie.Need-plan-listed-requires
 plan-listed-requires c κs = c .before .before .before .before .before .before .before .before .before .before .before .pre .asked
@@ -30,7 +30,7 @@ plan-sources-spec =
     tie.close
     (tie.spec
     missing-source-requires
-    zero-from-requires
+    zero-words-from-requires
     same-length
     returns
     plan-listed-requires

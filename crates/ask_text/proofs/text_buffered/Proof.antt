@@ -60,20 +60,20 @@ text-of-requires c κs = askable _ _ (c .before .before .before .before .before 
 enum-known-r : tie.Need-enum-known-r
 enum-known-r c = c .match .keys2
 
-zero-from-requires : tie.Need-zero-from-requires
-zero-from-requires c κs = tt
+zero-bytes-from-requires : tie.Need-zero-bytes-from-requires
+zero-bytes-from-requires c κs = tt
 
 same-length : tie.Need-same-length
-same-length c = c .before .before .text-of .kept .1 .1 .1 .1 .1 .1 .1 .1 .1 .0
+same-length c = c .before .before .text-of .kept .1 .1 .1 .1 .1 .1 .1 .1 .0
 
 returns : tie.Need-returns
 returns c = written _ _ (c .before .before .before .before .before .before .before .before .before .before .before .before .before .before .before .before .before .before .before .before .before .before .before .before .before .before .before .before .before .before .pre) (read-accepted _ _ (c .before .before .before .before .before .before .before .before .before .before .before .before .before .before .before .before .before .before .before .read-manifest .ensures .promise) (c .before .before .before .before .before .before .before .before .before .before .before .c .given .1)) (c .before .before .text-of .ensures)
 
 same-length-2 : tie.Need-same-length-2
-same-length-2 c = c .before .before .zero-from .kept .0
+same-length-2 c = c .before .before .zero-bytes-from .kept .0
 
 returns-2 : tie.Need-returns-2
-returns-2 c = unread _ _ (c .before .before .before .before .before .before .before .before .before .before .before .before .before .before .before .before .before .before .before .before .before .before .before .before .pre) _ _ (read-refused _ _ (c .before .before .before .before .before .before .before .before .before .before .before .before .before .read-manifest .ensures .promise) (c .before .before .before .before .before .r .given .1)) (c .before .before .zero-from .ensures)
+returns-2 c = unread _ _ (c .before .before .before .before .before .before .before .before .before .before .before .before .before .before .before .before .before .before .before .before .before .before .before .before .pre) _ _ (read-refused _ _ (c .before .before .before .before .before .before .before .before .before .before .before .before .before .read-manifest .ensures .promise) (c .before .before .before .before .before .r .given .1)) (c .before .before .zero-bytes-from .ensures)
 
 pub text-buffered-spec : {M : Type 1} → statement M
 text-buffered-spec =
@@ -95,7 +95,7 @@ text-buffered-spec =
     slice-aggregate-text-of-5
     text-of-requires
     enum-known-r
-    zero-from-requires
+    zero-bytes-from-requires
     same-length
     returns
     same-length-2

@@ -60,11 +60,11 @@ texts-of-requires c κs = askable (read-accepted _ _ (c .before .before .before 
 enum-known-r : tie.Need-enum-known-r
 enum-known-r c = c .match .keys2
 
-zero-from-requires : tie.Need-zero-from-requires
-zero-from-requires c κs = tt
+zero-bytes-from-requires : tie.Need-zero-bytes-from-requires
+zero-bytes-from-requires c κs = tt
 
-zero-from-requires-2 : tie.Need-zero-from-requires-2
-zero-from-requires-2 c κs = tt
+zero-words-from-requires : tie.Need-zero-words-from-requires
+zero-words-from-requires c κs = tt
 
 same-length : tie.Need-same-length
 same-length c = c .before .before .before .before .texts-of .kept .1 .1 .1 .1 .1 .1 .1 .1 .1 .0
@@ -76,13 +76,13 @@ returns : tie.Need-returns
 returns c = written _ _ _ (c .before .before .before .before .before .before .before .before .before .before .before .before .before .before .before .before .before .before .before .before .before .before .before .before .before .before .before .before .before .before .before .before .before .before .before .pre) (read-accepted _ _ (c .before .before .before .before .before .before .before .before .before .before .before .before .before .before .before .before .before .before .before .before .before .before .read-manifest .ensures .promise) (c .before .before .before .before .before .before .before .before .before .before .before .before .before .before .c .given .1)) (c .before .before .before .before .texts-of .ensures)
 
 same-length-3 : tie.Need-same-length-3
-same-length-3 c = c .before .before .before .before .before .before .zero-from .kept .0
+same-length-3 c = c .before .before .before .before .before .before .zero-bytes-from .kept .0
 
 same-length-4 : tie.Need-same-length-4
-same-length-4 c = c .before .before .zero-from2 .kept .0
+same-length-4 c = c .before .before .zero-words-from .kept .0
 
 returns-2 : tie.Need-returns-2
-returns-2 c = unread _ _ _ (c .before .before .before .before .before .before .before .before .before .before .before .before .before .before .before .before .before .before .before .before .before .before .before .before .before .before .before .before .before .before .pre) _ _ (read-refused _ _ (c .before .before .before .before .before .before .before .before .before .before .before .before .before .before .before .before .before .read-manifest .ensures .promise) (c .before .before .before .before .before .before .before .before .before .r .given .1)) (c .before .before .before .before .before .before .zero-from .ensures) (c .before .before .zero-from2 .ensures)
+returns-2 c = unread _ _ _ (c .before .before .before .before .before .before .before .before .before .before .before .before .before .before .before .before .before .before .before .before .before .before .before .before .before .before .before .before .before .before .pre) _ _ (read-refused _ _ (c .before .before .before .before .before .before .before .before .before .before .before .before .before .before .before .before .before .read-manifest .ensures .promise) (c .before .before .before .before .before .before .before .before .before .r .given .1)) (c .before .before .before .before .before .before .zero-bytes-from .ensures) (c .before .before .zero-words-from .ensures)
 
 pub texts-buffered-spec : {M : Type 1} → statement M
 texts-buffered-spec =
@@ -104,8 +104,8 @@ texts-buffered-spec =
     slice-aggregate-texts-of-5
     texts-of-requires
     enum-known-r
-    zero-from-requires
-    zero-from-requires-2
+    zero-bytes-from-requires
+    zero-words-from-requires
     same-length
     same-length-2
     returns

@@ -1,16 +1,50 @@
 -- `cases::ask_all` meets its contract.
 use Prim.Native.Nat.{_-_, _≤_}
-use mathlib.Core.Path.{_≡_}
+use mathlib.Core.Path.{_≡_, sym}
+use native.Mathlib.Omega.{arith}
+use denote.Ref.{now}
 use lib.ListN.{length}
+use lib.Seq.{length-take-le}
 use borrow.Author.Needs.{needs}
 use Rattle.cases.proofs.ask_all.Statement.{statement}
 use Rattle.cases.proofs.ask_all.Tie as tie
 
 abbrev Inv-loop : tie.InvT-loop
-Inv-loop fd count name manifest card targets list₀ buf₀ bytes₀ tally₀ i₀ list buf bytes tally i = (i ≤ count) × (length list ≡ length list₀) × (length buf ≡ length buf₀) × (length bytes ≡ length bytes₀)
+Inv-loop fd h input list₀ buf₀ bytes₀ a b c d name manifest card targets tally₀ i₀ list buf bytes tally i =
+    (i ≤ h .asks) × (length list ≡ length list₀) × (length buf ≡ length buf₀) × (length bytes ≡ length bytes₀)
 
 abbrev μ-loop : tie.MeasureT-loop
-μ-loop fd count name manifest card targets list₀ buf₀ bytes₀ tally₀ i₀ list buf bytes tally i = count - i
+μ-loop fd h input list₀ buf₀ bytes₀ a b c d name manifest card targets tally₀ i₀ list buf bytes tally i = h .asks - i
+
+slice-aggregate-name : tie.Need-slice-aggregate-name Inv-loop μ-loop
+slice-aggregate-name c = sym (length-take-le _ (now (c .before .before .before .before .before .args .input)) (omega (arith, c .before .before .before .before .before .pre .manifest-behind, c .before .before .before .before .before .pre .card-behind, c .before .before .before .before .before .pre .targets-behind, c .before .before .before .before .before .pre .within)))
+
+sub-manifest : tie.Need-sub-manifest Inv-loop μ-loop
+sub-manifest c = search needs
+
+part-manifest-start : tie.Need-part-manifest-start Inv-loop μ-loop
+part-manifest-start c = search needs
+
+part-manifest-end : tie.Need-part-manifest-end Inv-loop μ-loop
+part-manifest-end c = search needs
+
+sub-card : tie.Need-sub-card Inv-loop μ-loop
+sub-card c = search needs
+
+part-card-start : tie.Need-part-card-start Inv-loop μ-loop
+part-card-start c = search needs
+
+part-card-end : tie.Need-part-card-end Inv-loop μ-loop
+part-card-end c = search needs
+
+sub-targets : tie.Need-sub-targets Inv-loop μ-loop
+sub-targets c = search needs
+
+part-targets-start : tie.Need-part-targets-start Inv-loop μ-loop
+part-targets-start c = search needs
+
+part-targets-end : tie.Need-part-targets-end Inv-loop μ-loop
+part-targets-end c = search needs
 
 loop-holds : tie.Need-loop-holds Inv-loop μ-loop
 loop-holds c = search needs
@@ -63,6 +97,16 @@ ask-all-spec =
     (tie.spec
     Inv-loop
     μ-loop
+    slice-aggregate-name
+    sub-manifest
+    part-manifest-start
+    part-manifest-end
+    sub-card
+    part-card-start
+    part-card-end
+    sub-targets
+    part-targets-start
+    part-targets-end
     loop-holds
     ask-next-requires
     cut-off-requires

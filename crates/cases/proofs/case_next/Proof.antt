@@ -37,8 +37,8 @@ returns-3 c = search needs
 with-case-requires : tie.Need-with-case-requires
 with-case-requires c κs = search needs
 
-ask-parts-requires : tie.Need-ask-parts-requires
-ask-parts-requires c κs =
+ask-all-requires : tie.Need-ask-all-requires
+ask-all-requires c κs =
     let s = c .before .before .before .before .before .before .before .before .before .before .before .before .is-sound .ensures (not-false _ (c .before .before .before .before .before .before .before .before .before .before .before .if1 .left)) in
     record { manifest-behind = s .manifest-behind; card-behind = s .card-behind; targets-behind = s .targets-behind; within = c .before .before .before .before .before .before .before .before .read-part .ensures (not-false _ (c .before .before .before .before .before .if3 .left)) }
 
@@ -72,7 +72,7 @@ case-next-spec =
     same-length
     returns-3
     with-case-requires
-    ask-parts-requires
+    ask-all-requires
     same-length-2
     same-length-3
     same-length-4

@@ -57,8 +57,8 @@ loop-less c = omega (arith, numbers (c .before .before .before .before .before))
 loop-again : tie.Need-loop-again Inv-loop μ-loop
 loop-again c = list-more (c .before .before .before .before .before .before .before .before .before .before .before .before .before .before .before .before .before .before .before .pre) (c .before .before .before .before .before .before .loop .inv) (low (c .before .before .before .before .before)) (c .before .before .next-ready2 .ensures)
 
-zero-from-requires : tie.Need-zero-from-requires Inv-loop μ-loop
-zero-from-requires c κs = search needs
+zero-words-from-requires : tie.Need-zero-words-from-requires Inv-loop μ-loop
+zero-words-from-requires c κs = search needs
 
 same-length : tie.Need-same-length Inv-loop μ-loop
 same-length c = c .before .before .before .before .before .loop .inv .pending-long
@@ -67,10 +67,10 @@ same-length-2 : tie.Need-same-length-2 Inv-loop μ-loop
 same-length-2 c = c .before .before .before .before .before .loop .inv .clear-long ∙ sym (list-ask (c .before .before .before .before .before .before .before .before .before .before .before .before .before .before .before .before .before .before .pre) .long)
 
 same-length-3 : tie.Need-same-length-3 Inv-loop μ-loop
-same-length-3 c = c .before .before .zero-from .kept .0 ∙ c .before .before .before .before .before .loop .inv .list-long
+same-length-3 c = c .before .before .zero-words-from .kept .0 ∙ c .before .before .before .before .before .loop .inv .list-long
 
 returns : tie.Need-returns Inv-loop μ-loop
-returns c = record { space = (record { long = same-length c }, record { long = same-length-2 c }); promise = rw (c .before .before .zero-from .ensures) (list-end (c .before .before .before .before .before .before .before .before .before .before .before .before .before .before .before .before .before .before .pre) (c .before .before .before .before .before .loop .inv) (rw (c .before .before .before .before .before .loop .inv .pending-long) at (c .before .before .before .before .loop-test .left))) }
+returns c = record { space = (record { long = same-length c }, record { long = same-length-2 c }); promise = rw (c .before .before .zero-words-from .ensures) (list-end (c .before .before .before .before .before .before .before .before .before .before .before .before .before .before .before .before .before .before .pre) (c .before .before .before .before .before .loop .inv) (rw (c .before .before .before .before .before .loop .inv .pending-long) at (c .before .before .before .before .loop-test .left))) }
 
 pub list-pending-spec : {M : Type 1} → statement M
 list-pending-spec =
@@ -89,7 +89,7 @@ list-pending-spec =
     next-ready-requires-2
     loop-less
     loop-again
-    zero-from-requires
+    zero-words-from-requires
     same-length
     same-length-2
     same-length-3

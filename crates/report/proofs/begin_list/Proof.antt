@@ -20,8 +20,8 @@ check-texts-requires c κs = search needs
 enum-known-held : tie.Need-enum-known-held
 enum-known-held c = search needs
 
-zero-from-requires : tie.Need-zero-from-requires
-zero-from-requires c κs = search needs
+zero-bytes-from-requires : tie.Need-zero-bytes-from-requires
+zero-bytes-from-requires c κs = search needs
 
 enum-known-n : tie.Need-enum-known-n
 enum-known-n c = search needs
@@ -39,7 +39,7 @@ same-length-4 : tie.Need-same-length-4
 same-length-4 c = search needs
 
 returns-2 : tie.Need-returns-2
-returns-2 c = list-fine (now (c .before .before .before .before .before .before .before .before .before .before .before .before .before .before .before .before .before .before .before .before .args .manifest)) (now (c .before .before .before .before .before .before .before .before .before .before .before .before .before .before .before .before .before .before .before .before .args .steps)) (now (c .before .before .before .before .before .before .before .before .before .before .before .before .before .before .before .before .before .before .before .before .args .line)) _ _ _ _ (c .before .before .before .before .before .before .before .before .before .before .before .before .before .before .if1 .left) (rw (c .before .before .before .before .before .held .given .1) at (c .before .before .before .before .before .before .before .before .before .before .before .check-texts .ensures)) (c .before .before .zero-from .ensures)
+returns-2 c = list-fine (now (c .before .before .before .before .before .before .before .before .before .before .before .before .before .before .before .before .before .before .before .before .args .manifest)) (now (c .before .before .before .before .before .before .before .before .before .before .before .before .before .before .before .before .before .before .before .before .args .steps)) (now (c .before .before .before .before .before .before .before .before .before .before .before .before .before .before .before .before .before .before .before .before .args .line)) _ _ _ _ (c .before .before .before .before .before .before .before .before .before .before .before .before .before .before .if1 .left) (rw (c .before .before .before .before .before .held .given .1) at (c .before .before .before .before .before .before .before .before .before .before .before .check-texts .ensures)) (c .before .before .zero-bytes-from .ensures)
 
 same-length-5 : tie.Need-same-length-5
 same-length-5 c = search needs
@@ -62,7 +62,7 @@ begin-list-spec =
     returns
     check-texts-requires
     enum-known-held
-    zero-from-requires
+    zero-bytes-from-requires
     enum-known-n
     say-refused-requires
     same-length-2

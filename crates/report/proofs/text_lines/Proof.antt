@@ -19,23 +19,23 @@ loop-holds c = lining-start (c .before .before .before .pre)
 at-requires : tie.Need-at-requires Inv-loop μ-loop
 at-requires c κs = search needs
 
-add-put-step : tie.Need-add-put-step Inv-loop μ-loop
-add-put-step c = search needs
+add-put-step-line : tie.Need-add-put-step-line Inv-loop μ-loop
+add-put-step-line c = search needs
 
-add-put-step-2 : tie.Need-add-put-step-2 Inv-loop μ-loop
-add-put-step-2 c = search needs
+add-put-step-line-2 : tie.Need-add-put-step-line-2 Inv-loop μ-loop
+add-put-step-line-2 c = search needs
 
-sub-put-step : tie.Need-sub-put-step Inv-loop μ-loop
-sub-put-step c = lining-from (c .before .at .result) (c .before .before .loop-test .taken) (c .before .at .ensures) (c .before .before .before .loop .inv)
+sub-put-step-line : tie.Need-sub-put-step-line Inv-loop μ-loop
+sub-put-step-line c = lining-from (c .before .at .result) (c .before .before .loop-test .taken) (c .before .at .ensures) (c .before .before .before .loop .inv)
 
-part-put-step-start : tie.Need-part-put-step-start Inv-loop μ-loop
-part-put-step-start c = lining-from (c .before .at .result) (c .before .before .loop-test .taken) (c .before .at .ensures) (c .before .before .before .loop .inv)
+part-put-step-line-start : tie.Need-part-put-step-line-start Inv-loop μ-loop
+part-put-step-line-start c = lining-from (c .before .at .result) (c .before .before .loop-test .taken) (c .before .at .ensures) (c .before .before .before .loop .inv)
 
-part-put-step-end : tie.Need-part-put-step-end Inv-loop μ-loop
-part-put-step-end c = lining-to (c .before .at .result) (c .before .before .loop-test .taken) (c .before .at .ensures) (c .before .before .before .loop .inv)
+part-put-step-line-end : tie.Need-part-put-step-line-end Inv-loop μ-loop
+part-put-step-line-end c = lining-to (c .before .at .result) (c .before .before .loop-test .taken) (c .before .at .ensures) (c .before .before .before .loop .inv)
 
-put-step-requires : tie.Need-put-step-requires Inv-loop μ-loop
-put-step-requires c κs = lining-room (c .before .before .at .result) (c .before .before .before .loop-test .taken) (c .before .before .at .ensures) (c .before .before .before .before .loop .inv)
+put-step-line-requires : tie.Need-put-step-line-requires Inv-loop μ-loop
+put-step-line-requires c κs = lining-room (c .before .before .at .result) (c .before .before .before .loop-test .taken) (c .before .before .at .ensures) (c .before .before .before .before .loop .inv)
 
 add-i : tie.Need-add-i Inv-loop μ-loop
 add-i c = search needs
@@ -44,16 +44,16 @@ loop-less : tie.Need-loop-less Inv-loop μ-loop
 loop-less c = search needs
 
 loop-again : tie.Need-loop-again Inv-loop μ-loop
-loop-again c = lining-on (c .before .before .before .before .before .at .result) (c .before .before .before .before .before .before .loop-test .taken) (c .before .before .before .before .before .at .ensures) (c .before .before .before .before .before .before .before .loop .inv) _ _ (c .before .before .put-step .kept .0) (c .before .before .put-step .ensures)
+loop-again c = lining-on (c .before .before .before .before .before .at .result) (c .before .before .before .before .before .before .loop-test .taken) (c .before .before .before .before .before .at .ensures) (c .before .before .before .before .before .before .before .loop .inv) _ _ (c .before .before .put-step-line .kept .0) (c .before .before .put-step-line .ensures)
 
-zero-from-requires : tie.Need-zero-from-requires Inv-loop μ-loop
-zero-from-requires c κs = search needs
+zero-bytes-from-requires : tie.Need-zero-bytes-from-requires Inv-loop μ-loop
+zero-bytes-from-requires c κs = search needs
 
 same-length : tie.Need-same-length Inv-loop μ-loop
-same-length c = c .before .before .zero-from .kept .0 ∙ c .before .before .before .before .before .loop .inv .kept
+same-length c = c .before .before .zero-bytes-from .kept .0 ∙ c .before .before .before .before .before .loop .inv .kept
 
 returns : tie.Need-returns Inv-loop μ-loop
-returns c = lining-end _ (c .before .before .before .before .loop-test .left) (c .before .before .before .before .before .loop .inv) (c .before .before .zero-from .ensures)
+returns c = lining-end _ (c .before .before .before .before .loop-test .left) (c .before .before .before .before .before .loop .inv) (c .before .before .zero-bytes-from .ensures)
 
 pub text-lines-spec : {M : Type 1} → statement M
 text-lines-spec =
@@ -63,15 +63,15 @@ text-lines-spec =
     μ-loop
     loop-holds
     at-requires
-    add-put-step
-    add-put-step-2
-    sub-put-step
-    part-put-step-start
-    part-put-step-end
-    put-step-requires
+    add-put-step-line
+    add-put-step-line-2
+    sub-put-step-line
+    part-put-step-line-start
+    part-put-step-line-end
+    put-step-line-requires
     add-i
     loop-less
     loop-again
-    zero-from-requires
+    zero-bytes-from-requires
     same-length
     returns)

@@ -17,17 +17,17 @@ abbrev μ-loop : tie.MeasureT-loop
 loop-holds : tie.Need-loop-holds Inv-loop μ-loop
 loop-holds c = look-begin _
 
-shared-slice-read-bad-key : tie.Need-shared-slice-read-bad-key Inv-loop μ-loop
-shared-slice-read-bad-key c = search needs
+shared-slice-read-wrong-key : tie.Need-shared-slice-read-wrong-key Inv-loop μ-loop
+shared-slice-read-wrong-key c = search needs
 
-bad-key-requires : tie.Need-bad-key-requires Inv-loop μ-loop
-bad-key-requires c κs = search needs
+wrong-key-requires : tie.Need-wrong-key-requires Inv-loop μ-loop
+wrong-key-requires c κs = search needs
 
 sub-t9 : tie.Need-sub-t9 Inv-loop μ-loop
-sub-t9 c = omega (arith, c .before .before .before .before .loop .inv .begun (bad-after _ _ (sym (c .before .bad-key .ensures) ∙ c .if1 .taken)))
+sub-t9 c = omega (arith, c .before .before .before .before .loop .inv .begun (bad-after _ _ (sym (c .before .wrong-key .ensures) ∙ c .if1 .taken)))
 
 returns : tie.Need-returns Inv-loop μ-loop
-returns c = look-bad (c .before .before .before .before .loop .inv) (c .before .before .before .loop-test .taken) (sym (c .before .bad-key .ensures) ∙ c .if1 .taken)
+returns c = look-bad (c .before .before .before .before .loop .inv) (c .before .before .before .loop-test .taken) (sym (c .before .wrong-key .ensures) ∙ c .if1 .taken)
 
 shared-slice-read-next-state : tie.Need-shared-slice-read-next-state Inv-loop μ-loop
 shared-slice-read-next-state c = search needs
@@ -42,7 +42,7 @@ loop-less : tie.Need-loop-less Inv-loop μ-loop
 loop-less c = search needs
 
 loop-again : tie.Need-loop-again Inv-loop μ-loop
-loop-again c = look-on (c .before .before .before .before .before .before .loop .inv) (c .before .before .before .before .before .loop-test .taken) (sym (c .before .before .before .bad-key .ensures) ∙ c .before .before .if1 .left) (c .next-state .ensures)
+loop-again c = look-on (c .before .before .before .before .before .before .loop .inv) (c .before .before .before .before .before .loop-test .taken) (sym (c .before .before .before .wrong-key .ensures) ∙ c .before .before .if1 .left) (c .next-state .ensures)
 
 sub-t12 : tie.Need-sub-t12 Inv-loop μ-loop
 sub-t12 c = omega (arith, c .before .before .loop .inv .begun (c .if2 .taken))
@@ -54,4 +54,4 @@ returns-3 : tie.Need-returns-3 Inv-loop μ-loop
 returns-3 c = look-end (c .before .before .loop .inv) (c .before .loop-test .left) (c .if2 .left)
 
 pub first-wrong-spec : {M : Type 1} → statement M
-first-wrong-spec = tie.close (tie.spec Inv-loop μ-loop loop-holds shared-slice-read-bad-key bad-key-requires sub-t9 returns shared-slice-read-next-state next-state-requires add-i loop-less loop-again sub-t12 returns-2 returns-3)
+first-wrong-spec = tie.close (tie.spec Inv-loop μ-loop loop-holds shared-slice-read-wrong-key wrong-key-requires sub-t9 returns shared-slice-read-next-state next-state-requires add-i loop-less loop-again sub-t12 returns-2 returns-3)

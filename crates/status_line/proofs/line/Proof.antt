@@ -15,8 +15,8 @@ first-wrong-requires c κs = search needs
 enum-known-w : tie.Need-enum-known-w
 enum-known-w c = search needs
 
-zero-from-requires : tie.Need-zero-from-requires
-zero-from-requires c κs = search needs
+zero-bytes-from-requires : tie.Need-zero-bytes-from-requires
+zero-bytes-from-requires c κs = search needs
 
 enum-told : tie.Need-enum-told
 enum-told c = search needs
@@ -28,7 +28,7 @@ same-length : tie.Need-same-length
 same-length c = search needs
 
 returns-2 : tie.Need-returns-2
-returns-2 c = line-wrong (c .before .before .before .before .before .before .before .before .before .before .before .args .s) (c .before .before .before .before .before .before .before .before .before .before .before .args .format .now) (c .before .before .before .before .before .before .before .before .before .before .before .args .buffer .now) (c .before .before .before .before .before .before .before .before .if1 .left) (sym (c .before .before .before .before .before .w .given .1) ∙ c .before .before .before .before .before .before .before .first-wrong .ensures) (c .before .before .zero-from .ensures)
+returns-2 c = line-wrong (c .before .before .before .before .before .before .before .before .before .before .before .args .s) (c .before .before .before .before .before .before .before .before .before .before .before .args .format .now) (c .before .before .before .before .before .before .before .before .before .before .before .args .buffer .now) (c .before .before .before .before .before .before .before .before .if1 .left) (sym (c .before .before .before .before .before .w .given .1) ∙ c .before .before .before .before .before .before .before .first-wrong .ensures) (c .before .before .zero-bytes-from .ensures)
 
 same-length-2 : tie.Need-same-length-2
 same-length-2 c = search needs
@@ -37,4 +37,4 @@ returns-3 : tie.Need-returns-3
 returns-3 c = rw (line-sound (c .before .before .before .before .before .before .before .before .before .before .args .s) (c .before .before .before .before .before .before .before .before .before .before .args .format .now) (c .before .before .before .before .before .before .before .before .before .before .args .buffer .now) (c .before .before .before .before .before .before .before .if1 .left) (sym (c .before .before .before .before .enum-told .given .1) ∙ c .before .before .before .before .before .before .first-wrong .ensures)) (c .before .before .fill-line .ensures)
 
 pub line-spec : {M : Type 1} → statement M
-line-spec = tie.close (tie.spec returns first-wrong-requires enum-known-w zero-from-requires enum-told fill-line-requires same-length returns-2 same-length-2 returns-3)
+line-spec = tie.close (tie.spec returns first-wrong-requires enum-known-w zero-bytes-from-requires enum-told fill-line-requires same-length returns-2 same-length-2 returns-3)

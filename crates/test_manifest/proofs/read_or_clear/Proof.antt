@@ -8,8 +8,8 @@ use Rattle.test_manifest.proofs.read_or_clear.Tie as tie
 read-manifest-requires : tie.Need-read-manifest-requires
 read-manifest-requires c κs = search needs
 
-zero-from-requires : tie.Need-zero-from-requires
-zero-from-requires c κs = tt
+zero-bytes-from-requires : tie.Need-zero-bytes-from-requires
+zero-bytes-from-requires c κs = tt
 
 enum-known-a : tie.Need-enum-known-a
 enum-known-a c = c .match .keys1
@@ -39,7 +39,7 @@ same-length-6 : tie.Need-same-length-6
 same-length-6 c = search needs
 
 returns : tie.Need-returns
-returns c = kept-whole (c .before .before .before .before .before .before .before .before .before .before .before .before .before .before .before .before .before .before .before .read-manifest .ensures) (c .before .before .before .before .before .zero-from .ensures) (c .before .a .given .1)
+returns c = kept-whole (c .before .before .before .before .before .before .before .before .before .before .before .before .before .before .before .before .before .before .before .read-manifest .ensures) (c .before .before .before .before .before .zero-bytes-from .ensures) (c .before .a .given .1)
 
 same-length-7 : tie.Need-same-length-7
 same-length-7 c = c .before .before .before .before .before .before .before .before .before .before .clear-all .kept .0 ∙ c .before .before .before .before .before .before .before .before .before .before .before .before .before .before .before .before .before .before .before .before .before .before .before .before .before .before .before .before .before .before .before .before .before .before .before .read-manifest .kept .1 .1 .0
@@ -60,14 +60,14 @@ same-length-12 : tie.Need-same-length-12
 same-length-12 c = search needs
 
 returns-2 : tie.Need-returns-2
-returns-2 c = cleared-whole (c .before .before .before .before .before .before .before .before .before .before .before .before .before .before .before .before .before .before .before .before .before .before .before .before .before .before .before .before .before .before .before .before .before .before .before .read-manifest .ensures) (c .before .before .before .before .before .before .before .before .before .before .before .before .before .before .before .before .before .before .before .before .before .zero-from .ensures) (c .before .before .before .before .before .before .before .before .before .before .before .before .before .before .before .before .before .a2 .given .1) (c .before .before .before .before .before .before .before .before .before .before .clear-all .ensures)
+returns-2 c = cleared-whole (c .before .before .before .before .before .before .before .before .before .before .before .before .before .before .before .before .before .before .before .before .before .before .before .before .before .before .before .before .before .before .before .before .before .before .before .read-manifest .ensures) (c .before .before .before .before .before .before .before .before .before .before .before .before .before .before .before .before .before .before .before .before .before .zero-bytes-from .ensures) (c .before .before .before .before .before .before .before .before .before .before .before .before .before .before .before .before .before .a2 .given .1) (c .before .before .before .before .before .before .before .before .before .before .clear-all .ensures)
 
 pub read-or-clear-spec : {M : Type 1} → statement M
 read-or-clear-spec =
     tie.close
     (tie.spec
     read-manifest-requires
-    zero-from-requires
+    zero-bytes-from-requires
     enum-known-a
     enum-known-a-2
     clear-all-requires

@@ -17,7 +17,7 @@ sub-if1 : tie.Need-sub-if1
 sub-if1 c = search needs
 
 same-length : tie.Need-same-length
-same-length c = c .before .before .before .before .before .before .text-of .kept .1 .1 .1 .1 .1 .1 .1 .1 .1 .0
+same-length c = c .before .before .before .before .before .before .text-of .kept .1 .1 .1 .1 .1 .1 .1 .1 .0
 
 returns : tie.Need-returns
 returns c = record { space = record { long = same-length c }; promise = put-long (c .before .before .before .before .before .before .text-of .ensures) (c .before .before .n .given .1) (c .if1 .taken) }
@@ -31,14 +31,14 @@ slice-aggregate-copy-at c = sym (text-part (c .before .before .before .before .b
 copy-at-requires : tie.Need-copy-at-requires
 copy-at-requires c κs = omega (arith, text-part (c .before .before .before .before .before .before .before .before .text-of .ensures) (c .before .before .before .before .n .given .1) (c .before .before .before .before .before .before .before .before .before .before .before .before .before .before .before .before .before .pre .asked) (omega (arith, c .before .before .before .before .before .before .before .before .before .before .before .before .before .before .before .before .before .pre .asked .room, c .before .before .before .before .before .before .before .before .text-of .kept)), c .before .before .before .before .before .before .before .before .before .before .before .before .before .before .before .before .before .pre .before, c .before .before .before .before .before .before .before .before .before .before .before .before .before .before .before .before .before .pre .within, c .before .before .if1 .left)
 
-add-t20 : tie.Need-add-t20
-add-t20 c = search needs
+add-t22 : tie.Need-add-t22
+add-t22 c = omega (arith, c .before .before .before .before .before .if1 .left, c .before .before .before .before .before .before .before .before .before .before .before .before .before .before .before .before .before .before .before .before .pre .before, c .before .before .before .before .before .before .before .before .before .before .before .before .before .before .before .before .before .before .before .before .pre .within, c .before .before .before .before .before .before .before .before .before .before .before .before .before .before .before .before .before .before .before .before .good)
 
 enum-known-r : tie.Need-enum-known-r
 enum-known-r c = c .match .keys2
 
 same-length-2 : tie.Need-same-length-2
-same-length-2 c = c .before .before .before .before .before .before .before .before .before .before .before .text-of .kept .1 .1 .1 .1 .1 .1 .1 .1 .1 .0
+same-length-2 c = c .before .before .before .before .before .before .before .before .before .before .before .text-of .kept .1 .1 .1 .1 .1 .1 .1 .1 .0
 
 same-length-3 : tie.Need-same-length-3
 same-length-3 c = c .before .before .copy-at .kept .0
@@ -47,7 +47,7 @@ returns-2 : tie.Need-returns-2
 returns-2 c = record { space = record { long = same-length-2 c }; promise = put-ends (c .before .before .before .before .before .before .before .before .before .before .before .text-of .ensures) (c .before .before .before .before .before .before .before .n .given .1) (c .before .before .before .before .before .before .before .before .before .before .before .before .before .before .before .before .before .before .before .before .pre .before) (c .before .before .before .before .before .before .before .before .before .before .before .before .before .before .before .before .before .before .before .before .pre .within) (c .before .before .before .before .before .if1 .left) (text-part (c .before .before .before .before .before .before .before .before .before .before .before .text-of .ensures) (c .before .before .before .before .before .before .before .n .given .1) (c .before .before .before .before .before .before .before .before .before .before .before .before .before .before .before .before .before .before .before .before .pre .asked) (omega (arith, c .before .before .before .before .before .before .before .before .before .before .before .before .before .before .before .before .before .before .before .before .pre .asked .room, c .before .before .before .before .before .before .before .before .before .before .before .text-of .kept))) (c .before .before .copy-at .ensures) }
 
 same-length-4 : tie.Need-same-length-4
-same-length-4 c = c .before .before .before .before .before .text-of .kept .1 .1 .1 .1 .1 .1 .1 .1 .1 .0
+same-length-4 c = c .before .before .before .before .before .text-of .kept .1 .1 .1 .1 .1 .1 .1 .1 .0
 
 returns-3 : tie.Need-returns-3
 returns-3 c = record { space = record { long = same-length-4 c }; promise = put-refused (c .before .before .before .before .before .text-of .ensures) (c .before .r .given .1) }
@@ -64,7 +64,7 @@ put-text-spec =
     slice-reshare-prefix-copy-at
     slice-aggregate-copy-at
     copy-at-requires
-    add-t20
+    add-t22
     enum-known-r
     same-length-2
     same-length-3

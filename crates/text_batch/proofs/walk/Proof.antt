@@ -10,14 +10,14 @@ use Rattle.text_batch.proofs.walk.Statement.{statement}
 use Rattle.text_batch.proofs.walk.Tie as tie
 
 abbrev Inv-loop : tie.InvT-loop
-Inv-loop t names index texts bind graph c steps wanted one₀ bytes₀ ends₀ room end₀ i₀ one bytes ends end i =
+Inv-loop t names index texts bind graph c steps one₀ bytes₀ ends₀ wanted room end₀ i₀ one bytes ends end i =
     (length one ≡ length one₀) × (length bytes ≡ length bytes₀) × Walking (buffers names index texts bind graph) c steps wanted room (length ends₀) bytes ends i end
 
 abbrev μ-loop : tie.MeasureT-loop
-μ-loop t names index texts bind graph c steps wanted one₀ bytes₀ ends₀ room end₀ i₀ one bytes ends end i = length steps - i
+μ-loop t names index texts bind graph c steps one₀ bytes₀ ends₀ wanted room end₀ i₀ one bytes ends end i = length steps - i
 
 -- the end of a turn's text
-low : (c : tie.Else1 Inv-loop μ-loop) → c .before .before .e .given .0 .0 ≤ c .before .before .before .before .before .before .before .before .before .before .before .before .before .before .before .before .before .before .before .before .before .before .before .args .room
+low : (c : tie.Else1 Inv-loop μ-loop) → c .before .before .e .given .0 .0 ≤ c .before .before .before .before .before .before .before .before .before .before .before .before .before .before .before .before .before .before .before .before .before .before .before .args .b .room
 low c = end-within (c .before .before .before .before .before .before .before .before .before .before .before .before .before .before .before .before .before .before .before .before .before .before .before .pre) (rw (c .before .before .e .given .1) at (c .before .before .before .before .before .before .before .before .put-text .ensures .promise))
 
 loop-holds : tie.Need-loop-holds Inv-loop μ-loop

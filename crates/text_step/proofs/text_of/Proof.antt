@@ -12,8 +12,8 @@ asked-requires c κs = reads (c .before .before .before .before .before .before 
 enum-told : tie.Need-enum-told
 enum-told c = search needs
 
-zero-from-requires : tie.Need-zero-from-requires
-zero-from-requires c κs = search needs
+zero-bytes-from-requires : tie.Need-zero-bytes-from-requires
+zero-bytes-from-requires c κs = search needs
 
 enum-known-a : tie.Need-enum-known-a
 enum-known-a c = search needs
@@ -22,19 +22,19 @@ wanted-key-requires : tie.Need-wanted-key-requires
 wanted-key-requires c κs = search needs
 
 text-at-requires : tie.Need-text-at-requires
-text-at-requires c κs = let a = c .before .before .before .before .before .before .before .before .before .before .before .before .args in step-asked (asked-step (now (a .texts)) (now (a .bind)) (now (a .graph)) (a .c) (a .step) (c .before .before .before .before .before .asked .ensures) (c .before .before .before .a .given .1)) (c .before .before .before .before .before .before .before .before .before .before .before .before .pre)
+text-at-requires c κs = let a = c .before .before .before .before .before .before .before .before .before .before .before .before .args in step-asked (asked-step (now (a .texts)) (now (a .bind)) (now (a .graph)) (a .c) (a .x .step) (c .before .before .before .before .before .asked .ensures) (c .before .before .before .a .given .1)) (c .before .before .before .before .before .before .before .before .before .before .before .before .pre)
 
 same-length : tie.Need-same-length
 same-length c = search needs
 
 returns : tie.Need-returns
-returns c = let a = c .before .before .before .before .before .before .before .before .before .before .before .before .before .args in no-command (c .before .before .before .before .before .before .before .before .before .before .before .before .before .pre) (a .wanted) (asked-none (now (a .texts)) (now (a .bind)) (now (a .graph)) (a .c) (a .step) (c .before .before .before .before .before .before .asked .ensures) (c .before .before .before .before .enum-told .given .1)) (c .before .before .zero-from .ensures)
+returns c = let a = c .before .before .before .before .before .before .before .before .before .before .before .before .before .args in no-command (c .before .before .before .before .before .before .before .before .before .before .before .before .before .pre) (a .x .wanted) (asked-none (now (a .texts)) (now (a .bind)) (now (a .graph)) (a .c) (a .x .step) (c .before .before .before .before .before .before .asked .ensures) (c .before .before .before .before .enum-told .given .1)) (c .before .before .zero-bytes-from .ensures)
 
 same-length-2 : tie.Need-same-length-2
 same-length-2 c = search needs
 
 returns-2 : tie.Need-returns-2
-returns-2 c = let a = c .before .before .before .before .before .before .before .before .before .before .before .before .before .before .before .args in step-text (asked-step (now (a .texts)) (now (a .bind)) (now (a .graph)) (a .c) (a .step) (c .before .before .before .before .before .before .before .before .asked .ensures) (c .before .before .before .before .before .before .a .given .1)) (c .before .before .before .before .before .before .before .before .before .before .before .before .before .before .before .pre) (c .before .before .before .before .wanted-key .ensures) (c .before .before .text-at .ensures)
+returns-2 c = let a = c .before .before .before .before .before .before .before .before .before .before .before .before .before .before .before .args in step-text (asked-step (now (a .texts)) (now (a .bind)) (now (a .graph)) (a .c) (a .x .step) (c .before .before .before .before .before .before .before .before .asked .ensures) (c .before .before .before .before .before .before .a .given .1)) (c .before .before .before .before .before .before .before .before .before .before .before .before .before .before .before .pre) (c .before .before .before .before .wanted-key .ensures) (c .before .before .text-at .ensures)
 
 pub text-of-spec : {M : Type 1} → statement M
 text-of-spec =
@@ -42,7 +42,7 @@ text-of-spec =
     (tie.spec
     asked-requires
     enum-told
-    zero-from-requires
+    zero-bytes-from-requires
     enum-known-a
     wanted-key-requires
     text-at-requires

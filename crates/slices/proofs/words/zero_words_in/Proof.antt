@@ -1,9 +1,9 @@
--- `slices::words::zero_part` meets its contract.
+-- `slices::words::zero_words_in` meets its contract.
 use Prim.Native.Nat.{_-_}
 use borrow.Author.Needs.{needs}
 use Rattle.slices.proofs.Filling.{Zeroing, zero-begin, zero-more, zero-end}
-use Rattle.slices.proofs.words.zero_part.Statement.{statement}
-use Rattle.slices.proofs.words.zero_part.Tie as tie
+use Rattle.slices.proofs.words.zero_words_in.Statement.{statement}
+use Rattle.slices.proofs.words.zero_words_in.Tie as tie
 
 abbrev Inv-loop : tie.InvT-loop
 Inv-loop buf₀ from to i₀ buf i = Zeroing buf₀ from to buf i
@@ -35,8 +35,8 @@ same-length c = search needs
 returns : tie.Need-returns Inv-loop μ-loop
 returns c = zero-end (c .before .loop .inv) (c .loop-test .left)
 
-pub zero-part-spec : {M : Type 1} → statement M
-zero-part-spec =
+pub zero-words-in-spec : {M : Type 1} → statement M
+zero-words-in-spec =
     tie.close
     (tie.spec
     Inv-loop

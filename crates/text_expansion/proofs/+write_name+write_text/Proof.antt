@@ -1,4 +1,4 @@
--- `text_expansion::write_key`, `text_expansion::write_name` and `text_expansion::write_text`, which call one another, meet their contracts. Each rule text goes one less deep, and of one depth the text comes before its names, and a name before its key.
+-- `text_expansion::write_name` and `text_expansion::write_text`, which call one another, meet their contracts. Each rule text goes one less deep, and of one depth the text comes before its names.
 use Prim.Native.Nat.{_+_, _*_, _-_, _<_, ℕ}
 use mathlib.Core.List.{[], _∷_}
 use mathlib.Core.Logic.{inl, inr}
@@ -16,15 +16,12 @@ use Rattle.text_expansion.proofs.Keys.{in-scope, key-asked, plain-asked
 use borrow.Author.Needs.{needs}
 use borrow.Fn.Kinds.{In}
 use borrow.Fn.PlainCycle.{Measures, is, falls, and}
-use Rattle.text_expansion.proofs.write_key.Reads as write-key
-use Rattle.text_expansion.proofs.write_key.Kinds as write-key-kinds
-use Rattle.text_expansion.proofs.+write_key+write_name+write_text.Lts-write_key as write-key-lts
 use Rattle.text_expansion.proofs.write_name.Reads as write-name
 use Rattle.text_expansion.proofs.write_name.Kinds as write-name-kinds
-use Rattle.text_expansion.proofs.+write_key+write_name+write_text.Lts-write_name as write-name-lts
+use Rattle.text_expansion.proofs.+write_name+write_text.Lts-write_name as write-name-lts
 use Rattle.text_expansion.proofs.write_text.Reads as write-text
 use Rattle.text_expansion.proofs.write_text.Kinds as write-text-kinds
-use Rattle.text_expansion.proofs.+write_key+write_name+write_text.Lts-write_text as write-text-lts
+use Rattle.text_expansion.proofs.+write_name+write_text.Lts-write_text as write-text-lts
 use Rattle.hold_bindings.proofs.value.Reads as value-reads
 use Rattle.text_memo.proofs.remember.Reads as remember-reads
 use Rattle.text_memo.proofs.span_of.Reads as span-of-reads
@@ -33,8 +30,8 @@ use Rattle.text_memo.proofs.write_again.Reads as write-again-reads
 use Rattle.text_lookup.proofs.lookup.Reads as lookup-reads
 use Rattle.text_references.proofs.piece_at.Reads as piece-at-reads
 use Rattle.text_expansion.proofs.plain.write_plain.Reads as write-plain-reads
-use Rattle.text_expansion.proofs.+write_key+write_name+write_text.{statement}
-use Rattle.text_expansion.proofs.+write_key+write_name+write_text.Tie.{close}
+use Rattle.text_expansion.proofs.+write_name+write_text.{statement}
+use Rattle.text_expansion.proofs.+write_name+write_text.Tie.{close}
 use Rattle.hold_reading.specs.Buffers.{buffers}
 
 none-of : OneOf (0 ∷ 1 ∷ 2 ∷ 3 ∷ 5 ∷ []) 4 → ⊥
@@ -49,21 +46,11 @@ no-text : (x : Source) → OneOf (0 ∷ 1 ∷ 2 ∷ 3 ∷ 5 ∷ []) (tagOf sourc
 no-text x o k e =
     none-of (subst (λ (y : Source). OneOf (0 ∷ 1 ∷ 2 ∷ 3 ∷ 5 ∷ []) (tagOf source-type.the-type y)) e o)
 
-abbrev μ-write-key : Measures 8 write-key-kinds.ps ℕ
-μ-write-key κs a = 3 * a .1 .1 .1 .1 .1 .1 .1 .1 .1 .0
-
 abbrev μ-write-name : Measures 8 write-name-kinds.ps ℕ
-μ-write-name κs a = 3 * a .1 .1 .1 .1 .1 .1 .1 .1 .0 + 1
+μ-write-name κs a = 2 * a .1 .1 .1 .1 .1 .1 .0 .depth
 
 abbrev μ-write-text : Measures 8 write-text-kinds.ps ℕ
-μ-write-text κs a = 3 * a .1 .1 .1 .1 .1 .1 .1 .1 .0 + 2
-
-abbrev write-key-at : ℕ → In 8 write-key-kinds.ps
-write-key-at t = and 8 write-key-kinds.ps (is 8 write-key-kinds.ps μ-write-key t) write-key.Pre
-
-abbrev write-key-below : ℕ → In 8 write-key-kinds.ps
-write-key-below t =
-    and 8 write-key-kinds.ps (falls 8 write-key-kinds.ps _<_ μ-write-key t) write-key.Pre
+μ-write-text κs a = 2 * a .1 .1 .1 .1 .1 .1 .0 .depth + 1
 
 abbrev write-name-at : ℕ → In 8 write-name-kinds.ps
 write-name-at t =
@@ -81,77 +68,64 @@ abbrev write-text-below : ℕ → In 8 write-text-kinds.ps
 write-text-below t =
     and 8 write-text-kinds.ps (falls 8 write-text-kinds.ps _<_ μ-write-text t) write-text.Pre
 
--- what `write_key` may use of the functions that it calls
-abbrev write-key-calls : ℕ → write-key-lts.Claims
-write-key-calls t = (span-of-reads.Asked, span-of-reads.Learnt, write-again-reads.Asked, write-again-reads.Learnt, value-reads.Asked, value-reads.Learnt, write-text-below t, write-text.Post, remember-reads.Asked, remember-reads.Learnt)
-
 -- what `write_name` may use of the functions that it calls
 abbrev write-name-calls : ℕ → write-name-lts.Claims
-write-name-calls t = (lookup-reads.Asked, lookup-reads.Learnt, write-key-below t, write-key.Post, write-plain-reads.Asked, write-plain-reads.Learnt)
+write-name-calls t = (lookup-reads.Asked, lookup-reads.Learnt, span-of-reads.Asked, span-of-reads.Learnt, write-again-reads.Asked, write-again-reads.Learnt, value-reads.Asked, value-reads.Learnt, write-text-below t, write-text.Post, remember-reads.Asked, remember-reads.Learnt, write-plain-reads.Asked, write-plain-reads.Learnt)
 
 -- what `write_text` may use of the functions that it calls
 abbrev write-text-calls : ℕ → write-text-lts.Claims
 write-text-calls t = (piece-at-reads.Asked, piece-at-reads.Learnt, write-reads.Asked, write-reads.Learnt, write-name-below t, write-name.Post)
 
-write-key-span-of-requires : (t : ℕ) → write-key-lts.Need-span-of-requires (write-key-calls t) (write-key-at t) write-key.Post
-write-key-span-of-requires t c κs = search needs
-
-write-key-write-again-requires : (t : ℕ) → write-key-lts.Need-write-again-requires (write-key-calls t) (write-key-at t) write-key.Post
-write-key-write-again-requires t c κs = again-behind (c .before .before .before .before .before .before .before .before .before .before .pre .1) (c .before .before .span-of .ensures) (c .before .if1 .taken)
-
-write-key-same-length : (t : ℕ) → write-key-lts.Need-same-length (write-key-calls t) (write-key-at t) write-key.Post
-write-key-same-length t c = search needs
-
-write-key-returns : (t : ℕ) → write-key-lts.Need-returns (write-key-calls t) (write-key-at t) write-key.Post
-write-key-returns t c = again-written (c .before .before .before .before .before .before .before .before .before .before .before .before .before .pre .1) (c .before .before .before .before .before .span-of .ensures) (c .before .before .before .before .if1 .taken) (c .before .before .write-again .ensures)
-
-write-key-value-requires : (t : ℕ) → write-key-lts.Need-value-requires (write-key-calls t) (write-key-at t) write-key.Post
-write-key-value-requires t c κs = c .before .before .before .before .before .before .before .before .before .pre .1 .there .entry
-
-write-key-sub-write-text : (t : ℕ) → write-key-lts.Need-sub-write-text (write-key-calls t) (write-key-at t) write-key.Post
-write-key-sub-write-text t c = depth-left (c .before .before .before .before .before .before .before .before .before .before .pre .1)
-
-write-key-write-text-requires : (t : ℕ) → write-key-lts.Need-write-text-requires (write-key-calls t) (write-key-at t) write-key.Post
-write-key-write-text-requires t c κs = (omega (arith, c .before .before .before .before .before .before .before .before .before .before .before .pre .0, depth-left (c .before .before .before .before .before .before .before .before .before .before .before .pre .1)), text-asked (c .before .before .before .before .before .before .before .before .before .before .before .pre .1) (c .before .value .ensures))
-
-write-key-remember-requires : (t : ℕ) → write-key-lts.Need-remember-requires (write-key-calls t) (write-key-at t) write-key.Post
-write-key-remember-requires t c κs = search needs
-
-write-key-same-length-2 : (t : ℕ) → write-key-lts.Need-same-length-2 (write-key-calls t) (write-key-at t) write-key.Post
-write-key-same-length-2 t c = search needs
-
-write-key-returns-2 : (t : ℕ) → write-key-lts.Need-returns-2 (write-key-calls t) (write-key-at t) write-key.Post
-write-key-returns-2 t c = key-written (c .before .before .before .before .before .before .before .before .before .before .before .before .before .before .before .pre .1) (c .before .before .before .before .before .value .ensures) (c .before .before .before .write-text .ensures) (c .remember .ensures)
-
 write-name-lookup-requires : (t : ℕ) → write-name-lts.Need-lookup-requires (write-name-calls t) (write-name-at t) write-name.Post
 write-name-lookup-requires t c κs = in-scope (c .before .before .before .before .before .before .before .pre .1)
 
 write-name-enum-known-source : (t : ℕ) → write-name-lts.Need-enum-known-source (write-name-calls t) (write-name-at t) write-name.Post
-write-name-enum-known-source t c = search needs
+write-name-enum-known-source t c = c .match .keys1
 
-write-name-write-key-requires : (t : ℕ) → write-name-lts.Need-write-key-requires (write-name-calls t) (write-name-at t) write-name.Post
-write-name-write-key-requires t c κs = (omega (arith, c .before .before .before .before .before .before .before .before .before .before .before .before .pre .0), key-asked (c .before .before .before .before .before .before .before .before .before .before .before .before .pre .1) (c .before .before .before .before .lookup .ensures) (c .before .before .source .given .1))
+write-name-span-of-requires : (t : ℕ) → write-name-lts.Need-span-of-requires (write-name-calls t) (write-name-at t) write-name.Post
+write-name-span-of-requires t c κs = tt
+
+write-name-write-again-requires : (t : ℕ) → write-name-lts.Need-write-again-requires (write-name-calls t) (write-name-at t) write-name.Post
+write-name-write-again-requires t c κs = again-behind (key-asked (c .before .before .before .before .before .before .before .before .before .before .before .before .before .before .pre .1) (c .before .before .before .before .before .before .lookup .ensures) (c .before .before .before .before .source .given .1)) (c .before .before .span-of .ensures) (c .before .if1 .taken)
 
 write-name-same-length : (t : ℕ) → write-name-lts.Need-same-length (write-name-calls t) (write-name-at t) write-name.Post
 write-name-same-length t c = search needs
 
 write-name-returns : (t : ℕ) → write-name-lts.Need-returns (write-name-calls t) (write-name-at t) write-name.Post
-write-name-returns t c = c .before .before .write-key .ensures
+write-name-returns t c = again-written (key-asked (c .before .before .before .before .before .before .before .before .before .before .before .before .before .before .before .before .before .pre .1) (c .before .before .before .before .before .before .before .before .before .lookup .ensures) (c .before .before .before .before .before .before .before .source .given .1)) (c .before .before .before .before .before .span-of .ensures) (c .before .before .before .before .if1 .taken) (c .before .before .write-again .ensures)
 
-write-name-write-plain-requires : (t : ℕ) → write-name-lts.Need-write-plain-requires (write-name-calls t) (write-name-at t) write-name.Post
-write-name-write-plain-requires t c κs = plain-asked (c .before .before .before .before .before .before .before .before .before .before .pre .1) (c .before .before .lookup .ensures)
+write-name-value-requires : (t : ℕ) → write-name-lts.Need-value-requires (write-name-calls t) (write-name-at t) write-name.Post
+write-name-value-requires t c κs = (key-asked (c .before .before .before .before .before .before .before .before .before .before .before .before .before .pre .1) (c .before .before .before .before .before .lookup .ensures) (c .before .before .before .source .given .1)) .there .entry
+
+write-name-sub-t22 : (t : ℕ) → write-name-lts.Need-sub-t22 (write-name-calls t) (write-name-at t) write-name.Post
+write-name-sub-t22 t c = depth-left (key-asked (c .before .before .before .before .before .before .before .before .before .before .before .before .before .before .before .pre .1) (c .before .before .before .before .before .before .before .lookup .ensures) (c .before .before .before .before .before .source .given .1))
+
+write-name-write-text-requires : (t : ℕ) → write-name-lts.Need-write-text-requires (write-name-calls t) (write-name-at t) write-name.Post
+write-name-write-text-requires t c κs = (omega (arith, c .before .before .before .before .before .before .before .before .before .before .before .before .before .before .before .before .pre .0, depth-left (key-asked (c .before .before .before .before .before .before .before .before .before .before .before .before .before .before .before .before .pre .1) (c .before .before .before .before .before .before .before .before .lookup .ensures) (c .before .before .before .before .before .before .source .given .1))), text-asked (key-asked (c .before .before .before .before .before .before .before .before .before .before .before .before .before .before .before .before .pre .1) (c .before .before .before .before .before .before .before .before .lookup .ensures) (c .before .before .before .before .before .before .source .given .1)) (c .before .before .value .ensures))
+
+write-name-remember-requires : (t : ℕ) → write-name-lts.Need-remember-requires (write-name-calls t) (write-name-at t) write-name.Post
+write-name-remember-requires t c κs = tt
 
 write-name-same-length-2 : (t : ℕ) → write-name-lts.Need-same-length-2 (write-name-calls t) (write-name-at t) write-name.Post
 write-name-same-length-2 t c = search needs
 
 write-name-returns-2 : (t : ℕ) → write-name-lts.Need-returns-2 (write-name-calls t) (write-name-at t) write-name.Post
-write-name-returns-2 t c = plain-written (c .before .before .before .before .before .before .before .before .before .before .before .before .before .pre .1) (c .before .before .before .before .before .lookup .ensures) (c .before .before .write-plain .ensures) (no-text _ (c .before .before .before .before .match .keys2))
+write-name-returns-2 t c = key-written (key-asked (c .before .before .before .before .before .before .before .before .before .before .before .before .before .before .before .before .before .before .before .before .pre .1) (c .before .before .before .before .before .before .before .before .before .before .before .before .lookup .ensures) (c .before .before .before .before .before .before .before .before .before .before .source .given .1)) (c .before .before .before .before .before .before .value .ensures) (c .before .before .before .write-text .ensures) (c .remember .ensures)
+
+write-name-write-plain-requires : (t : ℕ) → write-name-lts.Need-write-plain-requires (write-name-calls t) (write-name-at t) write-name.Post
+write-name-write-plain-requires t c κs = plain-asked (c .before .before .before .before .before .before .before .before .before .before .pre .1) (c .before .before .lookup .ensures)
+
+write-name-same-length-3 : (t : ℕ) → write-name-lts.Need-same-length-3 (write-name-calls t) (write-name-at t) write-name.Post
+write-name-same-length-3 t c = search needs
+
+write-name-returns-3 : (t : ℕ) → write-name-lts.Need-returns-3 (write-name-calls t) (write-name-at t) write-name.Post
+write-name-returns-3 t c = plain-written (c .before .before .before .before .before .before .before .before .before .before .before .before .before .pre .1) (c .before .before .before .before .before .lookup .ensures) (c .before .before .write-plain .ensures) (no-text _ (c .before .before .before .before .match .keys2))
 
 abbrev write-text-Inv-loop : write-text-lts.InvT-loop
-write-text-Inv-loop t names index texts bind graph a raw depth buffer₀ x₀ i₀ buffer x i = Writing t (buffers names index texts bind graph) a raw depth buffer₀ x₀ buffer x i
+write-text-Inv-loop t names index texts bind graph a raw buffer₀ x₀ i₀ buffer x i = Writing t (buffers names index texts bind graph) a raw buffer₀ x₀ buffer x i
 
 abbrev write-text-μ-loop : write-text-lts.MeasureT-loop
-write-text-μ-loop t names index texts bind graph a raw depth buffer₀ x₀ i₀ buffer x i = length raw - i
+write-text-μ-loop t names index texts bind graph a raw buffer₀ x₀ i₀ buffer x i = length raw - i
 
 write-text-loop-holds : (t : ℕ) → write-text-lts.Need-loop-holds (write-text-calls t) (write-text-at t) write-text.Post write-text-Inv-loop write-text-μ-loop
 write-text-loop-holds t c = write-begin (c .before .before .before .before .before .before .before .pre .1)
@@ -219,30 +193,25 @@ write-text-same-length-3 t c = search needs
 write-text-returns-3 : (t : ℕ) → write-text-lts.Need-returns-3 (write-text-calls t) (write-text-at t) write-text.Post write-text-Inv-loop write-text-μ-loop
 write-text-returns-3 t c = write-end (c .before .loop .inv) (c .loop-test .left)
 
-pub +write-key+write-name+write-text-spec : {M : Type 1} → statement M
-+write-key+write-name+write-text-spec =
-    close μ-write-key μ-write-name μ-write-text (λ t. write-key-lts.spec (write-key-calls t) (write-key-at t)
-    write-key.Post
-    (write-key-span-of-requires t)
-    (write-key-write-again-requires t)
-    (write-key-same-length t)
-    (write-key-returns t)
-    (write-key-value-requires t)
-    (write-key-sub-write-text t)
-    (write-key-write-text-requires t)
-    (write-key-remember-requires t)
-    (write-key-same-length-2 t)
-    (write-key-returns-2 t))
-    (λ t. write-name-lts.spec (write-name-calls t) (write-name-at t)
+pub +write-name+write-text-spec : {M : Type 1} → statement M
++write-name+write-text-spec =
+    close μ-write-name μ-write-text (λ t. write-name-lts.spec (write-name-calls t) (write-name-at t)
     write-name.Post
     (write-name-lookup-requires t)
     (write-name-enum-known-source t)
-    (write-name-write-key-requires t)
+    (write-name-span-of-requires t)
+    (write-name-write-again-requires t)
     (write-name-same-length t)
     (write-name-returns t)
-    (write-name-write-plain-requires t)
+    (write-name-value-requires t)
+    (write-name-sub-t22 t)
+    (write-name-write-text-requires t)
+    (write-name-remember-requires t)
     (write-name-same-length-2 t)
-    (write-name-returns-2 t))
+    (write-name-returns-2 t)
+    (write-name-write-plain-requires t)
+    (write-name-same-length-3 t)
+    (write-name-returns-3 t))
     λ t. write-text-lts.spec (write-text-calls t) (write-text-at t)
     write-text.Post
     write-text-Inv-loop

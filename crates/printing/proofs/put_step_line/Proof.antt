@@ -1,8 +1,8 @@
--- `printing::put_step` meets its contract.
+-- `printing::put_step_line` meets its contract.
 use Rattle.printing.proofs.Putting.{step-law}
 use borrow.Author.Needs.{needs}
-use Rattle.printing.proofs.put_step.Statement.{statement}
-use Rattle.printing.proofs.put_step.Tie as tie
+use Rattle.printing.proofs.put_step_line.Statement.{statement}
+use Rattle.printing.proofs.put_step_line.Tie as tie
 
 -- src/lib.rt:129:9
 put-head-requires : tie.Need-put-head-requires
@@ -28,8 +28,8 @@ same-length c = search needs
 returns : tie.Need-returns
 returns c = step-law (c .before .before .before .before .before .before .before .before .before .before .before .before .before .before .before .args .place) (c .before .before .before .before .before .before .before .before .before .before .before .before .before .before .before .args .count) (c .before .before .before .before .before .before .before .before .before .before .before .put-head .ensures) (c .before .before .before .before .before .before .before .put .ensures) (c .before .before .put2 .ensures)
 
-pub put-step-spec : {M : Type 1} → statement M
-put-step-spec =
+pub put-step-line-spec : {M : Type 1} → statement M
+put-step-line-spec =
     tie.close
     (tie.spec
     put-head-requires

@@ -1,9 +1,9 @@
--- `slices::bytes::zero_part` meets its contract.
+-- `slices::bytes::zero_bytes_in` meets its contract.
 use Prim.Native.Nat.{_-_}
 use borrow.Author.Needs.{needs}
 use Rattle.slices.proofs.Filling.{Zeroing, zero-begin, zero-more, zero-end}
-use Rattle.slices.proofs.bytes.zero_part.Statement.{statement}
-use Rattle.slices.proofs.bytes.zero_part.Tie as tie
+use Rattle.slices.proofs.bytes.zero_bytes_in.Statement.{statement}
+use Rattle.slices.proofs.bytes.zero_bytes_in.Tie as tie
 
 abbrev Inv-loop : tie.InvT-loop
 Inv-loop buf₀ from to i₀ buf i = Zeroing buf₀ from to buf i
@@ -32,8 +32,8 @@ same-length c = search needs
 returns : tie.Need-returns Inv-loop μ-loop
 returns c = zero-end (c .before .loop .inv) (c .loop-test .left)
 
-pub zero-part-spec : {M : Type 1} → statement M
-zero-part-spec =
+pub zero-bytes-in-spec : {M : Type 1} → statement M
+zero-bytes-in-spec =
     tie.close
     (tie.spec
     Inv-loop
