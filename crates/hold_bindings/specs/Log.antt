@@ -101,14 +101,14 @@ pub record Scoping : Type 0 where
   pub current : ℕ
 
 -- what a mark does: one without a name enters a scope inside the current one, any other goes back to the scope of that number
-unfoldable pub marked : List ℕ → Scoping → Scoping
-marked [] g = record { outers = g .outers ++ ((g .current ∷ getD (g .outers) (g .current) []) ∷ []); current = length (g .outers) }
-marked (k ∷ n) g = record { outers = g .outers; current = k }
+unfoldable pub scopingAfter : List ℕ → Scoping → Scoping
+scopingAfter [] g = record { outers = g .outers ++ ((g .current ∷ getD (g .outers) (g .current) []) ∷ []); current = length (g .outers) }
+scopingAfter (k ∷ n) g = record { outers = g .outers; current = k }
 
 unfoldable pub scopingOf : List Logged → Scoping
-unfolding marked
+unfolding scopingAfter
 scopingOf [] = record { outers = [] ∷ []; current = 0 }
-scopingOf (e ∷ l) = ifB (eqb (e .owner) ofMarks) (λ _. marked (e .name) (scopingOf l)) (λ _. scopingOf l)
+scopingOf (e ∷ l) = ifB (eqb (e .owner) ofMarks) (λ _. scopingAfter (e .name) (scopingOf l)) (λ _. scopingOf l)
 
 -- the scopes from number k on, with their variables
 unfoldable pub scopesFrom : ℕ → List (List ℕ) → List Logged → List Scope

@@ -151,7 +151,7 @@ pub fn newest(texts: &[u8], bind: &[u32], count: usize, owner: usize, wanted: &[
 }
 
 // Makes the table one of no entries and of one scope.
-pub fn begin(bind: &mut [u32])
+pub fn begin_bindings(bind: &mut [u32])
     requires { ⌜ maxRows ≤ length (now bind) ⌝ }
     ensures { λ _. ⌜ now (bind .exit) ≡ set (set (set (now (bind .entry)) scopesAt 1) currentAt 0) parentsAt 0 ⌝ }
 {

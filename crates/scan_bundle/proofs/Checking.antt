@@ -14,14 +14,14 @@ use Rattle.spec.specs.Basics.{orElse}
 use Rattle.spec.specs.Limits.{maxPath}
 use Rattle.spec.specs.Statements.{twice}
 use Rattle.spec.specs.Card.{numberAt, soundLayout, cardNames}
-use Rattle.spec.specs.Bundle.{extentsOf, nameExtents, textExtents, endOf, soundExtents, laidBundle, soundBundle, bundleNames}
+use Rattle.spec.specs.Bundle.{extentsOf, nameExtents, textExtents, extentsEnd, soundExtents, laidBundle, soundBundle, bundleNames}
 use Rattle.scan_card.proofs.Rules.{Layout, layout}
 use Rattle.hold_names.proofs.Halving.{clash}
 use Rattle.scan_bundle.specs.declared.Run.{Run}
 use Rattle.scan_bundle.specs.declared.Run.the-variants.{End, Broken}
 use Rattle.scan_bundle.specs.declared.BundleAnswer.{BundleAnswer}
 use Rattle.scan_bundle.specs.declared.BundleAnswer.the-variants.{Sound, Malformed}
-use Rattle.scan_bundle.specs.Bundles.{Laid, RunAsks, runOf, SortsNames, Indexed, Indexes, bundleAnswer}
+use Rattle.scan_bundle.specs.Bundles.{LaidBundle, RunAsks, runOf, SortsNames, BundleIndexed, Indexes, bundleAnswer}
 use Rattle.scan_bundle.proofs.Extents.{length-extents, names-end}
 use Rattle.scan_bundle.proofs.Lying.{length-body, laid-layout, laid-few}
 
@@ -37,7 +37,7 @@ no-end (some x) e = clash (cc)
 
 module _ (least most start n first : ℕ) (s : List ℕ) where
   abbrev ends : Option ℕ
-  ends = endOf least most start (extentsOf n (drop first s))
+  ends = extentsEnd least most start (extentsOf n (drop first s))
 
   run-end-is : {r : Run} {t : ℕ} → r ≡ runOf least most start n first s → r ≡ End t → ends ≡ some t
   unfolding runOf
@@ -63,7 +63,7 @@ module _ (s : List ℕ) {n : ℕ} (h : RunAsks s n) where
   names-broken a b = let e = rw names-are at (run-broken-is 1 maxPath 0 n 16 s a b) in rw e
 
   module _ {r : Run} {t : ℕ} (a : r ≡ runOf 1 maxPath 0 n 16 s) (b : r ≡ End t) where
-    ended : endOf 1 maxPath 0 (nameExtents s) ≡ some t
+    ended : extentsEnd 1 maxPath 0 (nameExtents s) ≡ some t
     ended = rw names-are at (run-end-is 1 maxPath 0 n 16 s a b)
 
     pub names-small : t < 2305843009213693952

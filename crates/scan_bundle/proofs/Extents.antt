@@ -12,7 +12,7 @@ use lib.ListN.{length, drop, getD}
 use lib.Seq.{drop-drop}
 use Rattle.lists.specs.Tests.{split, differ, and-left, and-right}
 use Rattle.spec.specs.Limits.{maxPath}
-use Rattle.spec.specs.Bundle.{Extent, extentAt, extentsOf, endOf}
+use Rattle.spec.specs.Bundle.{Extent, extentAt, extentsOf, extentsEnd}
 
 abbrev pub noExtent : Extent
 noExtent = record { offset = 0; size = 0 }
@@ -63,39 +63,39 @@ fits least most at e h =
 pub fit : {least most at : ℕ} {e : Extent} → Fits least most at e → fitting least most at e ≡ true
 fit f = rw (eq-eqb _ _ (f .starts), le-leb _ _ (f .enough), le-leb _ _ (f .few))
 
-pub end-none : (least most at : ℕ) → endOf least most at [] ≡ some at
-unfolding endOf
+pub end-none : (least most at : ℕ) → extentsEnd least most at [] ≡ some at
+unfolding extentsEnd
 end-none least most at = refl
 
 module _ (least most at : ℕ) (e : Extent) (es : List Extent) where
-  pub end-on : fitting least most at e ≡ true → endOf least most at (e ∷ es) ≡ endOf least most (at + e .size) es
-  unfolding endOf
+  pub end-on : fitting least most at e ≡ true → extentsEnd least most at (e ∷ es) ≡ extentsEnd least most (at + e .size) es
+  unfolding extentsEnd
   end-on h = rw h
 
-  pub end-off : fitting least most at e ≡ false → endOf least most at (e ∷ es) ≡ none
-  unfolding endOf
+  pub end-off : fitting least most at e ≡ false → extentsEnd least most at (e ∷ es) ≡ none
+  unfolding extentsEnd
   end-off h = rw h
 
 -- what is known of extents that end
 pub record Step (least most at : ℕ) (e : Extent) (es : List Extent) (t : ℕ) : Type 0 where
   pub fits : Fits least most at e
-  pub rest : endOf least most (at + e .size) es ≡ some t
+  pub rest : extentsEnd least most (at + e .size) es ≡ some t
 
-pub step : (least most at : ℕ) (e : Extent) (es : List Extent) (t : ℕ) → endOf least most at (e ∷ es) ≡ some t → Step least most at e es t
+pub step : (least most at : ℕ) (e : Extent) (es : List Extent) (t : ℕ) → extentsEnd least most at (e ∷ es) ≡ some t → Step least most at e es t
 step least most at e es t h =
     split (fitting least most at e)
     (λ (f : fitting least most at e ≡ true). record { fits = fits least most at e f; rest = sym (end-on least most at e es f) ∙ h })
     (λ (f : fitting least most at e ≡ false). absurd (Option·none-ne-some t (sym (end-off least most at e es f) ∙ h)))
 
-pub ended : (least most at t : ℕ) → endOf least most at [] ≡ some t → at ≡ t
+pub ended : (least most at t : ℕ) → extentsEnd least most at [] ≡ some t → at ≡ t
 ended least most at t h = Option·some-injective at t (sym (end-none least most at) ∙ h)
 
-pub end-forward : (least most at : ℕ) (es : List Extent) (t : ℕ) → endOf least most at es ≡ some t → at ≤ t
+pub end-forward : (least most at : ℕ) (es : List Extent) (t : ℕ) → extentsEnd least most at es ≡ some t → at ≤ t
 end-forward least most at [] t h = omega (arith, ended least most at t h)
 end-forward least most at (e ∷ es) t h = let g = end-forward least most (at + e .size) es t (step least most at e es t h .rest) in omega arith
 
 -- each ends by then
-pub end-within : (least most at : ℕ) (es : List Extent) (t : ℕ) → endOf least most at es ≡ some t → (k : ℕ) → k < length es
+pub end-within : (least most at : ℕ) (es : List Extent) (t : ℕ) → extentsEnd least most at es ≡ some t → (k : ℕ) → k < length es
     → getD es k noExtent .offset + getD es k noExtent .size ≤ t
 end-within least most at [] t h k l = absurd (not-suc-le-zero l)
 end-within least most at (e ∷ es) t h zero l =
@@ -105,7 +105,7 @@ end-within least most at (e ∷ es) t h zero l =
 end-within least most at (e ∷ es) t h (suc k) l = end-within least most (at + e .size) es t (step least most at e es t h .rest) k (le-of-suc-le-suc l)
 
 -- names are short, and so they end soon
-pub names-end : (at : ℕ) (es : List Extent) (t : ℕ) → endOf 1 maxPath at es ≡ some t → t ≤ at + 255 * length es
+pub names-end : (at : ℕ) (es : List Extent) (t : ℕ) → extentsEnd 1 maxPath at es ≡ some t → t ≤ at + 255 * length es
 names-end at [] t h = omega (arith, ended 1 maxPath at t h)
 names-end at (e ∷ es) t h =
     let x = step 1 maxPath at e es t h in

@@ -13,12 +13,12 @@ use Rattle.scan_bundle.specs.declared.BundleAnswer.{BundleAnswer}
 use Rattle.scan_bundle.specs.declared.BundleAnswer.the-variants.{Sound, Malformed}
 use Rattle.scan_bundle.specs.declared.FoundRecord.{FoundRecord}
 use Rattle.scan_bundle.specs.declared.FoundRecord.the-variants.{At, Missing}
-use Rattle.scan_bundle.specs.Bundles.{Indexed, Indexes, bundleAnswer, foundRecord}
+use Rattle.scan_bundle.specs.Bundles.{BundleIndexed, Indexes, bundleAnswer, foundRecord}
 
 -- a sound bundle, with its records sorted
 pub record Opened (s : List ℕ) (least most : ℕ) (order : List ℕ) (n : ℕ) : Type 0 where
   pub sound : soundBundle least most s ≡ true
-  pub indexed : Indexed s n order
+  pub indexed : BundleIndexed s n order
 
 module _ {s : List ℕ} {least most : ℕ} {order order′ : List ℕ} {r : BundleAnswer} (x : Indexes s least most order order′ r) where
   pub opened : {n : ℕ} → r ≡ Sound n → Opened s least most order′ n
@@ -29,7 +29,7 @@ module _ {s : List ℕ} {least most : ℕ} {order order′ : List ℕ} {r : Bund
       (λ (h : soundBundle least most s ≡ true).
       let b : Sound (numberAt 0 4 s) ≡ Sound n = rw h at a in
       let c : numberAt 0 4 s ≡ n = cc in
-      record { sound = h; indexed = subst (λ (m : ℕ). Indexed s m order′) c (x .sorted h) })
+      record { sound = h; indexed = subst (λ (m : ℕ). BundleIndexed s m order′) c (x .sorted h) })
       (λ (h : soundBundle least most s ≡ false). let b : Malformed ≡ Sound n = rw h at a in clash (cc))
 
   pub malformed-is : r ≡ Malformed → soundBundle least most s ≡ false

@@ -16,9 +16,9 @@ use Rattle.spec.specs.Basics.{orElse}
 use Rattle.spec.specs.Limits.{maxPath}
 use Rattle.spec.specs.Statements.{twice}
 use Rattle.spec.specs.Card.{numberAt, soundLayout, cardNames}
-use Rattle.spec.specs.Bundle.{Extent, extentAt, extentsOf, nameExtents, textExtents, lyingAt, bundleNames, bundleTexts, endOf, soundExtents, laidBundle, soundBundle}
+use Rattle.spec.specs.Bundle.{Extent, extentAt, extentsOf, nameExtents, textExtents, lyingAt, bundleNames, bundleTexts, extentsEnd, soundExtents, laidBundle, soundBundle}
 use Rattle.scan_card.proofs.Rules.{Layout, layout}
-use Rattle.scan_bundle.specs.Bundles.{Laid, LiesAt}
+use Rattle.scan_bundle.specs.Bundles.{LaidBundle, LiesAt}
 use Rattle.scan_bundle.proofs.Extents.{noExtent, extent-is, length-extents, end-forward, end-within}
 
 -- ---- a bundle that is laid out, by its rules
@@ -26,8 +26,8 @@ use Rattle.scan_bundle.proofs.Extents.{noExtent, extent-is, length-exte
 -- names end to end up to a place, and texts from there to the end
 pub record Extended (s : List ℕ) : Type 0 where
   pub named : ℕ
-  pub names : endOf 1 maxPath 0 (nameExtents s) ≡ some named
-  pub texts : endOf 0 (length s) named (textExtents s) ≡ some (length (cardNames s))
+  pub names : extentsEnd 1 maxPath 0 (nameExtents s) ≡ some named
+  pub texts : extentsEnd 0 (length s) named (textExtents s) ≡ some (length (cardNames s))
 
 pub by-option : {A : Type 0} (o : Option ℕ) → (o ≡ none → A) → ((x : ℕ) → o ≡ some x → A) → A
 by-option none f g = f refl
@@ -36,12 +36,12 @@ by-option (some x) f g = g x refl
 pub extended : (s : List ℕ) → soundExtents s ≡ true → Extended s
 unfolding soundExtents
 extended s h =
-    by-option (endOf 1 maxPath 0 (nameExtents s))
-    (λ (e : endOf 1 maxPath 0 (nameExtents s) ≡ none). differ (rw e at h) refl)
-    (λ t (e : endOf 1 maxPath 0 (nameExtents s) ≡ some t).
-    by-option (endOf 0 (length s) t (textExtents s))
-    (λ (f : endOf 0 (length s) t (textExtents s) ≡ none). differ (rw (e, f) at h) refl)
-    (λ x (f : endOf 0 (length s) t (textExtents s) ≡ some x).
+    by-option (extentsEnd 1 maxPath 0 (nameExtents s))
+    (λ (e : extentsEnd 1 maxPath 0 (nameExtents s) ≡ none). differ (rw e at h) refl)
+    (λ t (e : extentsEnd 1 maxPath 0 (nameExtents s) ≡ some t).
+    by-option (extentsEnd 0 (length s) t (textExtents s))
+    (λ (f : extentsEnd 0 (length s) t (textExtents s) ≡ none). differ (rw (e, f) at h) refl)
+    (λ x (f : extentsEnd 0 (length s) t (textExtents s) ≡ some x).
     let q : x ≡ length (cardNames s) = eqb-true x (length (cardNames s)) (rw (e, f) at h) in
     record { named = t; names = e; texts = f ∙ ap some q }))
 
@@ -116,17 +116,17 @@ pub record RecordLies (s : List ℕ) (k : ℕ) : Type 0 where
   pub name : LiesAt s (16 + 16 * k)
   pub text : LiesAt s (24 + 16 * k)
 
-pub laid-room : (s : List ℕ) → Laid s → 16 + 16 * numberAt 0 4 s ≤ length s
+pub laid-room : (s : List ℕ) → LaidBundle s → 16 + 16 * numberAt 0 4 s ≤ length s
 laid-room s l = let y : Layout s = layout (laid-layout (l .least) (l .most) s (l .laid)) in omega arith
 
-pub laid-ends : (s : List ℕ) → Laid s → Extended s
+pub laid-ends : (s : List ℕ) → LaidBundle s → Extended s
 laid-ends s l = extended s (laid-extents (l .least) (l .most) s (l .laid))
 
 pub length-body : (s : List ℕ) → length (cardNames s) ≡ length s - (16 + 16 * numberAt 0 4 s)
 unfolding cardNames
 length-body s = length-drop (16 + 16 * numberAt 0 4 s) s
 
-pub record-lies : (s : List ℕ) → Laid s → (k : ℕ) → k < numberAt 0 4 s → RecordLies s k
+pub record-lies : (s : List ℕ) → LaidBundle s → (k : ℕ) → k < numberAt 0 4 s → RecordLies s k
 unfolding extentAt
 record-lies s l k h =
     let r = laid-room s l in

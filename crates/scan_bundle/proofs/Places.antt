@@ -11,9 +11,9 @@ use lib.ListN.{length, take, drop, getD, length-drop, drop-of-length-le}
 use lib.Seq.{length-take-le, drop-cons}
 use Rattle.spec.specs.Answers.{Place, plain, inText, nextText, spot, baseOf}
 use Rattle.spec.specs.Card.{numberAt, cardNames}
-use Rattle.spec.specs.Bundle.{Extent, extentAt, textExtents, lyingAt, bundleTexts, endOf}
+use Rattle.spec.specs.Bundle.{Extent, extentAt, textExtents, lyingAt, bundleTexts, extentsEnd}
 use Rattle.scan_bundle.specs.declared.Spot.{Spot}
-use Rattle.scan_bundle.specs.Bundles.{Laid, placeOf}
+use Rattle.scan_bundle.specs.Bundles.{LaidBundle, recordPlaceOf}
 use Rattle.scan_bundle.proofs.Extents.{noExtent, step, end-forward}
 use Rattle.scan_bundle.proofs.Lying.{text-extent, text-at, length-text-extents, length-texts, length-body, laid-room, laid-ends, record-lies}
 
@@ -24,7 +24,7 @@ unfolding lyingAt
 length-lying s e h = length-take-le (e .size) (drop (e .offset) s) (omega (arith, length-drop (e .offset) s))
 
 -- The texts before text k are as long as the way from the first one's offset to its own, and each has one place more.
-base-lies : (least most at : ℕ) (es : List Extent) (t : ℕ) (body : List ℕ) → endOf least most at es ≡ some t → t ≤ length body → (k : ℕ) → k < length es
+base-lies : (least most at : ℕ) (es : List Extent) (t : ℕ) (body : List ℕ) → extentsEnd least most at es ≡ some t → t ≤ length body → (k : ℕ) → k < length es
     → baseOf (map (lyingAt body) es) k + at ≡ getD es k noExtent .offset + k
 unfolding baseOf
 base-lies least most at [] t body h w k l = absurd (not-suc-le-zero l)
@@ -51,7 +51,7 @@ pub record Based (s : List ℕ) (k : ℕ) : Type 0 where
   pub forward : numberAt 24 4 s ≤ numberAt (24 + 16 * k) 4 s
   pub is : numberAt (24 + 16 * k) 4 s - numberAt 24 4 s + k ≡ baseOf (bundleTexts s) k
 
-pub based : (s : List ℕ) → Laid s → (k : ℕ) → k < numberAt 0 4 s → Based s k
+pub based : (s : List ℕ) → LaidBundle s → (k : ℕ) → k < numberAt 0 4 s → Based s k
 unfolding bundleTexts extentAt
 based s l k h =
     let x = laid-ends s l in
@@ -88,13 +88,13 @@ unfolding moved
 spot-begin s place = record { within = omega arith; rest = refl }
 
 module _ {s : List ℕ} {place left k : ℕ} (x : Spotting s place left k) where
-  pub spot-past : numberAt 0 4 s ≤ k → {n : ℕ} → n ≡ numberAt 0 4 s → placeOf n (record { text = k; offset = left }) ≡ spot (bundleTexts s) place
-  unfolding spot placeOf
+  pub spot-past : numberAt 0 4 s ≤ k → {n : ℕ} → n ≡ numberAt 0 4 s → recordPlaceOf n (record { text = k; offset = left }) ≡ spot (bundleTexts s) place
+  unfolding spot recordPlaceOf
   spot-past h {n} e =
       rw (le-ltb k n (omega arith))
       (sym (x .rest ∙ rw (drop-of-length-le (bundleTexts s) {i = k} (omega (arith, length-texts s))) (moved-plain k left)))
 
-  module _ (l : Laid s) (h : k < numberAt 0 4 s) (size : ℕ) (e : size ≡ numberAt (24 + 16 * k + 4) 4 s) where
+  module _ (l : LaidBundle s) (h : k < numberAt 0 4 s) (size : ℕ) (e : size ≡ numberAt (24 + 16 * k + 4) 4 s) where
     text-long : length (getD (bundleTexts s) k []) ≡ size
     unfolding extentAt
     text-long =
@@ -104,8 +104,8 @@ module _ {s : List ℕ} {place left k : ℕ} (x : Spotting s place left k) where
     opened : spot (bundleTexts s) place ≡ moved k (spot (getD (bundleTexts s) k [] ∷ drop (k + 1) (bundleTexts s)) left)
     opened = x .rest ∙ ap (λ (ts : List (List ℕ)). moved k (spot ts left)) (drop-cons (bundleTexts s) k [] (omega (arith, length-texts s)) ∙ rw (add-one k))
 
-    pub spot-here : left ≤ size → {n : ℕ} → n ≡ numberAt 0 4 s → placeOf n (record { text = k; offset = left }) ≡ spot (bundleTexts s) place
-    unfolding spot placeOf
+    pub spot-here : left ≤ size → {n : ℕ} → n ≡ numberAt 0 4 s → recordPlaceOf n (record { text = k; offset = left }) ≡ spot (bundleTexts s) place
+    unfolding spot recordPlaceOf
     spot-here a {n} q =
         let z : k + 0 ≡ k = omega arith in
         rw (lt-ltb k n (omega arith))

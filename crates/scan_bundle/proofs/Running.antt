@@ -7,7 +7,7 @@ use mathlib.Core.Path.{_≡_, refl, sym, _∙_, ap}
 use native.Mathlib.Omega.{arith}
 use lib.ListN.{length, drop}
 use Rattle.spec.specs.Basics.{orElse}
-use Rattle.spec.specs.Bundle.{Extent, extentAt, extentsOf, endOf}
+use Rattle.spec.specs.Bundle.{Extent, extentAt, extentsOf, extentsEnd}
 use Rattle.scan_card.proofs.Rules.{refuted}
 use Rattle.scan_bundle.specs.declared.Run.{Run}
 use Rattle.scan_bundle.specs.declared.Run.the-variants.{End, Broken}
@@ -24,7 +24,7 @@ left s n first k = extentsOf (n - k) (drop (first + 16 * k) s)
 pub record Running (s : List ℕ) (n first start least most end k : ℕ) : Type 0 where
   pub within : k ≤ n
   pub small : end ≤ start + k * 4294967296
-  pub rest : runOf least most start n first s ≡ answered (endOf least most end (left s n first k))
+  pub rest : runOf least most start n first s ≡ answered (extentsEnd least most end (left s n first k))
 
 pub run-begin : (s : List ℕ) (n first start least most : ℕ) → Running s n first start least most start 0
 unfolding runOf
@@ -53,8 +53,8 @@ module _ {s : List ℕ} {n first start least most end k : ℕ} (r : Running s n 
     abbrev on : List Extent
     on = left s n first (k + 1)
 
-    opened : runOf least most start n first s ≡ answered (endOf least most end (here ∷ on))
-    opened = r .rest ∙ ap (λ (es : List Extent). answered (endOf least most end es)) (left-cons s n first k l)
+    opened : runOf least most start n first s ≡ answered (extentsEnd least most end (here ∷ on))
+    opened = r .rest ∙ ap (λ (es : List Extent). answered (extentsEnd least most end es)) (left-cons s n first k l)
 
     pub run-broken : (Fits least most end here → ⊥) → Broken ≡ runOf least most start n first s
     run-broken f =
@@ -67,5 +67,5 @@ module _ {s : List ℕ} {n first start least most end k : ℕ} (r : Running s n 
         record {
           within = omega arith;
           small = omega (arith, r .small);
-          rest = opened ∙ ap answered (end-on least most end here on (fit f)) ∙ ap (λ (z : ℕ). answered (endOf least most (end + z) on)) (sym e);
+          rest = opened ∙ ap answered (end-on least most end here on (fit f)) ∙ ap (λ (z : ℕ). answered (extentsEnd least most (end + z) on)) (sym e);
         }

@@ -7,7 +7,7 @@ use lib.ListN.{length, take, drop, set, length-append, length-drop}
 use lib.Seq.{take-length, take-at, drop-at, drop-drop, paste, sets-eq}
 use Rattle.spec.specs.Card.{inBytes}
 use Rattle.spec.specs.Basics.{concat}
-use Rattle.spec.specs.Bundle.{bundled, recordsBytes, bodyOf, namesOf, textsOf}
+use Rattle.spec.specs.Bundle.{bundled, recordsBytes, bodyOf, recordNames, recordTexts}
 use Rattle.scan_bundle.specs.Bundles.{oneRecord, headBytes, WrapsHead, Wraps}
 
 -- four stores one behind another

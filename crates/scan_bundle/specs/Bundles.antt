@@ -11,7 +11,7 @@ use Rattle.lists.specs.Lent.{Spare}
 use Rattle.arena.specs.Rising.{RisingPaths, PathBetween}
 use Rattle.spec.specs.Answers.{Place, plain, inText}
 use Rattle.spec.specs.Basics.{among, orElse}
-use Rattle.spec.specs.Bundle.{extentsOf, endOf, bundleNames, laidBundle, soundBundle, BundleRecord, bundled}
+use Rattle.spec.specs.Bundle.{extentsOf, extentsEnd, bundleNames, laidBundle, soundBundle, BundleRecord, bundled}
 use Rattle.spec.specs.Card.{inBytes, numberAt}
 use Rattle.spec.specs.Reading.{numberOf}
 use Rattle.spec.specs.Statements.{twice}
@@ -28,7 +28,7 @@ use Rattle.scan_bundle.specs.declared.RecordPlace.the-variants.{Taken, F
 -- ---- header and extents
 
 -- a bundle whose header and extents break no rule; names may still be there twice
-pub record Laid (s : List ℕ) : Type 0 where
+pub record LaidBundle (s : List ℕ) : Type 0 where
   pub least : ℕ
   pub most : ℕ
   pub laid : laidBundle least most s ≡ true
@@ -41,8 +41,8 @@ pub record RunAsks (s : List ℕ) (n : ℕ) : Type 0 where
 
 -- where the extents end, of which the first is at `first`
 unfoldable pub runOf : ℕ → ℕ → ℕ → ℕ → ℕ → List ℕ → Run
-unfolding endOf extentsOf
-runOf least most start n first s = orElse (endOf least most start (extentsOf n (drop first s))) (λ e. End e) (λ _. Broken)
+unfolding extentsEnd extentsOf
+runOf least most start n first s = orElse (extentsEnd least most start (extentsOf n (drop first s))) (λ e. End e) (λ _. Broken)
 
 -- an extent at p, and its bytes, lie within the bundle
 pub record LiesAt (s : List ℕ) (p : ℕ) : Type 0 where
@@ -70,8 +70,8 @@ pub record SortsNames (s : List ℕ) (n : ℕ) (order order′ : List ℕ) (r : 
   pub sorted : r ≡ true → NamesSorted (bundleNames s) n (take n order′)
 
 -- a bundle of n records whose numbers `order` begins with, sorted by name
-pub record Indexed (s : List ℕ) (n : ℕ) (order : List ℕ) : Type 0 where
-  pub laid : Laid s
+pub record BundleIndexed (s : List ℕ) (n : ℕ) (order : List ℕ) : Type 0 where
+  pub laid : LaidBundle s
   pub count : n ≡ numberAt 0 4 s
   pub room : n ≤ length order
   pub sorted : NamesSorted (bundleNames s) n (take n order)
@@ -84,7 +84,7 @@ bundleAnswer least most s = ifB (soundBundle least most s) (λ _. Sound (numberA
 pub record Indexes (s : List ℕ) (least most : ℕ) (order order′ : List ℕ) (r : BundleAnswer) : Type 0 where
   pub space : Spare order order′
   pub answer : r ≡ bundleAnswer least most s
-  pub sorted : soundBundle least most s ≡ true → Indexed s (numberAt 0 4 s) order′
+  pub sorted : soundBundle least most s ≡ true → BundleIndexed s (numberAt 0 4 s) order′
 
 -- the record of a name
 unfoldable pub foundRecord : List ℕ → List (List ℕ) → FoundRecord
@@ -94,8 +94,8 @@ foundRecord p names = ifB (among p names) (λ _. At (numberOf p names)) (λ _. M
 -- ---- places
 
 -- a place in one of n texts, or past them all
-unfoldable pub placeOf : ℕ → Spot → Place
-placeOf n r = ifB (ltb (r .text) n) (λ _. inText (r .text) (r .offset)) (λ _. plain (r .offset))
+unfoldable pub recordPlaceOf : ℕ → Spot → Place
+recordPlaceOf n r = ifB (ltb (r .text) n) (λ _. inText (r .text) (r .offset)) (λ _. plain (r .offset))
 
 -- ---- a bundle of one record written
 

@@ -8,7 +8,7 @@ ghost use lib.Seq.{paste};
 ghost use Rattle.spec.specs.Answers.{baseOf, spot};
 ghost use Rattle.spec.specs.Bundle.{extentAt, lyingAt, bundleNames, bundleTexts, soundExtents, laidBundle};
 ghost use Rattle.spec.specs.Card.{inBytes, numberAt, cardNames};
-ghost use Rattle.scan_bundle.specs.Bundles.{Laid, LiesAt, RunAsks, runOf, NamesSorted, PlacesRecord, SortsNames, Indexed, Indexes, foundRecord, placeOf, Wraps, WrapsHead};
+ghost use Rattle.scan_bundle.specs.Bundles.{LaidBundle, LiesAt, RunAsks, runOf, NamesSorted, PlacesRecord, SortsNames, BundleIndexed, Indexes, foundRecord, recordPlaceOf, Wraps, WrapsHead};
 use arena::insert;
 use byteorder::compare;
 use lists::Order;
@@ -131,7 +131,7 @@ fn part_at<'a>(b: &'a [u8], p: usize) -> &'a [u8]
 
 // The name of record k, as a part of the bundle.
 pub fn record_name<'a>(b: &'a [u8], k: usize) -> &'a [u8]
-    requires { ⌜ Laid (now b) ⌝ }
+    requires { ⌜ LaidBundle (now b) ⌝ }
     requires { ⌜ k < numberAt 0 4 (now b) ⌝ }
     ensures { λ r. ⌜ now r ≡ getD (bundleNames (now (b .entry))) k [] ⌝ }
 {
@@ -140,7 +140,7 @@ pub fn record_name<'a>(b: &'a [u8], k: usize) -> &'a [u8]
 
 // Its text.
 pub fn record_text<'a>(b: &'a [u8], k: usize) -> &'a [u8]
-    requires { ⌜ Laid (now b) ⌝ }
+    requires { ⌜ LaidBundle (now b) ⌝ }
     requires { ⌜ k < numberAt 0 4 (now b) ⌝ }
     ensures { λ r. ⌜ now r ≡ getD (bundleTexts (now (b .entry))) k [] ⌝ }
 {
@@ -149,7 +149,7 @@ pub fn record_text<'a>(b: &'a [u8], k: usize) -> &'a [u8]
 
 // Sorts the records by name. False where a name is there twice.
 fn sort_names(b: &[u8], n: usize, order: &mut [u32]) -> bool
-    requires { ⌜ Laid (now b) ⌝ }
+    requires { ⌜ LaidBundle (now b) ⌝ }
     requires { ⌜ (n ≡ numberAt 0 4 (now b)) × (n ≤ length (now order)) × (n < 4294967296) ⌝ }
     ensures { λ r. ⌜ SortsNames (now (b .entry)) n (now (order .entry)) (now (order .exit)) r ⌝ }
 {
@@ -170,7 +170,7 @@ fn sort_names(b: &[u8], n: usize, order: &mut [u32]) -> bool
 
 // Where a name stands among those of the first n records, which `order` has sorted, by halving.
 fn place_of(b: &[u8], n: usize, order: &[u32], name: &[u8]) -> RecordPlace
-    requires { ⌜ Laid (now b) ⌝ }
+    requires { ⌜ LaidBundle (now b) ⌝ }
     requires { ⌜ (n ≤ numberAt 0 4 (now b)) × NamesSorted (bundleNames (now b)) n (now order) ⌝ }
     ensures { λ r. ⌜ PlacesRecord (bundleNames (now (b .entry))) n (now (order .entry)) (now (name .entry)) r ⌝ }
 {
@@ -196,7 +196,7 @@ fn place_of(b: &[u8], n: usize, order: &[u32], name: &[u8]) -> RecordPlace
 
 // The number of the record of that name.
 pub fn find_record(b: &[u8], n: usize, order: &[u32], path: &[u8]) -> FoundRecord
-    requires { ⌜ Indexed (now b) n (now order) ⌝ }
+    requires { ⌜ BundleIndexed (now b) n (now order) ⌝ }
     ensures { λ r. ⌜ r ≡ foundRecord (now (path .entry)) (bundleNames (now (b .entry))) ⌝ }
 {
     match place_of(b, n, &order[..n], path) {
@@ -207,7 +207,7 @@ pub fn find_record(b: &[u8], n: usize, order: &[u32], path: &[u8]) -> FoundRecor
 
 // Where text k begins among all texts laid end to end with one place between two.
 pub fn text_base(b: &[u8], k: usize) -> usize
-    requires { ⌜ Laid (now b) ⌝ }
+    requires { ⌜ LaidBundle (now b) ⌝ }
     requires { ⌜ k < numberAt 0 4 (now b) ⌝ }
     ensures { λ r. ⌜ r ≡ baseOf (bundleTexts (now (b .entry))) k ⌝ }
 {
@@ -216,9 +216,9 @@ pub fn text_base(b: &[u8], k: usize) -> usize
 
 // The text and the offset in it of a place among all texts.
 pub fn spot_of(b: &[u8], n: usize, place: usize) -> Spot
-    requires { ⌜ Laid (now b) ⌝ }
+    requires { ⌜ LaidBundle (now b) ⌝ }
     requires { ⌜ n ≡ numberAt 0 4 (now b) ⌝ }
-    ensures { λ r. ⌜ placeOf n r ≡ spot (bundleTexts (now (b .entry))) place ⌝ }
+    ensures { λ r. ⌜ recordPlaceOf n r ≡ spot (bundleTexts (now (b .entry))) place ⌝ }
 {
     let mut left = place;
     let mut k = 0;

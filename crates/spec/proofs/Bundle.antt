@@ -13,7 +13,7 @@ use Rattle.spec.specs.Basics.{concat}
 use Rattle.spec.specs.Limits.{maxBundle, maxPath}
 use Rattle.spec.specs.Statements.{twice}
 use Rattle.spec.specs.Card.{littleEndian, inBytes, numberAt, soundLayout, cardNames}
-use Rattle.spec.specs.Bundle.{Extent, extentAt, extentsOf, nameExtents, textExtents, lyingAt, bundleNames, bundleTexts, endOf, soundExtents, laidBundle, soundBundle, BundleRecord, namesOf, textsOf, bodyOf, recordsBytes, bundled}
+use Rattle.spec.specs.Bundle.{Extent, extentAt, extentsOf, nameExtents, textExtents, lyingAt, bundleNames, bundleTexts, extentsEnd, soundExtents, laidBundle, soundBundle, BundleRecord, recordNames, recordTexts, bodyOf, recordsBytes, bundled}
 
 -- ---- numbers
 
@@ -34,8 +34,8 @@ concat-cons p ps = length-append p (concat ps)
 
 -- They end where their bytes do.
 end-laid : (least most at : ℕ) (ps : List (List ℕ)) → ((k : ℕ) → k < length ps → (least ≤ length (getD ps k [])) × (length (getD ps k []) ≤ most))
-    → endOf least most at (laid at ps) ≡ some (at + length (concat ps))
-unfolding endOf laid concat
+    → extentsEnd least most at (laid at ps) ≡ some (at + length (concat ps))
+unfolding extentsEnd laid concat
 end-laid least most at [] f = ap some (omega arith)
 end-laid least most at (p ∷ ps) f =
     let g = f 0 (omega arith) in
@@ -59,22 +59,22 @@ length-records at from [] = omega arith
 length-records at from (r ∷ rs) = let h = length-records (at + length (r .name)) (from + length (r .bytes)) rs in omega arith
 
 module _ (s : List ℕ) where
-  names-written : (at from : ℕ) (rs : List BundleRecord) → at + length (concat (namesOf rs)) < 4294967296
-      → extentsOf (length rs) (recordsBytes at from rs ++ s) ≡ laid at (namesOf rs)
-  unfolding recordsBytes extentsOf extentAt laid namesOf numberAt
+  names-written : (at from : ℕ) (rs : List BundleRecord) → at + length (concat (recordNames rs)) < 4294967296
+      → extentsOf (length rs) (recordsBytes at from rs ++ s) ≡ laid at (recordNames rs)
+  unfolding recordsBytes extentsOf extentAt laid recordNames numberAt
   names-written at from [] h = refl
   names-written at from (r ∷ rs) h =
-      let c : length (concat (namesOf (r ∷ rs))) ≡ length (r .name) + length (concat (namesOf rs)) = concat-cons (r .name) (namesOf rs) in
+      let c : length (concat (recordNames (r ∷ rs))) ≡ length (r .name) + length (concat (recordNames rs)) = concat-cons (r .name) (recordNames rs) in
       let next = names-written (at + length (r .name)) (from + length (r .bytes)) rs (omega arith) in
       ap₂ {C = List Extent} (λ x y. x ∷ y)
       (ap₂ {C = Extent} (λ x y. record { offset = x; size = y }) (number-first at [] (omega arith)) (number-first (length (r .name)) [] (omega arith))) next
 
-  texts-written : (at from : ℕ) (rs : List BundleRecord) → from + length (concat (textsOf rs)) < 4294967296
-      → extentsOf (length rs) (drop 8 (recordsBytes at from rs ++ s)) ≡ laid from (textsOf rs)
-  unfolding recordsBytes extentsOf extentAt laid textsOf numberAt
+  texts-written : (at from : ℕ) (rs : List BundleRecord) → from + length (concat (recordTexts rs)) < 4294967296
+      → extentsOf (length rs) (drop 8 (recordsBytes at from rs ++ s)) ≡ laid from (recordTexts rs)
+  unfolding recordsBytes extentsOf extentAt laid recordTexts numberAt
   texts-written at from [] h = refl
   texts-written at from (r ∷ rs) h =
-      let c : length (concat (textsOf (r ∷ rs))) ≡ length (r .bytes) + length (concat (textsOf rs)) = concat-cons (r .bytes) (textsOf rs) in
+      let c : length (concat (recordTexts (r ∷ rs))) ≡ length (r .bytes) + length (concat (recordTexts rs)) = concat-cons (r .bytes) (recordTexts rs) in
       let next = texts-written (at + length (r .name)) (from + length (r .bytes)) rs (omega arith) in
       ap₂ {C = List Extent} (λ x y. x ∷ y)
       (ap₂ {C = Extent} (λ x y. record { offset = x; size = y }) (number-first from [] (omega arith)) (number-first (length (r .bytes)) [] (omega arith))) next
@@ -85,16 +85,16 @@ module _ (s : List ℕ) where
 pub record Bundlable (least most : ℕ) (rs : List BundleRecord) : Type 0 where
   pub enough : least ≤ length rs
   pub few : length rs ≤ most
-  pub named : (k : ℕ) → k < length (namesOf rs) → (1 ≤ length (getD (namesOf rs) k [])) × (length (getD (namesOf rs) k []) ≤ maxPath)
-  pub once : twice (namesOf rs) ≡ false
+  pub named : (k : ℕ) → k < length (recordNames rs) → (1 ≤ length (getD (recordNames rs) k [])) × (length (getD (recordNames rs) k []) ≤ maxPath)
+  pub once : twice (recordNames rs) ≡ false
   pub short : 16 + 16 * length rs + length (bodyOf rs) < 4294967296
 
 module _ (rs : List BundleRecord) (short : 16 + 16 * length rs + length (bodyOf rs) < 4294967296) where
   abbrev names : List (List ℕ)
-  names = namesOf rs
+  names = recordNames rs
 
   abbrev texts : List (List ℕ)
-  texts = textsOf rs
+  texts = recordTexts rs
 
   abbrev total : ℕ
   total = 16 + 16 * length rs + length (bodyOf rs)
@@ -155,11 +155,11 @@ module _ (rs : List BundleRecord) (short : 16 + 16 * length rs + length (bodyOf 
       ap (λ (n : ℕ). extentsOf n (drop 8 behind)) count-is ∙ texts-written (bodyOf rs) 0 (length (concat names)) rs (omega (arith, length-body))
 
   -- Names and texts are read back.
-  pub names-back : bundleNames (bundled rs) ≡ namesOf rs
+  pub names-back : bundleNames (bundled rs) ≡ recordNames rs
   unfolding bundleNames
   names-back = rw (body-at, name-extents) (lying-laid (bodyOf rs) 0 names (concat texts) body-is)
 
-  pub texts-back : bundleTexts (bundled rs) ≡ textsOf rs
+  pub texts-back : bundleTexts (bundled rs) ≡ recordTexts rs
   unfolding bundleTexts
   texts-back =
       rw (body-at, text-extents)
@@ -173,7 +173,7 @@ piece-within (p ∷ ps) (suc k) h = let w = piece-within ps k (omega arith) in o
 
 module _ (s : List ℕ) where
   -- The rules in a row, each with what the one before it gives.
-  pub extents-sound : {t e : ℕ} → endOf 1 maxPath 0 (nameExtents s) ≡ some t → endOf 0 (length s) t (textExtents s) ≡ some e → e ≡ length (cardNames s) → soundExtents s ≡ true
+  pub extents-sound : {t e : ℕ} → extentsEnd 1 maxPath 0 (nameExtents s) ≡ some t → extentsEnd 0 (length s) t (textExtents s) ≡ some e → e ≡ length (cardNames s) → soundExtents s ≡ true
   unfolding soundExtents
   extents-sound {t} {e} f g h = rw (f, g) (eq-eqb e (length (cardNames s)) h)
 
@@ -192,9 +192,9 @@ bundled-sound {least} {most} {rs} b =
     bundle-sound (bundled rs) least most
     (laid-sound (bundled rs) (layout-sound rs (b .short)) (rw c (b .enough)) (rw c (b .few))
     (extents-sound (bundled rs)
-    (ap (endOf 1 maxPath 0) (name-extents rs (b .short)) ∙ end-laid 1 maxPath 0 (namesOf rs) (b .named) ∙ ap some (omega arith))
-    (ap (endOf 0 (length (bundled rs)) (length (concat (namesOf rs)))) (text-extents rs (b .short))
-    ∙ end-laid 0 (length (bundled rs)) (length (concat (namesOf rs))) (textsOf rs) (λ k h. (omega arith, omega (arith, piece-within (textsOf rs) k h, length-bundled rs (b .short)))))
+    (ap (extentsEnd 1 maxPath 0) (name-extents rs (b .short)) ∙ end-laid 1 maxPath 0 (recordNames rs) (b .named) ∙ ap some (omega arith))
+    (ap (extentsEnd 0 (length (bundled rs)) (length (concat (recordNames rs)))) (text-extents rs (b .short))
+    ∙ end-laid 0 (length (bundled rs)) (length (concat (recordNames rs))) (recordTexts rs) (λ k h. (omega arith, omega (arith, piece-within (recordTexts rs) k h, length-bundled rs (b .short)))))
     (sym (ap length (body-at rs (b .short)) ∙ z))))
     (rw (names-back rs (b .short)) (b .once))
 

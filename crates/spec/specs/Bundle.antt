@@ -51,16 +51,16 @@ bundleTexts s = map (lyingAt (cardNames s)) (textExtents s)
 
 -- "Names lie end to end in record order": each extent starts where the one before it ends, and its size is within bounds. Where the last one ends,
 -- or none if one of them does not lie so.
-unfoldable pub endOf : ℕ → ℕ → ℕ → List Extent → Option ℕ
-endOf least most at [] = some at
-endOf least most at (e ∷ es) = ifB (eqb (e .offset) at && leb least (e .size) && leb (e .size) most) (λ _. endOf least most (at + e .size) es) (λ _. none)
+unfoldable pub extentsEnd : ℕ → ℕ → ℕ → List Extent → Option ℕ
+extentsEnd least most at [] = some at
+extentsEnd least most at (e ∷ es) = ifB (eqb (e .offset) at && leb least (e .size) && leb (e .size) most) (λ _. extentsEnd least most (at + e .size) es) (λ _. none)
 
 -- "the texts follow the names likewise": from where the names end on, and the last ends where the bundle does. Names have 1 to 255 bytes.
 unfoldable pub soundExtents : List ℕ → Bool
-unfolding endOf nameExtents textExtents cardNames
+unfolding extentsEnd nameExtents textExtents cardNames
 soundExtents s =
-    orElse (endOf 1 maxPath 0 (nameExtents s))
-    (λ t. orElse (endOf 0 (length s) t (textExtents s)) (λ e. eqb e (length (cardNames s))) (λ _. false))
+    orElse (extentsEnd 1 maxPath 0 (nameExtents s))
+    (λ t. orElse (extentsEnd 0 (length s) t (textExtents s)) (λ e. eqb e (length (cardNames s))) (λ _. false))
     (λ _. false)
 
 -- "of any length, 1 to 64 records": the least and the most are given, since another bundle has 0 to 512. The extents are looked at only under a
@@ -81,16 +81,16 @@ pub record BundleRecord : Type 0 where
   pub name : List ℕ
   pub bytes : List ℕ
 
-unfoldable pub namesOf : List BundleRecord → List (List ℕ)
-namesOf rs = map (λ (r : BundleRecord). r .name) rs
+unfoldable pub recordNames : List BundleRecord → List (List ℕ)
+recordNames rs = map (λ (r : BundleRecord). r .name) rs
 
-unfoldable pub textsOf : List BundleRecord → List (List ℕ)
-textsOf rs = map (λ (r : BundleRecord). r .bytes) rs
+unfoldable pub recordTexts : List BundleRecord → List (List ℕ)
+recordTexts rs = map (λ (r : BundleRecord). r .bytes) rs
 
 -- names and texts end to end, all names first
 unfoldable pub bodyOf : List BundleRecord → List ℕ
-unfolding concat namesOf textsOf
-bodyOf rs = concat (namesOf rs) ++ concat (textsOf rs)
+unfolding concat recordNames recordTexts
+bodyOf rs = concat (recordNames rs) ++ concat (recordTexts rs)
 
 -- each record, where the next name starts at `at` and the next text at `from`
 unfoldable pub recordsBytes : ℕ → ℕ → List BundleRecord → List ℕ
@@ -99,6 +99,6 @@ recordsBytes at from (r ∷ rs) =
     inBytes 4 at ++ (inBytes 4 (length (r .name)) ++ (inBytes 4 from ++ (inBytes 4 (length (r .bytes)) ++ recordsBytes (at + length (r .name)) (from + length (r .bytes)) rs)))
 
 unfoldable pub bundled : List BundleRecord → List ℕ
-unfolding recordsBytes bodyOf concat namesOf
+unfolding recordsBytes bodyOf concat recordNames
 bundled rs =
-    inBytes 4 (length rs) ++ (inBytes 4 16 ++ (inBytes 4 (16 + 16 * length rs) ++ (inBytes 4 (16 + 16 * length rs + length (bodyOf rs)) ++ (recordsBytes 0 (length (concat (namesOf rs))) rs ++ bodyOf rs))))
+    inBytes 4 (length rs) ++ (inBytes 4 16 ++ (inBytes 4 (16 + 16 * length rs) ++ (inBytes 4 (16 + 16 * length rs + length (bodyOf rs)) ++ (recordsBytes 0 (length (concat (recordNames rs))) rs ++ bodyOf rs))))

@@ -8,7 +8,7 @@ use Rattle.spec.specs.Reading.{Step, Reading}
 use Rattle.hold_names.specs.Table.{HoldsNames}
 use Rattle.hold_bindings.specs.Log.{Logged}
 use Rattle.text_lookup.specs.declared.Asked.{Asked}
-use Rattle.text_lookup.specs.Scope.{Scope}
+use Rattle.text_lookup.specs.Scope.{StepScope}
 use Rattle.hold_reading.specs.Buffers.{Buffers}
 
 -- its files: outputs, and behind them the explicit inputs, in the column of mentions that begins the graph
@@ -22,5 +22,5 @@ pub record StepFiles (names index graph : List ℕ) (a : Asked) (rd : Reading) (
   pub low : (i : ℕ) → a .outs ≤ i → i < a .rest → getD graph i 0 < a .files
 
 pub record Here (bs : Buffers) (a : Asked) (log : List Logged) (rd : Reading) (s : Step) : Type 0 where
-  pub scope : Scope (bs .texts) (bs .bind) a log rd s
+  pub scope : StepScope (bs .texts) (bs .bind) a log rd s
   pub files : StepFiles (bs .names) (bs .index) (bs .graph) a rd s

@@ -20,7 +20,7 @@ use Rattle.hold_bindings.proofs.Scopes.{newest-from-below, var-newest}
 use Rattle.text_lookup.specs.declared.Asked.{Asked}
 use Rattle.text_lookup.specs.declared.Source.{Source}
 use Rattle.text_lookup.specs.declared.Source.the-variants.{Inputs, InputLines, Outputs, Value, Text, Unset}
-use Rattle.text_lookup.specs.Scope.{Scope, InScope, meaning, fromFile, fromRule, fromBlock, There, LooksUp}
+use Rattle.text_lookup.specs.Scope.{StepScope, InScope, meaning, fromFile, fromRule, fromBlock, There, LooksUp}
 
 -- f is the newest entry of a name for an owner
 module _ (o : ℕ) (n : List ℕ) (a : Asked) {texts bind : List ℕ} {f : FoundEntry} (q : (log : List Logged) → HoldsBindings log texts bind (a .entries) → f ≡ newest o n log) where
@@ -48,7 +48,7 @@ module _ (n : List ℕ) {texts bind : List ℕ} {a : Asked} {f : FoundEntry} whe
         record { entry = record { log = w .log; count = a .entries; held = w .scope .bound; below = m }; low = m }
 
     -- what the file's variables give
-    seen-value : {log : List Logged} {rd : Reading} {s : Step} → Scope texts bind a log rd s → varFrom (rd .vars .scopes) (s .scope) n ≡ orEmpty (valueOf f log)
+    seen-value : {log : List Logged} {rd : Reading} {s : Step} → StepScope texts bind a log rd s → varFrom (rd .vars .scopes) (s .scope) n ≡ orEmpty (valueOf f log)
     seen-value {log} {rd} {s} c =
         ap (λ (v : Variables). varFrom (v .scopes) (s .scope) n) (c .vars)
         ∙ ap (λ (k : ℕ). varFrom (variablesOf log .scopes) k n) (c .stands)

@@ -14,7 +14,7 @@ use Rattle.text_references.specs.Begins.{ReferencesReady}
 use Rattle.text_lookup.specs.declared.Asked.{Asked}
 use Rattle.text_lookup.specs.declared.Source.{Source}
 use Rattle.text_lookup.specs.declared.Source.the-variants.{Text}
-use Rattle.text_lookup.specs.Scope.{Scope, InScope, meaning, fromBlock, There, LooksUp}
+use Rattle.text_lookup.specs.Scope.{StepScope, InScope, meaning, fromBlock, There, LooksUp}
 
 module _ (rd : Reading) (s : Step) (n : List ℕ) where
   rule-text : (o b k : Option (List ℕ)) (raw : List ℕ) → (orElse o asIs λ _. fromBlock n rd s) ≡ ofRule raw → b ≡ boundTo n (s .block) → k ≡ boundTo n (keysOf (s .rule) (rd .rules)) → k ≡ some raw
@@ -33,11 +33,11 @@ abbrev pub ValueOf : List ℕ → List ℕ → ℕ → List ℕ → Type 0
 ValueOf texts bind k raw = (log : List Logged) (count : ℕ) → HoldsBindings log texts bind count → k < count → raw ≡ entryAt k log .value
 
 module _ {texts bind : List ℕ} {a : Asked} {k : ℕ} (h : There texts bind a k) {raw : List ℕ} (v : ValueOf texts bind k raw) where
-  is-raw : {log : List Logged} {rd : Reading} {s : Step} → Scope texts bind a log rd s → raw ≡ entryAt k log .value
+  is-raw : {log : List Logged} {rd : Reading} {s : Step} → StepScope texts bind a log rd s → raw ≡ entryAt k log .value
   is-raw {log} {rd} {s} c = v log (a .entries) (c .bound) (h .low)
 
 module _ (n : List ℕ) {texts bind : List ℕ} {a : Asked} {r : Source} (l : LooksUp texts bind a (λ rd s. lookup rd s n) r) where
-  module _ {k : ℕ} {raw : List ℕ} (v : ValueOf texts bind k raw) {log : List Logged} {rd : Reading} {s : Step} (c : Scope texts bind a log rd s) where
+  module _ {k : ℕ} {raw : List ℕ} (v : ValueOf texts bind k raw) {log : List Logged} {rd : Reading} {s : Step} (c : StepScope texts bind a log rd s) where
     pub stands-text : r ≡ Text k → lookup rd s n ≡ ofRule raw
     unfolding meaning
     stands-text e = l .means log rd s c ∙ rw (e, is-raw (l .text k e) v c)

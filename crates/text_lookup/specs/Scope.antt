@@ -16,7 +16,7 @@ use Rattle.text_lookup.specs.declared.Source.{Source}
 use Rattle.text_lookup.specs.declared.Source.the-variants.{Inputs, InputLines, Outputs, Value, Text, Unset}
 
 -- The table of bindings holds the scope of this step of a reading.
-pub record Scope (texts bind : List ℕ) (a : Asked) (log : List Logged) (rd : Reading) (s : Step) : Type 0 where
+pub record StepScope (texts bind : List ℕ) (a : Asked) (log : List Logged) (rd : Reading) (s : Step) : Type 0 where
   pub bound : HoldsBindings log texts bind (a .entries)
   pub vars : rd .vars ≡ variablesOf log
   pub stands : s .scope ≡ a .scope
@@ -32,7 +32,7 @@ pub record InScope (texts bind : List ℕ) (a : Asked) : Type 0 where
   pub log : List Logged
   pub reading : Reading
   pub step : Step
-  pub scope : Scope texts bind a log reading step
+  pub scope : StepScope texts bind a log reading step
 
 -- what an answer means
 unfoldable pub meaning : Reading → Step → List Logged → Source → Found
@@ -61,6 +61,6 @@ pub record There (texts bind : List ℕ) (a : Asked) (k : ℕ) : Type 0 where
 
 -- The answer means what is found, whatever scope is held, and its entry is there.
 pub record LooksUp (texts bind : List ℕ) (a : Asked) (found : Reading → Step → Found) (r : Source) : Type 0 where
-  pub means : (log : List Logged) (rd : Reading) (s : Step) → Scope texts bind a log rd s → found rd s ≡ meaning rd s log r
+  pub means : (log : List Logged) (rd : Reading) (s : Step) → StepScope texts bind a log rd s → found rd s ≡ meaning rd s log r
   pub value : (k : ℕ) → r ≡ Value k → There texts bind a k
   pub text : (k : ℕ) → r ≡ Text k → There texts bind a k

@@ -16,7 +16,7 @@ use Rattle.hold_keys.proofs.Numbers.{key-most, key-at, no-key}
 use Rattle.hold_bindings.specs.Log.{Logged}
 use Rattle.text_lookup.specs.declared.Asked.{Asked}
 use Rattle.spec.specs.Sound.{SoundKeys}
-use Rattle.text_lookup.specs.Scope.{Scope}
+use Rattle.text_lookup.specs.Scope.{StepScope}
 use Rattle.text_lookup.proofs.Standing.{found-key}
 use Rattle.text_recursion.specs.Depth.{leadsTo, goesDeep, marks, Deeper}
 use Rattle.text_recursion.proofs.Circles.{leads-back-deep}
@@ -33,7 +33,7 @@ no-text rd s p n (ofRule raw) e k h = differ (k n raw (found-key rd s n raw e) .
 
 -- x is the mark of this name
 abbrev Leads : (texts bind : List ℕ) (a : Asked) (d : List Bool) (x : Bool) (n : List ℕ) → Type 0
-Leads texts bind a d x n = (log : List Logged) (rd : Reading) (s : Step) → Scope texts bind a log rd s → x ≡ leadsTo rd s (marks d) n
+Leads texts bind a d x n = (log : List Logged) (rd : Reading) (s : Step) → StepScope texts bind a log rd s → x ≡ leadsTo rd s (marks d) n
 
 pub record Marking (texts bind : List ℕ) (a : Asked) (d r : List Bool) (k : ℕ) : Type 0 where
   pub low : k ≤ ruleKeys
@@ -81,7 +81,7 @@ module _ {texts bind : List ℕ} {a : Asked} {d r : List Bool} {k : ℕ} (m : Ma
 
 pub record Level (texts bind : List ℕ) (a : Asked) (k : ℕ) (d : List Bool) : Type 0 where
   pub low : k ≤ deep
-  pub marked : (log : List Logged) (rd : Reading) (s : Step) → Scope texts bind a log rd s → goesDeep rd s k ≡ marks d
+  pub marked : (log : List Logged) (rd : Reading) (s : Step) → StepScope texts bind a log rd s → goesDeep rd s k ≡ marks d
 
 pub level-begin : (texts bind : List ℕ) (a : Asked) → Level texts bind a 0 (replicate (suc ruleKeys) true)
 unfolding goesDeep marks
@@ -102,12 +102,12 @@ module _ {texts bind : List ℕ} {a : Asked} {k : ℕ} {d : List Bool} (l : Leve
             (λ n. ap (λ (j : ℕ). goesDeep rd s j n) (add-one k) ∙ ap (λ (p : List ℕ → Bool). leadsTo rd s p n) (l .marked log rd s c) ∙ x .marked log rd s c n);
       }
 
-  pub level-end : deep ≤ k → {log : List Logged} {rd : Reading} {s : Step} → Scope texts bind a log rd s → (n : List ℕ) → marks d n ≡ leadsBack rd s deep [] n
+  pub level-end : deep ≤ k → {log : List Logged} {rd : Reading} {s : Step} → StepScope texts bind a log rd s → (n : List ℕ) → marks d n ≡ leadsBack rd s deep [] n
   level-end h {log} {rd} {s} c n =
       let z : k ≡ deep = omega (arith, l .low) in
       sym (leads-back-deep rd s n ∙ ap (λ (j : ℕ). goesDeep rd s j n) (sym z) ∙ ap (λ (p : List ℕ → Bool). p n) (l .marked log rd s c))
 
   -- a name that is not marked goes no deeper
-  pub level-out : {log : List Logged} {rd : Reading} {s : Step} → Scope texts bind a log rd s → (n : List ℕ) → marks d n ≡ false → false ≡ leadsBack rd s deep [] n
+  pub level-out : {log : List Logged} {rd : Reading} {s : Step} → StepScope texts bind a log rd s → (n : List ℕ) → marks d n ≡ false → false ≡ leadsBack rd s deep [] n
   level-out {log} {rd} {s} c n e =
       sym (leads-back-deep rd s n ∙ no-deeper rd s k deep n (ap (λ (p : List ℕ → Bool). p n) (l .marked log rd s c) ∙ e) (l .low))

@@ -16,7 +16,7 @@ use Rattle.text_references.proofs.Turns.{refs-bytes, refs-name, ready-on}
 use Rattle.text_lookup.specs.declared.Asked.{Asked}
 use Rattle.text_lookup.specs.declared.Source.{Source}
 use Rattle.text_lookup.specs.declared.Source.the-variants.{Inputs, InputLines, Outputs, Value, Text, Unset}
-use Rattle.text_lookup.specs.Scope.{Scope, meaning, LooksUp}
+use Rattle.text_lookup.specs.Scope.{StepScope, meaning, LooksUp}
 use Rattle.text_lookup.proofs.Standing.{ValueOf, stands-text}
 use Rattle.text_recursion.specs.Depth.{leadsTo}
 
@@ -59,11 +59,11 @@ module _ {texts bind : List ℕ} {a : Asked} (n : List ℕ) {r : Source} (l : Lo
   nowhere rd s e = sym (rw e)
 
   pub leads-text : {k : ℕ} {raw : List ℕ} {x : Bool} → r ≡ Text k → ValueOf texts bind k raw → x ≡ any p (refs raw)
-      → (log : List Logged) (rd : Reading) (s : Step) → Scope texts bind a log rd s → x ≡ leadsTo rd s p n
+      → (log : List Logged) (rd : Reading) (s : Step) → StepScope texts bind a log rd s → x ≡ leadsTo rd s p n
   unfolding leadsTo
   leads-text e v q log rd s c = q ∙ sym (rw (stands-text n l v c e))
 
-  no-text : {log : List Logged} {rd : Reading} {s : Step} → Scope texts bind a log rd s → (x : Source) → r ≡ x → ((k : ℕ) → r ≡ Text k → ⊥) → false ≡ leadsTo rd s p n
+  no-text : {log : List Logged} {rd : Reading} {s : Step} → StepScope texts bind a log rd s → (x : Source) → r ≡ x → ((k : ℕ) → r ≡ Text k → ⊥) → false ≡ leadsTo rd s p n
   unfolding meaning
   no-text {log} {rd} {s} c Inputs e g = nowhere rd s (l .means log rd s c ∙ ap (meaning rd s log) e)
   no-text {log} {rd} {s} c InputLines e g = nowhere rd s (l .means log rd s c ∙ ap (meaning rd s log) e)
@@ -73,5 +73,5 @@ module _ {texts bind : List ℕ} {a : Asked} (n : List ℕ) {r : Source} (l : Lo
   no-text {log} {rd} {s} c Unset e g = nowhere rd s (l .means log rd s c ∙ ap (meaning rd s log) e)
 
   -- a name that stands for no rule's text leads nowhere
-  pub leads-not : {x : Source} → r ≡ x → ((k : ℕ) → x ≡ Text k → ⊥) → (log : List Logged) (rd : Reading) (s : Step) → Scope texts bind a log rd s → false ≡ leadsTo rd s p n
+  pub leads-not : {x : Source} → r ≡ x → ((k : ℕ) → x ≡ Text k → ⊥) → (log : List Logged) (rd : Reading) (s : Step) → StepScope texts bind a log rd s → false ≡ leadsTo rd s p n
   leads-not e f log rd s c = no-text c r refl (λ k d. f k (sym e ∙ d))

@@ -12,7 +12,7 @@ use Rattle.spec.specs.Text.{keyNumber, onFound, lookupBy, lookup}
 use Rattle.scan_classes.specs.Table.{classes}
 use Rattle.hold_bindings.specs.Log.{Logged}
 use Rattle.text_lookup.specs.declared.Asked.{Asked}
-use Rattle.text_lookup.specs.Scope.{Scope, InScope}
+use Rattle.text_lookup.specs.Scope.{StepScope, InScope}
 
 -- the name stands for a rule's text, and that text refers to a name of p
 unfoldable pub leadsTo : Reading → Step → (List ℕ → Bool) → List ℕ → Bool
@@ -36,4 +36,4 @@ pub record RecursionAsks (t texts bind : List ℕ) (a : Asked) : Type 0 where
 
 -- Marks of the names that lead to names marked by d.
 pub record Deeper (texts bind : List ℕ) (a : Asked) (d r : List Bool) : Type 0 where
-  pub marked : (log : List Logged) (rd : Reading) (s : Step) → Scope texts bind a log rd s → (n : List ℕ) → leadsTo rd s (marks d) n ≡ marks r n
+  pub marked : (log : List Logged) (rd : Reading) (s : Step) → StepScope texts bind a log rd s → (n : List ℕ) → leadsTo rd s (marks d) n ≡ marks r n

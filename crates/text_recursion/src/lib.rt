@@ -7,7 +7,7 @@ ghost use Rattle.spec.specs.Reading.{Step, Reading};
 ghost use Rattle.spec.specs.Text.{keyName, leadsBack, deep};
 ghost use Rattle.hold_bindings.specs.Log.{Logged};
 ghost use Rattle.text_references.specs.Begins.{ReferencesReady};
-ghost use Rattle.text_lookup.specs.Scope.{Scope};
+ghost use Rattle.text_lookup.specs.Scope.{StepScope};
 ghost use Rattle.text_recursion.specs.Depth.{marks, leadsTo, RecursionAsks, Deeper};
 use hold_bindings::value;
 use hold_keys::RULE_KEYS;
@@ -60,7 +60,7 @@ fn refers(t: &[u8; 256], raw: &[u8], d: [bool; MARKS]) -> bool
 // Whether a name stands for a rule's text that refers to a marked name.
 fn leads(t: &[u8; 256], texts: &[u8], bind: &[u32], a: Asked, name: &[u8], d: [bool; MARKS]) -> bool
     requires { ⌜ RecursionAsks (now t) (now texts) (now bind) a ⌝ }
-    ensures { λ r. ⌜ ((log : List Logged) (rd : Reading) (s : Step) → Scope (now (texts .entry)) (now (bind .entry)) a log rd s → r ≡ leadsTo rd s (marks d) (now (name .entry))) ⌝ }
+    ensures { λ r. ⌜ ((log : List Logged) (rd : Reading) (s : Step) → StepScope (now (texts .entry)) (now (bind .entry)) a log rd s → r ≡ leadsTo rd s (marks d) (now (name .entry))) ⌝ }
 {
     match lookup(texts, bind, a, name) {
         Source::Text(k) => refers(t, value(texts, bind, k), d),
@@ -89,7 +89,7 @@ fn deeper(t: &[u8; 256], texts: &[u8], bind: &[u32], a: Asked, d: [bool; MARKS])
 
 pub fn leads_back(t: &[u8; 256], texts: &[u8], bind: &[u32], a: Asked, key: Key) -> bool
     requires { ⌜ RecursionAsks (now t) (now texts) (now bind) a ⌝ }
-    ensures { λ r. ⌜ ((log : List Logged) (rd : Reading) (s : Step) → Scope (now (texts .entry)) (now (bind .entry)) a log rd s → r ≡ leadsBack rd s deep [] (keyName key)) ⌝ }
+    ensures { λ r. ⌜ ((log : List Logged) (rd : Reading) (s : Step) → StepScope (now (texts .entry)) (now (bind .entry)) a log rd s → r ≡ leadsBack rd s deep [] (keyName key)) ⌝ }
 {
     let n = number_of(key);
     let mut d = [true; MARKS];

@@ -27,7 +27,7 @@ use Rattle.hold_bindings.specs.Log.{Logged}
 use Rattle.hold_reading.specs.declared.Counts.{Counts}
 use Rattle.hold_reading.specs.Held.{HoldsBound, Graphed, HoldsReading}
 use Rattle.text_lookup.specs.declared.Asked.{Asked}
-use Rattle.text_lookup.specs.Scope.{Scope}
+use Rattle.text_lookup.specs.Scope.{StepScope}
 use Rattle.text_buffer.specs.Puts.{PutsText}
 use Rattle.text_expansion.specs.Here.{Here}
 use Rattle.text_step.specs.Steps.{Picks, ReadingHeld}
@@ -73,7 +73,7 @@ meets-text {before} {after} {exit} {s} {n} p h e =
 -- ---- one step
 
 module _ {t : List ℕ} {bs : Buffers} {before : List ℕ} {a : Asked} (key : Key) (w : StepAsk t bs a before) {b : Bool}
-    (q : (log : List Logged) (rd : Reading) (s : Step) → Scope (bs .texts) (bs .bind) a log rd s → b ≡ leadsBack rd s deep [] (keyName key)) where
+    (q : (log : List Logged) (rd : Reading) (s : Step) → StepScope (bs .texts) (bs .bind) a log rd s → b ≡ leadsBack rd s deep [] (keyName key)) where
   pub in-endless : {exit : List ℕ} → b ≡ true → exit ≡ zeroed before 0 (length before) → TextAt bs a key before exit (Refused (EndlessText (a .step)))
   unfolding nameOutcome nameRefusal
   in-endless {exit} e z = record { meets = λ log rd h. rw (sym (q log rd (stepAt (rd .steps) (a .step)) (h .scope)) ∙ e) (meets-endless (a .step) before before refl z) }

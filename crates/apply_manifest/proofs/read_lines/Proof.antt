@@ -7,11 +7,11 @@ use Rattle.apply_manifest.proofs.read_lines.Tie as tie
 clear-requires : tie.Need-clear-requires
 clear-requires c κs = search needs
 
-begin-requires : tie.Need-begin-requires
-begin-requires c κs = c .before .before .before .before .before .before .before .before .before .before .before .before .pre .roomy .bind-room
+begin-bindings-requires : tie.Need-begin-bindings-requires
+begin-bindings-requires c κs = c .before .before .before .before .before .before .before .before .before .before .before .before .pre .roomy .bind-room
 
 read-from-top-requires : tie.Need-read-from-top-requires
-read-from-top-requires c κs = top-ask (c .before .before .before .before .before .before .before .before .before .before .before .before .before .before .before .before .before .before .before .before .before .pre) (c .before .before .before .before .before .before .before .before .before .before .before .before .clear .ensures) (c .before .before .before .before .before .before .before .before .begin .ensures)
+read-from-top-requires c κs = top-ask (c .before .before .before .before .before .before .before .before .before .before .before .before .before .before .before .before .before .before .before .before .before .pre) (c .before .before .before .before .before .before .before .before .before .before .before .before .clear .ensures) (c .before .before .before .before .before .before .before .before .begin-bindings .ensures)
 
 same-length : tie.Need-same-length
 same-length c = search needs
@@ -39,7 +39,7 @@ read-lines-spec =
     tie.close
     (tie.spec
     clear-requires
-    begin-requires
+    begin-bindings-requires
     read-from-top-requires
     same-length
     same-length-2

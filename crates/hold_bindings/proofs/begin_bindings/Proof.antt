@@ -1,9 +1,9 @@
--- `hold_bindings::begin` meets its contract.
+-- `hold_bindings::begin_bindings` meets its contract.
 use native.Mathlib.Omega.{arith}
 use borrow.Author.Needs.{needs}
 use lib.ListN.{length-set}
-use Rattle.hold_bindings.proofs.begin.Statement.{statement}
-use Rattle.hold_bindings.proofs.begin.Tie as tie
+use Rattle.hold_bindings.proofs.begin_bindings.Statement.{statement}
+use Rattle.hold_bindings.proofs.begin_bindings.Tie as tie
 
 slice-write-bind : tie.Need-slice-write-bind
 slice-write-bind c = search needs
@@ -20,6 +20,6 @@ same-length c = search needs
 returns : tie.Need-returns
 returns c = search needs
 
-pub begin-spec : {M : Type 1} → statement M
-begin-spec =
+pub begin-bindings-spec : {M : Type 1} → statement M
+begin-bindings-spec =
     tie.close (tie.spec slice-write-bind slice-write-bind-2 slice-write-bind-3 same-length returns)
