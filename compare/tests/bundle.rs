@@ -103,11 +103,28 @@ fn agree(bytes: &[u8], rng: &mut Rng, seed: u64) -> [bool; 2] {
         assert_eq!(bundle::find(bytes, &path), Some(read.find(&path)), "seed {seed}: {path:?}");
     }
     for (k, (_, text)) in read.records.iter().enumerate().take(8) {
-        assert!(bundle::has_text(bytes, k, text), "seed {seed}: text {k}");
+        assert_eq!(bundle::has_text(bytes, k, text), sound[0], "seed {seed}: text {k}");
         assert!(!bundle::has_text(bytes, k, &[text, &b"x"[..]].concat()), "seed {seed}: text {k}");
     }
     assert!(!bundle::has_text(bytes, read.records.len(), b""), "seed {seed}");
+    if sound[0] {
+        places_agree(bytes, &read, seed);
+    }
     sound
+}
+
+/// Every place of the texts, each text's end among them, and the one past them all.
+fn places_agree(bytes: &[u8], read: &Bundle, seed: u64) {
+    let mut place = 0;
+    for (k, (_, text)) in read.records.iter().enumerate().take(8) {
+        assert_eq!(bundle::base(bytes, k), read.base(k), "seed {seed}: text {k}");
+        for at in place..=place + text.len() {
+            assert_eq!(bundle::text_of(bytes, at), Some(Some(k)), "seed {seed}: place {at}");
+        }
+        place += text.len() + 1;
+    }
+    let past = read.base(read.records.len());
+    assert_eq!(bundle::text_of(bytes, past), Some(None), "seed {seed}: place {past}");
 }
 
 #[test]
@@ -145,5 +162,27 @@ fn limits_agree() {
         let name = vec![b'n'; length];
         let sound = agree(&write(&[(&name, b"text\n")]), &mut rng, length as u64);
         assert_eq!(sound[0], (1..=255).contains(&length), "{length}");
+    }
+}
+
+/// One record written, with room to spare, with none, and with one byte too few.
+#[test]
+fn wraps_agree() {
+    for seed in 0..2_000 {
+        let mut rng = Rng::new(seed);
+        let name = name(&mut rng);
+        let text: Vec<u8> = (0..rng.below(300)).map(|_| rng.number() as u8).collect();
+        let bytes = write(&[(&name, &text)]);
+        for room in [bytes.len() + 3, bytes.len(), bytes.len() - 1] {
+            let mut out = vec![7; room];
+            let length = bundle::wrap(&name, &text, &mut out);
+            if room < bytes.len() {
+                assert_eq!((length, out), (0, vec![7; room]), "seed {seed}");
+                continue;
+            }
+            assert_eq!(length, bytes.len(), "seed {seed}");
+            assert_eq!(out[..length], bytes, "seed {seed}");
+            assert!(out[length..].iter().all(|&byte| byte == 7), "seed {seed}");
+        }
     }
 }

@@ -31,15 +31,12 @@ impl<'a> Bundle<'a> {
             rest = behind;
             Some(piece)
         };
-        let names: Option<Vec<&[u8]>> =
-            table.chunks_exact(16).map(|row| cut(row, 4)).collect();
-        let texts: Option<Vec<&[u8]>> =
-            table.chunks_exact(16).map(|row| cut(row, 12)).collect();
+        let names: Option<Vec<&[u8]>> = table.chunks_exact(16).map(|row| cut(row, 4)).collect();
+        let texts: Option<Vec<&[u8]>> = table.chunks_exact(16).map(|row| cut(row, 12)).collect();
         let records: Vec<(&[u8], &[u8])> = names?.into_iter().zip(texts?).collect();
         let mut seen = HashSet::new();
-        let named = records
-            .iter()
-            .all(|(name, _)| (1..=PATH).contains(&name.len()) && seen.insert(*name));
+        let named =
+            records.iter().all(|(name, _)| (1..=PATH).contains(&name.len()) && seen.insert(*name));
         (named && write(&records) == bytes).then_some(Bundle { records })
     }
 

@@ -1,29 +1,27 @@
 -- Header, names and texts in a row: what each walk says of the whole.
 use Prim.Native.Nat.{ℕ, _+_, _-_, _*_, _≤_, _<_}
-use mathlib.Core.Bool.{Bool, true, false, not}
+use mathlib.Core.Bool.{Bool, true, false}
 use mathlib.Core.List.{List}
 use mathlib.Core.Option.{Option, none, some}
 use mathlib.Core.Path.{_≡_, refl, sym, _∙_, ap}
 use native.Mathlib.Omega.{arith}
 use borrow.Author.Tests.{le-leb}
 use lib.Dec.{eqb}
-use lib.ListN.{length, drop, take}
+use lib.ListN.{length, drop}
 use Rattle.lists.specs.Tests.{split, differ}
 use Rattle.lists.specs.Lent.{Spare}
 use Rattle.spec.specs.Basics.{orElse}
 use Rattle.spec.specs.Limits.{maxPath}
-use Rattle.spec.specs.Statements.{twice}
 use Rattle.spec.specs.Card.{numberAt, soundLayout, cardNames}
-use Rattle.spec.specs.Bundle.{extentsOf, nameExtents, textExtents, extentsEnd, soundExtents, laidBundle, soundBundle, bundleNames}
+use Rattle.spec.specs.Bundle.{extentsOf, nameExtents, textExtents, endOf, soundExtents, laidBundle, soundBundle}
 use Rattle.scan_card.proofs.Rules.{Layout, layout}
 use Rattle.hold_names.proofs.Halving.{clash}
 use Rattle.scan_bundle.specs.declared.Run.{Run}
 use Rattle.scan_bundle.specs.declared.Run.the-variants.{End, Broken}
-use Rattle.scan_bundle.specs.declared.BundleAnswer.{BundleAnswer}
 use Rattle.scan_bundle.specs.declared.BundleAnswer.the-variants.{Sound, Malformed}
-use Rattle.scan_bundle.specs.Bundles.{LaidBundle, RunAsks, runOf, SortsNames, BundleIndexed, Indexes, bundleAnswer}
+use Rattle.scan_bundle.specs.Bundles.{RunAsks, runOf, SortsNames, Indexes, bundleAnswer}
 use Rattle.scan_bundle.proofs.Extents.{length-extents, names-end}
-use Rattle.scan_bundle.proofs.Lying.{length-body, laid-layout, laid-few}
+use Rattle.scan_bundle.proofs.Lying.{length-body, laid-few}
 
 -- ---- what a walk says
 

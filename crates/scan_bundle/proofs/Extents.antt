@@ -2,7 +2,7 @@
 use Prim.Native.Nat.{ℕ, zero, suc, _+_, _*_, _≤_, _<_}
 use mathlib.Core.Bool.{Bool, true, false, _&&_}
 use mathlib.Core.List.{List, [], _∷_}
-use mathlib.Core.Option.{Option, none, some, Option·none-ne-some, Option·some-injective}
+use mathlib.Core.Option.{none, some, Option·none-ne-some, Option·some-injective}
 use mathlib.Core.Path.{_≡_, refl, sym, _∙_, ap}
 use native.Mathlib.Nat.{not-suc-le-zero, le-of-suc-le-suc}
 use native.Mathlib.Omega.{arith}
@@ -10,7 +10,7 @@ use borrow.Author.Tests.{le-leb, eq-eqb, leb-true, eqb-true}
 use lib.Dec.{eqb, leb}
 use lib.ListN.{length, drop, getD}
 use lib.Seq.{drop-drop}
-use Rattle.lists.specs.Tests.{split, differ, and-left, and-right}
+use Rattle.lists.specs.Tests.{split, and-left, and-right}
 use Rattle.spec.specs.Limits.{maxPath}
 use Rattle.spec.specs.Bundle.{Extent, extentAt, extentsOf, extentsEnd}
 

@@ -1,9 +1,9 @@
 -- What a caller learns from each answer.
-use Prim.Native.Nat.{ℕ}
+use Prim.Native.Nat.{ℕ, _≤_}
 use mathlib.Core.Bool.{true, false}
 use mathlib.Core.List.{List}
-use mathlib.Core.Path.{_≡_, refl, sym, _∙_, subst}
-use Rattle.lists.specs.Tests.{split, differ}
+use mathlib.Core.Path.{_≡_, sym, _∙_, subst}
+use Rattle.lists.specs.Tests.{split}
 use Rattle.spec.specs.Basics.{among}
 use Rattle.spec.specs.Reading.{numberOf}
 use Rattle.spec.specs.Card.{numberAt}
@@ -13,7 +13,15 @@ use Rattle.scan_bundle.specs.declared.BundleAnswer.{BundleAnswer}
 use Rattle.scan_bundle.specs.declared.BundleAnswer.the-variants.{Sound, Malformed}
 use Rattle.scan_bundle.specs.declared.FoundRecord.{FoundRecord}
 use Rattle.scan_bundle.specs.declared.FoundRecord.the-variants.{At, Missing}
-use Rattle.scan_bundle.specs.Bundles.{BundleIndexed, Indexes, bundleAnswer, foundRecord}
+use Rattle.scan_bundle.specs.Bundles.{Laid, Indexed, Indexes, bundleAnswer, foundRecord}
+use Rattle.scan_bundle.proofs.Lying.{laid-few}
+use Rattle.scan_bundle.proofs.Checking.{sound-laid}
+
+pub sound-is-laid : (least most : ℕ) (s : List ℕ) → soundBundle least most s ≡ true → Laid s
+sound-is-laid least most s h = record { least = least; most = most; laid = sound-laid least most s h }
+
+pub sound-few : (least most : ℕ) (s : List ℕ) → soundBundle least most s ≡ true → numberAt 0 4 s ≤ most
+sound-few least most s h = laid-few least most s (sound-laid least most s h)
 
 -- a sound bundle, with its records sorted
 pub record Opened (s : List ℕ) (least most : ℕ) (order : List ℕ) (n : ℕ) : Type 0 where

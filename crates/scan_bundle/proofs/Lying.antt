@@ -1,22 +1,20 @@
 -- Where names and texts lie in the bytes of a bundle that is laid out.
 use Prim.Native.Nat.{ℕ, zero, suc, _+_, _-_, _*_, _≤_, _<_}
-use mathlib.Core.Bool.{Bool, true, false, not, _&&_}
+use mathlib.Core.Bool.{Bool, true, false, _&&_}
 use mathlib.Core.List.{List, [], _∷_, map}
 use mathlib.Core.Option.{Option, none, some}
-use mathlib.Core.Path.{_≡_, refl, sym, _∙_, ap}
+use mathlib.Core.Path.{_≡_, refl, _∙_, ap}
 use native.Mathlib.Nat.{not-suc-le-zero, le-of-suc-le-suc}
 use native.Mathlib.Omega.{arith}
-use borrow.Author.Tests.{le-leb, eq-eqb, leb-true, eqb-true}
-use lib.Dec.{eqb, leb}
-use lib.ListN.{length, take, drop, getD, length-take, length-drop, length-map}
-use lib.Seq.{length-take-le, drop-drop}
+use borrow.Author.Tests.{leb-true, eqb-true}
+use lib.Dec.{leb}
+use lib.ListN.{length, drop, getD, length-drop, length-map}
+use lib.Seq.{drop-drop}
 use Rattle.lists.specs.Tests.{split, differ, and-left, and-right}
 use Rattle.lists.specs.Parts.{part}
-use Rattle.spec.specs.Basics.{orElse}
 use Rattle.spec.specs.Limits.{maxPath}
-use Rattle.spec.specs.Statements.{twice}
 use Rattle.spec.specs.Card.{numberAt, soundLayout, cardNames}
-use Rattle.spec.specs.Bundle.{Extent, extentAt, extentsOf, nameExtents, textExtents, lyingAt, bundleNames, bundleTexts, extentsEnd, soundExtents, laidBundle, soundBundle}
+use Rattle.spec.specs.Bundle.{extentAt, nameExtents, textExtents, lyingAt, bundleNames, bundleTexts, endOf, soundExtents, laidBundle}
 use Rattle.scan_card.proofs.Rules.{Layout, layout}
 use Rattle.scan_bundle.specs.Bundles.{LaidBundle, LiesAt}
 use Rattle.scan_bundle.proofs.Extents.{noExtent, extent-is, length-extents, end-forward, end-within}

@@ -7,15 +7,14 @@ use native.Mathlib.Nat.{not-suc-le-zero, le-of-suc-le-suc}
 use native.Mathlib.Numerals.{add-one}
 use native.Mathlib.Omega.{arith}
 use borrow.Author.Tests.{le-leb, lt-leb, lt-ltb, le-ltb}
-use lib.ListN.{length, take, drop, getD, length-drop, drop-of-length-le}
+use lib.ListN.{length, drop, getD, length-drop, drop-of-length-le}
 use lib.Seq.{length-take-le, drop-cons}
 use Rattle.spec.specs.Answers.{Place, plain, inText, nextText, spot, baseOf}
 use Rattle.spec.specs.Card.{numberAt, cardNames}
-use Rattle.spec.specs.Bundle.{Extent, extentAt, textExtents, lyingAt, bundleTexts, extentsEnd}
-use Rattle.scan_bundle.specs.declared.Spot.{Spot}
-use Rattle.scan_bundle.specs.Bundles.{LaidBundle, recordPlaceOf}
+use Rattle.spec.specs.Bundle.{Extent, extentAt, textExtents, lyingAt, bundleTexts, endOf}
+use Rattle.scan_bundle.specs.Bundles.{Laid, placeOf}
 use Rattle.scan_bundle.proofs.Extents.{noExtent, step, end-forward}
-use Rattle.scan_bundle.proofs.Lying.{text-extent, text-at, length-text-extents, length-texts, length-body, laid-room, laid-ends, record-lies}
+use Rattle.scan_bundle.proofs.Lying.{text-extent, text-at, length-text-extents, length-texts, length-body, laid-ends, record-lies}
 
 -- ---- where a text begins
 

@@ -1,17 +1,16 @@
 -- The walk over extents: a turn of it, and its ends.
 use Prim.Native.Nat.{ℕ, suc, _+_, _-_, _*_, _≤_, _<_}
-use mathlib.Core.Bool.{true, false}
-use mathlib.Core.List.{List, [], _∷_}
-use mathlib.Core.Option.{Option, none, some}
-use mathlib.Core.Path.{_≡_, refl, sym, _∙_, ap}
+use mathlib.Core.List.{List, _∷_}
+use mathlib.Core.Option.{Option}
+use mathlib.Core.Path.{_≡_, sym, _∙_, ap}
 use native.Mathlib.Omega.{arith}
-use lib.ListN.{length, drop}
+use lib.ListN.{drop}
 use Rattle.spec.specs.Basics.{orElse}
 use Rattle.spec.specs.Bundle.{Extent, extentAt, extentsOf, extentsEnd}
 use Rattle.scan_card.proofs.Rules.{refuted}
 use Rattle.scan_bundle.specs.declared.Run.{Run}
 use Rattle.scan_bundle.specs.declared.Run.the-variants.{End, Broken}
-use Rattle.scan_bundle.specs.Bundles.{RunAsks, runOf}
+use Rattle.scan_bundle.specs.Bundles.{runOf}
 use Rattle.scan_bundle.proofs.Extents.{extents-cons, Fits, fitting, fits, fit, end-none, end-on, end-off}
 
 abbrev answered : Option ℕ → Run

@@ -6,26 +6,23 @@ use mathlib.Core.Path.{_≡_, refl, sym, _∙_, ap, subst}
 use native.Mathlib.Decide.{decLt}
 use native.Mathlib.Nat.{not-suc-le-zero, le-of-suc-le-suc}
 use native.Mathlib.Omega.{arith}
-use lib.ListN.{length, take, drop, getD, length-map}
+use lib.ListN.{length, take, getD, length-map}
 use lib.Seq.{length-take-le}
 use Rattle.lists.specs.Tests.{split, differ, or-false}
-use Rattle.lists.specs.Bytes.{lessBytes, less-ne}
-use Rattle.lists.specs.Lent.{Spare}
+use Rattle.lists.specs.Bytes.{less-ne}
 use Rattle.lists.specs.Order.{orderBytes, order-less, order-greater, order-equal}
 use Rattle.lists.specs.declared.Order.{Order}
 use Rattle.lists.specs.declared.Order.the-variants.{Less, Equal, Greater}
 use Rattle.arena.specs.Inserted.{inserted, Shifted}
-use Rattle.arena.specs.Rising.{RisingPaths, PathBetween}
+use Rattle.arena.specs.Rising.{PathBetween}
 use Rattle.arena.proofs.Inserting.{length-inserted, each-inserted, has-inserted, keeps-inserted, map-inserted}
 use Rattle.arena.proofs.Rising.{between-all, between-lower, between-higher, between-none, inserted-rising}
 use Rattle.spec.specs.Basics.{among}
 use Rattle.spec.specs.Card.{numberAt}
 use Rattle.spec.specs.Bundle.{bundleNames}
-use Rattle.spec.specs.Reading.{numberOf}
 use Rattle.spec.specs.Statements.{twice}
 use Rattle.hold_names.proofs.Buckets.{first-stands, among-nowhere, nowhere}
 use Rattle.hold_names.proofs.Halving.{clash}
-use Rattle.scan_bundle.specs.declared.FoundRecord.{FoundRecord}
 use Rattle.scan_bundle.specs.declared.FoundRecord.the-variants.{At, Missing}
 use Rattle.scan_bundle.specs.declared.RecordPlace.{RecordPlace}
 use Rattle.scan_bundle.specs.declared.RecordPlace.the-variants.{Taken, Free}

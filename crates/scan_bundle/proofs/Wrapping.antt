@@ -1,13 +1,12 @@
 -- Bytes written one part behind another from the front of a buffer, and the bundle of one record.
 use Prim.Native.Nat.{ℕ, suc, _+_, _/_, _%_, _≤_}
-use mathlib.Core.List.{List, [], _∷_, _++_, append-nil, append-assoc}
+use mathlib.Core.List.{List, [], _++_, append-nil}
 use mathlib.Core.Path.{_≡_, refl, sym, _∙_, ap, ap₂}
 use native.Mathlib.Omega.{arith}
 use lib.ListN.{length, take, drop, set, length-append, length-drop}
 use lib.Seq.{take-length, take-at, drop-at, drop-drop, paste, sets-eq}
 use Rattle.spec.specs.Card.{inBytes}
-use Rattle.spec.specs.Basics.{concat}
-use Rattle.spec.specs.Bundle.{bundled, recordsBytes, bodyOf, recordNames, recordTexts}
+use Rattle.spec.specs.Bundle.{bundled}
 use Rattle.scan_bundle.specs.Bundles.{oneRecord, headBytes, WrapsHead, Wraps}
 
 -- four stores one behind another

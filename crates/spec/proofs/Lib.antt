@@ -10,6 +10,7 @@ pub mod Marked
 pub mod WrongPlanners
 pub mod Answers
 pub mod Bundle
+pub mod BundleCases
 pub mod Manifests
 pub mod Outcomes
 pub mod Demands

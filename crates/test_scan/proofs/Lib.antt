@@ -1,3 +1,4 @@
 pub mod Numbers
 pub mod Adding
 pub mod Listing
+pub mod Bundling

@@ -2,7 +2,6 @@
 use mathlib.Core.Path.{sym, _∙_}
 use native.Mathlib.Omega.{arith}
 use Rattle.scan_bundle.proofs.Lying.{record-lies, text-at}
-use borrow.Author.Needs.{needs}
 use Rattle.scan_bundle.proofs.record_text.Statement.{statement}
 use Rattle.scan_bundle.proofs.record_text.Tie as tie
 

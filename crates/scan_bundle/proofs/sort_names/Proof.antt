@@ -1,8 +1,7 @@
 -- `scan_bundle::sort_names` meets its contract: the records so far are sorted, and each next one is put in.
 use Prim.Native.Nat.{_-_}
-use mathlib.Core.Path.{sym, _∙_}
+use mathlib.Core.Path.{sym}
 use native.Mathlib.Omega.{arith}
-use denote.Ref.{now}
 use lib.Seq.{length-take-le}
 use Rattle.scan_bundle.proofs.Sorting.{Sorting, sort-begin, sort-end, sort-twice, free-within, sort-more}
 use borrow.Author.Needs.{needs}

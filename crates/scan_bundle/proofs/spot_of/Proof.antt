@@ -1,6 +1,5 @@
 -- `scan_bundle::spot_of` meets its contract: what is left of the place lies as far in the texts that are left.
 use Prim.Native.Nat.{_-_}
-use mathlib.Core.Path.{sym}
 use native.Mathlib.Omega.{arith}
 use Rattle.scan_bundle.proofs.Lying.{laid-room}
 use Rattle.scan_bundle.proofs.Places.{Spotting, spot-begin, spot-past, spot-here, spot-on}

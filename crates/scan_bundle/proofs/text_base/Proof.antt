@@ -1,8 +1,7 @@
 -- `scan_bundle::text_base` meets its contract.
 use native.Mathlib.Omega.{arith}
 use Rattle.scan_bundle.proofs.Lying.{record-lies}
-use Rattle.scan_bundle.proofs.Places.{Based, based}
-use borrow.Author.Needs.{needs}
+use Rattle.scan_bundle.proofs.Places.{based}
 use Rattle.scan_bundle.proofs.text_base.Statement.{statement}
 use Rattle.scan_bundle.proofs.text_base.Tie as tie
 
