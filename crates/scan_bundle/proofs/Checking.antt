@@ -13,7 +13,7 @@ use Rattle.lists.specs.Lent.{Spare}
 use Rattle.spec.specs.Basics.{orElse}
 use Rattle.spec.specs.Limits.{maxPath}
 use Rattle.spec.specs.Card.{numberAt, soundLayout, cardNames}
-use Rattle.spec.specs.Bundle.{extentsOf, nameExtents, textExtents, endOf, soundExtents, laidBundle, soundBundle}
+use Rattle.spec.specs.Bundle.{extentsOf, nameExtents, textExtents, extentsEnd, soundExtents, laidBundle, soundBundle}
 use Rattle.scan_card.proofs.Rules.{Layout, layout}
 use Rattle.hold_names.proofs.Halving.{clash}
 use Rattle.scan_bundle.specs.declared.Run.{Run}

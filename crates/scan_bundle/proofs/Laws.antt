@@ -13,11 +13,11 @@ use Rattle.scan_bundle.specs.declared.BundleAnswer.{BundleAnswer}
 use Rattle.scan_bundle.specs.declared.BundleAnswer.the-variants.{Sound, Malformed}
 use Rattle.scan_bundle.specs.declared.FoundRecord.{FoundRecord}
 use Rattle.scan_bundle.specs.declared.FoundRecord.the-variants.{At, Missing}
-use Rattle.scan_bundle.specs.Bundles.{Laid, Indexed, Indexes, bundleAnswer, foundRecord}
+use Rattle.scan_bundle.specs.Bundles.{LaidBundle, BundleIndexed, Indexes, bundleAnswer, foundRecord}
 use Rattle.scan_bundle.proofs.Lying.{laid-few}
 use Rattle.scan_bundle.proofs.Checking.{sound-laid}
 
-pub sound-is-laid : (least most : ℕ) (s : List ℕ) → soundBundle least most s ≡ true → Laid s
+pub sound-is-laid : (least most : ℕ) (s : List ℕ) → soundBundle least most s ≡ true → LaidBundle s
 sound-is-laid least most s h = record { least = least; most = most; laid = sound-laid least most s h }
 
 pub sound-few : (least most : ℕ) (s : List ℕ) → soundBundle least most s ≡ true → numberAt 0 4 s ≤ most

@@ -14,7 +14,7 @@ use Rattle.lists.specs.Tests.{split, differ, and-left, and-right}
 use Rattle.lists.specs.Parts.{part}
 use Rattle.spec.specs.Limits.{maxPath}
 use Rattle.spec.specs.Card.{numberAt, soundLayout, cardNames}
-use Rattle.spec.specs.Bundle.{extentAt, nameExtents, textExtents, lyingAt, bundleNames, bundleTexts, endOf, soundExtents, laidBundle}
+use Rattle.spec.specs.Bundle.{extentAt, nameExtents, textExtents, lyingAt, bundleNames, bundleTexts, extentsEnd, soundExtents, laidBundle}
 use Rattle.scan_card.proofs.Rules.{Layout, layout}
 use Rattle.scan_bundle.specs.Bundles.{LaidBundle, LiesAt}
 use Rattle.scan_bundle.proofs.Extents.{noExtent, extent-is, length-extents, end-forward, end-within}

@@ -11,8 +11,8 @@ use lib.ListN.{length, drop, getD, length-drop, drop-of-length-le}
 use lib.Seq.{length-take-le, drop-cons}
 use Rattle.spec.specs.Answers.{Place, plain, inText, nextText, spot, baseOf}
 use Rattle.spec.specs.Card.{numberAt, cardNames}
-use Rattle.spec.specs.Bundle.{Extent, extentAt, textExtents, lyingAt, bundleTexts, endOf}
-use Rattle.scan_bundle.specs.Bundles.{Laid, placeOf}
+use Rattle.spec.specs.Bundle.{Extent, extentAt, textExtents, lyingAt, bundleTexts, extentsEnd}
+use Rattle.scan_bundle.specs.Bundles.{LaidBundle, recordPlaceOf}
 use Rattle.scan_bundle.proofs.Extents.{noExtent, step, end-forward}
 use Rattle.scan_bundle.proofs.Lying.{text-extent, text-at, length-text-extents, length-texts, length-body, laid-ends, record-lies}
 

@@ -21,9 +21,9 @@ use Rattle.scan_bundle.specs.declared.BundleAnswer.the-variants.{Sound, Malform
 use Rattle.scan_bundle.specs.declared.FoundRecord.{FoundRecord}
 use Rattle.scan_bundle.specs.declared.FoundRecord.the-variants.{At, Missing}
 use Rattle.scan_bundle.specs.declared.Spot.{Spot}
-use Rattle.scan_bundle.specs.Bundles.{Laid, Indexes, foundRecord, placeOf, Wraps}
+use Rattle.scan_bundle.specs.Bundles.{LaidBundle, Indexes, foundRecord, placeOf, Wraps}
 use Rattle.scan_bundle.proofs.Laws.{opened, malformed-is, sound-is-laid, sound-few, found-at, found-none}
-use Rattle.test_scan.specs.Bundles.{bundleCount, recordNumber, recordsIn, textNumber, baseNumber, textOf, spotNumber, WrapsInto}
+use Rattle.test_scan.specs.Bundles.{bundleCount, recordNumber, recordsIn, textNumber, baseNumber, recordTextOf, spotNumber, WrapsInto}
 
 -- ---- how many, and which
 
@@ -78,7 +78,7 @@ module _ {b order order′ : List ℕ} {r : BundleAnswer} (x : Indexes b 1 maxBu
 
 -- a bundle with a record is sound
 pub record Sounds (b : List ℕ) (n : ℕ) : Type 0 where
-  pub laid : Laid b
+  pub laid : LaidBundle b
   pub count : n ≡ numberAt 0 4 b
   pub few : n ≤ maxBundle
 
@@ -117,11 +117,11 @@ module _ (b : List ℕ) (place : ℕ) {n : ℕ} (e : n ≡ recordsIn b) where
 
   module _ (h : n ≡ 0 → ⊥) (r : Spot) (q : placeOf n r ≡ spot (bundleTexts b) place) where
     pub spot-past : n ≤ r .text → 1 ≡ spotNumber b place
-    unfolding spotNumber textOf placeOf
+    unfolding spotNumber recordTextOf placeOf
     spot-past l = rw (← e, ne-eqb n 0 h, ← q, le-ltb (r .text) n l)
 
     pub spot-in : r .text < n → r .text + 2 ≡ spotNumber b place
-    unfolding spotNumber textOf placeOf
+    unfolding spotNumber recordTextOf placeOf
     spot-in l = rw (← e, ne-eqb n 0 h, ← q, lt-ltb (r .text) n l)
 
 -- ---- written

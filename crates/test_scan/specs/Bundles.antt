@@ -36,13 +36,13 @@ unfoldable pub baseNumber : List ℕ → ℕ → ℕ
 unfolding recordsIn bundleTexts baseOf
 baseNumber b k = ifB (ltb k (recordsIn b)) (λ _. baseOf (bundleTexts b) k) (λ _. 0)
 
-unfoldable pub textOf : Place → ℕ
-textOf (plain p) = 1
-textOf (inText k p) = k + 2
+unfoldable pub recordTextOf : Place → ℕ
+recordTextOf (plain p) = 1
+recordTextOf (inText k p) = k + 2
 
 unfoldable pub spotNumber : List ℕ → ℕ → ℕ
-unfolding recordsIn bundleTexts spot textOf
-spotNumber b place = ifB (eqb (recordsIn b) 0) (λ _. 0) (λ _. textOf (spot (bundleTexts b) place))
+unfolding recordsIn bundleTexts spot recordTextOf
+spotNumber b place = ifB (eqb (recordsIn b) 0) (λ _. 0) (λ _. recordTextOf (spot (bundleTexts b) place))
 
 -- the bundle of one record where it has room and its length is a number of 4 bytes; otherwise 0, and the buffer stays
 pub record WrapsInto (name text out out′ : List ℕ) (r : ℕ) : Type 0 where
