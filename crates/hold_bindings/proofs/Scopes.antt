@@ -64,21 +64,6 @@ no-variables = refl
 
 -- ---- through some scopes
 
-or-below : (m : ℕ) (f g : FoundEntry) → ((j : ℕ) → f ≡ At j → j < m) → ((j : ℕ) → g ≡ At j → j < m) → (j : ℕ) → orNewest f g ≡ At j → j < m
-unfolding orNewest
-or-below m (At k) g a b j e = a j e
-or-below m Missing g a b j e = b j e
-
-through-below : (ks n : List ℕ) (log : List Logged) (j : ℕ) → newestThrough ks n log ≡ At j → j < length log
-unfolding newestThrough
-through-below [] n log j e = let z : _≡_ {A = ℕ} 0 1 = cc in omega arith
-through-below (k ∷ ks) n log j e =
-    or-below (length log) (newest (ofScope k) n log) (newestThrough ks n log) (newest-below (ofScope k) n log) (through-below ks n log) j e
-
-pub newest-from-below : (k : ℕ) (n : List ℕ) (log : List Logged) (j : ℕ) → newestFrom k n log ≡ At j → j < length log
-unfolding newestFrom
-newest-from-below k n log j e = through-below (k ∷ getD (scopingOf log .outers) k []) n log j e
-
 module _ (n : List ℕ) where
   bound-first : (a b : List Bound) (v : List ℕ) → boundTo n a ≡ some v → boundTo n (a ++ b) ≡ some v
   unfolding boundTo
@@ -156,6 +141,23 @@ module _ (log : List Logged) {bind : List ℕ} (h : HoldsScopes (scopingOf log) 
   pub var-current : (n : List ℕ) → fileVar (variablesOf log) n ≡ orEmpty (valueOf (newestFrom (scopingOf log .current) n log) log)
   unfolding variablesOf
   var-current n = var-newest (scopingOf log .current) (h .below) n
+
+-- ---- the number of what is seen
+
+or-below : (m : ℕ) (f g : FoundEntry) → ((j : ℕ) → f ≡ At j → j < m) → ((j : ℕ) → g ≡ At j → j < m) → (j : ℕ) → orNewest f g ≡ At j → j < m
+unfolding orNewest
+or-below m (At k) g a b j e = a j e
+or-below m Missing g a b j e = b j e
+
+through-below : (ks n : List ℕ) (log : List Logged) (j : ℕ) → newestThrough ks n log ≡ At j → j < length log
+unfolding newestThrough
+through-below [] n log j e = let z : _≡_ {A = ℕ} 0 1 = cc in omega arith
+through-below (k ∷ ks) n log j e =
+    or-below (length log) (newest (ofScope k) n log) (newestThrough ks n log) (newest-below (ofScope k) n log) (through-below ks n log) j e
+
+pub newest-from-below : (k : ℕ) (n : List ℕ) (log : List Logged) (j : ℕ) → newestFrom k n log ≡ At j → j < length log
+unfolding newestFrom
+newest-from-below k n log j e = through-below (k ∷ getD (scopingOf log .outers) k []) n log j e
 
 -- ---- looking outward in the buffers
 
