@@ -7,7 +7,7 @@ use lib.Dec.{ltb}
 use lib.ListN.{length}
 use Rattle.spec.specs.Limits.{maxName, maxBindings, maxValue, maxWritten}
 use Rattle.spec.specs.Reading.{Reading}
-use Rattle.hold_bindings.specs.Log.{Logged}
+use Rattle.hold_bindings.specs.Log.{Logged, ofMarks}
 use Rattle.hold_bindings.specs.Held.{maxOwner, HoldsBindings}
 use Rattle.hold_reading.specs.declared.Counts.{Counts}
 use Rattle.hold_reading.specs.Held.{HoldsBound}
@@ -23,6 +23,7 @@ pub record EntryFits (c : Counts) (e : Logged) : Type 0 where
   pub few : c .bindings < maxBindings
   pub low : c .written + length (e .value) ≤ maxWritten
   pub owner : e .owner ≤ maxOwner
+  pub binds : e .owner ≡ ofMarks → ⊥
 
 -- some reading is held, with room for this entry
 pub record EntryReady (texts bind : List ℕ) (c : Counts) (e : Logged) : Type 0 where

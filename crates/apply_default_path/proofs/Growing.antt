@@ -31,6 +31,7 @@ module _ {log : List Logged} {bs : Buffers} {c : Counts} {rd : Reading} (h : Hol
         vars = d .vars;
         rules = d .rules;
         blocks = d .blocks;
+        scoped = d .scoped;
         owned = d .owned;
         steps-counted = d .steps-counted;
         rules-counted = d .rules-counted;

@@ -66,6 +66,7 @@ module _ {bs : Buffers} {c : Counts} {h : LineHeld} (w : Writing bs c h) (p : Li
         vars = b .vars;
         rules = b .rules;
         blocks = b .blocks;
+        scoped = b .scoped;
         owned = b .owned;
         steps-counted = b .steps-counted;
         rules-counted = b .rules-counted;

@@ -4,7 +4,7 @@ use mathlib.Core.List.{List, [], _∷_}
 use mathlib.Core.Path.{subst, _≡_, sym, _∙_, ap}
 use native.Mathlib.Omega.{arith}
 use borrow.Author.Tests.{lt-ltb, le-ltb}
-use lib.ListN.{length}
+use lib.ListN.{length, set, length-set}
 use Rattle.lists.specs.Fill.{zeroed, length-zeroed}
 use Rattle.spec.specs.declared.Refusal.{Refusal}
 use Rattle.spec.specs.declared.Refusal.the-variants.{LongManifest, BadByte}
@@ -18,6 +18,8 @@ use Rattle.scan_raw.specs.declared.FirstBad.{FirstBad}
 use Rattle.scan_raw.specs.declared.FirstBad.the-variants.{Nowhere, At}
 use Rattle.scan_raw.specs.Texts.{placeOf}
 use Rattle.hold_names.proofs.Lies.{holds-none}
+use Rattle.hold_bindings.specs.Held.{scopesAt, currentAt, parentsAt}
+use Rattle.hold_bindings.proofs.Entries.{held-none}
 use Rattle.hold_reading.specs.declared.Counts.{Counts}
 use Rattle.hold_reading.specs.declared.Open.{Open}
 use Rattle.hold_reading.specs.declared.LineAnswer.the-variants.{Goes, Refused}
@@ -27,7 +29,7 @@ use Rattle.apply_statements.proofs.Outcomes.{close-none}
 use Rattle.apply_manifest.specs.Manifests.{Roomy, LinesAsk, TopAsk, LinesRead, Held, IsRead}
 use Rattle.apply_manifest.specs.declared.ReadAnswer.{ReadAnswer}
 use Rattle.apply_manifest.specs.declared.ReadAnswer.the-variants.{Accepted, Refused as NotRead}
-use Rattle.hold_reading.specs.Buffers.{Buffers, withFiles}
+use Rattle.hold_reading.specs.Buffers.{Buffers, buffers}
 
 -- ---- the end of the manifest closes a block
 
@@ -73,13 +75,14 @@ pub lines-ask : {t m : List ℕ} {bs : Buffers} {word : List ℕ} → Roomy t bs
     → LinesAsk t m bs word
 lines-ask a h = record { short = h; roomy = a }
 
--- the names are cleared
-pub top-ask : {t m : List ℕ} {bs : Buffers} {word cleared : List ℕ} → LinesAsk t m bs word → cleared ≡ zeroed (bs .index) 2048 3072
-    → TopAsk t m (withFiles bs (bs .names) cleared (bs .graph)) word
-top-ask {bs = bs} a e =
+-- the names are cleared, and the bindings begun
+pub top-ask : {t m : List ℕ} {bs : Buffers} {word cleared begun : List ℕ} → LinesAsk t m bs word → cleared ≡ zeroed (bs .index) 2048 3072
+    → begun ≡ set (set (set (bs .bind) scopesAt 1) currentAt 0) parentsAt 0 → TopAsk t m (buffers (bs .names) cleared (bs .texts) begun (bs .graph)) word
+top-ask {bs = bs} a e f =
     let r = a .roomy in
     let l : length (zeroed (bs .index) 2048 3072) ≡ length (bs .index) = length-zeroed (bs .index) 2048 3072 (omega arith) (omega (arith, r .numbers-room)) in
-    rw e
+    let k : length (set (set (set (bs .bind) scopesAt 1) currentAt 0) parentsAt 0) ≡ length (bs .bind) = simp length-set in
+    rw (e, f)
     (record {
       short = a .short;
       roomy =
@@ -89,9 +92,10 @@ top-ask {bs = bs} a e =
             names-small = r .names-small;
             numbers-room = rw l (r .numbers-room);
             texts-room = r .texts-room;
-            bind-room = r .bind-room;
+            bind-room = rw k (r .bind-room);
           };
       empty = holds-none (bs .names) (bs .index) (r .names-small) (r .numbers-room);
+      unbound = held-none (bs .texts) (bs .bind) (r .texts-room) (r .bind-room);
     })
 
 -- ---- by the answer

@@ -70,7 +70,7 @@ turn-begin {m = m} {bs = bs} a =
             log = [];
             reading = nothingRead;
             block = noBlock;
-            holds = start-held bs (a .empty) (a .roomy .texts-room) (a .roomy .bind-room) (omega (arith, a .roomy .room .scratch));
+            holds = start-held bs (a .empty) (a .unbound) (omega (arith, a .roomy .room .scratch));
             opens = nothing;
           };
       left = ap (λ (ls : List Line). readLines ls nothingRead noBlock) (sym (lines-begin m));

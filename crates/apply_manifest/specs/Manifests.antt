@@ -11,7 +11,7 @@ use Rattle.spec.specs.Manifest.{readLines, accepted, refusedWith, readManifest}
 use Rattle.scan_classes.specs.Table.{classes}
 use Rattle.hold_names.specs.Table.{maxNumbers, HoldsNames}
 use Rattle.hold_bindings.specs.Log.{Logged}
-use Rattle.hold_bindings.specs.Held.{maxTexts, maxRows}
+use Rattle.hold_bindings.specs.Held.{maxTexts, maxRows, HoldsBindings}
 use Rattle.hold_reading.specs.declared.Counts.{Counts}
 use Rattle.hold_reading.specs.declared.LineAnswer.{LineAnswer}
 use Rattle.hold_reading.specs.Held.{HoldsReading, Agrees}
@@ -34,11 +34,12 @@ pub record LinesAsk (t m : List ℕ) (bs : Buffers) (word : List ℕ) : Type 0 w
   pub short : length m ≤ maxManifest
   pub roomy : Roomy t bs word
 
--- the same, with no names held
+-- the same, with no names and no bindings held
 pub record TopAsk (t m : List ℕ) (bs : Buffers) (word : List ℕ) : Type 0 where
   pub short : length m ≤ maxManifest
   pub roomy : Roomy t bs word
   pub empty : HoldsNames (bs .names) (bs .index) 0 []
+  pub unbound : HoldsBindings [] (bs .texts) (bs .bind) 0
 
 -- The answer agrees with the lines of the manifest, read from the top.
 pub record LinesRead (m : List ℕ) (bs : Buffers) (r : LineAnswer) : Type 0 where

@@ -4,6 +4,7 @@ ghost use Rattle.apply_manifest.specs.Manifests.{Roomy, LinesAsk, TopAsk
 ghost use Rattle.hold_reading.specs.Buffers.{SameRoom, buffers};
 use apply_lines::read_line;
 use apply_rules::close;
+use hold_bindings::begin;
 use hold_names::clear;
 use hold_reading::Counts;
 use hold_reading::Line;
@@ -105,6 +106,7 @@ fn read_lines(
     ensures { λ r. ⌜ Leaves (SameRoom (buffers (now (names .entry)) (now (index .entry)) (now (texts .entry)) (now (bind .entry)) (now (graph .entry))) (buffers (now (names .exit)) (now (index .exit)) (now (texts .exit)) (now (bind .exit)) (now (graph .exit))) × (Spare (now (word .entry)) (now (word .exit)))) (LinesRead (now (m .entry)) (buffers (now (names .exit)) (now (index .exit)) (now (texts .exit)) (now (bind .exit)) (now (graph .exit))) r) ⌝ }
 {
     clear(index);
+    begin(bind);
     read_from_top(t, m, names, index, texts, bind, graph, word)
 }
 

@@ -24,7 +24,7 @@ use Rattle.hold_reading.specs.Buffers.{Buffers, buffers}
 
 -- "Paths .. are expanded at once with the file's variables as they then stand."
 unfoldable pub pathOf : Reading → List ℕ → List ℕ
-unfolding expand fileVar
+unfolding expand varFrom
 pathOf rd raw = expand (fileVar (rd .vars)) raw
 
 -- what a path is refused for by itself, by its kind: "empty path, output made twice .., default that is no earlier output" (8)

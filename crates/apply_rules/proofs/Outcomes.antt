@@ -33,7 +33,7 @@ use Rattle.hold_rules.proofs.Lookups.{keyed-held, bad-held, key-short}
 
 rule-room : {log : List Logged} {texts bind : List ℕ} {c : Counts} {rd : Reading} → HoldsBound log texts bind c rd → (n : List ℕ) → length n ≤ maxName → c .rules < maxRules
     → EntryRoom log texts bind (c .entries) (logged ofRules n [])
-rule-room d n s l = bound-room d (logged ofRules n []) (omega (arith, d .entries-counted, d .few-bindings)) (omega (arith, d .few-written)) (omega arith) s
+rule-room d n s l = bound-room d (logged ofRules n []) (omega (arith, d .entries-counted, d .few-bindings)) (omega (arith, d .few-written)) (omega arith) (λ p. omega arith) s
 
 pub start-room : {texts bind : List ℕ} {c : Counts} → SoundBlock texts bind c Nothing → (n : List ℕ) → length n ≤ maxName → c .rules < maxRules
     → HasRoom texts bind (c .entries) (logged ofRules n [])
@@ -108,7 +108,7 @@ module _ (start head k : ℕ) (n raw : List ℕ) {log : List Logged} {texts bind
   unfolding joined withRule blockLine addKey
   key-goes (aRule {r = r} o) d f m h q p =
       let e = logged (ofKeys k) n raw in
-      let w = within n raw (ofKeys k) q (omega (arith, newest-rule-below log k o, d .held .rows .counted, d .held .rows .few)) in
+      let w = within n raw (ofKeys k) q (omega (arith, newest-rule-below log k o, d .held .rows .counted, d .held .rows .few)) (λ z. omega arith) in
       rw (bad-test r o d ∙ h, over-test r d f m h ∙ q, p .counted)
       (goes (e ∷ [])
       (bound-key rd r k d o n raw (p .held log (withRule r rd) d) (w .few) (w .low))
@@ -196,5 +196,5 @@ key-ready {k = k} s n raw q =
       log = s .log;
       reading = joined (s .reading) (s .block);
       bound = s .known .bound;
-      fits = within n raw (ofKeys k) q (omega (arith, p .below, p .table .held .rows .few));
+      fits = within n raw (ofKeys k) q (omega (arith, p .below, p .table .held .rows .few)) (λ z. omega arith);
     }

@@ -66,7 +66,7 @@ pub fn add_key(
     if binding_over(name.len(), raw.len(), c) {
         return LineAnswer::Refused(Refusal::OverLimit(start));
     }
-    let d = push_binding(texts, bind, c, 2 + 2 * entry, name, raw);
+    let d = push_binding(texts, bind, c, 4 + 3 * entry, name, raw);
     LineAnswer::Goes(d, Open::Rule(head, entry))
 }
 

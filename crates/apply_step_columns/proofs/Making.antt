@@ -1,5 +1,5 @@
 -- The makers of a step's outputs, one file after another, and the step's other columns.
-use Prim.Native.Nat.{ℕ, zero, suc, _+_, _≤_, _<_}
+use Prim.Native.Nat.{ℕ, zero, suc, _+_, _*_, _≤_, _<_}
 use mathlib.Core.List.{List, [], _∷_}
 use mathlib.Core.Path.{_≡_, refl, _∙_, ap}
 use native.Mathlib.Omega.{arith}
@@ -7,7 +7,7 @@ use lib.ListN.{length, getD, set, length-set}
 use Rattle.lists.specs.Parts.{part, part-cons, part-none}
 use Rattle.spec.specs.Limits.{maxFiles}
 use Rattle.hold_columns.specs.Columns.{outsEnd, endPlace}
-use Rattle.hold_reading.specs.Held.{endIn, phonyStart, madeStart, ruleStart}
+use Rattle.hold_reading.specs.Held.{endIn, phonyStart, madeStart, ruleStart, scopeUnit, ruleWithScope}
 use Rattle.apply_files.specs.Lines.{LineHeld, Columns}
 use Rattle.apply_files.proofs.Columns.{graph-long, mentions-fit, made-fit, set-made, read-mention, read-end, push-phony, push-rule}
 use Rattle.hold_reading.specs.declared.Counts.{Counts}
@@ -102,31 +102,31 @@ module _ {graph : List ℕ} {from : ℕ} {c : Counts} {to : ℕ} (e : to ≡ end
   put-end : (h : LineHeld) → Laid graph h → StepReady from c h → to ≡ newestEnd c h
   put-end h l r = e ∙ read-end l (endPlace (c .steps) outsEnd) (r .ended)
 
-  pub put-make : {n : ℕ} → PutStepAsks graph from n c → MakeAsks graph from to (c .steps + 1)
+  pub put-make : {n k : ℕ} → PutStepAsks graph from n k c → MakeAsks graph from to (c .steps + 1)
   put-make a =
       record { line = a .line; laid = a .laid; some = rw (put-end (a .line) (a .laid) (a .ready)) (a .ready .outs); small = omega (arith, a .ready .few) }
 
-  module _ {n : ℕ} {graph₁ : List ℕ} (m : MarksMade graph from to (c .steps + 1) graph₁) {b : ℕ} (q : b ≡ phonyBit n) where
+  module _ {n k : ℕ} {graph₁ : List ℕ} (m : MarksMade graph from to (c .steps + 1) graph₁) {b : ℕ} (q : b ≡ phonyBit n) where
     -- the places are low, for the stores
-    pub put-first : PutStepAsks graph from n c → (phonyStart + c .steps < length graph₁) × (b < 4294967296)
+    pub put-first : PutStepAsks graph from n k c → (phonyStart + c .steps < length graph₁) × (b < 4294967296)
     put-first a =
-        let k = m .laid (a .line) (a .laid) (rw (put-end (a .line) (a .laid) (a .ready)) (a .ready .outs)) in
-        (omega (arith, graph-long k, a .ready .few), omega (arith, q, phony-low n))
+        let l = m .laid (a .line) (a .laid) (rw (put-end (a .line) (a .laid) (a .ready)) (a .ready .outs)) in
+        (omega (arith, graph-long l, a .ready .few), omega (arith, q, phony-low n))
 
     module _ {graph₂ : List ℕ} (g : graph₂ ≡ set graph₁ (phonyStart + c .steps) b) where
-      pub put-second : PutStepAsks graph from n c → (ruleStart + c .steps < length graph₂) × (n < 4294967296)
+      pub put-second : PutStepAsks graph from n k c → (ruleStart + c .steps < length graph₂) × (scopeUnit * k + n < 4294967296)
       put-second a =
-          let k = m .laid (a .line) (a .laid) (rw (put-end (a .line) (a .laid) (a .ready)) (a .ready .outs)) in
-          (omega (arith, graph-long k, a .ready .few, ap length g ∙ length-set graph₁ (phonyStart + c .steps) b), omega (arith, a .small))
+          let l = m .laid (a .line) (a .laid) (rw (put-end (a .line) (a .laid) (a .ready)) (a .ready .outs)) in
+          (omega (arith, graph-long l, a .ready .few, ap length g ∙ length-set graph₁ (phonyStart + c .steps) b), omega (arith, a .small, a .few))
 
-      pub put-done : {graph′ : List ℕ} → graph′ ≡ set graph₂ (ruleStart + c .steps) n → PutsStep graph from n c graph′ (countedStep c)
-      unfolding withStepRule
+      pub put-done : {graph′ : List ℕ} → graph′ ≡ set graph₂ (ruleStart + c .steps) (scopeUnit * k + n) → PutsStep graph from n k c graph′ (countedStep c)
+      unfolding withStepRule ruleWithScope
       put-done f =
           record {
             laid = λ h l r.
                 let z = put-end h l r in
-                let k = m .laid h l (rw z (r .outs)) in
-                let w = push-phony k b (phonyStart + c .steps) (omega (arith, r .phony)) (omega (arith, r .phony, r .few)) in
-                rw (f, g, ← z, ← q) (push-rule w n (ruleStart + c .steps) (omega (arith, r .ruled)) (omega (arith, r .ruled, r .few)));
+                let y = m .laid h l (rw z (r .outs)) in
+                let w = push-phony y b (phonyStart + c .steps) (omega (arith, r .phony)) (omega (arith, r .phony, r .few)) in
+                rw (f, g, ← z, ← q) (push-rule w (scopeUnit * k + n) (ruleStart + c .steps) (omega (arith, r .ruled)) (omega (arith, r .ruled, r .few)));
             counted = refl;
           }

@@ -1,4 +1,4 @@
--- A step in the columns: the makers of its outputs, phony or not, and its rule.
+-- A step in the columns: the makers of its outputs, phony or not, and its rule with its scope.
 use Prim.Native.Nat.{ℕ, zero, suc, _+_, _^_, _≤_, _<_}
 use mathlib.Core.List.{List, [], _∷_, _++_}
 use mathlib.Core.Path.{_≡_}
@@ -10,9 +10,10 @@ use Rattle.spec.specs.Reading.{isPhony}
 use Rattle.hold_bindings.specs.declared.FoundEntry.{FoundEntry}
 use Rattle.hold_bindings.specs.declared.FoundEntry.the-variants.{At, Missing}
 use Rattle.hold_bindings.specs.Log.{Logged, ofRules, newest}
-use Rattle.hold_bindings.specs.Held.{maxEntries}
+use Rattle.hold_bindings.specs.Held.{maxEntries, maxScopes}
 use Rattle.hold_columns.specs.Columns.{outsEnd, endPlace, endAt}
 use Rattle.hold_reading.specs.declared.Counts.{Counts}
+use Rattle.hold_reading.specs.Held.{ruleWithScope}
 use Rattle.apply_files.specs.Lines.{LineHeld, Columns}
 
 -- ------------------------------------------------------------------ the rule's number
@@ -77,20 +78,21 @@ pub record StepReady (from : ℕ) (c : Counts) (h : LineHeld) : Type 0 where
   pub ruled : length (h .ruleOf) ≡ c .steps
   pub few : c .steps < maxSteps
 
-pub record PutStepAsks (graph : List ℕ) (from n : ℕ) (c : Counts) : Type 0 where
+pub record PutStepAsks (graph : List ℕ) (from n scope : ℕ) (c : Counts) : Type 0 where
   pub line : LineHeld
   pub laid : Laid graph line
   pub ready : StepReady from c line
   pub small : n ≤ maxEntries
+  pub few : scope < maxScopes
 
 -- phony or not, as a number, by the rule's number
 abbrev pub phonyBit : ℕ → ℕ
 phonyBit zero = 1
 phonyBit (suc n) = 0
 
-unfoldable pub withStepRule : ℕ → ℕ → Counts → LineHeld → LineHeld
-unfolding setAll
-withStepRule from n c h =
+unfoldable pub withStepRule : ℕ → ℕ → ℕ → Counts → LineHeld → LineHeld
+unfolding setAll ruleWithScope
+withStepRule from n scope c h =
     record {
       log = h .log;
       reading = h .reading;
@@ -98,7 +100,7 @@ withStepRule from n c h =
       ends = h .ends;
       phony = h .phony ++ (phonyBit n ∷ []);
       made = setAll (c .steps + 1) (part (h .mentions) from (newestEnd c h)) (h .made);
-      ruleOf = h .ruleOf ++ (n ∷ []);
+      ruleOf = h .ruleOf ++ (ruleWithScope n scope ∷ []);
     }
 
 abbrev pub countedStep : Counts → Counts
@@ -115,6 +117,6 @@ countedStep c =
       written = c .written;
     }
 
-pub record PutsStep (graph : List ℕ) (from n : ℕ) (c : Counts) (graph′ : List ℕ) (r : Counts) : Type 0 where
-  pub laid : (h : LineHeld) → Laid graph h → StepReady from c h → Laid graph′ (withStepRule from n c h)
+pub record PutsStep (graph : List ℕ) (from n scope : ℕ) (c : Counts) (graph′ : List ℕ) (r : Counts) : Type 0 where
+  pub laid : (h : LineHeld) → Laid graph h → StepReady from c h → Laid graph′ (withStepRule from n scope c h)
   pub counted : r ≡ countedStep c

@@ -1,4 +1,4 @@
-// A step is put into the graph's columns: the makers of its outputs, phony or not, and its rule's number.
+// A step is put into the graph's columns: the makers of its outputs, phony or not, and its rule's number with its scope.
 ghost use mathlib.Core.Path.{_≡_};
 ghost use mathlib.Core.List.{List};
 ghost use Rattle.hold_bindings.specs.Log.{Logged};
@@ -13,6 +13,7 @@ use hold_reading::Counts;
 use hold_reading::columns::MADE_START;
 use hold_reading::columns::PHONY_START;
 use hold_reading::columns::RULE_START;
+use hold_reading::columns::SCOPE_UNIT;
 use hold_reading::columns::step_end;
 use slices::words::at;
 
@@ -49,16 +50,16 @@ fn phony_bit(n: usize) -> usize
     if n == 0 { 1 } else { 0 }
 }
 
-// The step whose outputs start at `from`, with its rule's number.
-pub fn put_step(graph: &mut [u32], from: usize, n: usize, c: Counts) -> Counts
-    requires { ⌜ PutStepAsks (now graph) from n c ⌝ }
-    ensures { λ r. ⌜ PutsStep (now (graph .entry)) from n c (now (graph .exit)) r ⌝ }
+// The step whose outputs start at `from`, with its rule's number and the scope that it stands in.
+pub fn put_step(graph: &mut [u32], from: usize, n: usize, scope: usize, c: Counts) -> Counts
+    requires { ⌜ PutStepAsks (now graph) from n scope c ⌝ }
+    ensures { λ r. ⌜ PutsStep (now (graph .entry)) from n scope c (now (graph .exit)) r ⌝ }
 {
     let steps = c.steps;
     let to = step_end(graph, steps, OUTS_END);
     make(graph, from, to, steps + 1);
     put(graph, PHONY_START + steps, phony_bit(n));
-    put(graph, RULE_START + steps, n);
+    put(graph, RULE_START + steps, SCOPE_UNIT * scope + n);
     Counts {
         steps: steps + 1,
         ..c

@@ -12,16 +12,16 @@ use Rattle.lists.specs.Parts.{part}
 use Rattle.spec.specs.Basics.{concat}
 use Rattle.spec.specs.Limits.{maxSteps, maxFiles}
 use Rattle.spec.specs.Forms.{BuildLine}
-use Rattle.spec.specs.Reading.{Step, Reading, isPhony, numbersOf}
+use Rattle.spec.specs.Reading.{Variables, Step, Reading, isPhony, numbersOf}
 use Rattle.spec.specs.Statements.{mentioned, inputsOfLine, badPaths, overPaths}
 use Rattle.spec.specs.Manifest.{withStep}
 use Rattle.spec.specs.Graph.{noStep, stepAt}
-use Rattle.hold_bindings.specs.Log.{Logged, ofBlock, boundBy}
+use Rattle.hold_bindings.specs.Log.{Logged, ofBlock, boundBy, scopingOf, variablesOf}
 use Rattle.hold_bindings.proofs.Lookups.{no-lines, owned-more}
 use Rattle.hold_columns.specs.Columns as columns
 use Rattle.hold_columns.specs.Columns.{bit, mentionsOf, stepEndsFrom}
 use Rattle.hold_reading.specs.declared.Counts.{Counts}
-use Rattle.hold_reading.specs.Held.{HoldsBound, Ruled, Graphed, HoldsReading}
+use Rattle.hold_reading.specs.Held.{HoldsBound, Ruled, scopeUnit, ruleWithScope, RuledIn, Graphed, HoldsReading}
 use Rattle.hold_reading.proofs.Short.{mention-short}
 use Rattle.apply_files.specs.Lines.{Writing}
 use Rattle.apply_files.proofs.Limits.{mention-more}
@@ -57,15 +57,24 @@ module _ {log : List Logged} {texts bind : List ℕ} {d : Counts} {rd : Reading}
             rw z (at-new (λ (x : Step). x .block) (rd .steps) s ∙ e ∙ sym (no-lines (length (rd .steps)) log (length (rd .steps)) (b .owned) (omega arith))))
       ]
 
-  bound-step : s .block ≡ [] → d .steps < maxSteps → HoldsBound log texts bind (countedStep d) (withStep s rd)
+  step-scopes : s .scope < length (scopingOf log .outers) → (i : ℕ) → i < length (rd .steps ++ (s ∷ [])) → stepAt (rd .steps ++ (s ∷ [])) i .scope < length (scopingOf log .outers)
+  step-scopes e i h =
+      elim (decLt i (length (rd .steps))) [
+        | yes l ↦ rw (at-old (λ (x : Step). x .scope) (rd .steps) s i l) (b .scoped i l)
+        | no l ↦
+            (let z : i ≡ length (rd .steps) = omega (arith, length-append (rd .steps) (s ∷ [])) in rw (z, at-new (λ (x : Step). x .scope) (rd .steps) s) e)
+      ]
+
+  bound-step : s .block ≡ [] → s .scope < length (scopingOf log .outers) → d .steps < maxSteps → HoldsBound log texts bind (countedStep d) (withStep s rd)
   unfolding withStep
-  bound-step e few =
+  bound-step e o few =
       let n = length-append (rd .steps) (s ∷ []) in
       record {
         held = b .held;
         vars = b .vars;
         rules = b .rules;
         blocks = step-blocks e;
+        scoped = step-scopes o;
         owned = owned-more (length (rd .steps)) (length (rd .steps ++ (s ∷ []))) log (omega (arith, n)) (b .owned);
         steps-counted = omega (arith, b .steps-counted, n);
         rules-counted = b .rules-counted;
@@ -84,7 +93,7 @@ module _ {log : List Logged} {texts bind : List ℕ} {d : Counts} {rd : Reading}
 module _ {log : List Logged} {bs : Buffers} {c : Counts} {rd : Reading} (w : HoldsReading log bs c rd) (b : BuildLine)
     (few : c .steps < maxSteps) (clear : badPaths (b .outs) (inputsOfLine b) rd ≡ false) {names′ index′ graph₁ : List ℕ} {d : Counts} {made : List ℕ}
     (x : Writing (withFiles bs names′ index′ graph₁) d (lineAfter b (lineOf w) made)) (same : (f : ℕ) → getD made f 0 ≡ getD (w .graphed .made) f 0)
-    {n : ℕ} (r : Ruled log (b .rule) n) where
+    {n : ℕ} (r : Ruled log (b .rule) n) (low : n < scopeUnit) where
   abbrev g : Graphed log (bs .graph) c rd
   g = w .graphed
 
@@ -150,17 +159,21 @@ module _ {log : List Logged} {bs : Buffers} {c : Counts} {rd : Reading} (w : Hol
         few-mentions = omega (arith, x .paths-counted, x .few-mentions, x .mentions-low);
       }
 
-  step-ruled : (i : ℕ) → i < length (rd .steps ++ (step ∷ [])) → Ruled log (stepAt (rd .steps ++ (step ∷ [])) i .rule) (getD (g .ruleOf ++ (n ∷ [])) i 0)
+  abbrev number : ℕ
+  number = ruleWithScope n (rd .vars .current)
+
+  step-ruled : (i : ℕ) → i < length (rd .steps ++ (step ∷ [])) → RuledIn log (stepAt (rd .steps ++ (step ∷ [])) i) (getD (g .ruleOf ++ (number ∷ [])) i 0)
   step-ruled i h =
       elim (decLt i (length (rd .steps))) [
         | yes l ↦
-            rw (at-old (λ (s : Step). s .rule) (rd .steps) step i l, List·getD-append (g .ruleOf) (n ∷ []) 0 i (omega (arith, g .ruled-all))) (g .ruled i l)
+            rw (at-old (λ (s : Step). s) (rd .steps) step i l, List·getD-append (g .ruleOf) (number ∷ []) 0 i (omega (arith, g .ruled-all))) (g .ruled i l)
         | no l ↦
             (let z : i ≡ length (rd .steps) = omega (arith, length-append (rd .steps) (step ∷ [])) in
-            rw (z, at-new (λ (s : Step). s .rule) (rd .steps) step, ← (g .ruled-all), getD-append-seam (g .ruleOf) n [] 0) r)
+            rw (z, at-new (λ (s : Step). s) (rd .steps) step, ← (g .ruled-all), getD-append-seam (g .ruleOf) number [] 0)
+            (record { rule = n; low = low; ruled = r; is = refl }))
       ]
 
-  module _ {graph′ : List ℕ} (l : Laid graph′ (withStepRule (c .paths) n d (lineAfter b (lineOf w) made))) where
+  module _ {graph′ : List ℕ} (l : Laid graph′ (withStepRule (c .paths) n (rd .vars .current) d (lineAfter b (lineOf w) made))) where
     step-graphed : Graphed log graph′ (countedStep d) (withStep step (mentioned (pathsOf b) rd))
     unfolding withStep mentioned withStepRule
     step-graphed =
@@ -169,10 +182,10 @@ module _ {log : List Logged} {bs : Buffers} {c : Counts} {rd : Reading} (w : Hol
           ends = ends;
           phony = g .phony ++ (phonyBit n ∷ []);
           made = makers;
-          ruleOf = g .ruleOf ++ (n ∷ []);
+          ruleOf = g .ruleOf ++ (number ∷ []);
           lies = l .lies;
           tables = step-tables;
-          ruled-all = omega (arith, length-append (g .ruleOf) (n ∷ []), length-append (rd .steps) (step ∷ []), g .ruled-all);
+          ruled-all = omega (arith, length-append (g .ruleOf) (number ∷ []), length-append (rd .steps) (step ∷ []), g .ruled-all);
           ruled = step-ruled;
           paths-counted = x .paths-counted;
           defaults-counted = x .defaults-counted;
@@ -182,13 +195,17 @@ module _ {log : List Logged} {bs : Buffers} {c : Counts} {rd : Reading} (w : Hol
           defaults-low = λ i h. omega (arith, g .defaults-low i h, mention-more (rd .files) (pathsOf b));
         }
 
+    current-low : rd .vars .current < length (scopingOf log .outers)
+    unfolding variablesOf
+    current-low = rw (ap (λ (v : Variables). v .current) (w .bound .vars)) (w .bound .held .scopes .below)
+
     -- all that is held of the reading with the step
     pub step-held : overPaths (pathsOf b) ≡ false → HoldsReading log (withFiles bs names′ index′ graph′) (countedStep d) (withStep step (mentioned (pathsOf b) rd))
     unfolding withStep mentioned
     step-held p =
         record {
           named = x .named;
-          bound = bound-step (x .bound) step refl (omega (arith, steps-same w b few x, w .bound .steps-counted));
+          bound = bound-step (x .bound) step refl current-low (omega (arith, steps-same w b few x, w .bound .steps-counted));
           graphed = step-graphed;
           short = mention-short (rd .files) (pathsOf b) (w .short) p;
         }

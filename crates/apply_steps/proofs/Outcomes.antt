@@ -11,16 +11,16 @@ use Rattle.spec.specs.declared.Refusal.the-variants.{OverLimit}
 use Rattle.spec.specs.Basics.{concat}
 use Rattle.spec.specs.Limits.{maxSteps, maxFiles, maxBindings, maxMentions, maxWritten}
 use Rattle.spec.specs.Forms.{BuildLine}
-use Rattle.spec.specs.Reading.{Reading}
+use Rattle.spec.specs.Reading.{Variables, Reading}
 use Rattle.spec.specs.Statements.{goesOn, refused, buildBlock, mentioned, overPaths, overCounts, expandedLine, addStep}
 use Rattle.cut_forms.specs.declared.BuildPlaces.{BuildPlaces}
 use Rattle.cut_forms.specs.Statements.{Stands}
-use Rattle.hold_bindings.specs.Log.{Logged}
+use Rattle.hold_bindings.specs.Log.{Logged, Scoping, scopingOf, variablesOf}
 use Rattle.hold_bindings.specs.Held as bindings
 use Rattle.hold_reading.specs.declared.Counts.{Counts}
 use Rattle.hold_reading.specs.declared.Open.the-variants.{Step as OpenStep}
 use Rattle.hold_reading.specs.declared.LineAnswer.the-variants.{Goes, Refused}
-use Rattle.hold_reading.specs.Held.{joined, aStep, Ruled, HoldsReading, goes, refuses}
+use Rattle.hold_reading.specs.Held.{joined, aStep, Ruled, scopeUnit, HoldsReading, goes, refuses}
 use Rattle.apply_files.specs.declared.Mentioned.the-variants.{On, Over}
 use Rattle.apply_files.specs.Lines.{LineHeld, Writing, overLine}
 use Rattle.apply_steps.specs.Asks.{StepAsks, ClearLine, WritesStep}
@@ -116,19 +116,22 @@ module _ (start : ℕ) {l : List ℕ} {bs : Buffers} {c : Counts} {p : BuildPlac
       record { agrees = λ b s log rd w k. rw (step-over start (expandedLine rd b) rd k (four-past w s f)) refuses }
 
   pub write-goes : c .steps < maxSteps → {graph₁ : List ℕ} {d : Counts} → Four l bs c p names′ index′ graph₁ (On d) → {n : ℕ}
-      → ((log : List Logged) → bindings.HoldsBindings log (bs .texts) (bs .bind) (d .entries) → n ≡ ruleNumber (part l (p .rule) (p .ins)) log) → {e : Counts} → PutsStep graph₁ (c .paths) n d graph′ e
+      → ((log : List Logged) → bindings.HoldsBindings log (bs .texts) (bs .bind) (d .entries) → n ≡ ruleNumber (part l (p .rule) (p .ins)) log) → {j : ℕ}
+      → ((g : Scoping) → bindings.HoldsScopes g (bs .bind) → j ≡ g .current) → {e : Counts} → PutsStep graph₁ (c .paths) n j d graph′ e
       → WritesStep l bs c start p names′ index′ graph′ (Goes e OpenStep)
-  unfolding joined expandedLine
-  write-goes few {d = d} f {n} r j =
+  unfolding joined expandedLine variablesOf
+  write-goes few {graph₁} {d} f {n} r {i} o {e} j =
       record {
         agrees = λ b s log rd w k.
             let b′ = expandedLine rd b in
             let x = four-held w s f in
             let z : n ≡ ruleNumber (b .rule) log = r log (x .bound .held) ∙ ap (λ (m : List ℕ). ruleNumber m log) (sym (s .rule)) in
-            let y = j .laid _ (x .columns) (step-ready w b′ few x) in
+            let v : i ≡ rd .vars .current = o (scopingOf log) (x .bound .held .scopes) ∙ sym (ap (λ (m : Variables). m .current) (w .bound .vars)) in
+            let y = subst (λ (m : ℕ). PutsStep graph₁ (c .paths) n m d graph′ e) v j .laid _ (x .columns) (step-ready w b′ few x) in
+            let u : n < scopeUnit = omega (arith, z, number-low (b .rule) log, x .bound .held .rows .counted, x .bound .held .rows .few) in
             let q = subst (λ (m : ℕ). Ruled log (b .rule) m) (sym z) (ruled (b .rule) log rd (w .bound .rules) (k .known)) in
             rw (step-goes start b′ rd k (four-short w s f) (not-over x) (omega (arith, w .bound .steps-counted)), j .counted)
-            (goes (step-held w b′ few (k .sound) x (lists-made (listsOf b′) (lineOf w)) q y (four-short w s f)) aStep);
+            (goes (step-held w b′ few (k .sound) x (lists-made (listsOf b′) (lineOf w)) q u y (four-short w s f)) aStep);
       }
 
 -- ---- what the calls ask
@@ -152,9 +155,12 @@ module _ {t l : List ℕ} {bs : Buffers} {word : List ℕ} {c : Counts} {p : Bui
     pub write-rule : bindings.SoundBindings (bs .texts) (bs .bind) (d .entries)
     write-rule = record { log = a .whole .log; held = four-held (a .whole .holds) (a .stands) f .bound .held }
 
+    pub write-scopes : bindings.SoundScopes (bs .bind)
+    write-scopes = record { scoping = scopingOf (a .whole .log); held = a .whole .holds .bound .held .scopes }
+
     pub write-columns : c .steps < maxSteps → {n : ℕ} (name : List ℕ) → ((log : List Logged) → bindings.HoldsBindings log (bs .texts) (bs .bind) (d .entries) → n ≡ ruleNumber name log)
-        → PutStepAsks graph′ (c .paths) n d
-    write-columns few name r =
+        → {j : ℕ} → ((g : Scoping) → bindings.HoldsScopes g (bs .bind) → j ≡ g .current) → PutStepAsks graph′ (c .paths) n j d
+    write-columns few name r o =
         let w = a .whole .holds in
         let x = four-held w (a .stands) f in
         let h = x .bound .held in
@@ -163,4 +169,5 @@ module _ {t l : List ℕ} {bs : Buffers} {word : List ℕ} {c : Counts} {p : Bui
           laid = x .columns;
           ready = step-ready w (expandedLine (a .whole .reading) (a .line)) few x;
           small = omega (arith, r (a .whole .log) h, number-low name (a .whole .log), h .rows .counted, h .rows .few);
+          few = omega (arith, o (scopingOf (a .whole .log)) (h .scopes), h .scopes .below, h .scopes .few);
         }

@@ -52,6 +52,7 @@ stepFor b rd =
       orderOnly = numbersOf f (b .orderOnly);
       rule = b .rule;
       block = [];
+      scope = rd .vars .current;
     }
 
 abbrev pub lineAfter : BuildLine → LineHeld → List ℕ → LineHeld

@@ -7,6 +7,7 @@ use apply_step_columns::put_step;
 use apply_step_columns::rule_number;
 use apply_step_lists::four;
 use cut_forms::BuildPlaces;
+use hold_bindings::current_scope;
 use hold_reading::Counts;
 use hold_reading::LineAnswer;
 use hold_reading::Open;
@@ -45,7 +46,7 @@ pub fn write_step(
             let from = p.rule;
             let to = p.ins;
             let n = rule_number(&l[from..to], texts, bind, d.entries);
-            let e = put_step(graph, c.paths, n, d);
+            let e = put_step(graph, c.paths, n, current_scope(bind), d);
             LineAnswer::Goes(e, Open::Step)
         }
         Mentioned::Over => LineAnswer::Refused(Refusal::OverLimit(s.start)),

@@ -11,8 +11,8 @@ use Rattle.spec.specs.Dollars.{expand}
 use Rattle.spec.specs.Reading.{Step, Reading, fileVar}
 use Rattle.spec.specs.Statements.{Block, refused, addVar, addToBlock, blockLine, wrongVersion, countBinding, overBinding, overCounts, longerThan}
 use Rattle.spec.specs.Manifest.{withStep}
-use Rattle.hold_bindings.specs.Log.{Logged, logged, ofFile, ofBlock}
-use Rattle.hold_bindings.specs.Held.{HoldsBindings}
+use Rattle.hold_bindings.specs.Log.{Logged, logged, ofScope, ofBlock, Scoping, scopingOf}
+use Rattle.hold_bindings.specs.Held.{HoldsScopes, HoldsBindings, SoundScopes}
 use Rattle.expand_parts.specs.Runs.{expandedBy}
 use Rattle.expand_dollars.specs.Written.{Written}
 use Rattle.hold_reading.specs.declared.Counts.{Counts}
@@ -39,21 +39,36 @@ module _ (start : ℕ) (n v : List ℕ) {texts bind : List ℕ} {c : Counts} (h 
   unfolding addVar
   var-wrong q = record { agrees = λ log rd b w. refused-by (rw (none-over w n v ∙ h, q)) }
 
-  pub var-goes : {texts′ bind′ : List ℕ} {c′ : Counts} → wrongVersion n v ≡ false → Put texts bind c (logged ofFile n v) texts′ bind′ c′
+  -- k is the scope that is read in.
+  pub var-goes : {texts′ bind′ : List ℕ} {c′ : Counts} {k : ℕ} → ((g : Scoping) → HoldsScopes g bind → k ≡ g .current) → wrongVersion n v ≡ false
+      → Put texts bind c (logged (ofScope k) n v) texts′ bind′ c′
       → Meets texts bind c Nothing (λ rd b. addVar start n v rd) texts′ bind′ (Goes c′ Nothing)
   unfolding joined addVar
-  var-goes q p =
+  var-goes {texts′} {bind′} {k = k} s q p =
       record {
         agrees = λ log rd b w.
             let d = none-bound w in
-            let f = within n v ofFile h (omega arith) in
+            let z : k ≡ scopingOf log .current = s (scopingOf log) (d .held .scopes) in
+            let f = within n v (ofScope k) h (omega (arith, d .held .scopes .below, d .held .scopes .few)) (λ e. omega arith) in
+            let g : HoldsBindings (logged (ofScope (scopingOf log .current)) n v ∷ log) texts′ bind′ (c .entries + 1) =
+            subst (λ (j : ℕ). HoldsBindings (logged (ofScope j) n v ∷ log) texts′ bind′ (c .entries + 1)) z (p .held log rd d) in
             rw (joined-none rd (w .opens), none-over w n v ∙ h, q, p .counted)
-            (goes (logged ofFile n v ∷ []) (bound-var d n v (p .held log rd d) (f .few) (f .low)) nothing (beside-var rd n v));
+            (goes (logged (ofScope (scopingOf log .current)) n v ∷ []) (bound-var d n v g (f .few) (f .low)) nothing (beside-var rd n v));
       }
 
-  pub var-ready : SoundBlock texts bind c Nothing → EntryReady texts bind c (logged ofFile n v)
-  var-ready s =
-      record { log = s .log; reading = s .reading; bound = none-bound (s .known); fits = within n v ofFile h (omega arith) }
+  pub var-scopes : SoundBlock texts bind c Nothing → SoundScopes bind
+  var-scopes s = record { scoping = scopingOf (s .log); held = none-bound (s .known) .held .scopes }
+
+  pub var-ready : {k : ℕ} → ((g : Scoping) → HoldsScopes g bind → k ≡ g .current) → SoundBlock texts bind c Nothing → EntryReady texts bind c (logged (ofScope k) n v)
+  var-ready {k} e s =
+      let d = none-bound (s .known) in
+      let z : k ≡ scopingOf (s .log) .current = e (scopingOf (s .log)) (d .held .scopes) in
+      record {
+        log = s .log;
+        reading = s .reading;
+        bound = d;
+        fits = within n v (ofScope k) h (omega (arith, d .held .scopes .below, d .held .scopes .few)) (λ p. omega arith);
+      }
 
 -- the value of a raw one, as the word buffer has it
 module _ (start : ℕ) (n raw : List ℕ) {texts bind word word′ : List ℕ} {c : Counts} {k : ℕ}
@@ -91,13 +106,13 @@ module _ (start : ℕ) (n raw : List ℕ) {log : List Logged} {texts bind : List
 
   line-bound : {b : Block} → OpensBlock log b OpenStep → HoldsBound log texts bind c (joined rd b) → length (joined rd b .files) ≤ maxFiles → joined rd b .mentions ≤ maxMentions
       → expand (fileVar (rd .vars)) raw ≡ v → bindingOver (length n) (length v) c ≡ false → {texts′ bind′ : List ℕ} {c′ : Counts}
-      → Put texts bind c (logged (3 + 2 * (c .steps - 1)) n v) texts′ bind′ c′ → Binds log c (joined rd b) texts′ bind′ (blockLine start b n raw rd) (Goes c′ OpenStep)
+      → Put texts bind c (logged (5 + 3 * (c .steps - 1)) n v) texts′ bind′ c′ → Binds log c (joined rd b) texts′ bind′ (blockLine start b n raw rd) (Goes c′ OpenStep)
   unfolding joined withStep blockLine addToBlock
   line-bound (aStep {s = s}) d f m e h {texts′} {bind′} p =
       let z : c .steps - 1 ≡ length (rd .steps) = omega (arith, d .steps-counted, length-append (rd .steps) (s ∷ [])) in
       let g : HoldsBindings (logged (ofBlock (length (rd .steps))) n v ∷ log) texts′ bind′ (c .entries + 1) =
       subst (λ (j : ℕ). HoldsBindings (logged (ofBlock j) n v ∷ log) texts′ bind′ (c .entries + 1)) z (p .held log (withStep s rd) d) in
-      let r = within n v (ofBlock (c .steps - 1)) h (omega (arith, d .few-steps)) in
+      let r = within n v (ofBlock (c .steps - 1)) h (omega (arith, d .few-steps)) (λ q. omega arith) in
       rw (e, line-test s d f m ∙ h, p .counted)
       (goes (logged (ofBlock (length (rd .steps))) n v ∷ [])
       (bound-line rd s d n v g (r .few) (r .low))
@@ -117,7 +132,7 @@ module _ (start : ℕ) (n raw : List ℕ) {texts bind word word′ : List ℕ} {
       }
 
   pub line-goes : {texts′ bind′ : List ℕ} {c′ : Counts} → k ≤ length word → bindingOver (length n) (length (take k word′)) c ≡ false
-      → Put texts bind c (logged (3 + 2 * (c .steps - 1)) n (take k word′)) texts′ bind′ c′
+      → Put texts bind c (logged (5 + 3 * (c .steps - 1)) n (take k word′)) texts′ bind′ c′
       → Meets texts bind c OpenStep (λ rd b. blockLine start b n raw rd) texts′ bind′ (Goes c′ OpenStep)
   line-goes l h p =
       record {
@@ -139,11 +154,11 @@ module _ {texts bind : List ℕ} {c : Counts} (s : SoundBlock texts bind c OpenS
   pub step-begun : 1 ≤ c .steps
   step-begun = step-open (s .reading) (s .known .opens) (s .known .bound)
 
-  pub line-ready : (n v : List ℕ) → bindingOver (length n) (length v) c ≡ false → EntryReady texts bind c (logged (3 + 2 * (c .steps - 1)) n v)
+  pub line-ready : (n v : List ℕ) → bindingOver (length n) (length v) c ≡ false → EntryReady texts bind c (logged (5 + 3 * (c .steps - 1)) n v)
   line-ready n v h =
       record {
         log = s .log;
         reading = joined (s .reading) (s .block);
         bound = s .known .bound;
-        fits = within n v (ofBlock (c .steps - 1)) h (omega (arith, s .known .bound .few-steps));
+        fits = within n v (ofBlock (c .steps - 1)) h (omega (arith, s .known .bound .few-steps)) (λ q. omega arith);
       }

@@ -7,7 +7,7 @@ use native.Mathlib.Omega.{arith}
 use lib.ListN.{length, take, drop}
 use lib.Seq.{take-all, take-append-seam}
 use Rattle.spec.specs.Dollars.{expand}
-use Rattle.spec.specs.Reading.{Bound as Binding, Reading, fileVar}
+use Rattle.spec.specs.Reading.{Variables, Reading, fileVar}
 use Rattle.spec.specs.Statements.{Block, noBlock, ruleBlock, buildBlock}
 use Rattle.spec.specs.Manifest.{withRule, withStep}
 use Rattle.hold_bindings.specs.Log.{Logged}
@@ -31,7 +31,7 @@ joined-vars rd (buildBlock s) = refl
 pub value-held : {log : List Logged} {texts bind : List ℕ} {c : Counts} (rd : Reading) (b : Block) → HoldsBound log texts bind c (joined rd b) → (raw : List ℕ)
     → expand (fileVar (rd .vars)) raw ≡ expandedBy log raw
 unfolding expandedBy
-value-held rd b d raw = ap (λ (l : List Binding). expand (fileVar l) raw) (sym (joined-vars rd b) ∙ d .vars)
+value-held rd b d raw = ap (λ (v : Variables). expand (fileVar v) raw) (sym (joined-vars rd b) ∙ d .vars)
 
 pub written-word : {before s after : List ℕ} {n : ℕ} → Written before s after n → n ≤ length before → take n after ≡ s
 unfolding laidOver

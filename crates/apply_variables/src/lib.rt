@@ -10,6 +10,7 @@ use apply_bindings::binding_over;
 use apply_bindings::push_binding;
 use byteorder::equal;
 use expand_dollars::expand;
+use hold_bindings::current_scope;
 use hold_reading::Counts;
 use hold_reading::LineAnswer;
 use hold_reading::Open;
@@ -26,7 +27,7 @@ fn is_wrong_version(name: &[u8], value: &[u8]) -> bool
     false
 }
 
-// A variable whose line is within the limits.
+// A variable of the scope that is read in, whose line is within the limits.
 fn set_var(
     start: usize,
     name: &[u8],
@@ -41,7 +42,8 @@ fn set_var(
     if is_wrong_version(name, value) {
         return LineAnswer::Refused(Refusal::BadVersion(start));
     }
-    let d = push_binding(texts, bind, c, 0, name, value);
+    let scope = current_scope(bind);
+    let d = push_binding(texts, bind, c, 3 * scope, name, value);
     LineAnswer::Goes(d, Open::Nothing)
 }
 
@@ -84,6 +86,6 @@ pub fn add_to_block(
     if binding_over(name.len(), len, c) {
         return LineAnswer::Refused(Refusal::OverLimit(start));
     }
-    let d = push_binding(texts, bind, c, 3 + 2 * (c.steps - 1), name, &word[..len]);
+    let d = push_binding(texts, bind, c, 5 + 3 * (c.steps - 1), name, &word[..len]);
     LineAnswer::Goes(d, Open::Step)
 }

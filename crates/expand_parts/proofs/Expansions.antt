@@ -7,12 +7,12 @@ use lib.ListN.{length}
 use Rattle.lists.specs.Tests.{split}
 use Rattle.lists.specs.Parts.{length-part}
 use Rattle.spec.specs.Dollars.{expand}
-use Rattle.spec.specs.Reading.{Bound, fileVar}
-use Rattle.hold_bindings.specs.Log.{Logged, ofFile, boundBy}
+use Rattle.spec.specs.Reading.{Variables, fileVar}
+use Rattle.hold_bindings.specs.Log.{Logged, variablesOf}
 use Rattle.expand_parts.specs.declared.Run.{Run}
 use Rattle.expand_parts.specs.Runs.{expandedBy, bytesOf, RunPlaced}
 
-pub expanded-vars : (log : List Logged) (vars : List Bound) (raw : List ℕ) → vars ≡ boundBy ofFile log → expand (fileVar vars) raw ≡ expandedBy log raw
+pub expanded-vars : (log : List Logged) (vars : Variables) (raw : List ℕ) → vars ≡ variablesOf log → expand (fileVar vars) raw ≡ expandedBy log raw
 unfolding expandedBy
 expanded-vars log vars raw e = rw e
 

@@ -9,16 +9,16 @@ use Rattle.lists.specs.Tests.{ifB}
 use Rattle.lists.specs.Parts.{part}
 use Rattle.spec.specs.Limits.{maxManifest}
 use Rattle.spec.specs.Dollars.{badDollar, expand}
-use Rattle.spec.specs.Reading.{fileVar}
+use Rattle.spec.specs.Reading.{varFrom, fileVar}
 use Rattle.scan_classes.specs.Table.{classes}
-use Rattle.hold_bindings.specs.Log.{Logged, ofFile, boundBy}
+use Rattle.hold_bindings.specs.Log.{Logged, variablesOf}
 use Rattle.hold_bindings.specs.Held.{maxTexts, HoldsBindings, SoundBindings}
 use Rattle.expand_parts.specs.declared.Run.{Run}
 
 -- what a raw text expands to with the file's variables of a log
 unfoldable pub expandedBy : List Logged → List ℕ → List ℕ
-unfolding expand fileVar boundBy
-expandedBy log raw = expand (fileVar (boundBy ofFile log)) raw
+unfolding expand varFrom variablesOf
+expandedBy log raw = expand (fileVar (variablesOf log)) raw
 
 unfoldable pub bytesOf : List ℕ → List ℕ → Run → List ℕ
 bytesOf raw texts r = ifB (r .bound) (λ _. part texts (r .from) (r .to)) (λ _. part raw (r .from) (r .to))
@@ -50,7 +50,7 @@ pub record Variable (name raw texts bind : List ℕ) (count place : ℕ) (r : Ru
   pub in-raw : r .bound ≡ false → r .to ≤ place
   pub in-texts : r .bound ≡ true → r .to ≤ length texts
   pub bounded : r .to - r .from ≤ maxTexts
-  pub value : (log : List Logged) → HoldsBindings log texts bind count → bytesOf raw texts r ≡ fileVar (boundBy ofFile log) name
+  pub value : (log : List Logged) → HoldsBindings log texts bind count → bytesOf raw texts r ≡ fileVar (variablesOf log) name
 
 -- What an expansion from place i on asks.
 pub record ExpandReady (t raw texts bind : List ℕ) (count i : ℕ) : Type 0 where

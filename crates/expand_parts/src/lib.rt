@@ -5,7 +5,7 @@ ghost use lib.ListN.{length};
 ghost use Rattle.hold_bindings.specs.Held.{SoundBindings};
 ghost use Rattle.expand_parts.specs.Runs.{BeginsRun, Variable, ExpandReady, Going, Filled};
 use hold_bindings::FoundEntry;
-use hold_bindings::newest;
+use hold_bindings::newest_seen;
 use hold_bindings::value_place;
 use scan_dollars::Escape;
 use scan_dollars::dollar;
@@ -24,7 +24,7 @@ fn variable(wanted: &[u8], texts: &[u8], bind: &[u32], count: usize, next: usize
     requires { ⌜ SoundBindings (now texts) (now bind) count ⌝ }
     ensures { λ r. ⌜ ((raw : List ℕ) → Variable (now (wanted .entry)) raw (now (texts .entry)) (now (bind .entry)) count next r) ⌝ }
 {
-    match newest(texts, bind, count, 0, wanted) {
+    match newest_seen(texts, bind, count, wanted) {
         FoundEntry::At(k) => {
             let p = value_place(texts, bind, k);
             Run {

@@ -21,7 +21,7 @@ use spec::limits::WRITTEN;
 pub const SCOPES: usize = 64;
 
 // The most entries that a manifest may have: bindings, rules, and two marks for each scope.
-const ENTRIES: usize = BINDINGS + RULES + 2 * SCOPES;
+pub const ENTRIES: usize = BINDINGS + RULES + 2 * SCOPES;
 
 // The owner of marks.
 const MARKS: usize = 2;

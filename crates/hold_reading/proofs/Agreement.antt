@@ -15,9 +15,8 @@ use Rattle.spec.specs.Graph.{makers, makersFrom}
 use Rattle.spec.specs.Statements.{Block, noBlock, Outcome, goesOn, refused, longerThan, overPaths}
 use Rattle.arena.specs.Columns.{Lies}
 use Rattle.hold_names.specs.Table.{HoldsNames}
-use Rattle.hold_bindings.specs.Log.{Logged, boundBy, rulesIn, rulesOf}
-use Rattle.hold_bindings.specs.Held.{maxTexts, maxRows, valuesIn}
-use Rattle.hold_bindings.proofs.Entries.{held-none}
+use Rattle.hold_bindings.specs.Log.{Logged, boundBy, scopingOf, scopesFrom, variablesOf, rulesIn, rulesOf}
+use Rattle.hold_bindings.specs.Held.{HoldsBindings, valuesIn}
 use Rattle.hold_columns.specs.Columns.{madeBy}
 use Rattle.hold_reading.specs.declared.Counts.{Counts}
 use Rattle.hold_reading.specs.declared.Open.{Open}
@@ -58,18 +57,19 @@ unfolding overPaths
 none-over = any-none (longerThan maxPath)
 
 module _ (bs : Buffers) where
-  pub start-held : HoldsNames (bs .names) (bs .index) 0 [] → maxTexts ≤ length (bs .texts) → maxRows ≤ length (bs .bind) → sum capacities ≤ length (bs .graph)
+  pub start-held : HoldsNames (bs .names) (bs .index) 0 [] → HoldsBindings [] (bs .texts) (bs .bind) 0 → sum capacities ≤ length (bs .graph)
       → HoldsReading [] bs noCounts (joined nothingRead noBlock)
-  unfolding joined boundBy rulesOf rulesIn valuesIn concat makers makersFrom madeBy Rattle.hold_columns.specs.Columns.stepEndsFrom
-  start-held n t b g =
+  unfolding joined boundBy scopingOf scopesFrom variablesOf rulesOf rulesIn valuesIn concat makers makersFrom madeBy Rattle.hold_columns.specs.Columns.stepEndsFrom
+  start-held n b g =
       record {
         named = n;
         bound =
             record {
-              held = held-none (bs .texts) (bs .bind) t b;
+              held = b;
               vars = refl;
               rules = refl;
               blocks = λ s d. absurd (not-suc-le-zero d);
+              scoped = λ s d. absurd (not-suc-le-zero d);
               owned = tt;
               steps-counted = refl;
               rules-counted = refl;

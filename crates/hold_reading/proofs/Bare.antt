@@ -40,16 +40,16 @@ makers-from-bare k (s ∷ l) f =
     (λ (e : has f (s .outs) ≡ true). rw e (ap (λ (r : List ℕ). k ∷ r) (makers-from-bare (suc k) l f)))
     (λ (e : has f (s .outs) ≡ false). rw e (makers-from-bare (suc k) l f))
 
-rule-bare : (l : List Step) (s : ℕ) → stepAt (map withoutBlock l) s .rule ≡ stepAt l s .rule
+bare-at : (l : List Step) (s : ℕ) → stepAt (map withoutBlock l) s ≡ withoutBlock (stepAt l s)
 unfolding withoutBlock
-rule-bare l s = ap (λ (x : Step). x .rule) (List·getD-map withoutBlock l s noStep)
+bare-at l s = List·getD-map withoutBlock l s noStep
 
 module _ (a b : List Step) (e : map withoutBlock a ≡ map withoutBlock b) where
   pub same-count : length a ≡ length b
   same-count = sym (length-map a withoutBlock) ∙ ap length e ∙ length-map b withoutBlock
 
-  pub same-rule : (s : ℕ) → stepAt a s .rule ≡ stepAt b s .rule
-  same-rule s = sym (rule-bare a s) ∙ ap (λ (l : List Step). stepAt l s .rule) e ∙ rule-bare b s
+  pub same-step : (s : ℕ) → withoutBlock (stepAt a s) ≡ withoutBlock (stepAt b s)
+  same-step s = sym (bare-at a s) ∙ ap (λ (l : List Step). stepAt l s) e ∙ bare-at b s
 
   same-makers : (f : ℕ) → makers a f ≡ makers b f
   unfolding makers

@@ -11,13 +11,14 @@ use lib.Seq.{getD-append-seam}
 use Rattle.lists.specs.Tests.{split}
 use Rattle.spec.specs.Limits.{maxRules, maxBindings, maxName, maxWritten}
 use Rattle.spec.specs.Reading.{Bound as Binding, Rule, Step, Reading}
-use Rattle.spec.specs.Statements.{countBinding, setVar}
+use Rattle.spec.specs.Statements.{bound, countBinding, setVar}
 use Rattle.spec.specs.Manifest.{withRule, withStep}
 use Rattle.spec.specs.Graph.{noStep, stepAt}
 use Rattle.hold_bindings.specs.declared.FoundEntry.the-variants.{At}
-use Rattle.hold_bindings.specs.Log.{Logged, logged, ofFile, ofRules, ofKeys, ofBlock, boundBy, rulesIn, rulesOf, newestRule, withKey, Owned}
+use Rattle.hold_bindings.specs.Log.{Logged, logged, ofScope, ofRules, ofMarks, ofKeys, ofBlock, boundBy, scopingOf, variablesOf, rulesIn, rulesOf, newestRule, withKey, Owned}
 use Rattle.hold_bindings.specs.Held.{maxEntries, maxOwner, HoldsBindings, EntryRoom, valuesIn}
-use Rattle.hold_bindings.proofs.Lookups.{bound-same, bound-other, owner-file, owner-rules, owner-keys, owner-step, keys-not-step, rules-other, rules-declared, rules-key}
+use Rattle.hold_bindings.proofs.Lookups.{bound-same, bound-other, owner-scope, owner-rules, owner-keys, owner-step, keys-not-step, rules-other, rules-declared, rules-key}
+use Rattle.hold_bindings.proofs.Scopes.{scoping-other, variables-other, variables-bound}
 use Rattle.hold_reading.specs.declared.Counts.{Counts}
 use Rattle.hold_reading.specs.Held.{HoldsBound}
 use Rattle.hold_reading.specs.Binds.{countedMore, countedRule, keyMore, lineMore, withoutBlock, Beside}
@@ -54,8 +55,8 @@ open-keys log k r rs e h = newest-keys log log k r rs e (sym h)
 -- ---- room for an entry
 
 pub bound-room : {log : List Logged} {texts bind : List ℕ} {c : Counts} {rd : Reading} → HoldsBound log texts bind c rd → (e : Logged) → c .entries < maxEntries
-    → c .written + length (e .value) ≤ maxWritten → e .owner ≤ maxOwner → length (e .name) ≤ maxName → EntryRoom log texts bind (c .entries) e
-bound-room b e f w o n = record { held = b .held; few = f; owner = o; name = n; value = omega (arith, b .shared) }
+    → c .written + length (e .value) ≤ maxWritten → e .owner ≤ maxOwner → (e .owner ≡ ofMarks → ⊥) → length (e .name) ≤ maxName → EntryRoom log texts bind (c .entries) e
+bound-room b e f w o m n = record { held = b .held; few = f; binds = m; owner = o; name = n; value = omega (arith, b .shared) }
 
 -- ---- a rule
 
@@ -67,11 +68,12 @@ module _ {log : List Logged} {texts bind texts′ bind′ : List ℕ} {c : Count
       let e = logged ofRules n [] in
       record {
         held = h;
-        vars = b .vars ∙ sym (bound-other e log ofFile (λ p. omega arith));
+        vars = b .vars ∙ sym (variables-other e log (λ k p. omega arith) (λ p. omega arith));
         rules =
             ap (λ (rs : List Rule). record { name = n; keys = [] } ∷ rs) (b .rules)
             ∙ sym (rules-declared e log (length (rd .steps)) (b .owned) refl);
         blocks = λ s d. b .blocks s d ∙ sym (bound-other e log (ofBlock s) (λ p. omega arith));
+        scoped = λ s d. rw (scoping-other e log (λ p. omega arith)) (b .scoped s d);
         owned = (owner-rules (length (rd .steps)) (length log), b .owned);
         steps-counted = b .steps-counted;
         rules-counted = omega (arith, b .rules-counted);
@@ -88,25 +90,27 @@ module _ {log : List Logged} {texts bind texts′ bind′ : List ℕ} {c : Count
 -- ---- a binding
 
 -- what a binding whose value has n bytes changes in a reading's counts
-record More (n : ℕ) (rd rd′ : Reading) : Type 0 where
+record More (log : List Logged) (n : ℕ) (rd rd′ : Reading) : Type 0 where
   files : rd′ .files ≡ rd .files
   steps : length (rd′ .steps) ≡ length (rd .steps)
   rules : length (rd′ .rules) ≡ length (rd .rules)
   bindings : rd′ .bindings ≡ rd .bindings + 1
   written : rd′ .written ≡ rd .written + n
+  scopes : (s : ℕ) → s < length (rd′ .steps) → stepAt (rd′ .steps) s .scope < length (scopingOf log .outers)
 
 module _ {log : List Logged} {texts bind texts′ bind′ : List ℕ} {c : Counts} {rd : Reading} (b : HoldsBound log texts bind c rd) (e : Logged)
     (h : HoldsBindings (e ∷ log) texts′ bind′ (c .entries + 1)) (f : c .bindings < maxBindings) (w : c .written + length (e .value) ≤ maxWritten) where
-  bound-more : {rd′ : Reading} → More (length (e .value)) rd rd′ → rd′ .vars ≡ boundBy ofFile (e ∷ log) → rd′ .rules ≡ rulesOf (e ∷ log)
+  bound-more : {rd′ : Reading} → More log (length (e .value)) rd rd′ → (e .owner ≡ ofMarks → ⊥) → rd′ .vars ≡ variablesOf (e ∷ log) → rd′ .rules ≡ rulesOf (e ∷ log)
       → ((s : ℕ) → s < length (rd′ .steps) → stepAt (rd′ .steps) s .block ≡ boundBy (ofBlock s) (e ∷ log)) → Owned (length (rd′ .steps)) (e ∷ log)
       → HoldsBound (e ∷ log) texts′ bind′ (countedMore (length (e .value)) c) rd′
   unfolding valuesIn
-  bound-more m vars rules blocks owned =
+  bound-more m plain vars rules blocks owned =
       record {
         held = h;
         vars = vars;
         rules = rules;
         blocks = blocks;
+        scoped = λ s d. rw (scoping-other e log plain) (m .scopes s d);
         owned = owned;
         steps-counted = omega (arith, b .steps-counted, m .steps);
         rules-counted = omega (arith, b .rules-counted, m .rules);
@@ -120,19 +124,22 @@ module _ {log : List Logged} {texts bind texts′ bind′ : List ℕ} {c : Count
         shared = rw (m .files) (omega (arith, b .shared));
       }
 
--- a variable of the file
+-- a variable of the scope that is read in
 module _ {log : List Logged} {texts bind texts′ bind′ : List ℕ} {c : Counts} {rd : Reading} (b : HoldsBound log texts bind c rd) (n v : List ℕ)
-    (h : HoldsBindings (logged ofFile n v ∷ log) texts′ bind′ (c .entries + 1)) (f : c .bindings < maxBindings) (w : c .written + length v ≤ maxWritten) where
-  pub bound-var : HoldsBound (logged ofFile n v ∷ log) texts′ bind′ (countedMore (length v) c) (setVar n v (countBinding (length v) rd))
+    (h : HoldsBindings (logged (ofScope (scopingOf log .current)) n v ∷ log) texts′ bind′ (c .entries + 1)) (f : c .bindings < maxBindings)
+    (w : c .written + length v ≤ maxWritten) where
+  pub bound-var : HoldsBound (logged (ofScope (scopingOf log .current)) n v ∷ log) texts′ bind′ (countedMore (length v) c) (setVar n v (countBinding (length v) rd))
   unfolding setVar countBinding
   bound-var =
-      let e = logged ofFile n v in
+      let k = scopingOf log .current in
+      let e = logged (ofScope k) n v in
       bound-more b e h f w
-      (record { files = refl; steps = refl; rules = refl; bindings = refl; written = refl })
-      (ap (λ (l : List Binding). record { name = n; value = v } ∷ l) (b .vars) ∙ sym (bound-same e log ofFile refl))
-      (b .rules ∙ sym (rules-other e log (λ p. omega arith) (λ k p. omega arith)))
+      (record { files = refl; steps = refl; rules = refl; bindings = refl; written = refl; scopes = b .scoped })
+      (λ p. omega arith)
+      (ap (bound (record { name = n; value = v })) (b .vars) ∙ sym (variables-bound n v log (b .held .scopes .below)))
+      (b .rules ∙ sym (rules-other e log (λ p. omega arith) (λ j p. omega arith)))
       (λ s d. b .blocks s d ∙ sym (bound-other e log (ofBlock s) (λ p. omega arith)))
-      (owner-file (length (rd .steps)) (length log), b .owned)
+      (owner-scope (length (rd .steps)) (length log) k, b .owned)
 
 -- a key of the open rule
 module _ {log : List Logged} {texts bind texts′ bind′ : List ℕ} {c : Counts} (rd : Reading) (r : Rule) (k : ℕ) (b : HoldsBound log texts bind c (withRule r rd))
@@ -143,8 +150,9 @@ module _ {log : List Logged} {texts bind texts′ bind′ : List ℕ} {c : Count
   bound-key =
       let e = logged (ofKeys k) n v in
       bound-more b e h f w
-      (record { files = refl; steps = refl; rules = refl; bindings = refl; written = refl })
-      (b .vars ∙ sym (bound-other e log ofFile (λ p. omega arith)))
+      (record { files = refl; steps = refl; rules = refl; bindings = refl; written = refl; scopes = b .scoped })
+      (λ p. omega arith)
+      (b .vars ∙ sym (variables-other e log (λ j p. omega arith) (λ p. omega arith)))
       (ap (withKey (record { name = n; value = v })) (b .rules) ∙ sym (rules-key e log k refl o))
       (λ s d. b .blocks s d ∙ sym (bound-other e log (ofBlock s) (keys-not-step k s)))
       (owner-keys (length (rd .steps)) (length log) k (newest-rule-below log k o), b .owned)
@@ -175,6 +183,21 @@ module _ {log : List Logged} {texts bind texts′ bind′ : List ℕ} {c : Count
             ∙ sym (bound-same e log (ofBlock (length (rd .steps))) refl)))
       ]
 
+  line-scopes : (i : ℕ) → i < length (rd .steps ++ (lineMore n v s ∷ [])) → stepAt (rd .steps ++ (lineMore n v s ∷ [])) i .scope < length (scopingOf log .outers)
+  unfolding withStep
+  line-scopes i d =
+      let m : length (rd .steps ++ (s ∷ [])) ≡ length (rd .steps) + 1 = length-append (rd .steps) (s ∷ []) in
+      let m′ : length (rd .steps ++ (lineMore n v s ∷ [])) ≡ length (rd .steps) + 1 = length-append (rd .steps) (lineMore n v s ∷ []) in
+      elim (decLt i (length (rd .steps))) [
+        | yes l ↦
+            rw (List·getD-append (rd .steps) (lineMore n v s ∷ []) noStep i l, ← (List·getD-append (rd .steps) (s ∷ []) noStep i l)) (b .scoped i (omega arith))
+        | no l ↦
+            (let z : i ≡ length (rd .steps) = omega arith in
+            let q : s .scope < length (scopingOf log .outers) =
+            rw (getD-append-seam (rd .steps) s [] noStep) at (b .scoped (length (rd .steps)) (omega arith)) in
+            rw (z, getD-append-seam (rd .steps) (lineMore n v s) [] noStep) q)
+      ]
+
   pub bound-line : HoldsBound (logged (ofBlock (length (rd .steps))) n v ∷ log) texts′ bind′ (countedMore (length v) c)
       (withStep (lineMore n v s) (countBinding (length v) rd))
   unfolding withStep countBinding
@@ -182,8 +205,9 @@ module _ {log : List Logged} {texts bind texts′ bind′ : List ℕ} {c : Count
       let e = logged (ofBlock (length (rd .steps))) n v in
       let m : length (rd .steps ++ (lineMore n v s ∷ [])) ≡ length (rd .steps ++ (s ∷ [])) = simp length-append in
       bound-more b e h f w
-      (record { files = refl; steps = m; rules = refl; bindings = refl; written = refl })
-      (b .vars ∙ sym (bound-other e log ofFile (λ p. omega arith)))
+      (record { files = refl; steps = m; rules = refl; bindings = refl; written = refl; scopes = line-scopes })
+      (λ p. omega arith)
+      (b .vars ∙ sym (variables-other e log (λ j p. omega arith) (λ p. omega arith)))
       (b .rules ∙ sym (rules-other e log (λ p. omega arith) (λ k p. keys-not-step k (length (rd .steps)) (sym p))))
       line-blocks
       (rw m (owner-step (length (rd .steps ++ (s ∷ []))) (length log) (length (rd .steps)) (simp length-append (omega arith)), b .owned))

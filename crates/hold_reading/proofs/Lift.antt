@@ -1,11 +1,12 @@
 -- A line that binds is held by all buffers: the log grows, and the names and the columns of the graph hold the outcome's reading as before.
 use Prim.Native.Nat.{ℕ, _<_}
 use mathlib.Core.List.{List, [], _∷_, _++_}
-use mathlib.Core.Path.{_≡_, refl, sym, _∙_}
+use mathlib.Core.Path.{_≡_, refl, sym, _∙_, ap}
 use native.Mathlib.Omega.{arith}
 use lib.ListN.{length, length-append}
 use Rattle.spec.specs.declared.Refusal.{Refusal}
-use Rattle.spec.specs.Reading.{Reading}
+use Rattle.spec.specs.Reading.{Step, Reading}
+use Rattle.spec.specs.Graph.{stepAt}
 use Rattle.spec.specs.Statements.{Block, Outcome, refused}
 use Rattle.hold_names.specs.Table.{HoldsNames}
 use Rattle.hold_bindings.specs.Log.{Logged, entryAt}
@@ -15,9 +16,9 @@ use Rattle.hold_reading.specs.declared.Open.{Open}
 use Rattle.hold_reading.specs.declared.Open.the-variants.{Nothing}
 use Rattle.hold_reading.specs.declared.LineAnswer.{LineAnswer}
 use Rattle.hold_reading.specs.declared.LineAnswer.the-variants.{Refused}
-use Rattle.hold_reading.specs.Held.{joined, OpensBlock, nothing, HoldsBound, Ruled, phony, declared, Graphed, HoldsReading, Agrees, goes, refuses}
-use Rattle.hold_reading.specs.Binds.{Known, SoundBlock, Beside, Binds, Meets}
-use Rattle.hold_reading.proofs.Bare.{same-count, same-rule, same-tables}
+use Rattle.hold_reading.specs.Held.{joined, OpensBlock, nothing, HoldsBound, Ruled, phony, declared, ruleWithScope, RuledIn, Graphed, HoldsReading, Agrees, goes, refuses}
+use Rattle.hold_reading.specs.Binds.{withoutBlock, Known, SoundBlock, Beside, Binds, Meets}
+use Rattle.hold_reading.proofs.Bare.{same-count, same-step, same-tables}
 use Rattle.hold_reading.specs.Buffers.{Buffers, withBindings}
 
 -- ---- the log grows
@@ -28,10 +29,18 @@ entry-more [] log k h = refl
 entry-more (e ∷ more) log k h =
     entry-kept e (more ++ log) k (omega (arith, length-append more log)) ∙ entry-more more log k h
 
-pub ruled-more : {log : List Logged} {rule : List ℕ} {n : ℕ} (more : List Logged) → Ruled log rule n → Ruled (more ++ log) rule n
+ruled-more : {log : List Logged} {rule : List ℕ} {n : ℕ} (more : List Logged) → Ruled log rule n → Ruled (more ++ log) rule n
 ruled-more more (phony p) = phony p
 ruled-more {log} more (declared {k = k} h o n p) =
     declared {k = k} (omega (arith, length-append more log)) (rw (entry-more more log k h) o) (rw (entry-more more log k h) n) p
+
+-- the number of a step does not look at its block
+ruled-bare : {log : List Logged} (more : List Logged) (s t : Step) {v : ℕ} → withoutBlock s ≡ withoutBlock t → RuledIn log t v → RuledIn (more ++ log) s v
+unfolding withoutBlock
+ruled-bare {log} more s t e r =
+    let k : s .rule ≡ t .rule = ap (λ (x : Step). x .rule) e in
+    let j : s .scope ≡ t .scope = ap (λ (x : Step). x .scope) e in
+    record { rule = r .rule; low = r .low; ruled = rw k (ruled-more more (r .ruled)); is = r .is ∙ ap (ruleWithScope (r .rule)) (sym j) }
 
 -- ---- the names and the graph stay
 
@@ -50,7 +59,8 @@ module _ {c c′ : Counts} {rd rd′ : Reading} (s : Beside c rd c′ rd′) whe
         lies = rw (s .defaults) (g .lies);
         tables = rw (s .files) (same-tables (rd′ .steps) (rd .steps) (s .steps) (g .tables));
         ruled-all = g .ruled-all ∙ sym (same-count (rd′ .steps) (rd .steps) (s .steps));
-        ruled = λ k b. rw (same-rule (rd′ .steps) (rd .steps) (s .steps) k) (ruled-more more (g .ruled k (rw (same-count (rd′ .steps) (rd .steps) (s .steps)) at b)));
+        ruled = λ k b.
+            ruled-bare more (stepAt (rd′ .steps) k) (stepAt (rd .steps) k) (same-step (rd′ .steps) (rd .steps) (s .steps) k) (g .ruled k (rw (same-count (rd′ .steps) (rd .steps) (s .steps)) at b));
         paths-counted = s .paths-counted ∙ g .paths-counted;
         defaults-counted = rw (s .defaults) (s .defaults-counted ∙ g .defaults-counted);
         mentions-counted = rw (s .mentions) (s .mentions-counted ∙ g .mentions-counted);

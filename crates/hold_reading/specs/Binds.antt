@@ -66,11 +66,11 @@ keyMore n v r = record { name = r .name; keys = record { name = n; value = v } �
 
 abbrev pub lineMore : List ℕ → List ℕ → Step → Step
 lineMore n v s =
-    record { outs = s .outs; ins = s .ins; implicit = s .implicit; orderOnly = s .orderOnly; rule = s .rule; block = record { name = n; value = v } ∷ s .block }
+    record { outs = s .outs; ins = s .ins; implicit = s .implicit; orderOnly = s .orderOnly; rule = s .rule; block = record { name = n; value = v } ∷ s .block; scope = s .scope }
 
 -- a step without its block
 unfoldable pub withoutBlock : Step → Step
-withoutBlock s = record { outs = s .outs; ins = s .ins; implicit = s .implicit; orderOnly = s .orderOnly; rule = s .rule; block = [] }
+withoutBlock s = record { outs = s .outs; ins = s .ins; implicit = s .implicit; orderOnly = s .orderOnly; rule = s .rule; block = []; scope = s .scope }
 
 -- what the names and the columns of the graph hold stays: files, defaults, mentions, and the steps without their blocks
 pub record Beside (c : Counts) (rd : Reading) (c′ : Counts) (rd′ : Reading) : Type 0 where

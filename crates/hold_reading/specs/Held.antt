@@ -15,8 +15,8 @@ use Rattle.spec.specs.Graph.{stepAt}
 use Rattle.arena.specs.Columns.{Lies, startOf}
 use Rattle.hold_names.specs.Table.{HoldsNames}
 use Rattle.hold_bindings.specs.declared.FoundEntry.the-variants.{At}
-use Rattle.hold_bindings.specs.Log.{Logged, ofFile, ofRules, ofBlock, entryAt, boundBy, rulesOf, newestRule, Owned}
-use Rattle.hold_bindings.specs.Held.{HoldsBindings, valuesIn}
+use Rattle.hold_bindings.specs.Log.{Logged, ofRules, ofBlock, entryAt, boundBy, scopingOf, variablesOf, rulesOf, newestRule, Owned}
+use Rattle.hold_bindings.specs.Held.{maxEntries, HoldsBindings, valuesIn}
 use Rattle.hold_columns.specs.Columns.{perStep, endPlace, HoldsColumns}
 use Rattle.hold_reading.specs.declared.Counts.{Counts}
 use Rattle.hold_reading.specs.declared.Open.{Open}
@@ -41,9 +41,10 @@ pub data OpensBlock (log : List Logged) : Block → Open → Type 0 where
 -- the table of bindings holds the reading's variables, rules and blocks
 pub record HoldsBound (log : List Logged) (texts bind : List ℕ) (c : Counts) (rd : Reading) : Type 0 where
   pub held : HoldsBindings log texts bind (c .entries)
-  pub vars : rd .vars ≡ boundBy ofFile log
+  pub vars : rd .vars ≡ variablesOf log
   pub rules : rd .rules ≡ rulesOf log
   pub blocks : (s : ℕ) → s < length (rd .steps) → stepAt (rd .steps) s .block ≡ boundBy (ofBlock s) log
+  pub scoped : (s : ℕ) → s < length (rd .steps) → stepAt (rd .steps) s .scope < length (scopingOf log .outers)
   pub owned : Owned (length (rd .steps)) log
   pub steps-counted : c .steps ≡ length (rd .steps)
   pub rules-counted : c .rules ≡ length (rd .rules)
@@ -62,11 +63,25 @@ pub data Ruled (log : List Logged) (rule : List ℕ) : ℕ → Type 0 where
   phony : isPhony rule ≡ true → Ruled log rule 0
   declared : {k : ℕ} → k < length log → entryAt k log .owner ≡ ofRules → entryAt k log .name ≡ rule → isPhony rule ≡ false → Ruled log rule (suc k)
 
+-- A step's rule and its scope are kept as one number.
+abbrev pub scopeUnit : ℕ
+scopeUnit = maxEntries + 1
+
+unfoldable pub ruleWithScope : ℕ → ℕ → ℕ
+ruleWithScope n scope = scopeUnit * scope + n
+
+-- the number for a step
+pub record RuledIn (log : List Logged) (s : Step) (v : ℕ) : Type 0 where
+  pub rule : ℕ
+  pub low : rule < scopeUnit
+  pub ruled : Ruled log (s .rule) rule
+  pub is : v ≡ ruleWithScope rule (s .scope)
+
 -- the ends of all steps that a manifest may have
 abbrev pub maxEnds : ℕ
 maxEnds = perStep * maxSteps
 
--- capacities of the columns of the graph: mentions, the ends of each step, phony or not, each file's maker, each step's rule, defaults
+-- capacities of the columns of the graph: mentions, the ends of each step, phony or not, each file's maker, each step's rule and scope, defaults
 abbrev pub capacities : List ℕ
 capacities = maxMentions ∷ maxEnds ∷ maxSteps ∷ maxFiles ∷ maxSteps ∷ maxMentions ∷ []
 
@@ -103,7 +118,7 @@ pub record Graphed (log : List Logged) (graph : List ℕ) (c : Counts) (rd : Rea
   pub lies : Lies capacities graph (mentions ∷ ends ∷ phony ∷ made ∷ ruleOf ∷ rd .defaults ∷ [])
   pub tables : HoldsColumns (rd .steps) (length (rd .files)) mentions ends phony made
   pub ruled-all : length ruleOf ≡ length (rd .steps)
-  pub ruled : (s : ℕ) → s < length (rd .steps) → Ruled log (stepAt (rd .steps) s .rule) (getD ruleOf s 0)
+  pub ruled : (s : ℕ) → s < length (rd .steps) → RuledIn log (stepAt (rd .steps) s) (getD ruleOf s 0)
   pub paths-counted : c .paths ≡ length mentions
   pub defaults-counted : c .defaults ≡ length (rd .defaults)
   pub mentions-counted : c .mentions ≡ rd .mentions

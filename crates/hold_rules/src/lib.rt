@@ -50,7 +50,7 @@ fn has_key(texts: &[u8], bind: &[u32], count: usize, entry: usize, name: &[u8]) 
     requires { ⌜ OfRule (now texts) (now bind) count entry ⌝ }
     ensures { λ r. ⌜ ((log : List Logged) → HoldsBindings log (now (texts .entry)) (now (bind .entry)) count → r ≡ keyed entry (now (name .entry)) log) ⌝ }
 {
-    has_line(texts, bind, count, 2 + 2 * entry, name)
+    has_line(texts, bind, count, 4 + 3 * entry, name)
 }
 
 // "key twice or unknown in a rule" (7)

@@ -9,17 +9,18 @@ use lib.ListN.{length}
 use Rattle.lists.specs.Text.{bytes}
 use Rattle.lists.specs.Bytes.{eqBytes}
 use Rattle.spec.specs.Basics.{orElse}
-use Rattle.spec.specs.Reading.{boundTo, fileVar}
+use Rattle.spec.specs.Reading.{Step, Reading, Variables, boundTo, varFrom}
 use Rattle.spec.specs.Text.{asIs, ofRule, ofStep, lookupBy, lookup}
 use Rattle.hold_bindings.specs.declared.FoundEntry.{FoundEntry}
 use Rattle.hold_bindings.specs.declared.FoundEntry.the-variants.{At, Missing}
-use Rattle.hold_bindings.specs.Log.{Logged, ofFile, ofKeys, ofBlock, entryAt, newest, valueOf, boundBy}
+use Rattle.hold_bindings.specs.Log.{Logged, ofKeys, ofBlock, entryAt, newest, newestFrom, valueOf, boundBy, variablesOf}
 use Rattle.hold_bindings.specs.Held.{HoldsBindings}
 use Rattle.hold_bindings.proofs.Lookups.{newest-below, find-newest, orEmpty}
+use Rattle.hold_bindings.proofs.Scopes.{newest-from-below, var-newest}
 use Rattle.text_lookup.specs.declared.Asked.{Asked}
 use Rattle.text_lookup.specs.declared.Source.{Source}
 use Rattle.text_lookup.specs.declared.Source.the-variants.{Inputs, InputLines, Outputs, Value, Text, Unset}
-use Rattle.text_lookup.specs.Scope.{InScope, meaning, fromFile, fromRule, fromBlock, There, LooksUp}
+use Rattle.text_lookup.specs.Scope.{Scope, InScope, meaning, fromFile, fromRule, fromBlock, There, LooksUp}
 
 -- f is the newest entry of a name for an owner
 module _ (o : ℕ) (n : List ℕ) (a : Asked) {texts bind : List ℕ} {f : FoundEntry} (q : (log : List Logged) → HoldsBindings log texts bind (a .entries) → f ≡ newest o n log) where
@@ -38,21 +39,36 @@ module _ (o : ℕ) (n : List ℕ) (a : Asked) {texts bind : List ℕ} {f : Found
   entry-missing log h e = find-newest o n log ∙ rw (sym (q log h) ∙ e)
 
 module _ (n : List ℕ) {texts bind : List ℕ} {a : Asked} {f : FoundEntry} where
-  module _ (q : (log : List Logged) → HoldsBindings log texts bind (a .entries) → f ≡ newest ofFile n log) where
+  -- f is the newest entry that is seen from the step's scope
+  module _ (q : (log : List Logged) → HoldsBindings log texts bind (a .entries) → f ≡ newestFrom (a .scope) n log) where
+    seen-there : {k : ℕ} → InScope texts bind a → f ≡ At k → There texts bind a k
+    seen-there {k} w e =
+        let b : k < length (w .log) = newest-from-below (a .scope) n (w .log) k (sym (q (w .log) (w .scope .bound)) ∙ e) in
+        let m : k < a .entries = omega (arith, w .scope .bound .rows .counted) in
+        record { entry = record { log = w .log; count = a .entries; held = w .scope .bound; below = m }; low = m }
+
+    -- what the file's variables give
+    seen-value : {log : List Logged} {rd : Reading} {s : Step} → Scope texts bind a log rd s → varFrom (rd .vars .scopes) (s .scope) n ≡ orEmpty (valueOf f log)
+    seen-value {log} {rd} {s} c =
+        ap (λ (v : Variables). varFrom (v .scopes) (s .scope) n) (c .vars)
+        ∙ ap (λ (k : ℕ). varFrom (variablesOf log .scopes) k n) (c .stands)
+        ∙ var-newest log (c .bound .scopes) (a .scope) (c .scope-low) n
+        ∙ ap (λ (g : FoundEntry). orEmpty (valueOf g log)) (sym (q log (c .bound)))
+
     pub file-found : {k : ℕ} → InScope texts bind a → f ≡ At k → LooksUp texts bind a (fromFile n) (Value k)
-    unfolding meaning fileVar
+    unfolding meaning valueOf
     file-found {k} w e =
         record {
-          means = λ log rd s c. ap asIs (ap orEmpty (ap (boundTo n) (c .vars) ∙ entry-found ofFile n a q log (c .bound) e));
-          value = λ j d. let z : k ≡ j = cc in rw (← z) (entry-there ofFile n a q w e);
+          means = λ log rd s c. ap asIs (seen-value c ∙ ap (λ (g : FoundEntry). orEmpty (valueOf g log)) e);
+          value = λ j d. let z : k ≡ j = cc in rw (← z) (seen-there w e);
           text = λ j d. let z : _≡_ {A = ℕ} 0 1 = cc in absurd (omega arith);
         }
 
     pub file-unset : f ≡ Missing → LooksUp texts bind a (fromFile n) Unset
-    unfolding meaning fileVar
+    unfolding meaning valueOf
     file-unset e =
         record {
-          means = λ log rd s c. ap asIs (ap orEmpty (ap (boundTo n) (c .vars) ∙ entry-missing ofFile n a q log (c .bound) e));
+          means = λ log rd s c. ap asIs (seen-value c ∙ ap (λ (g : FoundEntry). orEmpty (valueOf g log)) e);
           value = λ j d. let z : _≡_ {A = ℕ} 0 1 = cc in absurd (omega arith);
           text = λ j d. let z : _≡_ {A = ℕ} 0 1 = cc in absurd (omega arith);
         }

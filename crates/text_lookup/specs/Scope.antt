@@ -2,13 +2,14 @@
 use Prim.Native.Nat.{ℕ, _<_}
 use mathlib.Core.List.{List, []}
 use mathlib.Core.Path.{_≡_}
+use lib.ListN.{length}
 use Rattle.spec.specs.Bytes.{space, newline}
 use Rattle.spec.specs.Limits.{maxSteps}
 use Rattle.spec.specs.Basics.{orElse}
-use Rattle.spec.specs.Reading.{Step, Reading, boundTo, fileVar, keysOf}
+use Rattle.spec.specs.Reading.{Step, Reading, boundTo, varFrom, keysOf}
 use Rattle.spec.specs.Sound.{SoundKeys}
 use Rattle.spec.specs.Text.{quoted, joinedBy, namesOf, Found, asIs, ofRule}
-use Rattle.hold_bindings.specs.Log.{Logged, ofFile, ofKeys, ofBlock, entryAt, boundBy}
+use Rattle.hold_bindings.specs.Log.{Logged, ofKeys, ofBlock, entryAt, boundBy, scopingOf, variablesOf}
 use Rattle.hold_bindings.specs.Held.{maxEntries, HoldsBindings, HasEntry}
 use Rattle.text_lookup.specs.declared.Asked.{Asked}
 use Rattle.text_lookup.specs.declared.Source.{Source}
@@ -17,10 +18,12 @@ use Rattle.text_lookup.specs.declared.Source.the-variants.{Inputs, Input
 -- The table of bindings holds the scope of this step of a reading.
 pub record Scope (texts bind : List ℕ) (a : Asked) (log : List Logged) (rd : Reading) (s : Step) : Type 0 where
   pub bound : HoldsBindings log texts bind (a .entries)
-  pub vars : rd .vars ≡ boundBy ofFile log
+  pub vars : rd .vars ≡ variablesOf log
+  pub stands : s .scope ≡ a .scope
   pub block : s .block ≡ boundBy (ofBlock (a .step)) log
   pub keys : keysOf (s .rule) (rd .rules) ≡ boundBy (ofKeys (a .rule)) log
   pub sound : SoundKeys (keysOf (s .rule) (rd .rules))
+  pub scope-low : a .scope < length (scopingOf log .outers)
   pub step-low : a .step < maxSteps
   pub rule-low : a .rule < maxEntries
 
@@ -43,7 +46,7 @@ meaning rd s log Unset = asIs []
 
 -- the lookup's later parts
 abbrev pub fromFile : List ℕ → Reading → Step → Found
-fromFile n rd s = asIs (fileVar (rd .vars) n)
+fromFile n rd s = asIs (varFrom (rd .vars .scopes) (s .scope) n)
 
 abbrev pub fromRule : List ℕ → Reading → Step → Found
 fromRule n rd s = orElse (boundTo n (keysOf (s .rule) (rd .rules))) ofRule λ _. fromFile n rd s

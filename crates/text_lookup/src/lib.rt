@@ -4,12 +4,14 @@ ghost use Rattle.text_lookup.specs.Scope.{InScope, LooksUp, fromFile, fr
 use byteorder::equal;
 use hold_bindings::FoundEntry;
 use hold_bindings::newest;
+use hold_bindings::newest_from;
 
-// The step that is asked for: its number, the entry of its rule's declaration in the table of bindings, how many entries and files there are, and where
-// its outputs and its explicit inputs start and end among the mentions.
+// The step that is asked for: its number, the entry of its rule's declaration in the table of bindings, the scope that its line stands in, how many
+// entries and files there are, and where its outputs and its explicit inputs start and end among the mentions.
 pub struct Asked {
     pub step: usize,
     pub rule: usize,
+    pub scope: usize,
     pub entries: usize,
     pub files: usize,
     pub outs: usize,
@@ -35,7 +37,7 @@ fn of_file(texts: &[u8], bind: &[u32], a: Asked, name: &[u8]) -> Source
     requires { ⌜ InScope (now texts) (now bind) a ⌝ }
     ensures { λ r. ⌜ LooksUp (now (texts .entry)) (now (bind .entry)) a (fromFile (now (name .entry))) r ⌝ }
 {
-    match newest(texts, bind, a.entries, 0, name) {
+    match newest_from(texts, bind, a.entries, a.scope, name) {
         FoundEntry::At(k) => Source::Value(k),
         FoundEntry::Missing => Source::Unset,
     }
@@ -46,7 +48,7 @@ fn of_rule(texts: &[u8], bind: &[u32], a: Asked, name: &[u8]) -> Source
     requires { ⌜ InScope (now texts) (now bind) a ⌝ }
     ensures { λ r. ⌜ LooksUp (now (texts .entry)) (now (bind .entry)) a (fromRule (now (name .entry))) r ⌝ }
 {
-    match newest(texts, bind, a.entries, 2 + 2 * a.rule, name) {
+    match newest(texts, bind, a.entries, 4 + 3 * a.rule, name) {
         FoundEntry::At(k) => Source::Text(k),
         FoundEntry::Missing => of_file(texts, bind, a, name),
     }
@@ -57,7 +59,7 @@ fn of_block(texts: &[u8], bind: &[u32], a: Asked, name: &[u8]) -> Source
     requires { ⌜ InScope (now texts) (now bind) a ⌝ }
     ensures { λ r. ⌜ LooksUp (now (texts .entry)) (now (bind .entry)) a (fromBlock (now (name .entry))) r ⌝ }
 {
-    match newest(texts, bind, a.entries, 3 + 2 * a.step, name) {
+    match newest(texts, bind, a.entries, 5 + 3 * a.step, name) {
         FoundEntry::At(k) => Source::Value(k),
         FoundEntry::Missing => of_rule(texts, bind, a, name),
     }

@@ -137,6 +137,8 @@ module _ {bs : Buffers} {c : Counts} {step : ℕ} {a : Asked} (p : Picks (bs .te
             record {
               bound = rw (x .entries) (h .bound .held);
               vars = h .bound .vars;
+              stands = sym (x .scope);
+              scope-low = rw (x .scope) (h .bound .scoped step (x .there));
               block = rw (x .number) (h .bound .blocks step (x .there));
               keys = x .keys;
               sound = y (stepAt (rd .steps) step .rule);

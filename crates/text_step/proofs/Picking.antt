@@ -1,5 +1,5 @@
 -- A step by its number: its rule's declaration, and its files among the mentions.
-use Prim.Native.Nat.{ℕ, suc, _+_, _-_, _≤_, _<_}
+use Prim.Native.Nat.{ℕ, suc, _+_, _-_, _/_, _%_, _≤_, _<_}
 use mathlib.Core.List.{List, [], _∷_}
 use mathlib.Core.Bool.{Bool, true, false, _||_}
 use mathlib.Core.Path.{_≡_, refl, sym, _∙_, ap}
@@ -25,7 +25,7 @@ use Rattle.hold_bindings.specs.Log.{Logged, ofRules, ofKeys, entryAt, isNamed, 
 use Rattle.hold_bindings.specs.Held.{HoldsBindings, HasEntry, SoundBindings}
 use Rattle.hold_bindings.proofs.Lookups.{newest-below, entry-kept, entry-newest, keys-newest}
 use Rattle.hold_reading.specs.declared.Counts.{Counts}
-use Rattle.hold_reading.specs.Held.{capacities, endIn, ruleStart, defaultsStart, Ruled, phony, declared, HoldsBound, Graphed}
+use Rattle.hold_reading.specs.Held.{capacities, endIn, ruleStart, defaultsStart, Ruled, phony, declared, scopeUnit, ruleWithScope, RuledIn, HoldsBound, Graphed}
 use Rattle.text_lookup.specs.declared.Asked.{Asked}
 use Rattle.text_memo.proofs.Spans.{part-front}
 use Rattle.text_step.specs.declared.StepAsked.{StepAsked}
@@ -114,10 +114,21 @@ module _ {log : List Logged} {texts bind graph : List ℕ} {c : Counts} {rd : Re
     unfolding columns
     rule-read = let l = there in lies-read capacities graph columns 4 (g .lies) (omega arith) s (omega (arith, g .ruled-all))
 
-    ruled : Ruled log (stepAt (rd .steps) s .rule) (getD graph (ruleStart + s) 0)
-    ruled = rw rule-read (g .ruled s there)
+    ruled-in : RuledIn log (stepAt (rd .steps) s) (getD graph (ruleStart + s) 0)
+    ruled-in = rw rule-read (g .ruled s there)
 
-    pub is-phony : getD graph (ruleStart + s) 0 ≡ 0 → isPhony (stepAt (rd .steps) s .rule) ≡ true
+    ruled : Ruled log (stepAt (rd .steps) s .rule) (getD graph (ruleStart + s) 0 % scopeUnit)
+    unfolding ruleWithScope
+    ruled =
+        let r = ruled-in in
+        let z : getD graph (ruleStart + s) 0 % scopeUnit ≡ r .rule = omega (arith, r .is, r .low) in
+        rw z (r .ruled)
+
+    stands : getD graph (ruleStart + s) 0 / scopeUnit ≡ stepAt (rd .steps) s .scope
+    unfolding ruleWithScope
+    stands = let r = ruled-in in omega (arith, r .is, r .low)
+
+    pub is-phony : getD graph (ruleStart + s) 0 % scopeUnit ≡ 0 → isPhony (stepAt (rd .steps) s .rule) ≡ true
     is-phony z = ruled-phony ruled z
 
     end-read : (j k : ℕ) → endPlace j k ≤ endPlace s lastEnd → endIn graph j k ≡ endAt (g .ends) j k
@@ -168,7 +179,7 @@ pub outputs-later : (graph : List ℕ) (s : ℕ) → (s ≡ 0 → ⊥) → endIn
 unfolding outputsFrom
 outputs-later graph s z = sym (rw (ne-eqb s 0 z))
 
-module _ {texts bind graph : List ℕ} {c : Counts} {step k : ℕ} (w : PickAsk texts bind graph c step k) where
+module _ {texts bind graph : List ℕ} {c : Counts} {step k scope : ℕ} (w : PickAsk texts bind graph c step k scope) where
   rules-of : {log : List Logged} {rd : Reading} → HoldsBound log texts bind c rd → Graphed log graph c rd → Rules log (stepAt (rd .steps) step .rule) k
   rules-of b g = rw (w .entry) (ruled-by (ruled b g (w .there)) (w .ruled))
 
@@ -190,7 +201,7 @@ module _ {texts bind graph : List ℕ} {c : Counts} {step k : ℕ} (w : PickAsk 
       unfolding keysAt
       keys-found = rw (b .rules) (keys-newest (stepAt (rd .steps) step .rule) log ∙ rw rule-found)
 
-      one : Picked graph c step (record { step = step; rule = rule; entries = c .entries; files = c .files; outs = outs; ins = ins; rest = rest }) log rd
+      one : Picked graph c step (record { step = step; rule = rule; scope = scope; entries = c .entries; files = c .files; outs = outs; ins = ins; rest = rest }) log rd
       one =
           let h = w .there in
           let p = held-sound (g .tables) .placed step (there b g h) in
@@ -206,6 +217,7 @@ module _ {texts bind graph : List ℕ} {c : Counts} {step k : ℕ} (w : PickAsk 
             entries = refl;
             files = refl;
             rule-low = omega (arith, newest-below ofRules (stepAt (rd .steps) step .rule) log rule rule-found, b .held .rows .counted, b .held .rows .few);
+            scope = w .stands ∙ stands b g h;
             keys = keys-found;
             outs-ordered = omega (arith, p .outs);
             ins-ordered = omega (arith, q .0);
@@ -215,7 +227,7 @@ module _ {texts bind graph : List ℕ} {c : Counts} {step k : ℕ} (w : PickAsk 
             low = λ j l r. mention-low b g j (omega arith);
           }
 
-    pub picks : Picks texts bind graph c step (record { step = step; rule = rule; entries = c .entries; files = c .files; outs = outs; ins = ins; rest = rest })
+    pub picks : Picks texts bind graph c step (record { step = step; rule = rule; scope = scope; entries = c .entries; files = c .files; outs = outs; ins = ins; rest = rest })
     picks = record { picked = λ log rd b g. one b g }
 
 -- ---- by the answer
@@ -248,10 +260,10 @@ module _ {texts bind graph : List ℕ} {c : Counts} {step : ℕ} where
     pub rule-place : ruleStart + step < length graph
     rule-place = let k = in-graph (w .bound) (w .graphed) h in omega (arith, k .low, k .long)
 
-    pub step-phony : {m : ℕ} → m ≡ getD graph (ruleStart + step) 0 → m ≡ 0 → AsksStep texts bind graph c step NoCommand
+    pub step-phony : {m : ℕ} → m ≡ getD graph (ruleStart + step) 0 → m % scopeUnit ≡ 0 → AsksStep texts bind graph c step NoCommand
     unfolding AsksStep
-    step-phony e z log rd b g = rw (is-phony b g h (sym e ∙ z)) (or-right-true (leb (length (rd .steps)) step))
+    step-phony e z log rd b g = rw (is-phony b g h (rw e at z)) (or-right-true (leb (length (rd .steps)) step))
 
-    pub pick-asked : {m : ℕ} → m ≡ getD graph (ruleStart + step) 0 → (m ≡ 0 → ⊥) → PickAsk texts bind graph c step (m - 1)
+    pub pick-asked : {m : ℕ} → m ≡ getD graph (ruleStart + step) 0 → (m % scopeUnit ≡ 0 → ⊥) → PickAsk texts bind graph c step (m % scopeUnit - 1) (m / scopeUnit)
     pick-asked e z =
-        record { log = w .log; reading = w .reading; bound = w .bound; graphed = w .graphed; there = h; ruled = λ y. z (e ∙ y); entry = rw e }
+        record { log = w .log; reading = w .reading; bound = w .bound; graphed = w .graphed; there = h; ruled = λ y. z (rw e y); entry = rw e; stands = rw e }

@@ -1,5 +1,5 @@
 -- The step that a text is asked of, in the table of bindings and the columns of the graph.
-use Prim.Native.Nat.{ℕ, _+_, _-_, _≤_, _<_}
+use Prim.Native.Nat.{ℕ, _+_, _-_, _/_, _%_, _≤_, _<_}
 use mathlib.Core.List.{List}
 use mathlib.Core.Bool.{true, false, _||_}
 use mathlib.Core.Path.{_≡_}
@@ -15,7 +15,7 @@ use Rattle.hold_bindings.specs.declared.FoundEntry.the-variants.{At}
 use Rattle.hold_bindings.specs.Log.{Logged, ofRules, ofKeys, entryAt, newest, boundBy}
 use Rattle.hold_bindings.specs.Held.{maxEntries, HoldsBindings}
 use Rattle.hold_reading.specs.declared.Counts.{Counts}
-use Rattle.hold_reading.specs.Held.{HoldsBound, endIn, ruleStart, defaultsStart, Graphed}
+use Rattle.hold_reading.specs.Held.{HoldsBound, endIn, ruleStart, defaultsStart, scopeUnit, Graphed}
 use Rattle.text_lookup.specs.declared.Asked.{Asked}
 use Rattle.text_step.specs.declared.StepAsked.{StepAsked}
 use Rattle.text_step.specs.declared.StepAsked.the-variants.{NoCommand, Step}
@@ -53,6 +53,7 @@ pub record Picked (graph : List ℕ) (c : Counts) (step : ℕ) (a : Asked) (log 
   pub entries : a .entries ≡ c .entries
   pub files : a .files ≡ c .files
   pub rule-low : a .rule < maxEntries
+  pub scope : a .scope ≡ stepAt (rd .steps) step .scope
   pub keys : keysOf (stepAt (rd .steps) step .rule) (rd .rules) ≡ boundBy (ofKeys (a .rule)) log
   pub outs-ordered : a .outs ≤ a .ins
   pub ins-ordered : a .ins ≤ a .rest
@@ -64,15 +65,16 @@ pub record Picked (graph : List ℕ) (c : Counts) (step : ℕ) (a : Asked) (log 
 pub record Picks (texts bind graph : List ℕ) (c : Counts) (step : ℕ) (a : Asked) : Type 0 where
   pub picked : (log : List Logged) (rd : Reading) → HoldsBound log texts bind c rd → Graphed log graph c rd → Picked graph c step a log rd
 
--- some reading is held, and this is the entry of the step's rule
-pub record PickAsk (texts bind graph : List ℕ) (c : Counts) (step k : ℕ) : Type 0 where
+-- some reading is held, and these are the entry of the step's rule and its scope
+pub record PickAsk (texts bind graph : List ℕ) (c : Counts) (step k scope : ℕ) : Type 0 where
   pub log : List Logged
   pub reading : Reading
   pub bound : HoldsBound log texts bind c reading
   pub graphed : Graphed log graph c reading
   pub there : step < c .steps
-  pub ruled : (getD graph (ruleStart + step) 0 ≡ 0) → ⊥
-  pub entry : k ≡ getD graph (ruleStart + step) 0 - 1
+  pub ruled : (getD graph (ruleStart + step) 0 % scopeUnit ≡ 0) → ⊥
+  pub entry : k ≡ getD graph (ruleStart + step) 0 % scopeUnit - 1
+  pub stands : scope ≡ getD graph (ruleStart + step) 0 / scopeUnit
 
 -- some reading is held
 pub record ReadingHeld (texts bind graph : List ℕ) (c : Counts) : Type 0 where

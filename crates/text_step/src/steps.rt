@@ -10,6 +10,7 @@ use hold_columns::LAST_END;
 use hold_columns::OUTS_END;
 use hold_reading::Counts;
 use hold_reading::columns::RULE_START;
+use hold_reading::columns::SCOPE_UNIT;
 use hold_reading::columns::step_end;
 use slices::words::at;
 use text_lookup::Asked;
@@ -36,9 +37,17 @@ fn outputs_from(graph: &[u32], step: usize) -> usize
     step_end(graph, step - 1, LAST_END)
 }
 
-// The step, whose rule is declared at entry k.
-fn picked(texts: &[u8], bind: &[u32], graph: &[u32], c: Counts, step: usize, k: usize) -> Asked
-    requires { ⌜ PickAsk (now texts) (now bind) (now graph) c step k ⌝ }
+// The step, whose rule is declared at entry k, and which stands in a scope.
+fn picked(
+    texts: &[u8],
+    bind: &[u32],
+    graph: &[u32],
+    c: Counts,
+    step: usize,
+    k: usize,
+    scope: usize,
+) -> Asked
+    requires { ⌜ PickAsk (now texts) (now bind) (now graph) c step k scope ⌝ }
     ensures { λ r. ⌜ Picks (now (texts .entry)) (now (bind .entry)) (now (graph .entry)) c step r ⌝ }
 {
     let rule = declaration(texts, bind, c.entries, k);
@@ -48,6 +57,7 @@ fn picked(texts: &[u8], bind: &[u32], graph: &[u32], c: Counts, step: usize, k: 
     Asked {
         step,
         rule,
+        scope,
         entries: c.entries,
         files: c.files,
         outs,
@@ -63,9 +73,18 @@ pub fn asked(texts: &[u8], bind: &[u32], graph: &[u32], c: Counts, step: usize) 
     if c.steps <= step {
         return StepAsked::NoCommand;
     }
-    let rule = at(graph, RULE_START + step);
+    let both = at(graph, RULE_START + step);
+    let rule = both % SCOPE_UNIT;
     if rule == 0 {
         return StepAsked::NoCommand;
     }
-    StepAsked::Step(picked(texts, bind, graph, c, step, rule - 1))
+    StepAsked::Step(picked(
+        texts,
+        bind,
+        graph,
+        c,
+        step,
+        rule - 1,
+        both / SCOPE_UNIT,
+    ))
 }
