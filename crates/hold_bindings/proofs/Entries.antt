@@ -10,7 +10,8 @@ use Rattle.lists.specs.Parts.{part, part-to-end, drop-take}
 use Rattle.spec.specs.Limits.{maxName}
 use Rattle.arena.specs.Inserted.{inserted, Shifted}
 use Rattle.hold_bindings.specs.Log.{Logged, noEntry, entryAt, asOf}
-use Rattle.hold_bindings.specs.Held.{maxEntries, maxTexts, maxRows, rowsEnd, scopesAt, currentAt, parentsAt, textsOf, rowOf, rowsOf, valuesIn, ShortNames, indexIn, Rows, HoldsBindings, HasEntry, EntryRoom, HasRoom, entryStart, Row, PlaceOf, Pushed}
+use Rattle.hold_bindings.specs.Index.{Indexed}
+use Rattle.hold_bindings.specs.Held.{maxEntries, maxTexts, maxRows, rowsEnd, scopesAt, currentAt, parentsAt, textsOf, rowOf, rowsOf, valuesIn, ShortNames, indexIn, Rows, HoldsBindings, HasEntry, RowRoom, HasRowRoom, EntryRoom, entryStart, Row, PlaceOf, Pushed, Added}
 use Rattle.hold_bindings.proofs.Indexing.{nothing-indexed, indexed-more}
 use Rattle.hold_bindings.proofs.Scopes.{scoping-other, scopes-kept, scopes-begun}
 
@@ -203,7 +204,7 @@ length-copied l a b i m q h =
     let n : length (paste l i a (length a)) ≡ length l = length-paste l i a (length a) (omega arith) (omega arith) in
     length-paste (paste l i a (length a)) m b (length b) (omega arith) (omega arith) ∙ n
 
-module _ {log : List Logged} {texts bind : List ℕ} {count : ℕ} (e : Logged) (r : EntryRoom log texts bind count e) where
+module _ {log : List Logged} {texts bind : List ℕ} {count : ℕ} (e : Logged) (r : RowRoom log texts bind count e) where
   room-start : entryStart bind count ≡ length (textsOf log)
   room-start = rw (r .held .rows .counted) (start-held log (r .held .rows))
 
@@ -240,7 +241,7 @@ module _ {log : List Logged} {texts bind : List ℕ} {count : ℕ} (e : Logged) 
         }
 
 -- Behind the rows nothing changes.
-pub pushed : {texts bind : List ℕ} {count : ℕ} (e : Logged) → HasRoom texts bind count e → (m t : ℕ) → m ≡ entryStart bind count + length (e .name) → t ≡ m + length (e .value)
+pub pushed : {texts bind : List ℕ} {count : ℕ} (e : Logged) → HasRowRoom texts bind count e → (m t : ℕ) → m ≡ entryStart bind count + length (e .name) → t ≡ m + length (e .value)
     → Pushed texts bind count e
     (paste (paste texts (entryStart bind count) (e .name) (length (e .name))) m (e .value) (length (e .value)))
     (set (set (set bind (3 * count) m) (3 * count + 1) t) (3 * count + 2) (e .owner))
@@ -258,7 +259,7 @@ pushed {bind = bind} {count = count} e h m t hm ht =
 -- ---- the index of an entry more
 
 -- Buffers that agree in front of the index hold the same rows.
-rows-kept : {log : List Logged} {texts bind bind′ : List ℕ} {count : ℕ} → Rows log texts bind count → length bind′ ≡ length bind → take rowsEnd bind′ ≡ take rowsEnd bind → Rows log texts bind′ count
+pub rows-kept : {log : List Logged} {texts bind bind′ : List ℕ} {count : ℕ} → Rows log texts bind count → length bind′ ≡ length bind → take rowsEnd bind′ ≡ take rowsEnd bind → Rows log texts bind′ count
 rows-kept {log} {bind = bind} {bind′ = bind′} h l e =
     let n : length (rowsOf log) ≤ rowsEnd = omega (arith, length-rows log, h .counted, h .few) in
     record {
@@ -273,7 +274,7 @@ rows-kept {log} {bind = bind} {bind′ = bind′} h l e =
     }
 
 -- The rows are those of one entry more, and behind them the index was lent and comes back as m with that entry's number put in.
-module _ {log : List Logged} {texts bind : List ℕ} {count : ℕ} {e : Logged} (r : EntryRoom log texts bind count e)
+module _ {log : List Logged} {texts bind : List ℕ} {count : ℕ} {e : Logged} (r : RowRoom log texts bind count e)
     {p : ℕ} (place : PlaceOf texts bind count (e .owner) (e .name) p) {texts′ bind′ : List ℕ} (w : Pushed texts bind count e texts′ bind′)
     {m : List ℕ} (x : Shifted (part bind′ rowsEnd (length bind′)) count p count m) where
   abbrev back : List ℕ
@@ -312,10 +313,32 @@ module _ {log : List Logged} {texts bind : List ℕ} {count : ℕ} {e : Logged} 
       ∙ ap (drop maxEntries) (part-to-end bind′ rowsEnd ∙ w .behind)
       ∙ drop-drop maxEntries rowsEnd bind
 
-  pub entry-held : HoldsBindings (e ∷ log) texts′ back (count + 1)
-  entry-held =
-      record {
-        rows = rows-kept (w .rows log r) length-back front-back;
-        index = rw index-back (indexed-more e log (r .held .index) (place .between log (r .held)));
-        scopes = rw (scoping-other e log (r .binds)) (scopes-kept (r .held .scopes) scopes-back);
-      }
+  rows-back : Rows (e ∷ log) texts′ back (count + 1)
+  rows-back = rows-kept (w .rows log r) length-back front-back
+
+  indexed-back : Indexed (e ∷ log) (indexIn back (count + 1))
+  indexed-back = rw index-back (indexed-more e log (r .held .index) (place .between log (r .held)))
+
+pub added : {texts bind : List ℕ} {count : ℕ} {e : Logged} → HasRowRoom texts bind count e → {p : ℕ} → PlaceOf texts bind count (e .owner) (e .name) p
+    → {texts′ bind′ : List ℕ} → Pushed texts bind count e texts′ bind′ → {m : List ℕ} → Shifted (part bind′ rowsEnd (length bind′)) count p count m
+    → Added texts bind count e texts′ (take rowsEnd bind′ ++ (m ++ drop (length bind′ - rowsEnd) (drop rowsEnd bind′)))
+added h place w x =
+    record {
+      rows = λ log r. rows-back r place w x;
+      index = λ log r. indexed-back r place w x;
+      behind = scopes-back (h .room) place w x;
+    }
+
+-- ---- an entry more that is no mark
+
+pub entry-row : {log : List Logged} {texts bind : List ℕ} {count : ℕ} {e : Logged} → EntryRoom log texts bind count e → RowRoom log texts bind count e
+entry-row r = record { held = r .held; few = r .few; owner = r .owner; name = r .name; value = r .value }
+
+pub entry-held : {log : List Logged} {texts bind : List ℕ} {count : ℕ} {e : Logged} → EntryRoom log texts bind count e → {texts′ bind′ : List ℕ} → Added texts bind count e texts′ bind′
+    → HoldsBindings (e ∷ log) texts′ bind′ (count + 1)
+entry-held {log} {e = e} r w =
+    record {
+      rows = w .rows log (entry-row r);
+      index = w .index log (entry-row r);
+      scopes = rw (scoping-other e log (r .binds)) (scopes-kept (r .held .scopes) (w .behind));
+    }

@@ -11,7 +11,7 @@ use lib.ListN.{length, getD, set, drop, length-set}
 use lib.Seq.{getD-drop, getD-set-same, getD-set-other}
 use Rattle.lists.specs.Tests.{split}
 use Rattle.lists.specs.Bytes.{eqBytes}
-use Rattle.spec.specs.Reading.{Bound, Scope, scopeAt, nothingRead, boundTo, ownVars, seenFrom, varFrom, fileVar, bindIn}
+use Rattle.spec.specs.Reading.{Bound, Scope, scopeAt, boundTo, ownVars, seenFrom, varFrom, fileVar, bindIn}
 use Rattle.spec.specs.Statements.{bound}
 use Rattle.hold_bindings.specs.declared.FoundEntry.{FoundEntry}
 use Rattle.hold_bindings.specs.declared.FoundEntry.the-variants.{At, Missing}
@@ -58,26 +58,7 @@ variables-bound n v l b =
     rw (scoping-other e l (λ p. omega arith))
     (ap (λ (s : List Scope). record { scopes = s; current = scopingOf l .current }) (scopes-bound e l 0 (scopingOf l .current) (scopingOf l .outers) (omega arith)))
 
-pub no-variables : variablesOf [] ≡ nothingRead .vars
-unfolding variablesOf scopingOf scopesFrom boundBy
-no-variables = refl
-
 -- ---- through some scopes
-
-or-below : (m : ℕ) (f g : FoundEntry) → ((j : ℕ) → f ≡ At j → j < m) → ((j : ℕ) → g ≡ At j → j < m) → (j : ℕ) → orNewest f g ≡ At j → j < m
-unfolding orNewest
-or-below m (At k) g a b j e = a j e
-or-below m Missing g a b j e = b j e
-
-through-below : (ks n : List ℕ) (log : List Logged) (j : ℕ) → newestThrough ks n log ≡ At j → j < length log
-unfolding newestThrough
-through-below [] n log j e = let z : _≡_ {A = ℕ} 0 1 = cc in omega arith
-through-below (k ∷ ks) n log j e =
-    or-below (length log) (newest (ofScope k) n log) (newestThrough ks n log) (newest-below (ofScope k) n log) (through-below ks n log) j e
-
-pub newest-from-below : (k : ℕ) (n : List ℕ) (log : List Logged) (j : ℕ) → newestFrom k n log ≡ At j → j < length log
-unfolding newestFrom
-newest-from-below k n log j e = through-below (k ∷ getD (scopingOf log .outers) k []) n log j e
 
 module _ (n : List ℕ) where
   bound-first : (a b : List Bound) (v : List ℕ) → boundTo n a ≡ some v → boundTo n (a ++ b) ≡ some v
@@ -156,6 +137,23 @@ module _ (log : List Logged) {bind : List ℕ} (h : HoldsScopes (scopingOf log) 
   pub var-current : (n : List ℕ) → fileVar (variablesOf log) n ≡ orEmpty (valueOf (newestFrom (scopingOf log .current) n log) log)
   unfolding variablesOf
   var-current n = var-newest (scopingOf log .current) (h .below) n
+
+-- ---- the number of what is seen
+
+or-below : (m : ℕ) (f g : FoundEntry) → ((j : ℕ) → f ≡ At j → j < m) → ((j : ℕ) → g ≡ At j → j < m) → (j : ℕ) → orNewest f g ≡ At j → j < m
+unfolding orNewest
+or-below m (At k) g a b j e = a j e
+or-below m Missing g a b j e = b j e
+
+through-below : (ks n : List ℕ) (log : List Logged) (j : ℕ) → newestThrough ks n log ≡ At j → j < length log
+unfolding newestThrough
+through-below [] n log j e = let z : _≡_ {A = ℕ} 0 1 = cc in omega arith
+through-below (k ∷ ks) n log j e =
+    or-below (length log) (newest (ofScope k) n log) (newestThrough ks n log) (newest-below (ofScope k) n log) (through-below ks n log) j e
+
+pub newest-from-below : (k : ℕ) (n : List ℕ) (log : List Logged) (j : ℕ) → newestFrom k n log ≡ At j → j < length log
+unfolding newestFrom
+newest-from-below k n log j e = through-below (k ∷ getD (scopingOf log .outers) k []) n log j e
 
 -- ---- looking outward in the buffers
 

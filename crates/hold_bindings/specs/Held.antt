@@ -7,7 +7,7 @@ use lib.ListN.{length, take, drop, getD}
 use Rattle.lists.specs.Parts.{part}
 use Rattle.spec.specs.Limits.{maxRules, maxBindings, maxName, maxWritten}
 use Rattle.hold_bindings.specs.declared.ValuePlace.{ValuePlace}
-use Rattle.hold_bindings.specs.Log.{Logged, ofMarks, entryAt, Scoping, scopingOf}
+use Rattle.hold_bindings.specs.Log.{Logged, ofMarks, entryAt, Scoping, scopingAfter, scopingOf}
 use Rattle.hold_bindings.specs.Index.{Indexed, KeyBetween}
 
 -- as many scopes as files may be opened (document 02 [1])
@@ -99,7 +99,7 @@ pub record HoldsBindings (log : List Logged) (texts bind : List ℕ) (count : �
   pub index : Indexed log (indexIn bind count)
   pub scopes : HoldsScopes (scopingOf log) bind
 
--- Some log is held; it has an entry k; and it has room for one more.
+-- Some log is held; it has an entry k; and it has room for one more:
 pub record SoundBindings (texts bind : List ℕ) (count : ℕ) : Type 0 where
   pub log : List Logged
   pub held : HoldsBindings log texts bind count
@@ -110,10 +110,22 @@ pub record HasEntry (texts bind : List ℕ) (k : ℕ) : Type 0 where
   pub held : HoldsBindings log texts bind count
   pub below : k < count
 
+-- .. one more that may be a mark
+pub record RowRoom (log : List Logged) (texts bind : List ℕ) (count : ℕ) (e : Logged) : Type 0 where
+  pub held : HoldsBindings log texts bind count
+  pub few : count < maxEntries
+  pub owner : e .owner ≤ maxOwner
+  pub name : length (e .name) ≤ maxName
+  pub value : valuesIn log + length (e .value) ≤ maxWritten
+
+pub record HasRowRoom (texts bind : List ℕ) (count : ℕ) (e : Logged) : Type 0 where
+  pub log : List Logged
+  pub room : RowRoom log texts bind count e
+
+-- .. one more that is none, since marks change the scopes too
 pub record EntryRoom (log : List Logged) (texts bind : List ℕ) (count : ℕ) (e : Logged) : Type 0 where
   pub held : HoldsBindings log texts bind count
   pub few : count < maxEntries
-  -- no mark, which changes the scopes too
   pub binds : e .owner ≡ ofMarks → ⊥
   pub owner : e .owner ≤ maxOwner
   pub name : length (e .name) ≤ maxName
@@ -123,15 +135,31 @@ pub record HasRoom (texts bind : List ℕ) (count : ℕ) (e : Logged) : Type 0 w
   pub log : List Logged
   pub room : EntryRoom log texts bind count e
 
--- Some scopes are held; and the log that is held has scope k.
+-- Some scopes are held; fewer than there may be; and the log that is held has scope k.
 pub record SoundScopes (bind : List ℕ) : Type 0 where
   pub scoping : Scoping
   pub held : HoldsScopes scoping bind
+
+pub record FewScopes (bind : List ℕ) : Type 0 where
+  pub scoping : Scoping
+  pub held : HoldsScopes scoping bind
+  pub free : length (scoping .outers) < maxScopes
 
 pub record HasScope (texts bind : List ℕ) (count k : ℕ) : Type 0 where
   pub log : List Logged
   pub held : HoldsBindings log texts bind count
   pub below : k < length (scopingOf log .outers)
+
+-- .. room for a mark that enters a scope, and for one that goes back to scope k
+pub record HasScopeRoom (texts bind : List ℕ) (count : ℕ) : Type 0 where
+  pub log : List Logged
+  pub held : HoldsBindings log texts bind count
+  pub few : count < maxEntries
+  pub free : length (scopingOf log .outers) < maxScopes
+
+pub record HasBackRoom (texts bind : List ℕ) (count k : ℕ) : Type 0 where
+  pub scope : HasScope texts bind count k
+  pub few : count < maxEntries
 
 -- ------------------------------------------------------------------ one entry in the buffers
 
@@ -168,5 +196,17 @@ pub record PlaceOf (texts bind : List ℕ) (count owner : ℕ) (wanted : List �
 -- An entry more in the texts and the rows.
 pub record Pushed (texts bind : List ℕ) (count : ℕ) (e : Logged) (texts′ bind′ : List ℕ) : Type 0 where
   pub long : length bind′ ≡ length bind
-  pub rows : (log : List Logged) → EntryRoom log texts bind count e → Rows (e ∷ log) texts′ bind′ (count + 1)
+  pub rows : (log : List Logged) → RowRoom log texts bind count e → Rows (e ∷ log) texts′ bind′ (count + 1)
   pub behind : drop rowsEnd bind′ ≡ drop rowsEnd bind
+
+-- .. and in the index; the scopes stay.
+pub record Added (texts bind : List ℕ) (count : ℕ) (e : Logged) (texts′ bind′ : List ℕ) : Type 0 where
+  pub rows : (log : List Logged) → RowRoom log texts bind count e → Rows (e ∷ log) texts′ bind′ (count + 1)
+  pub index : (log : List Logged) → RowRoom log texts bind count e → Indexed (e ∷ log) (indexIn bind′ (count + 1))
+  pub behind : drop scopesAt bind′ ≡ drop scopesAt bind
+
+-- Other scopes, in which a mark of this name was read; the rows and the index stay.
+pub record Scoped (bind : List ℕ) (name : List ℕ) (bind′ : List ℕ) : Type 0 where
+  pub long : length bind′ ≡ length bind
+  pub front : take scopesAt bind′ ≡ take scopesAt bind
+  pub scopes : (g : Scoping) → HoldsScopes g bind → HoldsScopes (scopingAfter name g) bind′

@@ -1,12 +1,12 @@
 // The table of everything that a manifest binds: file variables, rules with their keys, and the lines of steps' blocks.
 ghost use mathlib.Core.Path.{_≡_};
-ghost use mathlib.Core.List.{List, _∷_};
+ghost use mathlib.Core.List.{List, [], _∷_};
 ghost use Prim.Native.Nat.{ℕ, _+_, _*_, _^_, _≤_, _<_};
 ghost use lib.ListN.{length, set};
 ghost use Rattle.lists.specs.Bytes.{lessBytes};
-ghost use Rattle.hold_bindings.specs.Log.{Logged, logged, entryAt, isNamed, newest, Scoping, scopingOf, newestFrom};
+ghost use Rattle.hold_bindings.specs.Log.{Logged, logged, entering, backTo, entryAt, isNamed, newest, Scoping, scopingOf, newestFrom};
 ghost use Rattle.hold_bindings.specs.Index.{keyAt};
-ghost use Rattle.hold_bindings.specs.Held.{maxRows, scopesAt, currentAt, parentsAt, HoldsScopes, HoldsBindings, SoundBindings, SoundScopes, HasScope, HasEntry, HasRoom, EntryRoom, entryStart, ValueAt, PlaceOf, Pushed};
+ghost use Rattle.hold_bindings.specs.Held.{maxRows, scopesAt, currentAt, parentsAt, HoldsScopes, HoldsBindings, SoundBindings, SoundScopes, HasScope, HasScopeRoom, HasBackRoom, FewScopes, HasEntry, HasRowRoom, HasRoom, EntryRoom, entryStart, ValueAt, PlaceOf, Pushed, Added, Scoped};
 use arena::insert;
 use byteorder::equal;
 use byteorder::less;
@@ -22,6 +22,9 @@ pub const SCOPES: usize = 64;
 
 // The most entries that a manifest may have: bindings, rules, and two marks for each scope.
 pub const ENTRIES: usize = BINDINGS + RULES + 2 * SCOPES;
+
+// The owner of marks.
+const MARKS: usize = 2;
 
 // Where the index begins: behind three numbers for each entry.
 const INDEX: usize = 3 * ENTRIES;
@@ -224,7 +227,7 @@ fn push_row(
     name: &[u8],
     value: &[u8],
 )
-    requires { ⌜ HasRoom (now texts) (now bind) count (logged owner (now name) (now value)) ⌝ }
+    requires { ⌜ HasRowRoom (now texts) (now bind) count (logged owner (now name) (now value)) ⌝ }
     ensures { λ _. ⌜ Pushed (now (texts .entry)) (now (bind .entry)) count (logged owner (now (name .entry)) (now (value .entry))) (now (texts .exit)) (now (bind .exit)) ⌝ }
 {
     let from = start(bind, count);
@@ -235,7 +238,24 @@ fn push_row(
     put_row(bind, count, mid, to, owner);
 }
 
-// One entry more.
+// One entry more in the texts, the rows and the index.
+fn add_entry(
+    texts: &mut [u8],
+    bind: &mut [u32],
+    count: usize,
+    owner: usize,
+    name: &[u8],
+    value: &[u8],
+)
+    requires { ⌜ HasRowRoom (now texts) (now bind) count (logged owner (now name) (now value)) ⌝ }
+    ensures { λ _. ⌜ Added (now (texts .entry)) (now (bind .entry)) count (logged owner (now (name .entry)) (now (value .entry))) (now (texts .exit)) (now (bind .exit)) ⌝ }
+{
+    let p = place_of(texts, bind, count, owner, name);
+    push_row(texts, bind, count, owner, name, value);
+    insert(&mut bind[INDEX..], count, p, count);
+}
+
+// One entry more, which is no mark.
 pub fn push(
     texts: &mut [u8],
     bind: &mut [u32],
@@ -247,7 +267,36 @@ pub fn push(
     requires { ⌜ HasRoom (now texts) (now bind) count (logged owner (now name) (now value)) ⌝ }
     ensures { λ _. ⌜ ((log : List Logged) → EntryRoom log (now (texts .entry)) (now (bind .entry)) count (logged owner (now (name .entry)) (now (value .entry))) → HoldsBindings (logged owner (now (name .entry)) (now (value .entry)) ∷ log) (now (texts .exit)) (now (bind .exit)) (count + 1)) ⌝ }
 {
-    let p = place_of(texts, bind, count, owner, name);
-    push_row(texts, bind, count, owner, name, value);
-    insert(&mut bind[INDEX..], count, p, count);
+    add_entry(texts, bind, count, owner, name, value);
+}
+
+// A new scope inside the current one becomes the current one.
+fn put_scope(bind: &mut [u32])
+    requires { ⌜ (maxRows ≤ length (now bind)) × FewScopes (now bind) ⌝ }
+    ensures { λ _. ⌜ Scoped (now (bind .entry)) [] (now (bind .exit)) ⌝ }
+{
+    let scopes = at(bind, SCOPE_COUNT);
+    let current = at(bind, CURRENT);
+    bind[PARENTS + scopes] = (current + 1) as u32;
+    bind[SCOPE_COUNT] = (scopes + 1) as u32;
+    bind[CURRENT] = scopes as u32;
+}
+
+// A new scope inside the current one is entered.
+pub fn enter_scope(texts: &mut [u8], bind: &mut [u32], count: usize)
+    requires { ⌜ HasScopeRoom (now texts) (now bind) count ⌝ }
+    ensures { λ _. ⌜ ((log : List Logged) → HoldsBindings log (now (texts .entry)) (now (bind .entry)) count → HoldsBindings (entering ∷ log) (now (texts .exit)) (now (bind .exit)) (count + 1)) ⌝ }
+{
+    add_entry(texts, bind, count, MARKS, b"", b"");
+    put_scope(bind);
+}
+
+// Scope k is gone back to.
+pub fn back_to(texts: &mut [u8], bind: &mut [u32], count: usize, k: usize)
+    requires { ⌜ HasBackRoom (now texts) (now bind) count k ⌝ }
+    ensures { λ _. ⌜ ((log : List Logged) → HoldsBindings log (now (texts .entry)) (now (bind .entry)) count → HoldsBindings (backTo k ∷ log) (now (texts .exit)) (now (bind .exit)) (count + 1)) ⌝ }
+{
+    let name = [k as u8];
+    add_entry(texts, bind, count, MARKS, &name, b"");
+    bind[CURRENT] = k as u32;
 }

@@ -1,27 +1,11 @@
 -- `hold_bindings::push` meets its contract.
-use Rattle.hold_bindings.proofs.Entries.{entry-held}
--- `hold_bindings::push` meets its contract.
+use Rattle.hold_bindings.proofs.Entries.{entry-row, entry-held}
 use borrow.Author.Needs.{needs}
 use Rattle.hold_bindings.proofs.push.Statement.{statement}
 use Rattle.hold_bindings.proofs.push.Tie as tie
 
-place-of-requires : tie.Need-place-of-requires
-place-of-requires c κs = search needs
-
-push-row-requires : tie.Need-push-row-requires
-push-row-requires c κs = search needs
-
-sub-insert : tie.Need-sub-insert
-sub-insert c = search needs
-
-part-insert-start : tie.Need-part-insert-start
-part-insert-start c = search needs
-
-part-insert-end : tie.Need-part-insert-end
-part-insert-end c = search needs
-
-insert-requires : tie.Need-insert-requires
-insert-requires c κs = search needs
+add-entry-requires : tie.Need-add-entry-requires
+add-entry-requires c κs = record { log = c .before .before .before .before .before .before .pre .log; room = entry-row (c .before .before .before .before .before .before .pre .room) }
 
 same-length : tie.Need-same-length
 same-length c = search needs
@@ -30,18 +14,7 @@ same-length-2 : tie.Need-same-length-2
 same-length-2 c = search needs
 
 returns : tie.Need-returns
-returns c = λ log r. entry-held r (c .before .before .before .before .before .before .before .before .before .before .before .place-of .ensures) (c .before .before .before .before .before .before .before .before .push-row .ensures) (c .before .before .insert .ensures)
+returns c = λ log r. entry-held r (c .before .before .before .before .add-entry .ensures)
 
 pub push-spec : {M : Type 1} → statement M
-push-spec =
-    tie.close
-    (tie.spec
-    place-of-requires
-    push-row-requires
-    sub-insert
-    part-insert-start
-    part-insert-end
-    insert-requires
-    same-length
-    same-length-2
-    returns)
+push-spec = tie.close (tie.spec add-entry-requires same-length same-length-2 returns)
