@@ -1,3 +1,4 @@
+pub mod Each
 pub mod Turns
 pub mod Answers
 pub mod Buffers

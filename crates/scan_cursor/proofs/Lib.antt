@@ -1,3 +1,4 @@
 pub mod Spanning
-pub mod Passing
+pub mod Finding
 pub mod Readers
+pub mod Calls

@@ -16,7 +16,7 @@ use types.Kit.{Given, ‵, _⊛_, given, _$_, _∵_, !, qed, move, drop, use1, s
 use denote.RattleType.{RattleType}
 use denote.Laws.{Is, Tells}
 use denote.Builtin.{u8, usize}
-use denote.Ref.{now}
+use denote.Ref.{now, NamedLft}
 use denote.Signature.{namedLft}
 use denote.Slice.{sliceVal, ShrSlice}
 use denote.Steps.{only}
@@ -28,23 +28,29 @@ use Rattle.scan_cursor.specs.declared.Reader.{Reader}
 use Rattle.scan_cursor.proofs.Reader as T
 use Rattle.scan_cursor.proofs.Reader.Laws as T′
 
--- its type, over a signature's lifetimes
-abbrev pub row : Lfts 1 → RattleType
-row κs = T.the-row (namedLft 1 0 tt κs)
+-- its type, at a lifetime: where a signature has one alone, and where it is the second of two
+abbrev pub row : NamedLft → RattleType
+row α = T.the-row α
+
+abbrev pub lone : Lfts 1 → NamedLft
+lone κs = namedLft 1 0 tt κs
+
+abbrev pub second : Lfts 2 → NamedLft
+second κs = namedLft 2 1 tt κs
 
 -- what the reader d owns, at the machine value u
 abbrev pub Owns : Lft → Reader → Val → Fml
-Owns κ d u = row (κ, tt) .own d (u ∷ [])
+Owns κ d u = row (lone (κ, tt)) .own d (u ∷ [])
 
 -- its machine value can only be its fields'
-abbrev pub values : (κs : Lfts 1) → Reader → List Val
-values κs = LL.vals (T.the-type (namedLft 1 0 tt κs)) (T′.the-laws (namedLft 1 0 tt κs))
+abbrev pub values : NamedLft → Reader → List Val
+values α = LL.vals (T.the-type α) (T′.the-laws α)
 
-pub tells : (κs : Lfts 1) → Tells (row κs) (Is (row κs)) (values κs)
-tells κs = LL.tells (T.the-type (namedLft 1 0 tt κs)) (T′.the-laws (namedLft 1 0 tt κs))
+pub tells : (α : NamedLft) → Tells (row α) (Is (row α)) (values α)
+tells α = LL.tells (T.the-type α) (T′.the-laws α)
 
-pub value-is : (κ : Lft) (d : Reader) (u : Val) → Is (row (κ, tt)) d (u ∷ []) → u ≡ T′.lowered d
-value-is κ d u p = ap only (tells (κ, tt) d (u ∷ []) p)
+pub value-is : (κ : Lft) (d : Reader) (u : Val) → Is (row (lone (κ, tt))) d (u ∷ []) → u ≡ T′.lowered d
+value-is κ d u p = ap only (tells (lone (κ, tt)) d (u ∷ []) p)
 
 -- the same reader at another place
 abbrev pub placed : Reader → ℕ → Reader
@@ -61,7 +67,7 @@ module _ {M : Type 1} (𝓤 : URA M) (H : Heap 𝓤) (A : Atoms 𝓤) (W : Given
   fields = (d .manifest, (d .cursor, tt))
 
   -- a local that holds it, whose lifetime is ℓ in the code
-  pub typed : (ℓ : Lifetime) (u : Val) → Is (row (κ, tt)) d (u ∷ []) → Holds (hasTy (T′.mir ℓ) u) × WT u
+  pub typed : (ℓ : Lifetime) (u : Val) → Is (row (lone (κ, tt))) d (u ∷ []) → Holds (hasTy (T′.mir ℓ) u) × WT u
   typed ℓ u p = LL.lawful (T.the-type (record { mir = ℓ; lft = κ })) (T′.the-laws (record { mir = ℓ; lft = κ })) 𝓤 H A W .typed d (u ∷ []) p .0
 
   -- it is Copy

@@ -1,6 +1,6 @@
 -- The end of a line: a turn of each loop that looks for it, and what it says of the line and of the lines after it.
 use Prim.Native.Nat.{ℕ, suc, _+_, _-_, _≤_, _<_}
-use mathlib.Core.Bool.{true, false}
+use mathlib.Core.Bool.{Bool, true, false}
 use mathlib.Core.List.{List, [], _∷_, _++_}
 use mathlib.Core.Option.{none, some}
 use mathlib.Core.Path.{_≡_, refl, sym, _∙_, ap}
@@ -18,7 +18,7 @@ use Rattle.spec.specs.Bytes.{newline, space, hash, dollar}
 use Rattle.spec.specs.Lines.{At, indent, comment, body, escape, lineTurn, endsLine, withByte, linesFrom, linesOf, isSpace, startsWith, isComment}
 use Rattle.scan_lines.specs.declared.LineEnd.{LineEnd}
 use Rattle.scan_lines.specs.declared.LineEnd.the-variants.{Ended, Comment as CommentEnded, Open}
-use Rattle.scan_lines.specs.Endings.{linesAt, endFrom, EndsAt, EndAt, LineEnded, openLine, LineOpen, LineAt}
+use Rattle.scan_lines.specs.Endings.{linesAt, endFrom, EndsAt, EndAt, LineEnded, EndedAs, openLine, LineOpen, LineAt}
 use Rattle.scan_tokens.proofs.Places.{Going, going-on, at-cons, at-end}
 
 -- ---- one byte, or an escape
@@ -179,6 +179,11 @@ comment-text (b ∷ t) r =
     (λ (d : eqb b space ≡ true). rw d (comment-text t r))
     (λ (d : eqb b space ≡ false). rw d)
 
+-- whether the line that ends at e is a comment, its bytes to the manifest's end say
+comment-as : {c : Bool} {m : List ℕ} {i e : ℕ} → EndsAt indent m i e → isComment (drop i m) ≡ c → EndedAs c m i e
+comment-as {m = m} {i = i} {e = e} l h =
+    record { line = ended-at l; is = sym (comment-text (part m i e) (drop (e + 1) m)) ∙ ap isComment (before-newline l) ∙ h }
+
 -- its first byte that is no space stands at k
 module _ {m : List ℕ} {i k : ℕ} (a : Reads (afterRun isSpace) m i k) where
   after-spaces : endFrom indent (drop i m) ≡ endFrom indent (drop k m)
@@ -199,10 +204,8 @@ module _ {m : List ℕ} {i k : ℕ} (a : Reads (afterRun isSpace) m i k) where
 
       pub line-of-comment : (r : LineEnd) → EndAt comment m k r → LineAt m i r
       unfolding EndAt LineAt
-      line-of-comment (Ended n) f = ended-at (ends-from comment (a .forward) from-hash f)
-      line-of-comment (CommentEnded n) f =
-          let l : EndsAt indent m i n = ends-from comment (a .forward) from-hash (f .1) in
-          record { line = ended-at l; is = sym (comment-text (part m i n) (drop (n + 1) m)) ∙ ap isComment (before-newline l) ∙ comment-here }
+      line-of-comment (Ended n) f = let z : _≡_ {A = ℕ} 0 1 = let g = f .0 in cc in absurd (omega arith)
+      line-of-comment (CommentEnded n) f = comment-as (ends-from comment (a .forward) from-hash (f .1)) comment-here
       line-of-comment Open f = open-from comment (a .forward) from-hash f
 
     module _ (n : getD m k 0 ≡ hash → ⊥) where
@@ -211,9 +214,13 @@ module _ {m : List ℕ} {i k : ℕ} (a : Reads (afterRun isSpace) m i k) where
           let s : getD m k 0 ≡ space → ⊥ = eqb-false _ _ (run-stops isSpace (drop i m) _ _ (sym (a .rest) ∙ at-cons m k h)) in
           after-spaces ∙ rw (at-cons m k h) (end-other _ _ s n)
 
+      none-here : isComment (drop i m) ≡ false
+      unfolding isComment startsWith
+      none-here = rw (← (a .rest), at-cons m k h, ne-eqb _ _ n)
+
       pub line-of-body : (r : LineEnd) → EndAt body m k r → LineAt m i r
       unfolding EndAt LineAt
-      line-of-body (Ended e) f = ended-at (ends-from body (a .forward) from-body f)
+      line-of-body (Ended e) f = comment-as (ends-from body (a .forward) from-body (f .1)) none-here
       line-of-body (CommentEnded e) f = let z : _≡_ {A = ℕ} 0 1 = let g = f .0 in cc in absurd (omega arith)
       line-of-body Open f = open-from body (a .forward) from-body f
 

@@ -1,13 +1,13 @@
 -- Where a line ends, and what kind of line it is.
 use Prim.Native.Nat.{ℕ, _+_, _≤_, _<_}
-use mathlib.Core.Bool.{true, false}
+use mathlib.Core.Bool.{Bool, true, false}
 use mathlib.Core.List.{List, [], _∷_}
 use mathlib.Core.Option.{Option, none, some}
 use mathlib.Core.Path.{_≡_}
 use lib.ListN.{length, drop}
 use Rattle.lists.specs.Tests.{ifB}
 use Rattle.lists.specs.Parts.{part}
-use Rattle.spec.specs.Lines.{At, indent, comment, lineTurn, endsLine, Line, linesFrom, isComment, isBlank, isIndented}
+use Rattle.spec.specs.Lines.{At, indent, comment, body, lineTurn, endsLine, Line, linesFrom, isComment, isBlank, isIndented}
 use Rattle.scan_lines.specs.declared.LineEnd.{LineEnd}
 use Rattle.scan_lines.specs.declared.LineEnd.the-variants.{Ended, Comment as CommentEnded, Open}
 use Rattle.scan_lines.specs.declared.LineKind.{LineKind}
@@ -31,7 +31,7 @@ pub record EndsAt (q : At) (m : List ℕ) (i e : ℕ) : Type 0 where
   pub rest : endFrom q (drop i m) ≡ some (drop (e + 1) m)
 
 unfoldable pub EndAt : At → List ℕ → ℕ → LineEnd → Type 0
-EndAt q m i (Ended e) = EndsAt q m i e
+EndAt q m i (Ended e) = (q ≡ body) × EndsAt q m i e
 EndAt q m i (CommentEnded e) = (q ≡ comment) × EndsAt q m i e
 EndAt q m i Open = endFrom q (drop i m) ≡ none
 
@@ -46,18 +46,18 @@ unfoldable pub openLine : ℕ → List ℕ → List Line
 openLine at [] = []
 openLine at (b ∷ s) = record { start = at; text = b ∷ s; ended = false } ∷ []
 
--- That line is a comment.
-pub record CommentAt (m : List ℕ) (i e : ℕ) : Type 0 where
+-- That line is a comment, or it is none.
+pub record EndedAs (c : Bool) (m : List ℕ) (i e : ℕ) : Type 0 where
   pub line : LineEnded m i e
-  pub is : isComment (part m i e) ≡ true
+  pub is : isComment (part m i e) ≡ c
 
 -- The manifest ends inside the line that starts at place i.
 pub record LineOpen (m : List ℕ) (i : ℕ) : Type 0 where
   pub lines : linesAt i (drop i m) ≡ openLine i (drop i m)
 
 unfoldable pub LineAt : List ℕ → ℕ → LineEnd → Type 0
-LineAt m i (Ended e) = LineEnded m i e
-LineAt m i (CommentEnded e) = CommentAt m i e
+LineAt m i (Ended e) = EndedAs false m i e
+LineAt m i (CommentEnded e) = EndedAs true m i e
 LineAt m i Open = LineOpen m i
 
 -- ---- kinds

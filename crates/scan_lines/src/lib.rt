@@ -62,15 +62,15 @@ fn body_end(m: &[u8], from: usize) -> LineEnd
 }
 
 // The end of the line that starts at `from`.
-pub fn line_end(m: &[u8], from: usize) -> LineEnd
-    requires { ⌜ from ≤ length (now m) ⌝ }
+pub fn line_end(t: &[u8; 256], m: &[u8], from: usize) -> LineEnd
+    requires { ⌜ (now t ≡ classes) × (from ≤ length (now m)) ⌝ }
     ensures { λ r. ⌜ LineAt (now (m .entry)) from r ⌝ }
 {
     let i = spaces(m, from);
     if m.len() <= i {
         return LineEnd::Open;
     }
-    if m[i] == b'#' {
+    if class_in(t, m[i]) == HASH {
         return comment_end(m, i);
     }
     body_end(m, i)

@@ -21,7 +21,7 @@ use Rattle.scan_bundle.specs.declared.BundleAnswer.the-variants.{Sound, Malform
 use Rattle.scan_bundle.specs.declared.FoundRecord.{FoundRecord}
 use Rattle.scan_bundle.specs.declared.FoundRecord.the-variants.{At, Missing}
 use Rattle.scan_bundle.specs.declared.Spot.{Spot}
-use Rattle.scan_bundle.specs.Bundles.{LaidBundle, Indexes, foundRecord, placeOf, Wraps}
+use Rattle.scan_bundle.specs.Bundles.{LaidBundle, Indexes, foundRecord, recordPlaceOf, Wraps}
 use Rattle.scan_bundle.proofs.Laws.{opened, malformed-is, sound-is-laid, sound-few, found-at, found-none}
 use Rattle.test_scan.specs.Bundles.{bundleCount, recordNumber, recordsIn, textNumber, baseNumber, recordTextOf, spotNumber, WrapsInto}
 
@@ -115,13 +115,13 @@ module _ (b : List ℕ) (place : ℕ) {n : ℕ} (e : n ≡ recordsIn b) where
   unfolding spotNumber
   spot-none h = rw (← e, eq-eqb n 0 h)
 
-  module _ (h : n ≡ 0 → ⊥) (r : Spot) (q : placeOf n r ≡ spot (bundleTexts b) place) where
+  module _ (h : n ≡ 0 → ⊥) (r : Spot) (q : recordPlaceOf n r ≡ spot (bundleTexts b) place) where
     pub spot-past : n ≤ r .text → 1 ≡ spotNumber b place
-    unfolding spotNumber recordTextOf placeOf
+    unfolding spotNumber recordTextOf recordPlaceOf
     spot-past l = rw (← e, ne-eqb n 0 h, ← q, le-ltb (r .text) n l)
 
     pub spot-in : r .text < n → r .text + 2 ≡ spotNumber b place
-    unfolding spotNumber recordTextOf placeOf
+    unfolding spotNumber recordTextOf recordPlaceOf
     spot-in l = rw (← e, ne-eqb n 0 h, ← q, lt-ltb (r .text) n l)
 
 -- ---- written

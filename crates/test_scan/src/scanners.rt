@@ -161,8 +161,9 @@ pub extern "C" fn kestrenyo_key_word(w: &[u8]) -> u8
 pub extern "C" fn kestrenyo_line_end(m: &[u8], from: usize) -> usize
     ensures { λ r. ⌜ r ≡ endNumber (now (m .entry)) from ⌝ }
 {
+    let t = scan_classes::table();
     let i = start_in(m, from);
-    match scan_lines::line_end(m, i) {
+    match scan_lines::line_end(&t, m, i) {
         LineEnd::Ended(end) => end + 1,
         LineEnd::Comment(end) => end + 1,
         LineEnd::Open => 0,

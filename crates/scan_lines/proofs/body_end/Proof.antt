@@ -24,7 +24,7 @@ shared-slice-read-b c = search needs
 
 returns : tie.Need-returns Inv-loop μ-loop
 unfolding EndAt endsLine
-returns c = line-ends body (c .before .before .before .loop .inv) refl (c .before .before .loop-test .taken) (c .if1 .taken)
+returns c = (refl, line-ends body (c .before .before .before .loop .inv) refl (c .before .before .loop-test .taken) (c .if1 .taken))
 
 add-if3 : tie.Need-add-if3 Inv-loop μ-loop
 add-if3 c = search needs

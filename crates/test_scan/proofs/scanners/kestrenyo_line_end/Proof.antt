@@ -6,6 +6,9 @@ use Rattle.test_scan.proofs.Numbers.{line-ends, line-stays-open}
 use Rattle.test_scan.proofs.scanners.kestrenyo_line_end.Statement.{statement}
 use Rattle.test_scan.proofs.scanners.kestrenyo_line_end.Tie as tie
 
+table-requires : tie.Need-table-requires
+table-requires c κs = search needs
+
 start-in-requires : tie.Need-start-in-requires
 start-in-requires c κs = search needs
 
@@ -16,7 +19,7 @@ enum-known-end : tie.Need-enum-known-end
 enum-known-end c = search needs
 
 add-result : tie.Need-add-result
-add-result c = omega (arith, line-ended _ _ _ (c .before .before .before .line-end .ensures) (c .before .end .given .1) .within)
+add-result c = omega (arith, line-ended _ _ _ (c .before .before .before .line-end .ensures) (c .before .end .given .1) .line .within)
 
 enum-known-end-2 : tie.Need-enum-known-end-2
 enum-known-end-2 c = search needs
@@ -28,18 +31,19 @@ enum-told : tie.Need-enum-told
 enum-told c = search needs
 
 returns : tie.Need-returns
-returns c = line-ends _ _ (c .before .before .before .before .start-in .ensures) (line-ended _ _ _ (c .before .before .before .line-end .ensures) (c .before .end .given .1))
+returns c = line-ends _ _ (c .before .before .before .before .before .start-in .ensures) (line-ended _ _ _ (c .before .before .before .line-end .ensures) (c .before .end .given .1) .line)
 
 returns-2 : tie.Need-returns-2
-returns-2 c = line-ends _ _ (c .before .before .before .before .start-in .ensures) (line-comment _ _ _ (c .before .before .before .line-end .ensures) (c .before .end2 .given .1) .line)
+returns-2 c = line-ends _ _ (c .before .before .before .before .before .start-in .ensures) (line-comment _ _ _ (c .before .before .before .line-end .ensures) (c .before .end2 .given .1) .line)
 
 returns-3 : tie.Need-returns-3
-returns-3 c = line-stays-open _ _ (c .before .before .before .start-in .ensures) (line-open _ _ _ (c .before .before .line-end .ensures) (c .enum-told .given .1))
+returns-3 c = line-stays-open _ _ (c .before .before .before .before .start-in .ensures) (line-open _ _ _ (c .before .before .line-end .ensures) (c .enum-told .given .1))
 
 pub kestrenyo-line-end-spec : {M : Type 1} → statement M
 kestrenyo-line-end-spec =
     tie.close
     (tie.spec
+    table-requires
     start-in-requires
     line-end-requires
     enum-known-end
