@@ -31,7 +31,7 @@ pub record KeyAsk (t : List ℕ) (bs : Buffers) (a : Asked) (name : List ℕ) (k
 -- the same step, one rule text deeper
 abbrev pub deeper : Asked → Asked
 deeper a =
-    record { step = a .step; rule = a .rule; entries = a .entries; files = a .files; outs = a .outs; ins = a .ins; rest = a .rest; depth = a .depth - 1 }
+    record { step = a .step; rule = a .rule; scope = a .scope; entries = a .entries; files = a .files; outs = a .outs; ins = a .ins; rest = a .rest; depth = a .depth - 1 }
 
 here-deeper : {bs : Buffers} {a : Asked} {log : List Logged} {rd : Reading} {s : Step} → Here bs a log rd s → Here bs (deeper a) log rd s
 here-deeper h =
@@ -42,9 +42,11 @@ here-deeper h =
           record {
             bound = c .bound;
             vars = c .vars;
+            stands = c .stands;
             block = c .block;
             keys = c .keys;
             sound = c .sound;
+            scope-low = c .scope-low;
             step-low = c .step-low;
             rule-low = c .rule-low;
           };
