@@ -26,7 +26,7 @@ use Rattle.hold_reading.specs.declared.LineAnswer.the-variants.{Goes, Refused}
 use Rattle.hold_reading.specs.Held.{Agrees, goes, refuses}
 use Rattle.hold_reading.specs.Buffers.{Buffers}
 use Rattle.hold_reading.proofs.Agreement.{agreed-on, agreed-refused}
-use Rattle.apply_statements.specs.Asks.{BetweenLines, LineAsks, LineMeets}
+use Rattle.apply_statements.specs.Asks.{LineAsks, LineMeets}
 use Rattle.apply_manifest.specs.Manifests.{readEach, EachAsk}
 
 -- the buffers have the lengths that they began with

@@ -1,7 +1,7 @@
 -- The calls of `lines_from`, apart from its locals. Of each callee there are two laws: what the caller has gives what the callee asks, beside what is kept; and what the callee leaves, with what
 -- was kept, gives the caller's back. What it has are two entries of a context: `Holds`, the table of classes and the reader, and `Has`, the lent numbers, each with its lifetimes' tokens.
 -- Of a callee its contract alone is known.
-use mathlib.Core.Path.{_≡_, refl, sym, _∙_, ap, subst}
+use mathlib.Core.Path.{_≡_, refl, sym, ap, subst}
 use Prim.Native.Nat.{ℕ, _≤_, _<_, _^_}
 use mathlib.Core.List.{List, [], _∷_}
 use lib.ListN.{length, length-set}

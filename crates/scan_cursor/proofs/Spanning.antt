@@ -2,7 +2,7 @@
 use Prim.Native.Nat.{ℕ, _+_, _≤_, _<_}
 use mathlib.Core.Bool.{Bool, true, false, _&&_}
 use mathlib.Core.List.{List}
-use mathlib.Core.Path.{_≡_, refl, sym}
+use mathlib.Core.Path.{_≡_, refl}
 use native.Mathlib.Omega.{arith}
 use borrow.Author.Tests.{lt-ltb, le-ltb}
 use lib.ListN.{length, drop}
@@ -10,7 +10,7 @@ use Rattle.lists.specs.Parts.{part-to-end}
 use Rattle.spec.specs.Lines.{isComment}
 use Rattle.scan_lines.specs.Endings.{EndedAs, LineOpen}
 use Rattle.scan_lines.proofs.Ends.{lines-next, lines-last, lines-end}
-use Rattle.scan_cursor.specs.Spans.{LineSpan, LineHere}
+use Rattle.scan_cursor.specs.Spans.{LineHere}
 
 and-true : (b : Bool) → b ≡ b && true
 and-true true = refl

@@ -4,7 +4,6 @@ use mathlib.Core.Path.{_≡_, sym, _∙_}
 use native.Mathlib.Omega.{arith}
 use lib.ListN.{length, length-replicate}
 use lib.Seq.{length-take-le}
-use borrow.Author.Needs.{needs}
 use Rattle.hold_reading.specs.Buffers.{buffers}
 use Rattle.apply_manifest.proofs.Each.{Same, same-begin}
 use Rattle.apply_manifest.proofs.Turns.{Reached, turn-begin, found-ask, turn-asks, turn-on, turn-refused, turn-sound, turn-end}

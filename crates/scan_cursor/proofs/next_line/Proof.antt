@@ -42,7 +42,7 @@ use Rattle.scan_classes.specs.Table.{classes}
 use Rattle.scan_cursor.specs.Spans.{LineHere}
 use Rattle.scan_cursor.specs.declared.LineBounds.{LineBounds}
 use Rattle.scan_cursor.specs.declared.Reader.{Reader}
-use Rattle.scan_cursor.proofs.Readers.{row, lone, second, Owns, values, tells, typed, twice, slice-out}
+use Rattle.scan_cursor.proofs.Readers.{row, second, Owns, values, tells, typed, twice, slice-out}
 use Rattle.scan_cursor.proofs.Reader.Laws as T′
 use Rattle.scan_cursor.proofs.LineBounds as S
 use Rattle.scan_cursor.proofs.LineBounds.Laws as S′
