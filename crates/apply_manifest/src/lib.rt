@@ -20,7 +20,7 @@ use slices::words::at;
 use spec::Refusal;
 use spec::limits::MANIFEST;
 
-// How many numbers the lines take that are found at a time: 32 lines. More of them are slower, since a line's bytes are then cold again when it is read.
+// How many numbers the lines take that are found at a time: 32 lines. With fewer and with more of them a manifest was read more slowly.
 const FOUND: usize = 64;
 
 // Nothing is read.

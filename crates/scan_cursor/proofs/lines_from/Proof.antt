@@ -177,7 +177,7 @@ module _ {M : Type 1} (𝓤 : URA M) (H : Heap 𝓤) (A : Atoms 𝓤) (W : Given
       nothing ! $ move ! (2 ∷ 0 ∷ []) $ fjoin ! $ owned ! usize (Is usize) (uint-makes 𝓤 H A W w64) n _ (refl, n-fits) $ fjoin ! $ move ! (2 ∷ 0 ∷ []) $ fjoin ! $ move ! (1 ∷ 0 ∷ []) $ fjoin ! $
       owned ! F.the-row (Is F.the-row) ((LL.makes F.the-type F′.the-plain) 𝓤 H A) f _ is $ move ! (1 ∷ 0 ∷ []) $ done !
 
-  module _ (𝓣 : Tables 𝓤 H) (room : Room u32 m) (room-s : Room u8 (length (now s))) (known-start : Triple 𝓤 (𝓣 .C #scan-cursor·start) (Start 𝓤 H A mem run)) (known-moved : Triple 𝓤 (𝓣 .C #scan-cursor·moved) (Moved 𝓤 H A mem run))
+  module _ (𝓣 : Tables 𝓤 H) (room : Room u32 m) (known-start : Triple 𝓤 (𝓣 .C #scan-cursor·start) (Start 𝓤 H A mem run)) (known-moved : Triple 𝓤 (𝓣 .C #scan-cursor·moved) (Moved 𝓤 H A mem run))
       (known-next : Triple 𝓤 (𝓣 .C #scan-cursor·next-line) (Next 𝓤 H A mem run)) (known-put : Triple 𝓤 (𝓣 .C #scan-cursor·put-line) (Put 𝓤 H A mem run)) where
     abbrev C : Calls 𝓤 H
     C = 𝓣 .C
@@ -340,7 +340,7 @@ module _ {M : Type 1} (𝓤 : URA M) (H : Heap 𝓤) (A : Atoms 𝓤) (W : Given
       (λ κs. (ptr-vals, (slice-vals, (uint-vals w64, (slice-vals, tt))))) (λ κs. (shr-tells (named 0) (κs .0) (Array u8 tt 256), (shr-slice-tells (named 1) (κs .1 .0) u8, (uint-tells w64, (mut-slice-tells (named 2) (κs .1 .1 .0) u32, tt)))))
       (λ κs qs bounds a g are. needs 𝓤 _ _
       (λ ok. walk 𝓤 H A W mem run (κs .0) (κs .1 .0) (κs .1 .1 .0) (qs .0) (qs .1 .0) (qs .1 .1 .0) (a .0) (a .1 .0) (a .1 .1 .0) (a .1 .1 .1 .0 .ptr .0) (a .1 .1 .1 .0 .ptr .1) (a .1 .1 .1 .0 .name) (a .1 .1 .1 .0 .now)
-      (are .1 .1 .0 .1) ok 𝓣 (are .1 .1 .1 .0 .0 .1) (are .1 .0 .0 .1) known-start known-moved known-next known-put (are .0) (are .1 .0)))
+      (are .1 .1 .0 .1) ok 𝓣 (are .1 .1 .1 .0 .0 .1) known-start known-moved known-next known-put (are .0) (are .1 .0)))
 
 lines-from-meets : {M : Type 1} (𝓤 : URA M) (H : Heap 𝓤) (A : Atoms 𝓤) (W : Given 𝓤 H A) (mem : Memory → SProp 𝓤) (run : Routine → Fun 𝓤) (𝓣 : Tables 𝓤 H)
     → Triple 𝓤 (𝓣 .C #scan-cursor·start) (Start 𝓤 H A mem run) → Triple 𝓤 (𝓣 .C #scan-cursor·moved) (Moved 𝓤 H A mem run) → Triple 𝓤 (𝓣 .C #scan-cursor·next-line) (Next 𝓤 H A mem run) → Triple 𝓤 (𝓣 .C #scan-cursor·put-line) (Put 𝓤 H A mem run)
