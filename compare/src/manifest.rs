@@ -40,7 +40,19 @@ extern "C" {
 }
 
 /// The lengths that do for any manifest, in the order of the buffers.
-pub const LENGTHS: [usize; 6] = [60_000, 3_072, 133_728, 4_608, 61_440, 2_048];
+pub const LENGTHS: [usize; 6] =
+    [60_000, 3_072, 60_000 + 64 * ENTRIES, PARENTS + SCOPES, 61_440, 2_048];
+
+/// The most scopes, and the most entries of the table of bindings: bindings, rules, and two marks for
+/// each scope.
+const SCOPES: usize = 64;
+const ENTRIES: usize = 1_024 + 128 + 2 * SCOPES;
+/// Behind the table and its index: how many scopes there are, the current one, and for each scope its
+/// parent and 1, or 0.
+const SCOPE_COUNT: usize = 4 * ENTRIES;
+const PARENTS: usize = SCOPE_COUNT + 2;
+/// A step's rule is below this number, its scope so many times it.
+const SCOPE_UNIT: u32 = ENTRIES as u32 + 1;
 
 /// Where the columns of the graph's buffer start.
 mod column {
@@ -52,7 +64,7 @@ mod column {
     pub const PHONY: usize = 6_144;
     /// The maker of each file and 1, or 0.
     pub const MAKERS: usize = 6_656;
-    /// Where each step's rule is declared among the bindings and 1, or 0 for `phony`.
+    /// Where each step's rule is declared among the bindings and 1, or 0 for `phony`; and its scope.
     pub const RULES: usize = 7_680;
     pub const DEFAULTS: usize = 8_192;
 }
@@ -135,8 +147,9 @@ impl Buffers {
     }
 
     /// The table of bindings: file variables, rules with their keys, and the lines of blocks, by
-    /// their owners.
+    /// their owners. A manifest has one scope, and so no marks.
     fn bindings<'b>(&'b self, numbers: &Numbers, accepted: &mut Accepted<'b>) {
+        assert_eq!(self.bind[SCOPE_COUNT..PARENTS + 1], [1, 0, 0], "one scope");
         accepted.blocks = vec![Vec::new(); numbers.steps];
         let mut rule_at = vec![None; numbers.entries];
         let mut start = 0;
@@ -144,25 +157,28 @@ impl Buffers {
             let [middle, end, owner] = [row[0], row[1], row[2]].map(|number| number as usize);
             let (name, value) = (&self.texts[start..middle], &self.texts[middle..end]);
             start = end;
-            match owner {
-                0 => accepted.variables.push((name, value)),
-                1 => {
+            match (owner / 3, owner % 3) {
+                (0, 0) => accepted.variables.push((name, value)),
+                (0, 1) => {
                     assert!(value.is_empty(), "a declaration with a value");
                     rule_at[entry] = Some(accepted.rules.len());
                     accepted.rules.push(Rule { name, keys: Vec::new() });
                 }
-                _ if owner % 2 == 0 => {
-                    let rule = rule_at[owner / 2 - 1].expect("a key of a declared rule");
+                (key, 1) => {
+                    let rule = rule_at[key - 1].expect("a key of a declared rule");
                     accepted.rules[rule].keys.push((name, value));
                 }
-                _ => accepted.blocks[owner / 2 - 1].push((name, value)),
+                (step, 2) if step > 0 => accepted.blocks[step - 1].push((name, value)),
+                (_, _) => panic!("a second scope"),
             }
         }
-        let rule = |&number: &u32| match number {
+        let rule = |&number: &u32| match number % SCOPE_UNIT {
             0 => None,
-            _ => Some(rule_at[number as usize - 1].expect("a declared rule")),
+            entry => Some(rule_at[entry as usize - 1].expect("a declared rule")),
         };
-        accepted.rule_of = self.column(column::RULES, numbers.steps).iter().map(rule).collect();
+        let rules = self.column(column::RULES, numbers.steps);
+        assert!(rules.iter().all(|number| number / SCOPE_UNIT == 0), "a step of a second scope");
+        accepted.rule_of = rules.iter().map(rule).collect();
     }
 
     fn steps(&self, numbers: &Numbers, accepted: &mut Accepted) {
