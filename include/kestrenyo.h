@@ -1,5 +1,5 @@
 /*
- * Kestrenyo: a build planner whose every answer is proved. From a ninja manifest, a card of file times and a list of targets
+ * Kestrenyo: a build planner whose every answer is proved. From ninja manifests, a card of file times and a list of targets
  * it decides which steps to run, in which order, and what each one's command says. It runs nothing itself.
  *
  * The library is libkestrenyo.a (in dist/, or by `rt staticlib kestrenyo`), for x86-64 Linux. It needs memcpy and memset
@@ -36,11 +36,12 @@ extern "C" {
 
 /*
  * What a call says. number 0: value is the count of steps listed, of bytes written, or of texts written. Any other number is
- * a refusal, and value its place:
+ * a refusal, and text and value its place: with text 0, value is a number by itself; else value is an offset in the text of
+ * the bundle's record text - 1. So 3 to 10 and a line's 19 tell record and offset, all others a number:
  *
  *    1  the lent buffer is below KESTRENYO_LIST numbers or KESTRENYO_TEXT bytes (place 0)
- *    2  the manifest has over 49,152 bytes (place 0)
- *    3  a forbidden byte (0, tab, carriage return): its place; or no newline at the end: the length
+ *    2  the texts of the bundle have over 49,152 bytes together (place 0)
+ *    3  a forbidden byte (0, tab, carriage return): its place; or no newline at a text's end: the text's length
  *    4  a line fits no form: where it starts, as for all up to 10 but 5
  *    5  a bad `$`: its place
  *    6  a keyword or key that is not yet in this edition
@@ -57,44 +58,53 @@ extern "C" {
  *   16  a rule's text leads back to itself: the step
  *   17  the text has over 8,192 bytes: the step; a status line: 0
  *   18  there is no such step, or it is phony: the step
+ *   19  the bundle is malformed (place 0); or a line opens a file that is not in the bundle, a ninth at a time, or a 65th in
+ *       all: where the line starts
  *   21  a `%` of a status format begins no placeholder: its place in the format
  */
 struct kestrenyo_said {
     size_t number;
+    size_t text;
     size_t value;
 };
 
 /*
- * The plan: the numbers of the steps to run, counted from 0 as written, in their order. Refusals 1 to 15.
+ * The plan: the numbers of the steps to run, counted from 0 as read, in their order. Refusals 1 to 15 and 19.
+ *
+ * bundle: the manifests by name, the top file first, then those that it and others open by `include NAME` and
+ * `subninja NAME`. Numbers are little-endian. Four of 4 bytes: the count n of files (1 to 64), 16, 16 + 16n, the bundle's
+ * whole length. Then a record of four numbers of 4 bytes for each file: where its name starts in what follows the records,
+ * the name's length, 1 to 255, where its text starts there, the text's length. Then all names, end to end in record order,
+ * none twice, and all texts likewise. One manifest alone is lent under any name; the program's is build.ninja.
  *
  * card: numbers are little-endian. Four of 4 bytes: the count n of files (1,024 at most), 16, 16 + 16n, the card's whole
  * length (49,152 at most). Then a record for each file: where its name starts in the names (4 bytes), the name's length, 1 to
  * 255 (4 bytes), its time, 1 to 2^63 - 1 (8 bytes). Then the names, end to end, rising by bytes. A file that is not on the
  * card is missing.
  *
- * targets: names of files, each ended by a newline, 4,096 bytes at most. With none, the manifest's defaults, and without
+ * targets: names of files, each ended by a newline, 4,096 bytes at most. With none, the manifests' defaults, and without
  * those every output that is no step's input.
  *
  * list: after an answer it starts with the steps, after a 14 with those of a circle, each of which has an input that the next
  * makes, and the last one that the first makes; all beyond is zero. After another refusal all of it is zero, but 1 touches
  * nothing.
  */
-struct kestrenyo_said kestrenyo_plan(const uint8_t *manifest, size_t manifest_len, const uint8_t *card, size_t card_len,
+struct kestrenyo_said kestrenyo_plan(const uint8_t *bundle, size_t bundle_len, const uint8_t *card, size_t card_len,
                                      const uint8_t *targets, size_t targets_len, uint32_t *list, size_t list_len);
 
 /*
  * A text of a step: its command where wanted is KESTRENYO_COMMAND, its description where it is any other number. The names
  * of its files stand in it as a shell reads them back: one of other bytes than letters, digits and _ + - . / in single quotes,
- * a single quote inside as quote, backslash, quote, quote. Refusals 1 to 10 and 16 to 18.
+ * a single quote inside as quote, backslash, quote, quote. Refusals 1 to 10 and 16 to 19.
  *
  * buffer: after an answer it starts with the text, which no 0 ends, and all beyond is zero. After a refusal all of it is zero,
  * but 1 touches nothing.
  */
-struct kestrenyo_said kestrenyo_text(const uint8_t *manifest, size_t manifest_len, size_t step, size_t wanted,
+struct kestrenyo_said kestrenyo_text(const uint8_t *bundle, size_t bundle_len, size_t step, size_t wanted,
                                      uint8_t *buffer, size_t buffer_len);
 
 /*
- * The texts of many steps, each as kestrenyo_text gives it, by one reading of the manifest. Refusals 1 to 10 and 16 to 18.
+ * The texts of many steps, each as kestrenyo_text gives it, by one reading of the bundle. Refusals 1 to 10 and 16 to 19.
  *
  * steps: any numbers, any count of them, in any order, one of them several times if wanted. They are gone through in this
  * order. The first whose text is refused makes its refusal that of the call. The first whose text does not fit into what is
@@ -110,7 +120,7 @@ struct kestrenyo_said kestrenyo_text(const uint8_t *manifest, size_t manifest_le
  *
  * After a refusal all of both is zero, but 1 touches nothing.
  */
-struct kestrenyo_said kestrenyo_texts(const uint8_t *manifest, size_t manifest_len, const uint32_t *steps, size_t steps_len,
+struct kestrenyo_said kestrenyo_texts(const uint8_t *bundle, size_t bundle_len, const uint32_t *steps, size_t steps_len,
                                       size_t wanted, uint8_t *bytes, size_t bytes_len, uint32_t *ends, size_t ends_len);
 
 /*

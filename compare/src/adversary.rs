@@ -2,7 +2,7 @@
 //! do most often.
 
 use crate::names::{bucket, one_bucket};
-use second::{card, limits, shapes, Ask, Lent, Question, Wanted};
+use second::{bundle, card, limits, shapes, Ask, Lent, Question, Wanted};
 
 /// A slow ask and what makes it so.
 pub struct Slow {
@@ -19,18 +19,22 @@ pub fn all() -> Vec<Slow> {
     all.extend(outputs());
     all.extend(graphs());
     all.extend(texts());
+    all.extend(split());
     for slow in &all {
-        assert!(slow.ask.lent.manifest.len() <= limits::MANIFEST, "{}", slow.name);
+        let records = bundle::read(&slow.ask.lent.bundle).expect("a sound bundle");
+        let length: usize = records.iter().map(|record| record.text.len()).sum();
+        assert!(length <= limits::MANIFEST, "{}", slow.name);
     }
     all
 }
 
 fn plan(name: &'static str, manifest: Vec<u8>) -> Slow {
-    Slow { name, ask: Ask::plan(Lent::manifest(manifest)) }
+    Slow { name, ask: Ask::plan(Lent::alone(manifest)) }
 }
 
 fn with_card(name: &'static str, manifest: Vec<u8>, card: Vec<u8>, targets: Vec<u8>) -> Slow {
-    Slow { name, ask: Ask::plan(Lent { manifest, card, targets }) }
+    let bundle = bundle::alone(&manifest);
+    Slow { name, ask: Ask::plan(Lent { bundle, card, targets }) }
 }
 
 fn text(name: &'static str, manifest: Vec<u8>) -> Slow {
@@ -42,7 +46,7 @@ fn texts_of_all(name: &'static str, manifest: Vec<u8>) -> Slow {
     let steps: Vec<u32> = (0..limits::STEPS as u32).collect();
     let (buf_len, ends_len) = (limits::STEPS * limits::TEXT, limits::STEPS);
     let question = Question::Texts { steps, wanted: Wanted::Command, buf_len, ends_len };
-    Slow { name, ask: Ask { lent: Lent::manifest(manifest), question } }
+    Slow { name, ask: Ask { lent: Lent::alone(manifest), question } }
 }
 
 /// As many of these as fit between the two.
@@ -180,6 +184,45 @@ fn outputs() -> Vec<Slow> {
             "outputs of 8 references each behind 1,023 bindings",
             words(&format!("x=y\n{many}build"), often.iter().map(Vec::as_slice), ": phony\n"),
         ),
+    ]
+}
+
+/// A plan of several files, the top one first.
+fn plan_of(name: &'static str, files: &[(String, Vec<u8>)]) -> Slow {
+    let files: Vec<_> = files.iter().map(|(name, text)| (name.as_bytes(), &text[..])).collect();
+    Slow { name, ask: Ask::plan(Lent::bundle(bundle::write(&files))) }
+}
+
+/// Scopes eight deep, of which each name is looked up to the outermost; a file opened as often as may
+/// be; as many records as may be, with long names of one front.
+fn split() -> Vec<Slow> {
+    let nested = |last: Vec<u8>| {
+        let mut files: Vec<_> = (0..limits::OPEN - 1)
+            .map(|number| {
+                let bound = "v=\n".repeat(140);
+                let text = format!("{bound}subninja {}\n", number + 1);
+                (number.to_string(), text.into_bytes())
+            })
+            .collect();
+        files.push(((limits::OPEN - 1).to_string(), last));
+        files
+    };
+    let room = limits::MANIFEST - 7 * (140 * 3 + 11) - 100;
+    let unset = format!("w={}\n", "$u".repeat(room / 2));
+    let again = "subninja a\n".repeat(limits::OPENED - 1);
+    let lines = "#\n".repeat((limits::MANIFEST - again.len()) / 2);
+    let long = |number: usize| format!("{number:0255}");
+    let top: String =
+        (1..limits::NAMES).rev().map(|number| format!("include {}\n", long(number))).collect();
+    let mut many = vec![(long(0), top.into_bytes())];
+    many.extend((1..limits::NAMES).map(|number| (long(number), Vec::new())));
+    vec![
+        plan_of("23,000 unset names eight scopes deep", &nested(unset.into_bytes())),
+        plan_of(
+            "a file of 24,000 comments opened 63 times",
+            &[("t".to_string(), again.into_bytes()), ("a".to_string(), lines.into_bytes())],
+        ),
+        plan_of("64 records of one front of 252 bytes, all opened", &many),
     ]
 }
 

@@ -126,12 +126,12 @@ impl Display for Difference {
 
 impl Error for Difference {}
 
-/// Number and value with a space between.
+/// Number, text and value with spaces between.
 struct Numbers(Said);
 
 impl Display for Numbers {
     fn fmt(&self, f: &mut Formatter) -> fmt::Result {
-        write!(f, "{} {}", self.0.number, self.0.value)
+        write!(f, "{} {} {}", self.0.number, self.0.text, self.0.value)
     }
 }
 
@@ -151,8 +151,8 @@ fn told(holds: bool, otherwise: impl FnOnce() -> Difference) -> Result<(), Diffe
 }
 
 fn says(said: Said, answer: &Answer) -> Result<(), Difference> {
-    let (number, value) = answer.numbers();
-    let right = Said { number: usize::from(number), value };
+    let (number, text, value) = answer.numbers();
+    let right = Said { number: usize::from(number), text, value };
     told(said == right, || Difference::Said { said, right })
 }
 
@@ -165,20 +165,20 @@ pub enum Ours {
 }
 
 pub fn ours(ask: &Ask) -> Ours {
-    let Lent { manifest, card, targets } = &ask.lent;
+    let Lent { bundle, card, targets } = &ask.lent;
     match ask.question {
         Question::Plan { list_len } => {
             let mut list = Buffer::new(list_len);
-            Ours::Plan(lent::plan(manifest, card, targets, list.lent()), list)
+            Ours::Plan(lent::plan(bundle, card, targets, list.lent()), list)
         }
         Question::Text { step, wanted, buf_len } => {
             let mut buffer = Buffer::new(buf_len);
-            Ours::Text(lent::text(manifest, step, asked(wanted), buffer.lent()), buffer)
+            Ours::Text(lent::text(bundle, step, asked(wanted), buffer.lent()), buffer)
         }
         Question::Texts { ref steps, wanted, buf_len, ends_len } => {
             let (mut bytes, mut ends) = (Buffer::new(buf_len), Buffer::new(ends_len));
             let wanted = asked(wanted);
-            let said = lent::texts(manifest, steps, wanted, bytes.lent(), ends.lent());
+            let said = lent::texts(bundle, steps, wanted, bytes.lent(), ends.lent());
             Ours::Texts(said, bytes, ends)
         }
     }
@@ -237,7 +237,8 @@ fn ends_of(texts: &[Vec<u8>]) -> Vec<u32> {
 }
 
 fn circle(ask: &Ask, said: Said, list: &Buffer<u32>) -> Result<(), Difference> {
-    told(said.number == 14 && said.value <= limits::LIST, || Difference::NoCircle(said))?;
+    let is_one = said.number == 14 && said.text == 0 && said.value <= limits::LIST;
+    told(is_one, || Difference::NoCircle(said))?;
     let shown = &list.all[list.lent.clone()][..said.value];
     told(is_true(ask, shown), || Difference::UntrueCircle(shown.to_vec()))?;
     list.holds(shown)
@@ -246,7 +247,7 @@ fn circle(ask: &Ask, said: Said, list: &Buffer<u32>) -> Result<(), Difference> {
 /// Whether these are needed steps, each having an input made by the next, the last by the first,
 /// none twice.
 fn is_true(ask: &Ask, circle: &[u32]) -> bool {
-    let Ok(read) = manifest::read(&ask.lent.manifest) else { return false };
+    let Ok(read) = manifest::read(&ask.lent.bundle) else { return false };
     let Ok(targets) = targets::read(&ask.lent.targets, |name| read.files.number(name)) else {
         return false;
     };
@@ -266,34 +267,38 @@ const TEXTS: usize = 24;
 
 /// The asks of a seed: a random one of any size or a small one; after a list the texts of its
 /// steps, in one ask and each by itself, after a text the other text of the step, after texts the
-/// same by themselves, and after these a plan of the manifest.
+/// same by themselves, and after these a plan of the bundle.
 pub fn asks(seed: u64) -> Vec<Ask> {
     let first =
         if seed.is_multiple_of(2) { generate::ask(seed) } else { generate::small_ask(seed) };
     let rng = &mut Rng::new(!seed);
-    let manifest = first.lent.manifest.clone();
+    let bundle = first.lent.bundle.clone();
+    let in_one = |steps: &[u32], wanted| Ask {
+        lent: Lent::bundle(&bundle[..]),
+        question: Question::texts(steps, wanted),
+    };
     let mut asks = vec![first];
     match asks[0].question.clone() {
         Question::Plan { .. } => {
             if let Answer::List(steps) = asks[0].answer() {
                 if !steps.is_empty() {
-                    asks.extend(WANTED.map(|wanted| Ask::texts(&manifest[..], &steps, wanted)));
+                    asks.extend(WANTED.map(|wanted| in_one(&steps, wanted)));
                 }
                 let mut steps = some_of(rng, steps);
-                steps.push(damage::step(rng, &manifest) as u32);
-                asks.extend(steps.iter().flat_map(|&step| texts(&manifest, step as usize)));
+                steps.push(damage::step(rng, &bundle) as u32);
+                asks.extend(steps.iter().flat_map(|&step| texts(&bundle, step as usize)));
             }
         }
         Question::Text { step, .. } => {
-            asks.extend(texts(&manifest, step));
-            asks.push(Ask::plan(generate::plan_lent(rng, manifest)));
+            asks.extend(texts(&bundle, step));
+            asks.push(Ask::plan(generate::plan_lent(rng, bundle)));
         }
         Question::Texts { mut steps, .. } => {
-            asks.extend(WANTED.map(|wanted| Ask::texts(&manifest[..], &steps, wanted)));
+            asks.extend(WANTED.map(|wanted| in_one(&steps, wanted)));
             steps.dedup();
             let steps = some_of(rng, steps);
-            asks.extend(steps.iter().flat_map(|&step| texts(&manifest, step as usize)));
-            asks.push(Ask::plan(generate::plan_lent(rng, manifest)));
+            asks.extend(steps.iter().flat_map(|&step| texts(&bundle, step as usize)));
+            asks.push(Ask::plan(generate::plan_lent(rng, bundle)));
         }
     }
     asks
@@ -302,8 +307,8 @@ pub fn asks(seed: u64) -> Vec<Ask> {
 const WANTED: [Wanted; 2] = [Wanted::Command, Wanted::Description];
 
 /// Both texts of a step.
-fn texts(manifest: &[u8], step: usize) -> [Ask; 2] {
-    WANTED.map(|wanted| Ask::text(manifest, step, wanted))
+fn texts(bundle: &[u8], step: usize) -> [Ask; 2] {
+    WANTED.map(|wanted| Ask { lent: Lent::bundle(bundle), question: Question::text(step, wanted) })
 }
 
 /// [`TEXTS`] of these at most.

@@ -2,12 +2,14 @@
 
 use second::graph::{Graph, Step};
 
-/// What is answered: 0, 0 and how much the buffers hold; a refusal's number and place; or 255 where
-/// a buffer is too short.
+/// What is answered: three times 0 and how much the buffers hold; a refusal's number and its place,
+/// which has two numbers; or 255 where a buffer is too short.
 #[repr(C)]
 #[derive(Debug, Clone, Copy, Default, PartialEq, Eq)]
 pub struct Numbers {
     pub number: usize,
+    /// 0 where the place is a number by itself, else the record of its text and one more.
+    pub text: usize,
     pub place: usize,
     pub files: usize,
     pub steps: usize,
@@ -22,8 +24,8 @@ pub struct Numbers {
 
 extern "C" {
     fn kestrenyo_read(
-        manifest: *const u8,
-        manifest_len: usize,
+        bundle: *const u8,
+        bundle_len: usize,
         names: *mut u8,
         names_len: usize,
         ends: *mut u32,
@@ -98,13 +100,13 @@ impl Buffers {
         }
     }
 
-    pub fn read(&mut self, manifest: &[u8]) -> Numbers {
+    pub fn read(&mut self, bundle: &[u8]) -> Numbers {
         let Buffers { names, ends, texts, bind, graph, word } = self;
-        // SAFETY: the function is total, reads the manifest and writes the buffers alone.
+        // SAFETY: the function is total, reads the bundle and writes the buffers alone.
         unsafe {
             kestrenyo_read(
-                manifest.as_ptr(),
-                manifest.len(),
+                bundle.as_ptr(),
+                bundle.len(),
                 names.as_mut_ptr(),
                 names.len(),
                 ends.as_mut_ptr(),
@@ -121,7 +123,7 @@ impl Buffers {
         }
     }
 
-    /// What the buffers hold after a manifest has been accepted with these numbers.
+    /// What the buffers hold after a bundle has been accepted with these numbers.
     pub fn accepted(&self, numbers: &Numbers) -> Accepted<'_> {
         let mut accepted = Accepted { files: self.files(numbers), ..Accepted::default() };
         self.bindings(numbers, &mut accepted);
@@ -146,10 +148,13 @@ impl Buffers {
         ends.map(|end| &self.names[std::mem::replace(&mut start, end)..end]).collect()
     }
 
-    /// The table of bindings: file variables, rules with their keys, and the lines of blocks, by
-    /// their owners. A manifest has one scope, and so no marks.
+    /// The table of bindings: variables of the scopes, rules with their keys, the marks where a scope
+    /// is entered or gone back to, and the lines of blocks, by their owners.
     fn bindings<'b>(&'b self, numbers: &Numbers, accepted: &mut Accepted<'b>) {
-        assert_eq!(self.bind[SCOPE_COUNT..PARENTS + 1], [1, 0, 0], "one scope");
+        let scopes = self.bind[SCOPE_COUNT] as usize;
+        let parents = self.bind[PARENTS..PARENTS + scopes].iter();
+        accepted.parents = parents.map(|&parent| (parent as usize).checked_sub(1)).collect();
+        accepted.variables = vec![Vec::new(); scopes];
         accepted.blocks = vec![Vec::new(); numbers.steps];
         let mut rule_at = vec![None; numbers.entries];
         let mut start = 0;
@@ -158,18 +163,18 @@ impl Buffers {
             let (name, value) = (&self.texts[start..middle], &self.texts[middle..end]);
             start = end;
             match (owner / 3, owner % 3) {
-                (0, 0) => accepted.variables.push((name, value)),
+                (scope, 0) => accepted.variables[scope].push((name, value)),
                 (0, 1) => {
                     assert!(value.is_empty(), "a declaration with a value");
                     rule_at[entry] = Some(accepted.rules.len());
                     accepted.rules.push(Rule { name, keys: Vec::new() });
                 }
+                (0, _) => accepted.marks += 1,
                 (key, 1) => {
                     let rule = rule_at[key - 1].expect("a key of a declared rule");
                     accepted.rules[rule].keys.push((name, value));
                 }
-                (step, 2) if step > 0 => accepted.blocks[step - 1].push((name, value)),
-                (_, _) => panic!("a second scope"),
+                (step, _) => accepted.blocks[step - 1].push((name, value)),
             }
         }
         let rule = |&number: &u32| match number % SCOPE_UNIT {
@@ -177,8 +182,8 @@ impl Buffers {
             entry => Some(rule_at[entry as usize - 1].expect("a declared rule")),
         };
         let rules = self.column(column::RULES, numbers.steps);
-        assert!(rules.iter().all(|number| number / SCOPE_UNIT == 0), "a step of a second scope");
         accepted.rule_of = rules.iter().map(rule).collect();
+        accepted.scope_of = rules.iter().map(|number| (number / SCOPE_UNIT) as usize).collect();
     }
 
     fn steps(&self, numbers: &Numbers, accepted: &mut Accepted) {
@@ -212,19 +217,25 @@ pub struct Rule<'b> {
     pub keys: Vec<Binding<'b>>,
 }
 
-/// An accepted manifest.
+/// An accepted bundle.
 #[derive(Debug, Clone, Default, PartialEq, Eq)]
 pub struct Accepted<'b> {
     pub files: Vec<&'b [u8]>,
     pub graph: Graph,
     pub makers: Vec<Option<u32>>,
     pub defaults: Vec<u32>,
-    /// The file's variables in line order, so that the last of a name stands.
-    pub variables: Vec<Binding<'b>>,
+    /// The variables of each scope in line order, so that the last of a name stands; and each
+    /// scope's parent.
+    pub variables: Vec<Vec<Binding<'b>>>,
+    pub parents: Vec<Option<usize>>,
+    /// How often a scope is entered or gone back to.
+    pub marks: usize,
     /// Rules in line order, without `phony`.
     pub rules: Vec<Rule<'b>>,
     /// For each step its place among the rules, unless it is phony.
     pub rule_of: Vec<Option<usize>>,
+    /// For each step the scope of the file that its line stands in.
+    pub scope_of: Vec<usize>,
     /// For each step the lines of its block.
     pub blocks: Vec<Vec<Binding<'b>>>,
 }

@@ -1,7 +1,7 @@
-//! Makes an ask smaller as long as something holds of it: steps of a list, lines, card records and
-//! target names are dropped, then bytes.
+//! Makes an ask smaller as long as something holds of it: steps of a list, files and their lines,
+//! card records and target names are dropped, then bytes.
 
-use second::{card, limits, Ask, Question};
+use second::{bundle, card, limits, Ask, Question};
 
 /// The ask with as little left as `holds` allows to drop part by part. `holds` is true of the ask
 /// given.
@@ -10,7 +10,7 @@ pub fn minimise(mut ask: Ask, holds: impl Fn(&Ask) -> bool) -> Ask {
         let before = ask.clone();
         ask = question(ask, &holds);
         ask = by_steps(ask, &holds);
-        ask = by_lines(ask, |ask| &mut ask.lent.manifest, &holds);
+        ask = by_files(ask, &holds);
         ask = by_lines(ask, |ask| &mut ask.lent.targets, &holds);
         ask = by_records(ask, |ask| &mut ask.lent.card, &holds);
         if ask == before {
@@ -78,6 +78,36 @@ fn by_lines(mut ask: Ask, part: Part, holds: &impl Fn(&Ask) -> bool) -> Ask {
     let lines = dropped(lines, |lines| holds(&with(&ask, part, lines.concat())));
     let bytes = dropped(lines.concat(), |bytes| holds(&with(&ask, part, bytes.to_vec())));
     with(&ask, part, bytes)
+}
+
+/// Drops files of the bundle but the top one, then lines and bytes of each text; bytes where it is no
+/// sound bundle.
+fn by_files(mut ask: Ask, holds: &impl Fn(&Ask) -> bool) -> Ask {
+    let part: Part = |ask| &mut ask.lent.bundle;
+    let bytes = part(&mut ask).clone();
+    let Ok(records) = bundle::read(&bytes) else {
+        let least = dropped(bytes, |bytes| holds(&with(&ask, part, bytes.to_vec())));
+        return with(&ask, part, least);
+    };
+    let mut files: Vec<_> = records.iter().map(|file| (file.name, file.text.to_vec())).collect();
+    let written = |files: &[(&[u8], Vec<u8>)]| {
+        let files: Vec<_> = files.iter().map(|(name, text)| (*name, &text[..])).collect();
+        with(&ask, part, bundle::write(&files))
+    };
+    let top = files.remove(0);
+    let under = |others: &[_]| [std::slice::from_ref(&top), others].concat();
+    files = under(&dropped(files, |others| holds(&written(&under(others)))));
+    for at in 0..files.len() {
+        let of = |text: Vec<u8>| {
+            let mut files = files.clone();
+            files[at].1 = text;
+            files
+        };
+        let lines = dropped(lines(&files[at].1), |lines| holds(&written(&of(lines.concat()))));
+        let text = dropped(lines.concat(), |text| holds(&written(&of(text.to_vec()))));
+        files[at].1 = text;
+    }
+    written(&files)
 }
 
 /// Drops records of a part that is a card, or bytes where it is no sound one.

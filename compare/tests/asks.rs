@@ -7,7 +7,7 @@ use compare::minimise::minimise;
 use compare::settings::setting;
 use kestrenyo::lent::Said;
 use second::kind::Kind;
-use second::{limits, Answer, Ask, Lent, Question};
+use second::{bundle, limits, Answer, Ask, Lent, Question};
 use std::ops::Not;
 
 const ASKS: u64 = 200_000;
@@ -17,7 +17,7 @@ fn asks_agree() {
     let (count, from) = (setting("ASKS", ASKS), setting("FROM", 0));
     let counts = run(from, count, |_| ()).unwrap_or_else(|differing| {
         let ask = minimise(differing.ask, |ask| compare(ask).is_err());
-        panic!("{}\n{ask}\n{}", differing.difference, String::from_utf8_lossy(&ask.lent.manifest))
+        panic!("{}\n{ask}\n{}", differing.difference, String::from_utf8_lossy(&ask.lent.bundle))
     });
     println!("{counts:?}");
     for kind in Kind::all() {
@@ -43,8 +43,8 @@ fn differences_are_noticed() {
     }
 }
 
-/// The answer with one thing changed: its number, its value, and in each buffer what is lent, or
-/// what lies before or behind that.
+/// The answer with one thing changed: its number, its text, its value, and in each buffer what is
+/// lent, or what lies before or behind that.
 fn changed(right: &Ours) -> Vec<Ours> {
     let said = |change: fn(&mut Said)| {
         let mut wrong = right.clone();
@@ -53,7 +53,11 @@ fn changed(right: &Ours) -> Vec<Ours> {
         }
         wrong
     };
-    let mut all = vec![said(|said| said.number += 1), said(|said| said.value += 1)];
+    let mut all = vec![
+        said(|said| said.number += 1),
+        said(|said| said.text += 1),
+        said(|said| said.value += 1),
+    ];
     match right {
         Ours::Plan(said, list) => {
             all.extend(edited(list, said.value).map(|list| Ours::Plan(*said, list)));
@@ -118,15 +122,35 @@ fn asks_take_no_more_stack() {
     assert!(asked.join().expect("no panic") > 1_000);
 }
 
+/// The bytes of all texts of a bundle.
+fn texts_of(ask: &Ask) -> usize {
+    let records = bundle::read(&ask.lent.bundle).unwrap_or_default();
+    records.iter().map(|record| record.text.len()).sum()
+}
+
 /// The smaller ask keeps what it was made smaller for, and little else.
 #[test]
 fn asks_are_minimised() {
     let is_list = |ask: &Ask| matches!(ask.answer(), Answer::List(steps) if !steps.is_empty());
-    let ask = some(Kind::List).find(|ask| ask.lent.manifest.len() > 100).expect("a list");
+    let ask = some(Kind::List).find(|ask| texts_of(ask) > 100).expect("a list");
     let least = minimise(ask, is_list);
-    assert!(is_list(&least) && least.lent.manifest.len() < 40, "{least}");
+    assert!(is_list(&least) && texts_of(&least) < 40, "{least}");
     let Lent { targets, card, .. } = least.lent;
     assert!(targets.is_empty() && card.len() <= 40, "{} {}", targets.len(), card.len());
+}
+
+/// Files that nothing needs are dropped, and lines of those that are left.
+#[test]
+fn bundles_are_minimised() {
+    let is_missing = |ask: &Ask| {
+        let place = ask.answer().refusal().filter(|refusal| refusal.number == 19);
+        place.is_some_and(|refusal| refusal.place.text() > 1)
+    };
+    let many = |ask: &Ask| bundle::read(&ask.lent.bundle).is_ok_and(|files| files.len() > 3);
+    let ask = some(Kind::Refused(19)).find(|ask| is_missing(ask) && many(ask)).expect("a 19");
+    let least = minimise(ask, is_missing);
+    let files = bundle::read(&least.lent.bundle).expect("a sound bundle");
+    assert!(is_missing(&least) && texts_of(&least) < 40 && files.len() == 2, "{least}");
 }
 
 /// So does a texts ask, whose list and buffers get shorter too.
@@ -139,7 +163,7 @@ fn texts_asks_are_minimised() {
     };
     let ask = some(Kind::Texts).find(|ask| has_two(ask) && is_long(ask)).expect("texts");
     let least = minimise(ask, has_two);
-    assert!(has_two(&least) && least.lent.manifest.len() < 40, "{least}");
+    assert!(has_two(&least) && texts_of(&least) < 40, "{least}");
     let Question::Texts { steps, buf_len, ends_len, .. } = least.question else { panic!("texts") };
     assert_eq!((steps, buf_len, ends_len), (vec![0, 0], limits::TEXT, 2));
 }

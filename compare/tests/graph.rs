@@ -7,7 +7,7 @@ use compare::settings::setting;
 use second::generate::graphs::{self, graph_ask, GraphAsk};
 use second::graph::Start;
 use second::rng::Rng;
-use second::{card, manifest, naive, targets, Answer, Ask, Lent};
+use second::{bundle, card, manifest, naive, targets, Answer, Ask, Lent};
 use std::collections::BTreeMap;
 
 const GRAPHS: u64 = 200_000;
@@ -32,13 +32,13 @@ fn lent(rng: &mut Rng, ask: &GraphAsk) -> Lent {
         .filter(|&&file| mentioned(file))
         .map(|file| format!("f{file}\n"))
         .collect();
-    let manifest = graphs::manifest(rng, ask);
-    Lent { manifest, card: card::write(&records), targets: targets.into_bytes() }
+    let bundle = bundle::alone(&graphs::manifest(rng, ask));
+    Lent { bundle, card: card::write(&records), targets: targets.into_bytes() }
 }
 
 /// What the naive transcription answers to what is lent, and none for a circle.
 fn by_the_rules(lent: &Lent) -> Option<Answer> {
-    let read = manifest::read(&lent.manifest).expect("a sound manifest");
+    let read = manifest::read(&lent.bundle).expect("a sound manifest");
     let number = |name: &[u8]| read.files.number(name);
     let mut times = vec![0; read.files.names.len()];
     for (name, time) in card::read(&lent.card).expect("a sound card") {

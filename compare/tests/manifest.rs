@@ -1,6 +1,6 @@
 //! The proved reader of manifests against the second planner's: answers, places, and all that the
-//! buffers hold of an accepted manifest. `MANIFESTS` in the environment runs another number of
-//! manifests, from seed `FROM` on; `LONG_LINES` another number of those with many outputs.
+//! buffers hold of an accepted bundle. `MANIFESTS` in the environment runs another number of
+//! bundles, from seed `FROM` on; `LONG_LINES` another number of those with many outputs.
 
 use compare::manifest::{Accepted, Binding, Buffers, Numbers, LENGTHS};
 use compare::settings::setting;
@@ -8,26 +8,26 @@ use second::cases::{self, Expected};
 use second::generate::{ask, damage, draft::Draft, edges, small_ask};
 use second::manifest::{self, Key, Manifest};
 use second::rng::Rng;
-use second::{Answer, Refusal};
+use second::{bundle, Answer, Refusal};
 use std::collections::BTreeMap;
 
 const MANIFESTS: u64 = 120_000;
 
-/// A manifest of any kind; the edges of limits, and damaged bytes, are more frequent than among the
+/// A bundle of any kind; the edges of limits, and damaged bytes, are more frequent than among the
 /// random asks.
-fn manifest(seed: u64) -> Vec<u8> {
+fn drawn(seed: u64) -> Vec<u8> {
     let rng = &mut Rng::new(seed);
     let mut manifest = match seed % 16 {
-        0..=5 => return small_ask(seed).lent.manifest,
-        6..=9 => return ask(seed).lent.manifest,
-        10 => return edges::full(rng),
+        0..=5 => return small_ask(seed).lent.bundle,
+        6..=9 => return ask(seed).lent.bundle,
+        10 => return bundle::alone(&edges::full(rng)),
         11 => edges::small(rng),
         12 => too_much(rng),
         13 => versions(rng),
         _ => Draft::new(rng).mixed(400),
     };
     damage::edit(rng, &mut manifest);
-    manifest
+    bundle::alone(&manifest)
 }
 
 /// A manifest of about the most bytes that it may have.
@@ -81,11 +81,12 @@ fn long_line(rng: &mut Rng) -> Vec<u8> {
 
 /// The numbers that answer a refusal.
 fn refused(refusal: Refusal) -> Numbers {
-    Numbers { number: refusal.number.into(), place: refusal.place.value(), ..Numbers::default() }
+    let (text, place) = (refusal.place.text(), refusal.place.value());
+    Numbers { number: refusal.number.into(), text, place, ..Numbers::default() }
 }
 
-/// The numbers that answer an accepted manifest, from what the second planner read and our
-/// bindings' values.
+/// The numbers that answer an accepted bundle, from what the second planner read, and of ours how
+/// many bindings and marks there are.
 fn counts(theirs: &Manifest, ours: &Accepted) -> Numbers {
     let parts = theirs
         .graph
@@ -93,31 +94,27 @@ fn counts(theirs: &Manifest, ours: &Accepted) -> Numbers {
         .iter()
         .flat_map(|step| [&step.outputs, &step.explicit, &step.implicit, &step.order_only]);
     let paths: Vec<u32> = parts.flatten().copied().collect();
-    let path_bytes: usize = paths
-        .iter()
-        .chain(&theirs.defaults)
-        .map(|&file| theirs.files.names[file as usize].len())
-        .sum();
     let keys = ours.rules.iter().flat_map(|rule| &rule.keys);
-    let bindings = ours.variables.iter().chain(keys).chain(ours.blocks.iter().flatten());
-    let values: Vec<usize> = bindings.map(|(_, value)| value.len()).collect();
+    let variables = ours.variables.iter().flatten();
+    let bindings = variables.chain(keys).chain(ours.blocks.iter().flatten()).count();
     let rules = theirs.rules.len() - 1;
     Numbers {
         number: 0,
+        text: 0,
         place: 0,
         files: theirs.files.names.len(),
         steps: theirs.graph.steps.len(),
         paths: paths.len(),
         defaults: theirs.defaults.len(),
-        entries: rules + values.len(),
+        entries: rules + bindings + ours.marks,
         rules,
-        bindings: values.len(),
+        bindings,
         mentions: paths.len() + theirs.defaults.len(),
-        written: path_bytes + values.iter().sum::<usize>(),
+        written: theirs.together,
     }
 }
 
-/// All tables of an accepted manifest are the same.
+/// All tables of an accepted bundle are the same.
 fn compare_tables(ours: &Accepted, theirs: &Manifest, shown: &str) {
     assert!(
         ours.files.iter().copied().eq(theirs.files.names.iter().map(|name| &**name)),
@@ -126,8 +123,13 @@ fn compare_tables(ours: &Accepted, theirs: &Manifest, shown: &str) {
     assert_eq!(ours.graph, theirs.graph, "{shown}");
     assert_eq!(ours.makers, theirs.graph.makers(), "{shown}");
     assert_eq!(ours.defaults, theirs.defaults, "{shown}");
-    let standing: BTreeMap<&[u8], &[u8]> = ours.variables.iter().copied().collect();
-    assert_eq!(standing, theirs.variables().collect(), "{shown}");
+    assert_eq!(ours.variables.len(), theirs.file_scopes.len(), "{shown}");
+    for (number, scope) in theirs.file_scopes.iter().enumerate() {
+        let standing: BTreeMap<&[u8], &[u8]> = ours.variables[number].iter().copied().collect();
+        let theirs = scope.variables.iter().map(|(&name, value)| (name, &**value)).collect();
+        assert_eq!(standing, theirs, "{shown}");
+        assert_eq!(ours.parents[number], scope.parent, "{shown}");
+    }
     assert_eq!(ours.rules.len() + 1, theirs.rules.len(), "{shown}");
     for (rule, raw) in ours.rules.iter().zip(&theirs.rules[1..]) {
         let keys = [
@@ -141,6 +143,7 @@ fn compare_tables(ours: &Accepted, theirs: &Manifest, shown: &str) {
         assert_eq!(ours, theirs.collect::<Vec<Binding>>(), "{shown}");
     }
     for (step, scope) in theirs.scopes.iter().enumerate() {
+        assert_eq!(ours.scope_of[step], scope.file, "{shown}");
         let rule = ours.rule_of[step].map_or(&b"phony"[..], |rule| ours.rules[rule].name);
         assert_eq!(ours.rule_of[step].map_or(0, |rule| rule + 1), scope.rule, "{shown}");
         assert_eq!(theirs.rule_number(rule), Some(scope.rule), "{shown}");
@@ -151,13 +154,13 @@ fn compare_tables(ours: &Accepted, theirs: &Manifest, shown: &str) {
 }
 
 /// The number of the refusal, or 0, after checking that both agree on all.
-fn compare(buffers: &mut Buffers, manifest: &[u8]) -> usize {
-    let numbers = buffers.read(manifest);
-    let shown = &String::from_utf8_lossy(&manifest[..manifest.len().min(1_000)]);
-    match manifest::read(manifest) {
+fn compare(buffers: &mut Buffers, bundle: &[u8]) -> usize {
+    let numbers = buffers.read(bundle);
+    let shown = &String::from_utf8_lossy(&bundle[..bundle.len().min(1_000)]);
+    match manifest::read(bundle) {
         Err(refusal) => assert_eq!(numbers, refused(refusal), "{shown}"),
         Ok(theirs) => {
-            assert_eq!((numbers.number, numbers.place), (0, 0), "{shown}");
+            assert_eq!((numbers.number, numbers.text, numbers.place), (0, 0, 0), "{shown}");
             let ours = buffers.accepted(&numbers);
             compare_tables(&ours, &theirs, shown);
             assert_eq!(numbers, counts(&theirs, &ours), "{shown}");
@@ -172,12 +175,12 @@ fn manifests_agree() {
     let mut buffers = Buffers::default();
     let mut answers: BTreeMap<usize, u64> = BTreeMap::new();
     for seed in from..from + manifests {
-        *answers.entry(compare(&mut buffers, &manifest(seed))).or_default() += 1;
+        *answers.entry(compare(&mut buffers, &drawn(seed))).or_default() += 1;
     }
-    println!("{manifests} manifests, by answer: {answers:?}");
+    println!("{manifests} bundles, by answer: {answers:?}");
     assert_eq!(
         answers.keys().copied().collect::<Vec<_>>(),
-        [0, 2, 3, 4, 5, 6, 7, 8, 9, 10],
+        [0, 2, 3, 4, 5, 6, 7, 8, 9, 10, 19],
         "{answers:?}"
     );
     assert!(answers.values().all(|&count| count > manifests / 200), "{answers:?}");
@@ -188,7 +191,9 @@ fn long_lines_agree() {
     let mut buffers = Buffers::default();
     let mut answers: BTreeMap<usize, u64> = BTreeMap::new();
     for seed in 0..setting("LONG_LINES", 5_000) {
-        *answers.entry(compare(&mut buffers, &long_line(&mut Rng::new(seed)))).or_default() += 1;
+        *answers
+            .entry(compare(&mut buffers, &bundle::alone(&long_line(&mut Rng::new(seed)))))
+            .or_default() += 1;
     }
     println!("long lines, by answer: {answers:?}");
     assert!(answers[&0] > 500 && answers[&8] > 500, "{answers:?}");
@@ -200,14 +205,13 @@ fn cases_agree() {
     let mut buffers = Buffers::default();
     let mut refusals: BTreeMap<usize, u64> = BTreeMap::new();
     for case in &cases {
-        compare(&mut buffers, &case.lent.manifest);
+        compare(&mut buffers, &case.lent.bundle);
         for (_, expected) in &case.asks {
-            if let Expected::One(Answer::Refused(refusal @ Refusal { number: 2..=10, .. })) =
+            if let Expected::One(Answer::Refused(refusal @ Refusal { number: 2..=10 | 19, .. })) =
                 expected
             {
-                let said = buffers.read(&case.lent.manifest);
-                let refused = (usize::from(refusal.number), refusal.place.value());
-                assert_eq!((said.number, said.place), refused, "{} {}", case.origin, case.name);
+                let said = buffers.read(&case.lent.bundle);
+                assert_eq!(said, refused(*refusal), "{} {}", case.origin, case.name);
                 *refusals.entry(said.number).or_default() += 1;
             }
         }
@@ -215,7 +219,7 @@ fn cases_agree() {
     println!("{} cases, by refusal: {refusals:?}", cases.len());
     assert_eq!(
         refusals.keys().copied().collect::<Vec<_>>(),
-        [2, 3, 4, 5, 6, 7, 8, 9, 10],
+        [2, 3, 4, 5, 6, 7, 8, 9, 10, 19],
         "{refusals:?}"
     );
 }
@@ -224,20 +228,21 @@ fn cases_agree() {
 fn shapes_agree() {
     let mut buffers = Buffers::default();
     for shape in second::shapes::all(512) {
-        assert_eq!(compare(&mut buffers, &shape.manifest), 0, "{}", shape.name);
+        assert_eq!(compare(&mut buffers, &bundle::alone(&shape.manifest)), 0, "{}", shape.name);
     }
 }
 
 #[test]
 fn short_buffers_are_answered() {
+    let bundle = bundle::alone(b"build a: phony\n");
     let small = Numbers { number: 255, ..Numbers::default() };
     for buffer in 0..LENGTHS.len() {
         let mut lengths = LENGTHS;
         lengths[buffer] -= 1;
         let mut buffers = Buffers::new(lengths);
-        assert_eq!(buffers.read(b"build a: phony\n"), small);
+        assert_eq!(buffers.read(&bundle), small);
         assert!(buffers == Buffers::new(lengths), "a buffer of {lengths:?} was touched");
     }
     let longer = LENGTHS.map(|length| length + 1);
-    assert_eq!(Buffers::new(longer).read(b"build a: phony\n").number, 0);
+    assert_eq!(Buffers::new(longer).read(&bundle).number, 0);
 }

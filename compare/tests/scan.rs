@@ -3,10 +3,10 @@
 
 use compare::scan;
 use second::bytes::{class, Class};
-use second::line::{self, Binding, Build, Opening, Statement};
+use second::line::{self, Binding, Build, Open, Opening, Statement};
 use second::rng::Rng;
 use second::scan::{Fault, Scanner};
-use second::{generate, limits, manifest};
+use second::{bundle, generate, limits, manifest};
 
 const LINES: u64 = 200_000;
 const WORDS: u64 = 20_000;
@@ -211,7 +211,7 @@ fn words_agree() {
 
 /// The check under 3, as the second planner's reading gives it.
 fn faulty(bytes: &[u8]) -> Option<usize> {
-    manifest::read(bytes)
+    manifest::read(&bundle::alone(bytes))
         .err()
         .filter(|refusal| refusal.number == 3)
         .map(|refusal| refusal.place.value())
@@ -273,6 +273,11 @@ fn statement(line: &[u8]) -> Statement<'_> {
         }
         b"build" => Statement::Build(build(line)),
         b"default" => Statement::Default(listed(line, word).0),
+        b"include" | b"subninja" => {
+            let (paths, end) = listed(line, word);
+            assert_eq!((paths.len(), end), (1, line.len()));
+            Statement::Open(Open { path: paths[0], new_scope: &line[..word] == b"subninja" })
+        }
         _ => Statement::Variable(binding(line)),
     }
 }
@@ -307,6 +312,12 @@ fn lines(seed: u64, manifest: &[u8], counts: &mut [usize; 4]) {
     }
 }
 
+/// One of the texts of a bundle; its bytes where it is malformed.
+fn text(rng: &mut Rng, lent: &[u8]) -> Vec<u8> {
+    let Ok(records) = bundle::read(lent) else { return lent.to_vec() };
+    records[rng.below(records.len())].text.to_vec()
+}
+
 #[test]
 fn manifests_agree() {
     let (mut counts, mut sound, mut damaged) = ([0; 4], 0, 0);
@@ -317,7 +328,7 @@ fn manifests_agree() {
                 let length = length(rng);
                 bytes(rng, length)
             }
-            _ => generate::ask(seed).lent.manifest,
+            _ => text(rng, &generate::ask(seed).lent.bundle),
         };
         if rng.chance(15) && !manifest.is_empty() {
             let at = rng.below(manifest.len());

@@ -23,7 +23,8 @@ fn after(record: StatusRecord, event: Event) -> StatusRecord {
 /// What the library answers, with every byte of the buffer looked at.
 fn line(record: StatusRecord, format: &[u8], room: usize) -> Result<Vec<u8>, (usize, usize)> {
     let mut buffer = vec![0xa5; room];
-    let Said { number, value } = lent::status_line(record, format, &mut buffer);
+    let Said { number, text, value } = lent::status_line(record, format, &mut buffer);
+    assert_eq!(text, 0, "a number by itself");
     let written = if number == 0 { value } else { 0 };
     if number == 1 {
         assert!(buffer.iter().all(|&byte| byte == 0xa5), "1 touches nothing");

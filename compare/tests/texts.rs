@@ -4,9 +4,10 @@
 
 use compare::asks::{asked, judge, ours};
 use compare::settings::setting;
+use kestrenyo::Refusal;
 use second::cases::{files, folder, read};
 use second::generate;
-use second::{Answer, Ask, Question, Wanted};
+use second::{Answer, Ask, Lent, Question, Wanted};
 use std::collections::BTreeMap;
 
 const TEXTS: u64 = 5_000;
@@ -40,11 +41,14 @@ fn all_cases_pass() {
 }
 
 /// What the iterator is to give: what the second planner answers for each step, up to a refusal.
-fn one_by_one(manifest: &[u8], steps: &[u32], wanted: Wanted) -> Vec<Answer> {
+fn one_by_one(bundle: &[u8], steps: &[u32], wanted: Wanted) -> Vec<Answer> {
     let mut known: BTreeMap<u32, Answer> = BTreeMap::new();
     let mut answers = Vec::new();
     for &step in steps {
-        let ask = || Ask::text(manifest, step as usize, wanted).answer();
+        let ask = || {
+            let question = Question::text(step as usize, wanted);
+            Ask { lent: Lent::bundle(bundle), question }.answer()
+        };
         let answer = known.entry(step).or_insert_with(ask).clone();
         let refused = answer.refusal().is_some();
         answers.push(answer);
@@ -55,14 +59,12 @@ fn one_by_one(manifest: &[u8], steps: &[u32], wanted: Wanted) -> Vec<Answer> {
     answers
 }
 
-/// What the iterator gives: a text, or the numbers of its refusal, for each step.
-fn iterated(
-    manifest: &[u8],
-    steps: &[u32],
-    wanted: Wanted,
-) -> Vec<Result<Vec<u8>, (usize, usize)>> {
-    let texts = kestrenyo::texts(manifest, steps, asked(wanted));
-    texts.map(|text| text.map_err(|refusal| (refusal.number(), refusal.place()))).collect()
+/// What the iterator gives: a text, or its refusal as a line, for each step.
+fn iterated(bundle: &[u8], steps: &[u32], wanted: Wanted) -> Vec<Result<Vec<u8>, String>> {
+    let bundle = kestrenyo::Bundle::from_bytes(bundle);
+    let texts = kestrenyo::texts(&bundle, steps, asked(wanted));
+    let shown = |refusal: Refusal| format!("refused {} at {}", refusal.number(), refusal.place());
+    texts.map(|text| text.map_err(shown)).collect()
 }
 
 #[test]
@@ -74,15 +76,14 @@ fn the_iterator_gives_each_text() {
     let (mut texts, mut refused) = (0, 0);
     for ask in asks {
         let Question::Texts { steps, wanted, .. } = &ask.question else { continue };
-        let right = one_by_one(&ask.lent.manifest, steps, *wanted);
-        let given = iterated(&ask.lent.manifest, steps, *wanted);
+        let right = one_by_one(&ask.lent.bundle, steps, *wanted);
+        let given = iterated(&ask.lent.bundle, steps, *wanted);
         assert_eq!(given.len(), right.len(), "{ask}");
         for (given, right) in given.into_iter().zip(right) {
             match (given, right) {
                 (Ok(given), Answer::Text(right)) if given == right => texts += 1,
-                (Err((number, place)), Answer::Refused(refusal)) => {
-                    let right = (usize::from(refusal.number), refusal.place.value());
-                    assert_eq!((number, place), right, "{ask}");
+                (Err(given), Answer::Refused(right)) => {
+                    assert_eq!(given, right.to_string(), "{ask}");
                     refused += 1;
                 }
                 (given, right) => panic!("{given:?} and not {right}: {ask}"),

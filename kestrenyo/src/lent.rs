@@ -2,14 +2,29 @@
 //! declarations against the library's sources (`crates/kestrenyo`), so they are few; a slice passes
 //! as a pointer and a length.
 
+use crate::{Place, TextPlace};
+
 /// What an ask says: 0 and the count of what was written, or a refusal's number and its place.
 #[repr(C)]
 #[derive(Debug, Clone, Copy, PartialEq, Eq)]
 pub struct Said {
-    /// 0 for an answer, else document 01's number of the refusal.
+    /// 0 for an answer, else the documents' number of the refusal.
     pub number: usize,
+    /// 0 where the value is a number by itself; else the value is an offset in the text of the
+    /// bundle's record `text - 1`.
+    pub text: usize,
     /// The count of steps, bytes or texts written, or the refusal's place.
     pub value: usize,
+}
+
+impl Said {
+    /// The value as a place.
+    pub fn place(self) -> Place {
+        match self.text.checked_sub(1) {
+            None => Place::Number(self.value),
+            Some(record) => Place::Text(TextPlace { record, offset: self.value }),
+        }
+    }
 }
 
 /// Which of a step's texts is asked for.
@@ -65,8 +80,8 @@ extern "C" {
         buffer_len: usize,
     ) -> Said;
     fn kestrenyo_plan(
-        manifest: *const u8,
-        manifest_len: usize,
+        bundle: *const u8,
+        bundle_len: usize,
         card: *const u8,
         card_len: usize,
         targets: *const u8,
@@ -75,16 +90,16 @@ extern "C" {
         list_len: usize,
     ) -> Said;
     fn kestrenyo_text(
-        manifest: *const u8,
-        manifest_len: usize,
+        bundle: *const u8,
+        bundle_len: usize,
         step: usize,
         wanted: usize,
         buffer: *mut u8,
         buffer_len: usize,
     ) -> Said;
     fn kestrenyo_texts(
-        manifest: *const u8,
-        manifest_len: usize,
+        bundle: *const u8,
+        bundle_len: usize,
         steps: *const u32,
         steps_len: usize,
         wanted: usize,
@@ -105,15 +120,15 @@ impl Wanted {
     }
 }
 
-/// The plan ask. The steps to run stand at the start of `list`, which has [`LIST`](crate::LIST)
+/// The plan ask; `bundle` has the bytes of a [`Bundle`](crate::Bundle). The steps to run stand at the start of `list`, which has [`LIST`](crate::LIST)
 /// numbers at least, and all beyond them is zero. After a refusal all of it is zero, but for two:
 /// 14 writes the steps of a circle, their number being its place, and 1 touches nothing.
-pub fn plan(manifest: &[u8], card: &[u8], targets: &[u8], list: &mut [u32]) -> Said {
+pub fn plan(bundle: &[u8], card: &[u8], targets: &[u8], list: &mut [u32]) -> Said {
     // SAFETY: the function asks nothing of its arguments, reads the slices and writes the list.
     unsafe {
         kestrenyo_plan(
-            manifest.as_ptr(),
-            manifest.len(),
+            bundle.as_ptr(),
+            bundle.len(),
             card.as_ptr(),
             card.len(),
             targets.as_ptr(),
@@ -126,12 +141,12 @@ pub fn plan(manifest: &[u8], card: &[u8], targets: &[u8], list: &mut [u32]) -> S
 
 /// The text ask. The text stands at the start of `buffer`, which has [`TEXT`](crate::TEXT) bytes
 /// at least, and all beyond it is zero. After a refusal all of it is zero, but 1 touches nothing.
-pub fn text(manifest: &[u8], step: usize, wanted: Wanted, buffer: &mut [u8]) -> Said {
+pub fn text(bundle: &[u8], step: usize, wanted: Wanted, buffer: &mut [u8]) -> Said {
     // SAFETY: the function asks nothing of its arguments, reads the slice and writes the buffer.
     unsafe {
         kestrenyo_text(
-            manifest.as_ptr(),
-            manifest.len(),
+            bundle.as_ptr(),
+            bundle.len(),
             step,
             wanted.number(),
             buffer.as_mut_ptr(),
@@ -148,7 +163,7 @@ pub fn text(manifest: &[u8], step: usize, wanted: Wanted, buffer: &mut [u8]) -> 
 /// had no room: the steps behind that one are not looked at. After a refusal all of both buffers is
 /// zero, but 1 touches nothing. Of a buffer of over 2^32 - 1 bytes no more than that is used.
 pub fn texts(
-    manifest: &[u8],
+    bundle: &[u8],
     steps: &[u32],
     wanted: Wanted,
     bytes: &mut [u8],
@@ -157,8 +172,8 @@ pub fn texts(
     // SAFETY: the function asks nothing of its arguments, reads the slices and writes the buffers.
     unsafe {
         kestrenyo_texts(
-            manifest.as_ptr(),
-            manifest.len(),
+            bundle.as_ptr(),
+            bundle.len(),
             steps.as_ptr(),
             steps.len(),
             wanted.number(),

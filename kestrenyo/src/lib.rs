@@ -1,26 +1,29 @@
-//! A build planner whose every answer is proved: from a ninja manifest, a card of file times and a
+//! A build planner whose every answer is proved: from ninja manifests, a card of file times and a
 //! list of targets it decides which steps to run, in which order, and what each one's command
 //! says. It runs nothing itself.
 //!
 //! ```
-//! use kestrenyo::{card, plan, text, texts, Wanted};
+//! use kestrenyo::{card, plan, text, texts, Bundle, Wanted};
 //!
 //! let manifest = b"rule cc\n  command = cc -c $in -o $out\nbuild a.o: cc a.c\n";
+//! let bundle = Bundle::alone(manifest);
 //! let times = card(&[("a.c", 9), ("a.o", 7)])?;
-//! let steps = plan(manifest, &times, b"")?;
+//! let steps = plan(&bundle, &times, b"")?;
 //! assert_eq!(steps, [0]);
-//! assert_eq!(text(manifest, 0, Wanted::Command)?, b"cc -c a.c -o a.o");
-//! for command in texts(manifest, &steps, Wanted::Command) {
+//! assert_eq!(text(&bundle, 0, Wanted::Command)?, b"cc -c a.c -o a.o");
+//! for command in texts(&bundle, &steps, Wanted::Command) {
 //!     println!("{}", String::from_utf8_lossy(&command?));
 //! }
 //! # Ok::<(), Box<dyn std::error::Error>>(())
 //! ```
 //!
 //! [`plan()`] lists the steps to run, [`text()`] gives the text of one step, and [`texts()`] those of
-//! many, without reading the manifest anew for each. [`Status`] prints how far a build is.
+//! many, without reading the manifests anew for each. They are lent as a [`Bundle`]: one manifest
+//! alone, or a top file with those that it opens. [`Status`] prints how far a build is.
 //!
-//! Any input gets an answer: a list, a text, or a [`Refusal`] with its number and place. Nothing
-//! panics and nothing is read or written but what is lent.
+//! Any input gets an answer: a list, a text, or a [`Refusal`] with its number and place, of which
+//! [`Refusal::located`] tells file, line and column. Nothing panics and nothing is read or written
+//! but what is lent.
 //!
 //! An ask takes [`STACK`] bytes of the calling thread's stack at most, and allocates nothing on
 //! the heap but what it returns ([`lent`] not even that). Threads of Rust's standard library have
@@ -31,14 +34,18 @@
 
 #![deny(missing_docs)]
 
+mod bundle;
 mod card;
 pub mod lent;
+mod place;
 mod refusal;
 mod status;
 mod texts;
 
+pub use bundle::{Bundle, BundleError};
 pub use card::{card, CardError};
 pub use lent::Wanted;
+pub use place::{Located, Location, Place, TextPlace};
 pub use refusal::Refusal;
 pub use status::Status;
 pub use texts::{texts, Texts};
@@ -55,15 +62,15 @@ pub const STACK: usize = 640 << 10;
 /// The steps to run, in order: the stale ones of those that the targets need.
 ///
 /// `card` is a time card (see [`card()`]), `targets` the names of files, each ended by a newline;
-/// with none, the manifest's defaults, and without those every output that is no step's input.
-/// Steps are numbered from 0 as written.
+/// with none, the manifests' defaults, and without those every output that is no step's input.
+/// Steps are numbered from 0 as read.
 ///
 /// # Errors
 ///
-/// Refusals 2 to 15; 1 can't come, since the buffer is this function's own.
-pub fn plan(manifest: &[u8], card: &[u8], targets: &[u8]) -> Result<Vec<u32>, Refusal> {
+/// Refusals 2 to 15 and 19; 1 can't come, since the buffer is this function's own.
+pub fn plan(bundle: &Bundle, card: &[u8], targets: &[u8]) -> Result<Vec<u32>, Refusal> {
     let mut list = [0; LIST];
-    let said = lent::plan(manifest, card, targets, &mut list);
+    let said = lent::plan(bundle.as_bytes(), card, targets, &mut list);
     match said.number {
         0 => Ok(list.into_iter().take(said.value).collect()),
         _ => Err(Refusal::of(said, &list)),
@@ -75,19 +82,19 @@ pub fn plan(manifest: &[u8], card: &[u8], targets: &[u8]) -> Result<Vec<u32>, Re
 /// stands in single quotes, a single quote inside as quote, backslash, quote, quote.
 ///
 /// ```
-/// # use kestrenyo::{text, Wanted};
+/// # use kestrenyo::{text, Bundle, Wanted};
 /// let manifest = b"rule cc\n  command = cc $in -o $out\nbuild a+b.o: cc left$ hand it's\n";
-/// let command = text(manifest, 0, Wanted::Command)?;
+/// let command = text(&Bundle::alone(manifest), 0, Wanted::Command)?;
 /// assert_eq!(command, br"cc 'left hand' 'it'\''s' -o a+b.o");
 /// # Ok::<(), kestrenyo::Refusal>(())
 /// ```
 ///
 /// # Errors
 ///
-/// Refusals 2 to 10 and 16 to 18; 1 can't come, since the buffer is this function's own.
-pub fn text(manifest: &[u8], step: usize, wanted: Wanted) -> Result<Vec<u8>, Refusal> {
+/// Refusals 2 to 10 and 16 to 19; 1 can't come, since the buffer is this function's own.
+pub fn text(bundle: &Bundle, step: usize, wanted: Wanted) -> Result<Vec<u8>, Refusal> {
     let mut buffer = [0; TEXT];
-    let said = lent::text(manifest, step, wanted, &mut buffer);
+    let said = lent::text(bundle.as_bytes(), step, wanted, &mut buffer);
     match said.number {
         0 => Ok(buffer.into_iter().take(said.value).collect()),
         _ => Err(Refusal::of(said, &[])),

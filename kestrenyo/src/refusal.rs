@@ -1,35 +1,38 @@
-//! The refusals of document 01 as an enum.
+//! The refusals of documents 01 and 02 as an enum.
 
 use crate::lent::Said;
+use crate::{Place, TextPlace};
 use std::error::Error;
 use std::fmt::{self, Display, Formatter};
 
-/// What the planner says no with: document 01's table, row by row. A place in the manifest or in
-/// the target list is an offset in bytes; 4 and 6 to 10 tell where the line starts. Later editions
-/// refuse with further numbers.
+/// What the planner says no with: document 01's table, row by row, and what document 02 adds to it.
+/// A place in a manifest's text is a record of the bundle and an offset in bytes, one in the target
+/// list an offset; 4, 6 to 10 and 19 tell where the line starts. [`Refusal::located`] tells name,
+/// line and column. Later editions refuse with further numbers.
 #[derive(Debug, Clone, PartialEq, Eq)]
 #[non_exhaustive]
 pub enum Refusal {
     /// 1: a lent buffer is too short.
     ShortBuffer,
-    /// 2: the manifest has over 49,152 bytes.
+    /// 2: the manifest's texts have over 49,152 bytes together.
     LongManifest,
-    /// 3: a forbidden byte (0, tab, carriage return), or no newline at the manifest's end.
-    BadByte(usize),
+    /// 3: a forbidden byte (0, tab, carriage return), or no newline at a text's end; also in a text
+    /// that no line opens.
+    BadByte(TextPlace),
     /// 4: a line fits no form.
-    BadLine(usize),
+    BadLine(TextPlace),
     /// 5: a bad `$`.
-    BadDollar(usize),
+    BadDollar(TextPlace),
     /// 6: a keyword or key that is not yet in this edition.
-    NotYet(usize),
+    NotYet(TextPlace),
     /// 7: an unknown rule, a rule declared twice, a key twice or unknown in a rule, no `command`.
-    BadRule(usize),
+    BadRule(TextPlace),
     /// 8: an empty path, an output made twice, a default that is no earlier output.
-    BadPath(usize),
+    BadPath(TextPlace),
     /// 9: over one of the limits: 512 steps, 1,024 files and so on.
-    OverLimit(usize),
+    OverLimit(TextPlace),
     /// 10: the required version is malformed or above 1.5.0.
-    BadVersion(usize),
+    BadVersion(TextPlace),
     /// 11: the time card is not sound.
     BadCard,
     /// 12: the target list is malformed, or has a name that the manifest never mentions.
@@ -49,6 +52,10 @@ pub enum Refusal {
     NoCommand(usize),
     /// 17, of a status line: it has over 8,192 bytes.
     LongLine,
+    /// 19, of the bundle: it is malformed.
+    BadBundle,
+    /// 19, of a line: it opens a file that is not in the bundle, a ninth at a time, or a 65th in all.
+    BadOpening(TextPlace),
     /// 21: a `%` of a status format, at this place, that begins no placeholder.
     BadPlaceholder(usize),
     /// A number that this crate does not know, with its place. The library of this crate's edition
@@ -57,25 +64,23 @@ pub enum Refusal {
         /// The number told.
         number: usize,
         /// The place told.
-        place: usize,
+        place: Place,
     },
 }
 
 impl Refusal {
     /// The refusal that an ask told, whose number is not 0; `list` is the list buffer afterwards.
     pub(crate) fn of(said: Said, list: &[u32]) -> Self {
-        let place = said.value;
-        match said.number {
+        match said.place() {
+            Place::Number(place) => Refusal::at_number(said.number, place, list),
+            Place::Text(place) => Refusal::in_text(said.number, place),
+        }
+    }
+
+    fn at_number(number: usize, place: usize, list: &[u32]) -> Self {
+        match number {
             1 => Refusal::ShortBuffer,
             2 => Refusal::LongManifest,
-            3 => Refusal::BadByte(place),
-            4 => Refusal::BadLine(place),
-            5 => Refusal::BadDollar(place),
-            6 => Refusal::NotYet(place),
-            7 => Refusal::BadRule(place),
-            8 => Refusal::BadPath(place),
-            9 => Refusal::OverLimit(place),
-            10 => Refusal::BadVersion(place),
             11 => Refusal::BadCard,
             12 => Refusal::BadTarget(place),
             13 => Refusal::NoRoot,
@@ -84,8 +89,24 @@ impl Refusal {
             16 => Refusal::EndlessText(place),
             17 => Refusal::LongText(place),
             18 => Refusal::NoCommand(place),
+            19 => Refusal::BadBundle,
             21 => Refusal::BadPlaceholder(place),
-            number => Refusal::Unknown { number, place },
+            number => Refusal::Unknown { number, place: Place::Number(place) },
+        }
+    }
+
+    fn in_text(number: usize, place: TextPlace) -> Self {
+        match number {
+            3 => Refusal::BadByte(place),
+            4 => Refusal::BadLine(place),
+            5 => Refusal::BadDollar(place),
+            6 => Refusal::NotYet(place),
+            7 => Refusal::BadRule(place),
+            8 => Refusal::BadPath(place),
+            9 => Refusal::OverLimit(place),
+            10 => Refusal::BadVersion(place),
+            19 => Refusal::BadOpening(place),
+            number => Refusal::Unknown { number, place: Place::Text(place) },
         }
     }
 
@@ -97,7 +118,7 @@ impl Refusal {
         }
     }
 
-    /// Document 01's number, 1 to 18 or 21 but for [`Unknown`](Refusal::Unknown).
+    /// The documents' number, 1 to 19 or 21 but for [`Unknown`](Refusal::Unknown).
     pub fn number(&self) -> usize {
         match self {
             Refusal::ShortBuffer => 1,
@@ -118,20 +139,22 @@ impl Refusal {
             Refusal::EndlessText(_) => 16,
             Refusal::LongText(_) | Refusal::LongLine => 17,
             Refusal::NoCommand(_) => 18,
+            Refusal::BadBundle | Refusal::BadOpening(_) => 19,
             Refusal::BadPlaceholder(_) => 21,
             Refusal::Unknown { number, .. } => *number,
         }
     }
 
-    /// Document 01's place.
-    pub fn place(&self) -> usize {
+    /// The documents' place.
+    pub fn place(&self) -> Place {
         match self {
             Refusal::ShortBuffer
             | Refusal::LongManifest
             | Refusal::BadCard
             | Refusal::NoRoot
-            | Refusal::LongLine => 0,
-            Refusal::Circle(steps) => steps.len(),
+            | Refusal::BadBundle
+            | Refusal::LongLine => Place::Number(0),
+            Refusal::Circle(steps) => Place::Number(steps.len()),
             Refusal::BadByte(place)
             | Refusal::BadLine(place)
             | Refusal::BadDollar(place)
@@ -140,32 +163,35 @@ impl Refusal {
             | Refusal::BadPath(place)
             | Refusal::OverLimit(place)
             | Refusal::BadVersion(place)
-            | Refusal::BadTarget(place)
+            | Refusal::BadOpening(place) => Place::Text(*place),
+            Refusal::BadTarget(place)
             | Refusal::MissingSource(place)
             | Refusal::EndlessText(place)
             | Refusal::LongText(place)
             | Refusal::NoCommand(place)
-            | Refusal::BadPlaceholder(place)
-            | Refusal::Unknown { place, .. } => *place,
+            | Refusal::BadPlaceholder(place) => Place::Number(*place),
+            Refusal::Unknown { place, .. } => *place,
         }
     }
 }
 
-/// `refused 4 at 17`, as the program writes it, and a sentence behind a colon.
+/// `refused 4 at 0:17`, as the program writes it, and a sentence behind a colon.
 impl Display for Refusal {
     fn fmt(&self, f: &mut Formatter) -> fmt::Result {
         write!(f, "refused {} at {}: ", self.number(), self.place())?;
         match self {
             Refusal::ShortBuffer => write!(f, "a lent buffer is too short"),
-            Refusal::LongManifest => write!(f, "the manifest has over 49,152 bytes"),
+            Refusal::LongManifest => {
+                write!(f, "the texts of the bundle have over 49,152 bytes together")
+            }
             Refusal::BadByte(place) => write!(
                 f,
-                "byte {place} of the manifest is a 0, a tab or a carriage return, or the manifest \
-                 ends there without a newline"
+                "{} is a 0, a tab or a carriage return, or the text ends there without a newline",
+                Byte(*place)
             ),
             Refusal::BadLine(place) => write!(f, "{} fits no form", Line(*place)),
             Refusal::BadDollar(place) => {
-                write!(f, "the `$` at byte {place} of the manifest begins nothing that is known")
+                write!(f, "the `$` that is {} begins nothing that is known", Byte(*place))
             }
             Refusal::NotYet(place) => {
                 write!(f, "{} has a keyword or key that is not in this edition", Line(*place))
@@ -207,6 +233,12 @@ impl Display for Refusal {
             Refusal::LongText(step) => write!(f, "the text of step {step} has over 8,192 bytes"),
             Refusal::NoCommand(step) => write!(f, "there is no step {step}, or it is phony"),
             Refusal::LongLine => write!(f, "the status line has over 8,192 bytes"),
+            Refusal::BadBundle => write!(f, "the bundle is malformed"),
+            Refusal::BadOpening(place) => write!(
+                f,
+                "{} opens a file that is not in the bundle, a ninth at a time, or a 65th in all",
+                Line(*place)
+            ),
             Refusal::BadPlaceholder(place) => {
                 write!(f, "the `%` at byte {place} of the format begins no placeholder")
             }
@@ -217,12 +249,21 @@ impl Display for Refusal {
     }
 }
 
-/// A line of the manifest in words, by the place where it starts.
-struct Line(usize);
+/// A line of a manifest in words, by the place where it starts.
+struct Line(TextPlace);
 
 impl Display for Line {
     fn fmt(&self, f: &mut Formatter) -> fmt::Result {
-        write!(f, "the line at byte {} of the manifest", self.0)
+        write!(f, "the line at byte {} of record {}", self.0.offset, self.0.record)
+    }
+}
+
+/// A byte of a manifest in words.
+struct Byte(TextPlace);
+
+impl Display for Byte {
+    fn fmt(&self, f: &mut Formatter) -> fmt::Result {
+        write!(f, "byte {} of record {}", self.0.offset, self.0.record)
     }
 }
 
@@ -235,23 +276,28 @@ mod tests {
     /// Whatever is told, also what the proved library never tells, is a refusal with its number.
     #[test]
     fn any_number() {
-        for number in (1..=18).chain([0, 19, 21, usize::MAX]) {
-            for value in [0, 1, 512, 513, usize::MAX] {
-                let refusal = Refusal::of(Said { number, value }, &[7; 512]);
-                assert_eq!(refusal.number(), number);
-                let place = match number {
-                    1 | 2 | 11 | 13 => 0,
-                    14 => value.min(512),
-                    _ => value,
-                };
-                assert_eq!(refusal.place(), place);
-                let sentence = refusal.to_string();
-                let front = format!("refused {number} at {place}: ");
-                assert!(sentence.starts_with(&front) && sentence.len() > front.len() + 20);
-                assert!(
-                    sentence.is_ascii() && !sentence.contains('\n') && !sentence.contains("  ")
-                );
+        for number in (0..=22).chain([usize::MAX]) {
+            for text in [0, 1, 64, 65, usize::MAX] {
+                for value in [0, 1, 512, 513, usize::MAX] {
+                    is_told(Said { number, text, value });
+                }
             }
         }
+    }
+
+    fn is_told(said: Said) {
+        let refusal = Refusal::of(said, &[7; 512]);
+        assert_eq!(refusal.number(), said.number);
+        let place = match (said.number, said.text, said.value) {
+            (1 | 2 | 11 | 13 | 19, 0, _) => Place::Number(0),
+            (14, 0, value) => Place::Number(value.min(512)),
+            (_, 0, value) => Place::Number(value),
+            (_, text, offset) => Place::Text(TextPlace { record: text - 1, offset }),
+        };
+        assert_eq!(refusal.place(), place);
+        let sentence = refusal.to_string();
+        let front = format!("refused {} at {place}: ", said.number);
+        assert!(sentence.starts_with(&front) && sentence.len() > front.len() + 20, "{sentence}");
+        assert!(sentence.is_ascii() && !sentence.contains('\n') && !sentence.contains("  "));
     }
 }

@@ -1,8 +1,8 @@
-//! The texts of many steps, one behind another, by as few readings of the manifest as the buffers
+//! The texts of many steps, one behind another, by as few readings of the bundle as the buffers
 //! allow.
 
 use crate::lent::{self, Said};
-use crate::{Refusal, Wanted};
+use crate::{Bundle, Refusal, Wanted};
 use std::iter::FusedIterator;
 
 /// What one ask has room for: bytes of texts, and texts.
@@ -12,39 +12,40 @@ const ENDS: usize = 512;
 /// The texts of these steps, in this order: each one's `command` or its `description`, expanded.
 ///
 /// Each item is what [`text()`](crate::text()) gives for its step, and nothing comes behind a
-/// refusal. But the manifest is not read anew for each step: one reading gives up to 512 texts, or
+/// refusal. But the bundle is not read anew for each step: one reading gives up to 512 texts, or
 /// 64 KiB of them. A step may be named several times.
 ///
 /// Nothing is asked before the first text is taken; with no steps nothing is asked at all.
 ///
 /// # Errors
 ///
-/// An item is a refusal, and the last item, where [`text()`](crate::text()) refuses: 2 to 10, which
-/// speak of the manifest, 16 to 18, which speak of a step. 1 can't come.
+/// An item is a refusal, and the last item, where [`text()`](crate::text()) refuses: 2 to 10 and 19,
+/// which speak of the bundle, 16 to 18, which speak of a step. 1 can't come.
 ///
 /// ```
-/// use kestrenyo::{texts, Refusal, Wanted};
+/// use kestrenyo::{texts, Bundle, Refusal, Wanted};
 ///
 /// let manifest = b"rule cc\n  command = cc $in\nbuild a: cc b\nbuild c: cc d\nbuild e: phony\n";
-/// let commands: Result<Vec<_>, _> = texts(manifest, &[1, 0], Wanted::Command).collect();
+/// let bundle = Bundle::alone(manifest);
+/// let commands: Result<Vec<_>, _> = texts(&bundle, &[1, 0], Wanted::Command).collect();
 /// assert_eq!(commands?, [b"cc d", b"cc b"]);
 ///
-/// let mut some = texts(manifest, &[0, 2, 1], Wanted::Command);
+/// let mut some = texts(&bundle, &[0, 2, 1], Wanted::Command);
 /// assert_eq!(some.next(), Some(Ok(b"cc b".to_vec())));
 /// assert_eq!(some.next(), Some(Err(Refusal::NoCommand(2))));
 /// assert_eq!(some.next(), None);
 /// # Ok::<(), Box<dyn std::error::Error>>(())
 /// ```
-pub fn texts<'a>(manifest: &'a [u8], steps: &'a [u32], wanted: Wanted) -> Texts<'a> {
+pub fn texts<'a>(bundle: &'a Bundle, steps: &'a [u32], wanted: Wanted) -> Texts<'a> {
     let ends = vec![0; steps.len().min(ENDS)];
     let bytes = if steps.is_empty() { Vec::new() } else { vec![0; BYTES] };
-    Texts { manifest, steps, wanted, bytes, ends, taken: 0, count: 0, refusal: None }
+    Texts { bundle, steps, wanted, bytes, ends, taken: 0, count: 0, refusal: None }
 }
 
 /// The iterator that [`texts()`] gives.
 #[derive(Debug, Clone)]
 pub struct Texts<'a> {
-    manifest: &'a [u8],
+    bundle: &'a Bundle,
     /// The steps whose texts are still to be asked for.
     steps: &'a [u32],
     wanted: Wanted,
@@ -76,11 +77,12 @@ impl<'a> Texts<'a> {
     }
 
     fn said(&mut self) -> Said {
-        lent::texts(self.manifest, self.steps, self.wanted, &mut self.bytes, &mut self.ends)
+        let bundle = self.bundle.as_bytes();
+        lent::texts(bundle, self.steps, self.wanted, &mut self.bytes, &mut self.ends)
     }
 
     /// The steps before the one whose text is refused, which made the ask refuse all of them; none
-    /// where the manifest is refused.
+    /// where the bundle is refused.
     fn before_refused(&self, said: Said) -> &'a [u32] {
         let of_text = (16..=18).contains(&said.number);
         let is_refused = |&step: &u32| of_text && usize::try_from(step) == Ok(said.value);

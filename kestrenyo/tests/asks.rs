@@ -1,7 +1,8 @@
 //! What a Rust caller gets: answers, each refusal, lent buffers, and the stack that an ask takes.
 
 use kestrenyo::lent::{self, Said};
-use kestrenyo::{card, plan, text, CardError, Refusal, Wanted, LIST, STACK, TEXT};
+use kestrenyo::{card, plan, text, Bundle, CardError, Place, Refusal, TextPlace, Wanted};
+use kestrenyo::{LIST, STACK, TEXT};
 use std::error::Error;
 
 const MANIFEST: &[u8] = b"cflags = -O1
@@ -15,6 +16,10 @@ build axis: phony a.o b.o
 default axis
 ";
 
+fn bench() -> Bundle {
+    Bundle::alone(MANIFEST)
+}
+
 fn bench_card() -> Vec<u8> {
     card(&[("t.h", 9), ("a.c", 5), ("b.c", 5), ("a.o", 7)]).unwrap()
 }
@@ -26,11 +31,32 @@ fn empty_card() -> Vec<u8> {
 
 #[test]
 fn answers() {
-    assert_eq!(plan(MANIFEST, &bench_card(), b""), Ok(vec![0, 1]));
-    assert_eq!(plan(MANIFEST, &bench_card(), b"a.o\n"), Ok(vec![1]));
-    assert_eq!(plan(b"", &empty_card(), b""), Ok(vec![]));
-    assert_eq!(text(MANIFEST, 1, Wanted::Command), Ok(b"cc -O2 -c a.c -o a.o".to_vec()));
-    assert_eq!(text(MANIFEST, 0, Wanted::Description), Ok(b"CC b.o".to_vec()));
+    assert_eq!(plan(&bench(), &bench_card(), b""), Ok(vec![0, 1]));
+    assert_eq!(plan(&bench(), &bench_card(), b"a.o\n"), Ok(vec![1]));
+    assert_eq!(plan(&Bundle::alone(b""), &empty_card(), b""), Ok(vec![]));
+    assert_eq!(text(&bench(), 1, Wanted::Command), Ok(b"cc -O2 -c a.c -o a.o".to_vec()));
+    assert_eq!(text(&bench(), 0, Wanted::Description), Ok(b"CC b.o".to_vec()));
+}
+
+/// The bench example in three files: its rule is included, and the flags of one step are those of a
+/// file of its own.
+#[test]
+fn split_manifests() {
+    let top = b"cflags = -O1\ninclude rules\nbuild b.o: cc b.c\nsubninja sub\ndefault b.o a.o\n";
+    let mut bundle = Bundle::alone(top);
+    bundle.add("sub", b"cflags = -O2\nbuild a.o: cc a.c | t.h\n").unwrap();
+    bundle.add("rules", b"rule cc\n  command = cc $cflags -c $in -o $out\n").unwrap();
+    assert_eq!(plan(&bundle, &bench_card(), b""), Ok(vec![0, 1]));
+    assert_eq!(text(&bundle, 0, Wanted::Command), Ok(b"cc -O1 -c b.c -o b.o".to_vec()));
+    assert_eq!(text(&bundle, 1, Wanted::Command), Ok(b"cc -O2 -c a.c -o a.o".to_vec()));
+
+    let mut faulty = Bundle::alone(b"\ninclude a\n");
+    faulty.add("b", b"#\n").unwrap().add("a", b"#\n\ninclude c\n").unwrap();
+    let refusal = plan(&faulty, &empty_card(), b"").unwrap_err();
+    assert_eq!(refusal, Refusal::BadOpening(TextPlace { record: 2, offset: 3 }));
+    assert!(refusal.to_string().starts_with("refused 19 at 2:3: the line at byte 3 of record 2 "));
+    let located = refusal.located(&faulty).to_string();
+    assert!(located.starts_with("a:3:1: refused 19 at 2:3: "), "{located}");
 }
 
 #[test]
@@ -56,7 +82,7 @@ fn cards_at_their_limits() {
         card(&[([0u8, 255, b'\n'], 1)]),
     ];
     for card in written {
-        assert_eq!(plan(b"", &card.unwrap(), b""), Ok(vec![]));
+        assert_eq!(plan(&Bundle::alone(b""), &card.unwrap(), b""), Ok(vec![]));
     }
     assert_eq!(card(&longest(49_152)).map(|card| card.len()), Ok(49_152));
     let bad_time = |time| CardError::BadTime { name: b"a".to_vec(), time };
@@ -98,40 +124,54 @@ fn longest(bytes: usize) -> Vec<(String, u64)> {
 #[test]
 fn refusals() {
     let empty = empty_card();
-    let refused = |manifest: &[u8], targets: &[u8]| plan(manifest, &empty, targets).unwrap_err();
-    let unread =
-        |step, manifest: &str| text(manifest.as_bytes(), step, Wanted::Command).unwrap_err();
+    let refused = |manifest: &[u8], targets: &[u8]| {
+        plan(&Bundle::alone(manifest), &empty, targets).unwrap_err()
+    };
+    let unread = |step, manifest: &str| {
+        text(&Bundle::alone(manifest.as_bytes()), step, Wanted::Command).unwrap_err()
+    };
+    let at = |offset| TextPlace { record: 0, offset };
     let rule = "rule r\n  command = ";
+    let no_card = plan(&Bundle::alone(b""), b"", b"").unwrap_err();
     let told = [
-        (refused(&[b'\n'; 49_153], b""), Refusal::LongManifest, 2, 0),
-        (refused(b"a = \t\n", b""), Refusal::BadByte(4), 3, 4),
-        (refused(b"\nx\n", b""), Refusal::BadLine(1), 4, 1),
-        (refused(b"a = $.\n", b""), Refusal::BadDollar(4), 5, 4),
-        (refused(b"\npool p\n", b""), Refusal::NotYet(1), 6, 1),
-        (refused(b"\nbuild a: r\n", b""), Refusal::BadRule(1), 7, 1),
-        (refused(b"\ndefault a\n", b""), Refusal::BadPath(1), 8, 1),
+        (refused(&[b'\n'; 49_153], b""), Refusal::LongManifest, 2, "0"),
+        (refused(b"a = \t\n", b""), Refusal::BadByte(at(4)), 3, "0:4"),
+        (refused(b"\nx\n", b""), Refusal::BadLine(at(1)), 4, "0:1"),
+        (refused(b"a = $.\n", b""), Refusal::BadDollar(at(4)), 5, "0:4"),
+        (refused(b"\npool p\n", b""), Refusal::NotYet(at(1)), 6, "0:1"),
+        (refused(b"\nbuild a: r\n", b""), Refusal::BadRule(at(1)), 7, "0:1"),
+        (refused(b"\ndefault a\n", b""), Refusal::BadPath(at(1)), 8, "0:1"),
         (
             refused(format!("\n{} = 1\n", "n".repeat(65)).as_bytes(), b""),
-            Refusal::OverLimit(1),
+            Refusal::OverLimit(at(1)),
             9,
-            1,
+            "0:1",
         ),
-        (refused(b"\nninja_required_version = 1.5.1\n", b""), Refusal::BadVersion(1), 10, 1),
-        (plan(b"", b"", b"").unwrap_err(), Refusal::BadCard, 11, 0),
-        (refused(b"build a: phony\n", b"a\nb\n"), Refusal::BadTarget(2), 12, 2),
-        (refused(b"build a: phony a\n", b""), Refusal::NoRoot, 13, 0),
-        (refused(b"build a: phony a\n", b"a\n"), Refusal::Circle(vec![0]), 14, 1),
-        (refused(b"build a: phony b\n", b""), Refusal::MissingSource(1), 15, 1),
-        (unread(0, &format!("{rule}$command\nbuild a: r\n")), Refusal::EndlessText(0), 16, 0),
-        (unread(0, &long_text()), Refusal::LongText(0), 17, 0),
-        (unread(0, "build a: phony\n"), Refusal::NoCommand(0), 18, 0),
-        (unread(usize::MAX, ""), Refusal::NoCommand(usize::MAX), 18, usize::MAX),
+        (
+            refused(b"\nninja_required_version = 1.5.1\n", b""),
+            Refusal::BadVersion(at(1)),
+            10,
+            "0:1",
+        ),
+        (no_card, Refusal::BadCard, 11, "0"),
+        (refused(b"build a: phony\n", b"a\nb\n"), Refusal::BadTarget(2), 12, "2"),
+        (refused(b"build a: phony a\n", b""), Refusal::NoRoot, 13, "0"),
+        (refused(b"build a: phony a\n", b"a\n"), Refusal::Circle(vec![0]), 14, "1"),
+        (refused(b"build a: phony b\n", b""), Refusal::MissingSource(1), 15, "1"),
+        (unread(0, &format!("{rule}$command\nbuild a: r\n")), Refusal::EndlessText(0), 16, "0"),
+        (unread(0, &long_text()), Refusal::LongText(0), 17, "0"),
+        (unread(0, "build a: phony\n"), Refusal::NoCommand(0), 18, "0"),
+        (unread(usize::MAX, ""), Refusal::NoCommand(usize::MAX), 18, "18446744073709551615"),
+        (refused(b"\ninclude a\n", b""), Refusal::BadOpening(at(1)), 19, "0:1"),
+        (plan(&Bundle::new(), &empty, b"").unwrap_err(), Refusal::BadBundle, 19, "0"),
     ];
     for (refusal, right, number, place) in told {
         assert_eq!(refusal, right);
-        assert_eq!((refusal.number(), refusal.place()), (number, place));
+        assert_eq!((refusal.number(), refusal.place().to_string()), (number, place.to_string()));
         let (front, sentence) = (format!("refused {number} at {place}: "), refusal.to_string());
         assert!(sentence.starts_with(&front) && sentence.len() > front.len(), "{sentence}");
+        let is_in_text = matches!(refusal.place(), Place::Text(_));
+        assert_eq!(is_in_text, matches!(number, 3..=10) || place == "0:1");
     }
 }
 
@@ -143,7 +183,7 @@ fn long_text() -> String {
 #[test]
 fn a_circle_of_two() {
     let manifest = b"build a: phony b\nbuild b: phony || a\nbuild c: phony a\n";
-    let Err(Refusal::Circle(mut steps)) = plan(manifest, &empty_card(), b"") else {
+    let Err(Refusal::Circle(mut steps)) = plan(&Bundle::alone(manifest), &empty_card(), b"") else {
         panic!("no circle")
     };
     steps.sort();
@@ -152,21 +192,27 @@ fn a_circle_of_two() {
 
 #[test]
 fn lent_buffers() {
-    let mut list = [7; LIST + 1];
-    let short = Said { number: 1, value: 0 };
-    assert_eq!(lent::plan(MANIFEST, &bench_card(), b"", &mut list[..LIST - 1]), short);
+    let (bundle, mut list) = (bench(), [7; LIST + 1]);
+    let bundle = bundle.as_bytes();
+    let short = Said { number: 1, text: 0, value: 0 };
+    assert_eq!(lent::plan(bundle, &bench_card(), b"", &mut list[..LIST - 1]), short);
     assert_eq!(list, [7; LIST + 1]);
-    let said = lent::plan(MANIFEST, &bench_card(), b"", &mut list);
-    assert_eq!(said, Said { number: 0, value: 2 });
+    let said = lent::plan(bundle, &bench_card(), b"", &mut list);
+    assert_eq!(said, Said { number: 0, text: 0, value: 2 });
     assert_eq!(list[..2], [0, 1]);
     assert_eq!(list[2..], [0; LIST - 1]);
 
     let mut buffer = [7; TEXT];
-    assert_eq!(lent::text(MANIFEST, 0, Wanted::Command, &mut buffer[..TEXT - 1]), short);
+    assert_eq!(lent::text(bundle, 0, Wanted::Command, &mut buffer[..TEXT - 1]), short);
     assert_eq!(buffer, [7; TEXT]);
-    let said = lent::text(MANIFEST, 2, Wanted::Command, &mut buffer);
-    assert_eq!(said, Said { number: 18, value: 2 });
+    let said = lent::text(bundle, 2, Wanted::Command, &mut buffer);
+    assert_eq!(said, Said { number: 18, text: 0, value: 2 });
     assert_eq!(buffer, [0; TEXT]);
+    let said = lent::text(Bundle::alone(b"\nx\n").as_bytes(), 2, Wanted::Command, &mut buffer);
+    assert_eq!(said, Said { number: 4, text: 1, value: 1 });
+    assert_eq!(said.place(), Place::Text(TextPlace { record: 0, offset: 1 }));
+    let said = lent::text(b"", 2, Wanted::Command, &mut buffer);
+    assert_eq!(said, Said { number: 19, text: 0, value: 0 });
 }
 
 /// The asks of a thread with no more stack than they are said to take and 16 KiB for itself, and of
@@ -174,11 +220,11 @@ fn lent_buffers() {
 #[test]
 fn threads() {
     let ask = || {
-        let card = bench_card();
+        let (bundle, card) = (bench(), bench_card());
         let mut list = vec![0; LIST];
-        let said = lent::plan(MANIFEST, &card, b"", &mut list);
+        let said = lent::plan(bundle.as_bytes(), &card, b"", &mut list);
         let mut buffer = vec![0; TEXT];
-        let texts = lent::text(MANIFEST, 1, Wanted::Command, &mut buffer);
+        let texts = lent::text(bundle.as_bytes(), 1, Wanted::Command, &mut buffer);
         (said, texts, list, buffer)
     };
     let spawn = |_| {

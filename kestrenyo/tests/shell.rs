@@ -1,7 +1,7 @@
 //! Names hold their quotes: a real shell is given the commands that the library writes, and hands
 //! each name to `printf` as it stands in the manifest.
 
-use kestrenyo::{texts, Wanted};
+use kestrenyo::{texts, Bundle, Wanted};
 use std::io::Write;
 use std::process::{Command, Stdio};
 use std::thread;
@@ -88,7 +88,7 @@ fn a_shell_gives_each_name_back() {
             manifest.push(b'\n');
         }
         let steps: Vec<u32> = (0..STEPS as u32).collect();
-        for command in texts(&manifest, &steps, Wanted::Command) {
+        for command in texts(&Bundle::alone(&manifest), &steps, Wanted::Command) {
             script.extend(command.expect("a command"));
             script.push(b'\n');
         }

@@ -1,7 +1,7 @@
 //! The status: what a Rust caller gets, lent buffers, and records that no events give.
 
 use kestrenyo::lent::{self, Said, StatusRecord};
-use kestrenyo::{Refusal, Status, TEXT};
+use kestrenyo::{Place, Refusal, Status, TEXT};
 
 #[test]
 fn lines() {
@@ -18,7 +18,7 @@ fn lines() {
     assert_eq!(status.line(b"%e %o%%"), Ok(b"7.000 1.0%".to_vec()));
     assert_eq!(status.line(b"abc%"), Err(Refusal::BadPlaceholder(3)));
     assert_eq!(status.line(&[b'x'; TEXT + 1]), Err(Refusal::LongLine));
-    assert_eq!((Refusal::LongLine.number(), Refusal::LongLine.place()), (17, 0));
+    assert_eq!((Refusal::LongLine.number(), Refusal::LongLine.place()), (17, Place::Number(0)));
     assert_eq!(status.line(&[b'x'; TEXT]).map(|line| line.len()), Ok(TEXT));
 }
 
@@ -26,12 +26,12 @@ fn lines() {
 fn lent_buffers() {
     let status = Status::new(3, 1).record();
     let mut short = [7; TEXT - 1];
-    assert_eq!(lent::status_line(status, b"%!", &mut short), Said { number: 1, value: 0 });
+    assert_eq!(lent::status_line(status, b"%!", &mut short), Said { number: 1, text: 0, value: 0 });
     assert_eq!(short, [7; TEXT - 1]);
     for (format, said) in [
-        (&b"%t"[..], Said { number: 0, value: 1 }),
-        (b"ab%", Said { number: 21, value: 2 }),
-        (&[b'x'; TEXT + 1], Said { number: 17, value: 0 }),
+        (&b"%t"[..], Said { number: 0, text: 0, value: 1 }),
+        (b"ab%", Said { number: 21, text: 0, value: 2 }),
+        (&[b'x'; TEXT + 1], Said { number: 17, text: 0, value: 0 }),
     ] {
         let mut buffer = [7; TEXT + 5];
         assert_eq!(lent::status_line(status, format, &mut buffer), said);

@@ -26,19 +26,20 @@ impl Answer {
         }
     }
 
-    /// Document 01's numbers for the answer: 0 and the count, or a refusal's number and its place.
-    pub fn numbers(&self) -> (u8, usize) {
+    /// The documents' three numbers for the answer: 0 or a refusal's number, what kind of place
+    /// follows (see [`Place::text`]), and the count or the place's value.
+    pub fn numbers(&self) -> (u8, usize, usize) {
         match self {
-            Answer::List(steps) => (0, steps.len()),
-            Answer::Text(bytes) => (0, bytes.len()),
-            Answer::Texts(texts) => (0, texts.len()),
-            Answer::Circle(steps) => (14, steps.len()),
-            Answer::Refused(refusal) => (refusal.number, refusal.place.value()),
+            Answer::List(steps) => (0, 0, steps.len()),
+            Answer::Text(bytes) => (0, 0, bytes.len()),
+            Answer::Texts(texts) => (0, 0, texts.len()),
+            Answer::Circle(steps) => (14, 0, steps.len()),
+            Answer::Refused(Refusal { number, place }) => (*number, place.text(), place.value()),
         }
     }
 }
 
-/// A refusal: document 01's number, 1 to 18, and its place.
+/// A refusal: its number, 1 to 19, and its place.
 #[derive(Debug, Clone, Copy, PartialEq, Eq)]
 pub struct Refusal {
     pub number: u8,
@@ -58,22 +59,42 @@ impl Refusal {
             Ok(())
         }
     }
+
+    /// A refusal at an offset, as one in the text of this record.
+    pub fn in_text(self, record: usize) -> Self {
+        Refusal { place: Place::Text { record, offset: self.place.value() }, ..self }
+    }
 }
 
-/// Where a fault is: what document 01's table says under its number, be it an offset, a step, a
-/// file or a length. A type of its own, so that what a place is made of stands here alone.
+/// Where a fault is: what the documents say under its number.
 #[derive(Debug, Clone, Copy, PartialEq, Eq)]
-pub struct Place(usize);
+pub enum Place {
+    /// A number by itself: a step, a file, a length, an offset in the target list, or 0.
+    Number(usize),
+    /// An offset in the text of a record of the bundle.
+    Text { record: usize, offset: usize },
+}
 
 impl Place {
-    /// The place as one number, which the library's answer carries.
+    /// 0 for a number by itself, else the record's number and one more.
+    pub fn text(self) -> usize {
+        match self {
+            Place::Number(_) => 0,
+            Place::Text { record, .. } => record + 1,
+        }
+    }
+
+    /// The number, or the offset in the text.
     pub fn value(self) -> usize {
-        self.0
+        match self {
+            Place::Number(number) => number,
+            Place::Text { offset, .. } => offset,
+        }
     }
 }
 
 impl From<usize> for Place {
     fn from(value: usize) -> Self {
-        Place(value)
+        Place::Number(value)
     }
 }

@@ -1,6 +1,6 @@
 //! An ask as one value: what is lent to the planner, and what it is asked.
 
-use crate::{card, limits, manifest, plan, text, texts, Answer, Refusal};
+use crate::{bundle, card, limits, manifest, plan, text, texts, Answer, Refusal};
 
 /// An ask with all that it lends.
 #[derive(Debug, Clone, PartialEq, Eq)]
@@ -9,10 +9,10 @@ pub struct Ask {
     pub question: Question,
 }
 
-/// The bytes that are lent to be read. Texts are answered from the manifest alone.
+/// The bytes that are lent to be read. Texts are answered from the bundle of manifests alone.
 #[derive(Debug, Clone, PartialEq, Eq)]
 pub struct Lent {
-    pub manifest: Vec<u8>,
+    pub bundle: Vec<u8>,
     pub card: Vec<u8>,
     pub targets: Vec<u8>,
 }
@@ -37,9 +37,14 @@ pub enum Wanted {
 }
 
 impl Lent {
-    /// A manifest alone: the card of no files, and no targets.
-    pub fn manifest(manifest: impl Into<Vec<u8>>) -> Self {
-        Lent { manifest: manifest.into(), card: card::write(&[]), targets: Vec::new() }
+    /// A bundle with the card of no files, and no targets.
+    pub fn bundle(bundle: impl Into<Vec<u8>>) -> Self {
+        Lent { bundle: bundle.into(), card: card::write(&[]), targets: Vec::new() }
+    }
+
+    /// One manifest alone, under the name `build.ninja`, with the card of no files and no targets.
+    pub fn alone(manifest: impl AsRef<[u8]>) -> Self {
+        Lent::bundle(bundle::alone(manifest.as_ref()))
     }
 }
 
@@ -90,15 +95,15 @@ impl Ask {
         Ask { lent, question: Question::PLAN }
     }
 
-    /// A text of a step of this manifest, with the least text buffer that will do.
-    pub fn text(manifest: impl Into<Vec<u8>>, step: usize, wanted: Wanted) -> Self {
-        Ask { lent: Lent::manifest(manifest), question: Question::text(step, wanted) }
+    /// A text of a step of this manifest, lent alone, with the least text buffer that will do.
+    pub fn text(manifest: impl AsRef<[u8]>, step: usize, wanted: Wanted) -> Self {
+        Ask { lent: Lent::alone(manifest), question: Question::text(step, wanted) }
     }
 
-    /// Texts of steps of this manifest, with the least byte buffer that will do and room for each
-    /// end.
-    pub fn texts(manifest: impl Into<Vec<u8>>, steps: &[u32], wanted: Wanted) -> Self {
-        Ask { lent: Lent::manifest(manifest), question: Question::texts(steps, wanted) }
+    /// Texts of steps of this manifest, lent alone, with the least byte buffer that will do and room
+    /// for each end.
+    pub fn texts(manifest: impl AsRef<[u8]>, steps: &[u32], wanted: Wanted) -> Self {
+        Ask { lent: Lent::alone(manifest), question: Question::texts(steps, wanted) }
     }
 
     /// The second planner's answer.
@@ -108,7 +113,7 @@ impl Ask {
 
     fn answer_or_refusal(&self) -> Result<Answer, Refusal> {
         Refusal::when(self.question.lends_too_little(), 1, 0)?;
-        let manifest = manifest::read(&self.lent.manifest)?;
+        let manifest = manifest::read(&self.lent.bundle)?;
         match self.question {
             Question::Plan { .. } => plan::plan(&manifest, &self.lent),
             Question::Text { step, wanted, .. } => {

@@ -2,11 +2,12 @@
 //! a text lies. All offsets follow from the lengths, so a bundle is sound exactly when its lengths
 //! keep the rules and writing its names and texts anew gives the same bytes.
 
-use crate::limits::PATH;
+use crate::limits::{NAMES, PATH};
+use crate::Refusal;
 use std::collections::HashSet;
 
 /// How many records a manifest's bundle has: "1 to 64 records".
-pub const MANIFEST: (usize, usize) = (1, 64);
+pub const MANIFEST: (usize, usize) = (1, NAMES);
 
 /// How many header lists have: "0 to 512 by path".
 pub const HEADERS: (usize, usize) = (0, 512);
@@ -48,6 +49,40 @@ impl<'a> Bundle<'a> {
     /// Where text k begins when all texts are laid end to end with one place between two.
     pub fn base(&self, k: usize) -> usize {
         self.records[..k].iter().map(|(_, text)| text.len() + 1).sum()
+    }
+}
+
+/// The name under which a manifest is lent alone, as the program does it.
+pub const ALONE: &[u8] = b"build.ninja";
+
+/// A text of a manifest's bundle with its name.
+#[derive(Debug, Clone, Copy, PartialEq, Eq)]
+pub struct Record<'a> {
+    pub name: &'a [u8],
+    pub text: &'a [u8],
+}
+
+/// The records of a manifest's bundle, in order; a malformed one is 19 at place 0.
+pub fn read(bytes: &[u8]) -> Result<Vec<Record<'_>>, Refusal> {
+    let bundle = Bundle::read(bytes, MANIFEST).ok_or(Refusal::new(19, 0))?;
+    Ok(bundle.records.into_iter().map(|(name, text)| Record { name, text }).collect())
+}
+
+/// The number of the record with this name; names are compared byte for byte.
+pub fn find(records: &[Record], name: &[u8]) -> Option<usize> {
+    records.iter().position(|record| record.name == name)
+}
+
+/// The bundle of one text under the name `build.ninja`.
+pub fn alone(text: &[u8]) -> Vec<u8> {
+    write(&[(ALONE, text)])
+}
+
+/// The text of a sound bundle that has nothing but a `build.ninja`.
+pub fn text_alone(bytes: &[u8]) -> Option<&[u8]> {
+    match read(bytes).ok()?[..] {
+        [Record { name: ALONE, text }] => Some(text),
+        _ => None,
     }
 }
 
@@ -140,5 +175,33 @@ mod tests {
     fn names_of_255_bytes() {
         let long = [b'n'; 256];
         assert!(sound(&write(&[(&long[..255], b"")])) && !sound(&write(&[(&long[..], b"")])));
+    }
+
+    #[test]
+    fn what_is_written_is_read() {
+        let records: &[(&[u8], &[u8])] = &[(b"b", b"x\n"), (b"a", b""), (b"ab", b"\0\n")];
+        let bundle = write(records);
+        let read = read(&bundle).unwrap();
+        let read: Vec<_> = read.iter().map(|record| (record.name, record.text)).collect();
+        assert_eq!(read, records);
+        assert_eq!(text_alone(&bundle), None);
+        assert_eq!(text_alone(&alone(b"x\n")), Some(&b"x\n"[..]));
+    }
+
+    /// Every byte of the header and of the records counts: another one there is no sound bundle.
+    #[test]
+    fn any_other_number_is_malformed() {
+        let sound = write(&[(b"b", b"x\n"), (b"a", b""), (b"ab", b"yy\n")]);
+        for at in 0..16 + 3 * 16 {
+            for change in 1..=255 {
+                let mut other = sound.clone();
+                other[at] ^= change;
+                assert_eq!(read(&other), Err(Refusal::new(19, 0)), "{at} {change}");
+            }
+        }
+        for length in 0..sound.len() {
+            assert_eq!(read(&sound[..length]), Err(Refusal::new(19, 0)), "{length}");
+        }
+        assert!(read(&[&sound[..], b"\n"].concat()).is_err());
     }
 }

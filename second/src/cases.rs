@@ -1,7 +1,6 @@
 //! The case files of `/cases`: their reader, and the comparison of the second planner with them.
 //! The format is described in `cases/README.md`.
 
-mod card;
 mod check;
 mod error;
 mod escapes;
@@ -10,6 +9,7 @@ mod files;
 mod lines;
 mod pack;
 mod parse;
+mod pieces;
 
 pub use check::{check, outputs, Difference};
 pub use error::{Error, Fault, Origin};
@@ -19,7 +19,7 @@ pub use lines::{ask_lines, program_line, texts_lines};
 pub use pack::{pack, TooGreat};
 pub use parse::parse;
 
-use crate::{Ask, Lent, Question};
+use crate::{bundle, Ask, Lent, Question};
 use std::str::FromStr;
 
 #[derive(Debug, Clone)]
@@ -40,6 +40,11 @@ impl Case {
     /// One of the case's questions with all that it lends.
     pub fn ask(&self, question: &Question) -> Ask {
         Ask { lent: self.lent.clone(), question: question.clone() }
+    }
+
+    /// The manifest, if it is lent alone as the program does it.
+    pub fn manifest_alone(&self) -> Option<&[u8]> {
+        bundle::text_alone(&self.lent.bundle)
     }
 }
 

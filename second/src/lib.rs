@@ -1,5 +1,5 @@
-//! A second, independent planner, written from the rules (document 01 and its settled readings)
-//! alone. It is what the proved planner is compared with, and the baseline of its speed.
+//! A second, independent planner, written from the rules (documents 01 and 02 and their settled
+//! readings) alone. It is what the proved planner is compared with, and the baseline of its speed.
 
 pub mod answer;
 pub mod ask;

@@ -4,8 +4,14 @@
 pub const LIST: usize = 512;
 /// The least text buffer that may be lent, and the longest expanded text, in bytes.
 pub const TEXT: usize = 8_192;
-/// The longest manifest, in bytes.
+/// The longest manifest, in bytes: all texts of the bundle together.
 pub const MANIFEST: usize = 49_152;
+/// The most records of a bundle of manifests.
+pub const NAMES: usize = 64;
+/// The most files that are open at once, the top one counted.
+pub const OPEN: usize = 8;
+/// The most files that are opened in all, the top one counted.
+pub const OPENED: usize = 64;
 /// The longest time card, in bytes.
 pub const CARD: usize = 49_152;
 /// The most records of a time card.
@@ -24,7 +30,7 @@ pub const BINDINGS: usize = 1_024;
 pub const MENTIONS: usize = 4_096;
 /// Bytes of a declared name: a rule's, or one on the left of `=` (reading 19).
 pub const NAME: usize = 64;
-/// Bytes of a path, expanded; also of a name on the card or in the target list.
+/// Bytes of a path, expanded; also of a name on the card, in the target list or of a bundle.
 pub const PATH: usize = 255;
 /// Bytes of a value: a rule's as written, any other expanded.
 pub const VALUE: usize = 2_048;

@@ -1,4 +1,4 @@
-//! One line of the manifest, cut into its form by its bytes alone: refusals 4, 5 and 6.
+//! One line of a manifest, cut into its form by its bytes alone: refusals 4, 5 and 6.
 
 use crate::bytes::Class;
 use crate::scan::{Fault, Scanner};
@@ -22,7 +22,16 @@ pub enum Statement<'a> {
     Rule(&'a [u8]),
     Build(Build<'a>),
     Default(Vec<&'a [u8]>),
+    Open(Open<'a>),
     Variable(Binding<'a>),
+}
+
+/// `include PATH` or `subninja PATH`, the path raw.
+#[derive(Debug, Clone, Copy, PartialEq, Eq)]
+pub struct Open<'a> {
+    pub path: &'a [u8],
+    /// Whether the file gets a scope of its own, as `subninja` has it.
+    pub new_scope: bool,
 }
 
 /// `build OUTS: RULE INS | IMPLICIT || ORDERONLY`, its paths raw.
@@ -66,6 +75,8 @@ pub fn statement(manifest: &[u8], start: usize) -> Result<(Statement<'_>, usize)
         b"rule" => rule(scan).map(Statement::Rule),
         b"build" => build(scan).map(Statement::Build),
         b"default" => default(scan).map(Statement::Default),
+        b"include" => open(scan, false).map(Statement::Open),
+        b"subninja" => open(scan, true).map(Statement::Open),
         name => binding_of(name, scan).map(Statement::Variable),
     })
 }
@@ -122,6 +133,17 @@ fn default<'a>(scan: &mut Scanner<'a>) -> Result<Vec<&'a [u8]>, Fault> {
     Ok(paths)
 }
 
+/// Exactly one path: what follows it and is not the line's end fits no form.
+fn open<'a>(scan: &mut Scanner<'a>, new_scope: bool) -> Result<Open<'a>, Fault> {
+    scan.gap();
+    if matches!(scan.peek(), None | Some(Class::Colon | Class::Pipe | Class::Newline)) {
+        return Err(Fault::Form);
+    }
+    let path = scan.path()?;
+    scan.gap();
+    Ok(Open { path, new_scope })
+}
+
 /// The rest of a binding line after its name.
 fn binding_of<'a>(name: &'a [u8], scan: &mut Scanner<'a>) -> Result<Binding<'a>, Fault> {
     not_yet(name)?;
@@ -153,21 +175,21 @@ fn paths<'a>(scan: &mut Scanner<'a>) -> Result<Vec<&'a [u8]>, Fault> {
     }
 }
 
-/// "The keywords are a 4 where a rule or key is named, the last three a 6."
+/// The keywords are a 4 where a rule or key is named, but `pool`, which is a 6.
 fn not_a_keyword(word: &[u8]) -> Result<(), Fault> {
     match word {
-        b"rule" | b"build" | b"default" => Err(Fault::Form),
-        b"pool" | b"include" | b"subninja" => Err(Fault::NotYet),
+        b"rule" | b"build" | b"default" | b"include" | b"subninja" => Err(Fault::Form),
+        b"pool" => Err(Fault::NotYet),
         _ => Ok(()),
     }
 }
 
 /// Names that are not yet allowed in a key's place, with or without `=` (reading 8), and the
-/// keywords of statements that are not yet read.
+/// keyword of the statement that is not yet read.
 fn not_yet(word: &[u8]) -> Result<(), Fault> {
     match word {
-        b"pool" | b"include" | b"subninja" | b"depfile" | b"deps" | b"dyndep"
-        | b"msvc_deps_prefix" | b"restat" | b"rspfile" | b"rspfile_content" => Err(Fault::NotYet),
+        b"pool" | b"depfile" | b"deps" | b"dyndep" | b"msvc_deps_prefix" | b"restat"
+        | b"rspfile" | b"rspfile_content" => Err(Fault::NotYet),
         _ => Ok(()),
     }
 }

@@ -1,11 +1,12 @@
-//! The manifest: its lines from the top, applied to what has been read; refusals 7 to 10 of each
-//! line in that order, and a missing `command` where its block closes.
+//! The manifest: the lines of its files in reading order, applied to what has been read; refusals 7
+//! to 10 and 19 of each line in that order, and a missing `command` where its block closes.
 
+use crate::bundle::{self, Record};
 use crate::bytes::{class, Class};
 use crate::expand::expand;
 use crate::graph::{Graph, Step};
 use crate::limits;
-use crate::line::{self, Binding, Build, Opening, Statement};
+use crate::line::{self, Binding, Build, Open, Opening, Statement};
 use crate::version::Version;
 use crate::Refusal;
 use std::borrow::Cow;
@@ -13,6 +14,9 @@ use std::collections::hash_map::{Entry, HashMap};
 
 /// The number of the rule `phony`, which is declared from the start.
 const PHONY: usize = 0;
+/// The record of the top file, and its scope.
+const TOP: usize = 0;
+const TOP_SCOPE: usize = 0;
 
 /// All that the manifest says.
 #[derive(Default)]
@@ -20,25 +24,25 @@ pub struct Manifest<'a> {
     /// Rules by name, `phony` among them.
     rule_numbers: HashMap<&'a [u8], usize>,
     pub rules: Vec<Rule<'a>>,
-    /// The file's variables, expanded.
-    variables: HashMap<&'a [u8], Cow<'a, [u8]>>,
+    /// The variables of the files, the top file's scope first.
+    pub file_scopes: Vec<FileScope<'a>>,
     pub files: Files<'a>,
     pub graph: Graph,
     /// For each step of the graph, what its texts need.
     pub scopes: Vec<Scope<'a>>,
     /// The files of the default lines.
     pub defaults: Vec<u32>,
+    /// The bytes of all paths and values, as the limit measures them.
+    pub together: usize,
 }
 
 impl<'a> Manifest<'a> {
-    /// A file variable's value as it now stands; an unset name expands to nothing.
-    pub fn variable(&self, name: &[u8]) -> &[u8] {
-        self.variables.get(name).map_or(b"", |value| value)
-    }
-
-    /// The file's variables with their values as they now stand, in no order.
-    pub fn variables(&self) -> impl Iterator<Item = (&[u8], &[u8])> {
-        self.variables.iter().map(|(&name, value)| (name, &**value))
+    /// A file variable's value as it now stands, in a scope or outward through its parents; an unset
+    /// name expands to nothing.
+    pub fn variable(&self, scope: usize, name: &[u8]) -> &[u8] {
+        let scopes = std::iter::successors(Some(scope), |&scope| self.file_scopes[scope].parent);
+        let mut values = scopes.filter_map(|scope| self.file_scopes[scope].variables.get(name));
+        values.next().map_or(b"", |value| value)
     }
 
     /// The number of a declared rule; that of `phony` is 0.
@@ -46,10 +50,20 @@ impl<'a> Manifest<'a> {
         self.rule_numbers.get(name).copied()
     }
 
-    /// Expands a raw path or value with the file's variables as they now stand.
-    fn expand(&self, raw: &'a [u8]) -> Cow<'a, [u8]> {
-        expand(raw, |name| self.variable(name))
+    /// Expands a raw path or value with the variables that a file's scope sees, as they now stand.
+    fn expand(&self, scope: usize, raw: &'a [u8]) -> Cow<'a, [u8]> {
+        expand(raw, |name| self.variable(scope, name))
     }
+}
+
+/// The variables of the top file or of one opened by `subninja`, with what those bind that are
+/// opened by `include` from there.
+#[derive(Debug, Default)]
+pub struct FileScope<'a> {
+    /// The scope of the file that opened it; none for the top file's.
+    pub parent: Option<usize>,
+    /// Expanded when they were read.
+    pub variables: HashMap<&'a [u8], Cow<'a, [u8]>>,
 }
 
 /// A rule's keys, kept unexpanded.
@@ -86,10 +100,12 @@ impl Key {
     }
 }
 
-/// Where a step's names are looked up before the file: its rule and its block, in line order.
+/// Where a step's names are looked up: its rule, its block in line order, and the scope of the file
+/// in which its build line stands.
 #[derive(Debug, Clone)]
 pub struct Scope<'a> {
     pub rule: usize,
+    pub file: usize,
     pub bindings: Vec<(&'a [u8], Cow<'a, [u8]>)>,
 }
 
@@ -131,20 +147,26 @@ impl<'a> Files<'a> {
     }
 }
 
-/// Reads a manifest: refusals 2 to 10.
-pub fn read(bytes: &[u8]) -> Result<Manifest<'_>, Refusal> {
-    Refusal::when(bytes.len() > limits::MANIFEST, 2, 0)?;
-    if let Some(place) = bytes.iter().position(|&b| class(b) == Class::Forbidden) {
+/// Reads a bundle of manifests: refusals 19 and 2 to 10.
+pub fn read(bundle: &[u8]) -> Result<Manifest<'_>, Refusal> {
+    let records = bundle::read(bundle)?;
+    let length: usize = records.iter().map(|record| record.text.len()).sum();
+    Refusal::when(length > limits::MANIFEST, 2, 0)?;
+    for (number, record) in records.iter().enumerate() {
+        bytes(record.text).map_err(|refusal| refusal.in_text(number))?;
+    }
+    let mut reader = Reader::new(records);
+    reader.file(TOP, TOP_SCOPE)?;
+    reader.manifest.together = reader.tally.together;
+    Ok(reader.manifest)
+}
+
+/// The bytes of a text, opened or not: refusal 3.
+fn bytes(text: &[u8]) -> Result<(), Refusal> {
+    if let Some(place) = text.iter().position(|&b| class(b) == Class::Forbidden) {
         return Err(Refusal::new(3, place));
     }
-    Refusal::when(bytes.last().is_some_and(|&b| b != b'\n'), 3, bytes.len())?;
-    let mut reader = Reader::new();
-    let mut at = 0;
-    while at < bytes.len() {
-        at = reader.line(bytes, at)?;
-    }
-    reader.close()?;
-    Ok(reader.manifest)
+    Refusal::when(text.last().is_some_and(|&b| b != b'\n'), 3, text.len())
 }
 
 /// The block that an indented line belongs to: the last rule's, with its line, or the last step's.
@@ -170,8 +192,13 @@ impl Tally {
         self.longest_name = self.longest_name.max(name.len());
     }
 
-    fn path(&mut self, path: &[u8]) {
+    fn mention(&mut self, path: &[u8]) {
         self.mentions += 1;
+        self.path(path);
+    }
+
+    /// A path that is no mention.
+    fn path(&mut self, path: &[u8]) {
         self.longest_path = self.longest_path.max(path.len());
         self.together += path.len();
     }
@@ -184,20 +211,66 @@ impl Tally {
     }
 }
 
-/// The manifest as read so far, its open block and its tally.
+/// A file to be opened: the number of its record, and its scope.
+struct Child {
+    record: usize,
+    scope: usize,
+}
+
+/// The manifest as read so far, the open files, the open block and the tally.
 /// A refusal ends the reading, so a line that is refused half applied needs no undoing.
 struct Reader<'a> {
+    records: Vec<Record<'a>>,
     manifest: Manifest<'a>,
+    /// The scope of the file being read.
+    scope: usize,
+    /// How many files are open, from the top to the one being read, and how many have been opened.
+    open: usize,
+    opened: usize,
+    /// The file that the line just read opens.
+    child: Option<Child>,
     block: Block,
     tally: Tally,
 }
 
 impl<'a> Reader<'a> {
-    fn new() -> Self {
+    fn new(records: Vec<Record<'a>>) -> Self {
         let mut manifest = Manifest::default();
         manifest.rule_numbers.insert(b"phony", PHONY);
         manifest.rules.push(Rule::default());
-        Reader { manifest, block: Block::None, tally: Tally::default() }
+        manifest.file_scopes.push(FileScope::default());
+        Reader {
+            records,
+            manifest,
+            scope: TOP_SCOPE,
+            open: 0,
+            opened: 0,
+            child: None,
+            block: Block::None,
+            tally: Tally::default(),
+        }
+    }
+
+    /// Reads a file in its scope, and where a line opens another one that first. The end of a file
+    /// closes its block. A place is one in the text of the file's record.
+    fn file(&mut self, record: usize, scope: usize) -> Result<(), Refusal> {
+        let text = self.records[record].text;
+        self.open += 1;
+        self.opened += 1;
+        let mut at = 0;
+        while at < text.len() {
+            self.scope = scope;
+            at = self.line(text, at).map_err(|refusal| refusal.in_text(record))?;
+            if let Some(Child { record, scope }) = self.child.take() {
+                self.file(record, scope)?;
+            }
+        }
+        self.open -= 1;
+        self.close().map_err(|refusal| refusal.in_text(record))
+    }
+
+    fn expand(&self, raw: &'a [u8]) -> Cow<'a, [u8]> {
+        self.manifest.expand(self.scope, raw)
     }
 
     /// Reads the line at `start`; gives the place after it.
@@ -240,6 +313,7 @@ impl<'a> Reader<'a> {
             Statement::Rule(name) => self.rule(name, start),
             Statement::Build(build) => self.build(&build, start),
             Statement::Default(paths) => self.default(&paths, start),
+            Statement::Open(open) => self.open(open, start),
             Statement::Variable(binding) => self.variable(binding, start),
         }
     }
@@ -273,7 +347,7 @@ impl<'a> Reader<'a> {
 
     fn step_binding(&mut self, binding: Binding<'a>, start: usize) -> Result<(), Refusal> {
         // A block value sees the file's variables, no earlier line of its block (reading 20).
-        let value = self.manifest.expand(binding.value);
+        let value = self.expand(binding.value);
         self.tally.binding(binding.name, &value);
         let scope = self.manifest.scopes.last_mut().expect("a step's block is open");
         scope.bindings.push((binding.name, value));
@@ -281,14 +355,14 @@ impl<'a> Reader<'a> {
     }
 
     fn variable(&mut self, binding: Binding<'a>, start: usize) -> Result<(), Refusal> {
-        let value = self.manifest.expand(binding.value);
+        let value = self.expand(binding.value);
         self.tally.binding(binding.name, &value);
         self.limits(start)?;
         if binding.name == b"ninja_required_version" {
             let accepted = Version::read(&value).is_some_and(|version| version <= Version::OURS);
             Refusal::when(!accepted, 10, start)?;
         }
-        self.manifest.variables.insert(binding.name, value);
+        self.manifest.file_scopes[self.scope].variables.insert(binding.name, value);
         Ok(())
     }
 
@@ -310,15 +384,15 @@ impl<'a> Reader<'a> {
         let manifest = &mut self.manifest;
         manifest.graph.files = manifest.files.names.len();
         manifest.graph.steps.push(step);
-        manifest.scopes.push(Scope { rule, bindings: Vec::new() });
+        manifest.scopes.push(Scope { rule, file: self.scope, bindings: Vec::new() });
         self.block = Block::Build;
         self.limits(start)
     }
 
     fn default(&mut self, paths: &[&'a [u8]], start: usize) -> Result<(), Refusal> {
         for raw in paths {
-            let path = self.manifest.expand(raw);
-            self.tally.path(&path);
+            let path = self.expand(raw);
+            self.tally.mention(&path);
             // An empty path is no output either.
             let output = self.manifest.files.output(&path).ok_or(Refusal::new(8, start))?;
             self.manifest.defaults.push(output);
@@ -326,13 +400,32 @@ impl<'a> Reader<'a> {
         self.limits(start)
     }
 
+    /// The path of `include` or `subninja`, which is no path mention and no file; then 19.
+    fn open(&mut self, open: Open<'a>, start: usize) -> Result<(), Refusal> {
+        let path = self.expand(open.path);
+        Refusal::when(path.is_empty(), 8, start)?;
+        self.tally.path(&path);
+        self.limits(start)?;
+        let record = bundle::find(&self.records, &path).ok_or(Refusal::new(19, start))?;
+        Refusal::when(self.open == limits::OPEN, 19, start)?;
+        Refusal::when(self.opened == limits::OPENED, 19, start)?;
+        let scopes = &mut self.manifest.file_scopes;
+        let mut scope = self.scope;
+        if open.new_scope {
+            scopes.push(FileScope { parent: Some(scope), ..FileScope::default() });
+            scope = scopes.len() - 1;
+        }
+        self.child = Some(Child { record, scope });
+        Ok(())
+    }
+
     /// The numbers of a build line's paths; an empty one is an 8.
     fn mention(&mut self, paths: &[&'a [u8]], start: usize) -> Result<Vec<u32>, Refusal> {
         let mut files = Vec::with_capacity(paths.len());
         for raw in paths {
-            let path = self.manifest.expand(raw);
+            let path = self.expand(raw);
             Refusal::when(path.is_empty(), 8, start)?;
-            self.tally.path(&path);
+            self.tally.mention(&path);
             files.push(self.manifest.files.mention(path));
         }
         Ok(files)

@@ -11,7 +11,7 @@ pub fn output(lent: &Lent) -> Vec<u8> {
 }
 
 fn lines(lent: &Lent) -> Result<Vec<u8>, Refusal> {
-    let manifest = manifest::read(&lent.manifest)?;
+    let manifest = manifest::read(&lent.bundle)?;
     match plan(&manifest, lent)? {
         Answer::List(list) if list.is_empty() => Ok(b"no work\n".to_vec()),
         Answer::List(list) => commands(&manifest, &list),

@@ -72,7 +72,8 @@ impl<'m> Lookup<'m> {
         Lookup { manifest, scope, rule: &manifest.rules[scope.rule], step }
     }
 
-    /// The order of the lookup: the step's files, its block, its rule, the file.
+    /// The order of the lookup: the step's files, its block, its rule, the file in which its build
+    /// line stands and outward through that one's parents, as all of them stand in the end.
     fn meaning(&self, name: &[u8]) -> Meaning<'m> {
         let step = &self.manifest.graph.steps[self.step];
         match name {
@@ -89,7 +90,7 @@ impl<'m> Lookup<'m> {
         let key = Key::of(name).and_then(|key| Some((key, self.rule.text(key)?)));
         match key {
             Some((key, raw)) => Meaning::Rule(key, raw),
-            None => Meaning::Value(self.manifest.variable(name)),
+            None => Meaning::Value(self.manifest.variable(self.scope.file, name)),
         }
     }
 

@@ -1,8 +1,9 @@
 //! The plain lines in which tools hand asks and answers on, bytes in hex and `-` for none:
 //!
-//! - `plan MANIFEST CARD TARGETS LISTLEN`, `text MANIFEST STEP command|description BUFLEN`,
-//!   `texts MANIFEST command|description BUFLEN ENDSLEN STEP STEP ..`
-//! - `list 0 3 1`, `text 6363`, `texts 6363 - 61`, `circle 0 1`, `refused 4 at 17`
+//! - `plan BUNDLE CARD TARGETS LISTLEN`, `text BUNDLE STEP command|description BUFLEN`,
+//!   `texts BUNDLE command|description BUFLEN ENDSLEN STEP STEP ..`
+//! - `list 0 3 1`, `text 6363`, `texts 6363 - 61`, `circle 0 1`, `refused 12 at 17`, and
+//!   `refused 4 at 0:17` for an offset in the text of a record
 
 use crate::{Answer, Ask, Lent, Place, Question, Refusal, Wanted};
 use std::error;
@@ -38,12 +39,12 @@ impl Display for Ask {
         match question {
             Question::Plan { list_len } => write!(f, "plan {lent} {list_len}"),
             Question::Text { step, wanted, buf_len } => {
-                let manifest = Hex(&lent.manifest);
-                write!(f, "text {manifest} {step} {} {buf_len}", wanted.name())
+                let bundle = Hex(&lent.bundle);
+                write!(f, "text {bundle} {step} {} {buf_len}", wanted.name())
             }
             Question::Texts { steps, wanted, buf_len, ends_len } => {
-                let (manifest, wanted, steps) = (Hex(&lent.manifest), wanted.name(), Steps(steps));
-                write!(f, "texts {manifest} {wanted} {buf_len} {ends_len}{steps}")
+                let (bundle, wanted, steps) = (Hex(&lent.bundle), wanted.name(), Steps(steps));
+                write!(f, "texts {bundle} {wanted} {buf_len} {ends_len}{steps}")
             }
         }
     }
@@ -55,21 +56,21 @@ impl FromStr for Ask {
     fn from_str(line: &str) -> Result<Self, Error> {
         let words: Vec<&str> = line.split(' ').collect();
         match words[..] {
-            ["plan", manifest, card, targets, list_len] => Ok(Ask {
-                lent: lent(manifest, card, targets)?,
+            ["plan", bundle, card, targets, list_len] => Ok(Ask {
+                lent: lent(bundle, card, targets)?,
                 question: Question::Plan { list_len: number(list_len)? },
             }),
-            ["text", manifest, step, wanted, buf_len] => {
+            ["text", bundle, step, wanted, buf_len] => {
                 let wanted = wanted_by(wanted, line)?;
                 let (step, buf_len) = (number(step)?, number(buf_len)?);
                 let question = Question::Text { step, wanted, buf_len };
-                Ok(Ask { lent: Lent::manifest(unhex(manifest)?), question })
+                Ok(Ask { lent: Lent::bundle(unhex(bundle)?), question })
             }
-            ["texts", manifest, wanted, buf_len, ends_len, ref steps @ ..] => {
+            ["texts", bundle, wanted, buf_len, ends_len, ref steps @ ..] => {
                 let (wanted, steps) = (wanted_by(wanted, line)?, numbers(steps)?);
                 let (buf_len, ends_len) = (number(buf_len)?, number(ends_len)?);
                 let question = Question::Texts { steps, wanted, buf_len, ends_len };
-                Ok(Ask { lent: Lent::manifest(unhex(manifest)?), question })
+                Ok(Ask { lent: Lent::bundle(unhex(bundle)?), question })
             }
             _ => Err(Error::Form(line.to_string())),
         }
@@ -80,10 +81,10 @@ fn wanted_by(name: &str, line: &str) -> Result<Wanted, Error> {
     Wanted::of(name).ok_or_else(|| Error::Form(line.to_string()))
 }
 
-/// Manifest, card and targets, as a plan's line has them.
+/// Bundle, card and targets, as a plan's line has them.
 impl Display for Lent {
     fn fmt(&self, f: &mut Formatter) -> fmt::Result {
-        write!(f, "{} {} {}", Hex(&self.manifest), Hex(&self.card), Hex(&self.targets))
+        write!(f, "{} {} {}", Hex(&self.bundle), Hex(&self.card), Hex(&self.targets))
     }
 }
 
@@ -93,14 +94,14 @@ impl FromStr for Lent {
     fn from_str(line: &str) -> Result<Self, Error> {
         let words: Vec<&str> = line.split(' ').collect();
         match words[..] {
-            [manifest, card, targets] => lent(manifest, card, targets),
+            [bundle, card, targets] => lent(bundle, card, targets),
             _ => Err(Error::Form(line.to_string())),
         }
     }
 }
 
-fn lent(manifest: &str, card: &str, targets: &str) -> Result<Lent, Error> {
-    Ok(Lent { manifest: unhex(manifest)?, card: unhex(card)?, targets: unhex(targets)? })
+fn lent(bundle: &str, card: &str, targets: &str) -> Result<Lent, Error> {
+    Ok(Lent { bundle: unhex(bundle)?, card: unhex(card)?, targets: unhex(targets)? })
 }
 
 impl Display for Answer {
@@ -147,7 +148,10 @@ impl Display for Refusal {
 
 impl Display for Place {
     fn fmt(&self, f: &mut Formatter) -> fmt::Result {
-        self.value().fmt(f)
+        match self {
+            Place::Number(number) => number.fmt(f),
+            Place::Text { record, offset } => write!(f, "{record}:{offset}"),
+        }
     }
 }
 
@@ -155,7 +159,12 @@ impl FromStr for Place {
     type Err = Error;
 
     fn from_str(word: &str) -> Result<Self, Error> {
-        number::<usize>(word).map(Place::from)
+        match word.split_once(':') {
+            Some((record, offset)) => {
+                Ok(Place::Text { record: number(record)?, offset: number(offset)? })
+            }
+            None => number(word).map(Place::Number),
+        }
     }
 }
 

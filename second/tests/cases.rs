@@ -4,7 +4,7 @@ use second::cases::{
     ask_lines, check, files, folder, pack, parse, program_line, read, texts_lines,
 };
 use second::cases::{Error, Expected, Fault, TooGreat};
-use second::{Answer, Refusal};
+use second::{bundle, Answer, Lent, Place, Refusal};
 use std::fs;
 use std::path::Path;
 
@@ -45,7 +45,7 @@ case two
     | no work
 ";
     let cases = parse("sample", content).unwrap();
-    assert_eq!(cases[0].lent.manifest, b"a = 000,101,202, \n\nb\0");
+    assert_eq!(cases[0].manifest_alone(), Some(&b"a = 000,101,202, \n\nb\0"[..]));
     let header = [2, 0, 0, 0, 16, 0, 0, 0, 48, 0, 0, 0, 52, 0, 0, 0];
     let records = [
         0, 0, 0, 0, 1, 0, 0, 0, 5, 0, 0, 0, 0, 0, 0, 0, 1, 0, 0, 0, 3, 0, 0, 0, 6, 0, 0, 0, 0, 0,
@@ -53,31 +53,73 @@ case two
     ];
     assert_eq!(cases[0].lent.card, [&header[..], &records, b"ab c"].concat());
     assert_eq!(cases[0].lent.targets, b"a\nb c\n");
-    let marked = Expected::One(Answer::Refused(Refusal::new(3, 19)));
+    let place = Place::Text { record: 0, offset: 19 };
+    let marked = Expected::One(Answer::Refused(Refusal::new(3, place)));
     assert_eq!(cases[0].asks[0].1, marked);
-    assert_eq!(cases[1].lent.manifest, cases[0].lent.manifest);
+    assert_eq!(cases[1].lent.bundle, cases[0].lent.bundle);
     assert_eq!(cases[1].lent.card, [1, 0, 0, 0, 2]);
-    let (manifest, lent) = ("61203d203030302c3130312c3230322c200a0a6200", "0100000002 610a");
+    let bundle: String = cases[0].lent.bundle.iter().map(|byte| format!("{byte:02x}")).collect();
+    assert!(bundle.ends_with("61203d203030302c3130312c3230322c200a0a6200"));
+    let lent = "0100000002 610a";
     assert_eq!(
         ask_lines(&cases[1]),
         [
-            format!("two plan {manifest} {lent} 512 -> circle 1 2 or 3"),
-            format!("two text {manifest} 7 description 9000 -> text 7878"),
+            format!("two plan {bundle} {lent} 512 -> circle 1 2 or 3"),
+            format!("two text {bundle} 7 description 9000 -> text 7878"),
         ]
     );
     assert_eq!(
         texts_lines(&cases[1]),
         [
             format!(
-                "two texts {manifest} command 9000 4 0 1 7 -> texts 612c203d207265667573656420 -"
+                "two texts {bundle} command 9000 4 0 1 7 -> texts 612c203d207265667573656420 -"
             ),
-            format!("two texts {manifest} description 9000 4 -> texts"),
-            format!("two texts {manifest} command 9000 4 4294967295 -> refused 18 at 4294967295"),
+            format!("two texts {bundle} description 9000 4 -> texts"),
+            format!("two texts {bundle} command 9000 4 4294967295 -> refused 18 at 4294967295"),
         ]
     );
-    let program = format!("two program {manifest} {lent} -> text 6e6f20776f726b0a");
+    let program = format!("two program {bundle} {lent} -> text 6e6f20776f726b0a");
     assert_eq!(program_line(&cases[1]), Some(program));
     assert_eq!(program_line(&cases[0]), None);
+}
+
+#[test]
+fn files_are_read_as_described() {
+    let content = r"
+case one
+  says x
+  file a\sb
+    | x = 1
+    + \@y
+  files \{2 \i }
+  file c
+  plan refused 3 at @
+case two
+  says x
+  manifest of one
+  bundle put 12 4:7 =z
+  bundle cut 3
+  bundle put end =yy
+  plan refused 19 at 0
+case three
+  says x
+  bundle raw 4:1 =a
+  plan refused 4 at 2:17
+";
+    let cases = parse("sample", content).unwrap();
+    let files: &[(&[u8], &[u8])] = &[(b"a b", b"x = 1\ny"), (b"0", b""), (b"1", b""), (b"c", b"")];
+    let bundle = bundle::write(files);
+    assert_eq!(cases[0].lent.bundle, bundle);
+    let refused = |number, place| Expected::One(Answer::Refused(Refusal::new(number, place)));
+    assert_eq!(cases[0].asks[0].1, refused(3, Place::Text { record: 0, offset: 6 }));
+    assert_eq!(cases[0].manifest_alone(), None);
+    let end = bundle.len() - 3;
+    assert_eq!(
+        cases[1].lent.bundle,
+        [&bundle[..12], b"\x07\0\0\0z", &bundle[17..end], b"yy"].concat()
+    );
+    assert_eq!(cases[2].lent.bundle, [1, 0, 0, 0, b'a']);
+    assert_eq!(cases[2].asks[0].1, refused(4, Place::Text { record: 2, offset: 17 }));
 }
 
 #[test]
@@ -104,6 +146,10 @@ fn errors_name_file_and_line() {
         ("case a\nmanifest\nplan list", "f:1: the case a has no `says`, `reading` or `manual`"),
         ("case a\nsays x", "f:1: the case a has no manifest"),
         ("case a\nsays x\nmanifest\ncase b", "f:1: the case a has no expected answer"),
+        (
+            "case a\nsays x\nfile b\nprints",
+            "f:1: the case a has no manifest that the program would lend: `build.ninja` alone",
+        ),
     ] {
         assert_eq!(parse("f", content).unwrap_err().to_string(), error);
     }
@@ -124,6 +170,18 @@ fn faults_of_lines() {
         ("plan refused 4", expected("`refused NUMBER at PLACE`")),
         ("plan refused x at 0", number("x")),
         ("plan refused 4 at x", number("x")),
+        ("plan refused 4 at 0:x", number("0:x")),
+        ("plan refused 4 at 7", Fault::Place(Refusal::new(4, 7))),
+        ("plan refused 19 at 7", Fault::Place(Refusal::new(19, 7))),
+        ("plan refused 15 at 0:7", Fault::Place(Refusal::new(15, 7).in_text(0))),
+        ("file a", Fault::Second("manifest")),
+        ("files a", Fault::Second("manifest")),
+        ("bundle raw =", Fault::Second("manifest")),
+        ("bundle", expected("`bundle raw`, `bundle cut` or `bundle put`")),
+        ("bundle cut 44", Fault::Beyond(44)),
+        ("bundle put 44 =a", Fault::Beyond(44)),
+        ("bundle put x =a", number("x")),
+        ("bundle put 0 a", expected("`WIDTH:NUMBER` or `=TEXT`")),
         ("plan steps 1", expected("`list`, `circle` or `refused`")),
         ("plan list 4294967296", number("4294967296")),
         ("plan circle", Fault::EmptyCircle),
@@ -198,6 +256,33 @@ fn packed_numbers_have_four_bytes() {
     };
     assert!(pack(&case(0xffff_ffff)).is_ok());
     assert_eq!(pack(&case(0x1_0000_0000)), Err(TooGreat(0x1_0000_0000)));
+}
+
+/// The proved program `cases` reads what a case lends into a buffer of 65,536 bytes.
+#[test]
+fn packed_cases_have_room() {
+    for case in read(&files(&folder()).unwrap()).unwrap() {
+        let Lent { bundle, card, targets } = &case.lent;
+        let length = case.name.len() + bundle.len() + card.len() + targets.len();
+        assert!(length <= 65_536, "{}: {length}", case.name);
+    }
+}
+
+/// An answer has its number, its text's record and one more, and its value in two numbers.
+#[test]
+fn packed_places() {
+    let packed = |lines: &str| pack(&parse("f", &format!("case a\nsays x\n{lines}\n")).unwrap());
+    let answer = |lines: &str| {
+        let packed = packed(lines).unwrap();
+        let end = packed.len() - 20;
+        let words = packed[end - 20..end].chunks(4).map(|word| word[0]);
+        words.collect::<Vec<u8>>()
+    };
+    assert_eq!(answer("manifest\nplan list"), [0, 0, 0, 0, 0]);
+    assert_eq!(answer("manifest\nplan refused 15 at 7"), [15, 0, 7, 0, 0]);
+    assert_eq!(answer("manifest\nplan refused 4 at 0:7"), [4, 1, 7, 0, 0]);
+    assert_eq!(answer("file a\nfile b\nplan refused 19 at 1:9"), [19, 2, 9, 0, 0]);
+    assert_eq!(answer("bundle raw\nplan refused 19 at 0"), [19, 0, 0, 0, 0]);
 }
 
 /// A texts ask changes nothing of what is packed, and a case with no other is left out.

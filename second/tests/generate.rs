@@ -2,7 +2,7 @@
 
 use second::generate::{ask, small_ask, SMALL};
 use second::kind::Kind;
-use second::{wire, Answer, Ask, Lent, Refusal, Wanted};
+use second::{bundle, wire, Answer, Ask, Lent, Place, Refusal, Wanted};
 use std::collections::BTreeMap;
 
 const ASKS: u64 = 20_000;
@@ -31,20 +31,24 @@ fn every_answer_occurs() {
 #[test]
 fn small_asks_are_small_and_reach_all_but_one_refusal() {
     check(&count(small_ask), Kind::all().filter(|&kind| kind != Kind::Refused(2)));
-    assert!((0..ASKS).all(|seed| small_ask(seed).lent.manifest.len() <= SMALL));
+    let texts = |bundle: &[u8]| {
+        bundle::read(bundle).map_or(0, |files| files.iter().map(|file| file.text.len()).sum())
+    };
+    assert!((0..ASKS).all(|seed| texts(&small_ask(seed).lent.bundle) <= SMALL));
 }
 
 #[test]
 fn asks_and_answers_as_lines() {
-    let lent = Lent { manifest: b"\n".to_vec(), card: vec![], targets: vec![97] };
-    let plan = Ask::plan(lent);
-    assert_eq!(plan.to_string(), "plan 0a - 61 512");
+    let alone = bundle::alone(b"\n");
+    let hex: String = alone.iter().map(|byte| format!("{byte:02x}")).collect();
+    let plan = Ask::plan(Lent { bundle: alone, card: vec![], targets: vec![97] });
+    assert_eq!(plan.to_string(), format!("plan {hex} - 61 512"));
     assert_eq!(plan.answer().to_string(), "refused 11 at 0");
     let text = Ask::text(*b"\n", 7, Wanted::Description);
-    assert_eq!(text.to_string(), "text 0a 7 description 8192");
+    assert_eq!(text.to_string(), format!("text {hex} 7 description 8192"));
     let texts = Ask::texts(*b"\n", &[7, 0, u32::MAX], Wanted::Command);
-    assert_eq!(texts.to_string(), "texts 0a command 8192 3 7 0 4294967295");
-    let none = Ask::texts(*b"", &[], Wanted::Description);
+    assert_eq!(texts.to_string(), format!("texts {hex} command 8192 3 7 0 4294967295"));
+    let none = Ask { lent: Lent::bundle([]), ..Ask::texts(b"", &[], Wanted::Description) };
     assert_eq!(none.to_string(), "texts - description 8192 0");
     for ask in [plan, text, texts, none].into_iter().chain((0..200).map(ask)) {
         assert_eq!(ask.to_string().parse(), Ok(ask));
@@ -57,7 +61,11 @@ fn asks_and_answers_as_lines() {
         (Answer::Text(b"cc".to_vec()), "text 6363"),
         (Answer::Texts(vec![]), "texts"),
         (Answer::Texts(vec![vec![], b"cc".to_vec()]), "texts - 6363"),
-        (Answer::Refused(Refusal::new(4, 17)), "refused 4 at 17"),
+        (Answer::Refused(Refusal::new(12, 17)), "refused 12 at 17"),
+        (
+            Answer::Refused(Refusal::new(4, Place::Text { record: 2, offset: 17 })),
+            "refused 4 at 2:17",
+        ),
     ] {
         assert_eq!(answer.to_string(), line);
         assert_eq!(line.parse(), Ok(answer));
@@ -82,7 +90,10 @@ fn lines_that_are_none() {
     for line in ["", "circles 0", "refused 4", "refused 4 of 17", "text"] {
         assert_eq!(line.parse::<Answer>(), Err(form(line)));
     }
-    for line in ["list -1", "circle ", "refused 256 at 0", "refused 4 at -1"] {
+    for line in [
+        "list -1", "circle ", "refused 256 at 0", "refused 4 at -1", "refused 4 at 0:",
+        "refused 4 at 0:1:2",
+    ] {
         assert!(matches!(line.parse::<Answer>(), Err(wire::Error::Number(_))), "{line}");
     }
 }

@@ -1,11 +1,12 @@
 //! The settled readings of document 01, one test for each group of them, by their numbers.
 
 use second::manifest::{self, Manifest};
-use second::{card, Answer, Ask, Lent, Question, Refusal, Wanted};
+use second::{bundle, card, Answer, Ask, Lent, Place, Question, Refusal, Wanted};
 
 /// `None` if the manifest is sound, else the refusal's number and place.
 fn refused(manifest: &str) -> Option<(u8, usize)> {
-    let refusal = manifest::read(manifest.as_bytes()).err()?;
+    let refusal = manifest::read(&bundle::alone(manifest.as_bytes())).err()?;
+    assert_eq!(refusal.place.text(), usize::from(refusal.number != 2));
     Some((refusal.number, refusal.place.value()))
 }
 
@@ -25,7 +26,8 @@ fn all_sound(manifests: &[&str]) {
 
 /// The names of the files, by number.
 fn files(manifest: &str) -> Vec<String> {
-    let manifest: Manifest = manifest::read(manifest.as_bytes()).expect("a sound manifest");
+    let bundle = bundle::alone(manifest.as_bytes());
+    let manifest: Manifest = manifest::read(&bundle).expect("a sound manifest");
     manifest.files.names.iter().map(|name| String::from_utf8_lossy(name).into_owned()).collect()
 }
 
@@ -46,8 +48,8 @@ fn card(records: &[(&str, u64)]) -> Vec<u8> {
 }
 
 fn plan(manifest: &str, card: &[u8], targets: &str) -> Answer {
-    Ask::plan(Lent { manifest: manifest.into(), card: card.into(), targets: targets.into() })
-        .answer()
+    let bundle = bundle::alone(manifest.as_bytes());
+    Ask::plan(Lent { bundle, card: card.into(), targets: targets.into() }).answer()
 }
 
 fn planned(manifest: &str, records: &[(&str, u64)], targets: &str) -> Answer {
@@ -55,6 +57,10 @@ fn planned(manifest: &str, records: &[(&str, u64)], targets: &str) -> Answer {
 }
 
 fn refusal(number: u8, place: usize) -> Answer {
+    let place = match number {
+        3..=10 => Place::Text { record: 0, offset: place },
+        _ => Place::Number(place),
+    };
     Answer::Refused(Refusal::new(number, place))
 }
 
@@ -97,8 +103,8 @@ fn reading_6_keywords_begin_statements() {
 
 #[test]
 fn readings_7_8_9_words_before_later_faults() {
-    all_refused(4, 0, &["build a: build $.\n", "rule default $.\n"]);
-    all_refused(6, 0, &["build a: pool $.\n", "rule include\n", "pool\n", "subninja $.\n"]);
+    all_refused(4, 0, &["build a: build $.\n", "rule default $.\n", "build a: include $.\n"]);
+    all_refused(6, 0, &["build a: pool $.\n", "rule pool\n", "pool\n", "pool $.\n"]);
     all_refused(4, 15, &["build a: phony\n rule = $.\n"]);
     all_refused(6, 15, &["build a: phony\n pool = $.\n", "build a: phony\n  restat\n"]);
     all_refused(6, 0, &["depfile x\n", "deps\n", "dyndep$.\n", "rspfile_content = $.\n"]);
@@ -335,7 +341,7 @@ fn reading_26_sources_and_phony_times() {
 
 #[test]
 fn order_of_the_checks_before_the_lines() {
-    let lent = Lent { manifest: vec![0], card: vec![], targets: b"x".to_vec() };
+    let lent = Lent { bundle: bundle::alone(b"\0"), card: vec![], targets: b"x".to_vec() };
     let answer = |question| Ask { lent: lent.clone(), question }.answer();
     assert_eq!(answer(Question::Plan { list_len: 511 }), refusal(1, 0));
     assert_eq!(answer(Question::Plan { list_len: 512 }), refusal(3, 0));
@@ -357,4 +363,47 @@ fn refusal_18() {
     }
     let phony = Ask::text(*b"build a: phony\n command = x\n", 0, Wanted::Command);
     assert_eq!(phony.answer(), refusal(18, 0));
+}
+
+/// What a bundle of these files is refused with, as it is printed.
+fn refused_of(files: &[(&str, &str)]) -> Option<String> {
+    let files: Vec<_> =
+        files.iter().map(|(name, text)| (name.as_bytes(), text.as_bytes())).collect();
+    manifest::read(&bundle::write(&files)).err().map(|refusal| refusal.to_string())
+}
+
+#[test]
+fn document_02_readings_3_and_6_openings() {
+    let other = |text| refused_of(&[("t", text), ("a", "x = 1\n"), ("=", "")]);
+    let form = ["include\n", "include a a\n", "include a:\n", "subninja a|\n", "include a $%\n"];
+    for text in form.into_iter().chain(["include = x\n", "rule include\n", "includea\n"]) {
+        assert_eq!(other(text).as_deref(), Some("refused 4 at 0:0"), "{text:?}");
+    }
+    for text in ["include a\n", "subninja $\n  a \n", "include =\n", "v = a\ninclude $v\n"] {
+        assert_eq!(other(text), None, "{text:?}");
+    }
+    assert_eq!(other("include $%\n").as_deref(), Some("refused 5 at 0:8"));
+    assert_eq!(other("include $u\n").as_deref(), Some("refused 8 at 0:0"));
+    assert_eq!(other("#\nsubninja b\n").as_deref(), Some("refused 19 at 0:2"));
+    let long = format!("include {}\n", "n".repeat(256));
+    assert_eq!(other(&long).as_deref(), Some("refused 9 at 0:0"));
+}
+
+#[test]
+fn document_02_readings_2_4_and_5_files() {
+    let two = |top, other| refused_of(&[("t", top), ("a", other)]);
+    assert_eq!(two("x = 1\n", "\t").as_deref(), Some("refused 3 at 1:0"));
+    assert_eq!(two("x = 1\n", "x").as_deref(), Some("refused 3 at 1:1"));
+    assert_eq!(two("x = 1\n", "no form\n"), None);
+    assert_eq!(two("rule r\ninclude b\n", "").as_deref(), Some("refused 7 at 0:0"));
+    assert_eq!(
+        two("include a\n x = 1\n", "build o: phony\n").as_deref(),
+        Some("refused 4 at 0:10")
+    );
+    assert_eq!(two("include a\n", "#\nrule r\n").as_deref(), Some("refused 7 at 1:2"));
+    assert_eq!(two("include a\n", "#\ninclude t\n").as_deref(), Some("refused 19 at 1:2"));
+    let often = "include a\n".repeat(64);
+    assert_eq!(two(&often, "").as_deref(), Some("refused 19 at 0:630"));
+    assert_eq!(two(&often[10..], ""), None);
+    assert_eq!(two(&often[10..], &"x =\n".repeat(17)).as_deref(), Some("refused 9 at 1:16"));
 }

@@ -43,9 +43,14 @@ fn transcribed(ask: &Ask) -> Option<Outcome> {
     if *buf_len < limits::TEXT {
         return Some(Outcome::refused(Refusal::new(1, 0), 0));
     }
-    let single = |step| Ask::text(ask.lent.manifest.clone(), step as usize, *wanted).answer();
+    let single = |step| {
+        let question = Question::text(step as usize, *wanted);
+        Ask { lent: ask.lent.clone(), question }.answer()
+    };
     // what the reading refuses it refuses for any step, and with an empty list too
-    if let Some(refusal) = single(0).refusal().filter(|refusal| refusal.number <= 10) {
+    if let Some(refusal) =
+        single(0).refusal().filter(|refusal| matches!(refusal.number, 1..=10 | 19))
+    {
         return Some(Outcome::refused(refusal, 0));
     }
     let (mut texts, mut written) = (Vec::new(), 0);
@@ -118,10 +123,10 @@ fn compared(draw: fn(u64) -> Ask) -> Counts {
 
 #[test]
 fn texts_are_as_transcribed() {
-    compared(ask).check((1..=10).chain(16..=18));
+    compared(ask).check((1..=10).chain(16..=19));
 }
 
 #[test]
 fn texts_of_small_manifests_are_as_transcribed() {
-    compared(small_ask).check([1].into_iter().chain(3..=10).chain(16..=18));
+    compared(small_ask).check([1].into_iter().chain(3..=10).chain(16..=19));
 }

@@ -7,7 +7,7 @@ use compare::asks::{asked, compare};
 use compare::measure::{both, row, row_of};
 use kestrenyo::lent;
 use second::kind::Kind;
-use second::{limits, shapes, Ask, Lent, Question, Wanted};
+use second::{bundle, limits, shapes, Ask, Lent, Question, Wanted};
 
 fn main() {
     clearing();
@@ -21,7 +21,7 @@ fn main() {
 
 /// What any ask costs: the buffers of its own that it clears.
 fn clearing() {
-    measure("plan of an empty manifest", &Ask::plan(Lent::manifest([])));
+    measure("plan of an empty manifest", &Ask::plan(Lent::alone([])));
     measure("text of an empty manifest (18)", &Ask::text([], 0, Wanted::Command));
 }
 
@@ -35,6 +35,7 @@ fn plans() {
 
 fn texts() {
     for shape in shapes::all(limits::STEPS) {
+        let bundle = bundle::alone(&shape.manifest);
         let asks: Vec<Ask> = (0..limits::STEPS)
             .map(|step| Ask::text(shape.manifest.clone(), step, Wanted::Command))
             .collect();
@@ -47,7 +48,7 @@ fn texts() {
         let (ours, theirs) = both(
             || {
                 lent::text(
-                    &shape.manifest,
+                    &bundle,
                     our_step.next().expect("a step"),
                     kestrenyo::Wanted::Command,
                     &mut buffer,
@@ -64,11 +65,11 @@ fn many_texts() {
     const ROOM: usize = 64 << 10;
     let steps: Vec<u32> = (0..limits::STEPS as u32).collect();
     for shape in shapes::all(limits::STEPS) {
-        let (manifest, ends_len) = (shape.manifest, steps.len());
+        let (bundle, ends_len) = (bundle::alone(&shape.manifest), steps.len());
         let (steps, wanted) = (steps.clone(), Wanted::Command);
         let question = Question::Texts { steps, wanted, buf_len: ROOM, ends_len };
-        let ask = Ask { lent: Lent::manifest(manifest.clone()), question };
-        let all = Kind::of(&ask.answer()) == Kind::Texts && ask.answer().numbers().1 == ends_len;
+        let ask = Ask { lent: Lent::bundle(&bundle[..]), question };
+        let all = Kind::of(&ask.answer()) == Kind::Texts && ask.answer().numbers().2 == ends_len;
         assert!(all, "{}: not all texts have room", shape.name);
         measure(&format!("texts of 512 steps in one ask: {}", shape.name), &ask);
 
@@ -76,10 +77,10 @@ fn many_texts() {
         let Question::Texts { steps, .. } = &ask.question else { continue };
         let command = kestrenyo::Wanted::Command;
         let (one, each) = both(
-            || lent::texts(&manifest, steps, command, &mut bytes, &mut ends),
+            || lent::texts(&bundle, steps, command, &mut bytes, &mut ends),
             || {
                 steps.iter().for_each(|&step| {
-                    lent::text(&manifest, step as usize, command, &mut buffer);
+                    lent::text(&bundle, step as usize, command, &mut buffer);
                 })
             },
         );
@@ -91,20 +92,20 @@ fn many_texts() {
 /// Both planners on an ask, after seeing that they agree on it.
 fn measure(name: &str, ask: &Ask) {
     let kind = compare(ask).unwrap_or_else(|difference| panic!("{name}: {difference}"));
-    let Lent { manifest, card, targets } = &ask.lent;
+    let Lent { bundle, card, targets } = &ask.lent;
     let (ours, theirs) = match ask.question {
         Question::Plan { list_len } => {
             let mut list = vec![0; list_len];
-            both(|| lent::plan(manifest, card, targets, &mut list), || ask.answer())
+            both(|| lent::plan(bundle, card, targets, &mut list), || ask.answer())
         }
         Question::Text { step, wanted, buf_len } => {
             let mut buffer = vec![0; buf_len];
-            both(|| lent::text(manifest, step, asked(wanted), &mut buffer), || ask.answer())
+            both(|| lent::text(bundle, step, asked(wanted), &mut buffer), || ask.answer())
         }
         Question::Texts { ref steps, wanted, buf_len, ends_len } => {
             let (mut bytes, mut ends) = (vec![0; buf_len], vec![0; ends_len]);
             let wanted = asked(wanted);
-            both(|| lent::texts(manifest, steps, wanted, &mut bytes, &mut ends), || ask.answer())
+            both(|| lent::texts(bundle, steps, wanted, &mut bytes, &mut ends), || ask.answer())
         }
     };
     row(&format!("{name}: {kind}"), ours, theirs);

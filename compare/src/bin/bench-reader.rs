@@ -5,7 +5,7 @@
 use compare::manifest::Buffers;
 use compare::measure::{rounds, row};
 use compare::names::bucket;
-use second::manifest;
+use second::{bundle, manifest};
 use std::fmt::Write;
 use std::time::{Duration, Instant};
 
@@ -20,20 +20,21 @@ fn main() {
     let word = std::env::args().nth(1).unwrap_or_default();
     for (name, manifest) in shapes.iter().chain(&hard).filter(|(name, _)| name.contains(&word)) {
         assert!(manifest.len() <= MOST, "{name}: {} bytes", manifest.len());
+        let bundle = bundle::alone(manifest);
         let began = Instant::now();
-        let said = buffers.read(manifest);
+        let said = buffers.read(&bundle);
         let count = match began.elapsed().as_millis() {
             0..10 => 201,
             10..1_000 => 3,
             _ => 1,
         };
-        let theirs = manifest::read(manifest).map_or_else(
-            |refusal| (usize::from(refusal.number), refusal.place.value()),
-            |_| (0, 0),
+        let theirs = manifest::read(&bundle).map_or_else(
+            |refusal| (usize::from(refusal.number), refusal.place.text(), refusal.place.value()),
+            |_| (0, 0, 0),
         );
-        assert_eq!((said.number, said.place), theirs, "{name}");
+        assert_eq!((said.number, said.text, said.place), theirs, "{name}");
         let (ours, theirs) =
-            rounds(count, || buffers.read(manifest), || manifest::read(manifest).is_ok());
+            rounds(count, || buffers.read(&bundle), || manifest::read(&bundle).is_ok());
         row(&format!("{name} ({})", said.number), ours, theirs);
         if ours.median > worst.0 {
             worst = (ours.median, name.clone());

@@ -5,7 +5,7 @@
 use compare::asks::{compare, run, Counts};
 use compare::minimise::minimise;
 use second::kind::Kind;
-use second::Ask;
+use second::{bundle, Ask};
 use std::process::ExitCode;
 use std::time::Instant;
 
@@ -48,11 +48,14 @@ fn main() -> ExitCode {
     }
 }
 
-/// An ask as a line, the second planner's answer, and the manifest as text.
+/// An ask as a line, the second planner's answer, and the files by name.
 fn show(which: &str, ask: &Ask) {
     println!("-- {which}: {ask}");
     if let Err(difference) = compare(ask) {
         println!("-- {difference}; the second planner: {}", ask.answer());
     }
-    println!("{}", String::from_utf8_lossy(&ask.lent.manifest));
+    for file in bundle::read(&ask.lent.bundle).unwrap_or_default() {
+        let text = String::from_utf8_lossy(file.text);
+        println!("-- {}\n{text}", file.name.escape_ascii());
+    }
 }

@@ -13,6 +13,14 @@ pub struct Numbers {
     pub value: usize,
 }
 
+// The same for callers outside: where its place stands in a text, the number of the text and one more; 0 where its value is a number by itself.
+#[repr(C)]
+pub struct Placed {
+    pub number: usize,
+    pub text: usize,
+    pub value: usize,
+}
+
 fn told(number: usize, text: bool, value: usize) -> Numbers
     ensures { λ x. ⌜ said x ≡ saying number text value ⌝ }
 {
@@ -45,6 +53,8 @@ pub fn of_refusal(r: Refusal) -> Numbers
         Refusal::EndlessText(s) => told(16, false, s),
         Refusal::LongText(s) => told(17, false, s),
         Refusal::NoCommand(s) => told(18, false, s),
+        Refusal::BadBundle => told(19, false, 0),
+        Refusal::BadOpen(p) => told(19, true, p),
     }
 }
 

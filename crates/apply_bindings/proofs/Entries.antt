@@ -19,7 +19,7 @@ use Rattle.hold_reading.proofs.Grow.{bound-room}
 use Rattle.apply_bindings.specs.Limits.{bindingOver, EntryFits, EntryReady}
 
 pub fits-room : {log : List Logged} {texts bind : List ℕ} {c : Counts} {rd : Reading} {e : Logged} → HoldsBound log texts bind c rd → EntryFits c e → EntryRoom log texts bind (c .entries) e
-fits-room {e = e} b f = bound-room b e (omega (arith, b .entries-counted, b .few-rules, f .few)) (f .low) (f .owner) (f .binds) (f .name)
+fits-room {e = e} b f = bound-room b e (omega (arith, b .entries-counted, b .few-rules, b .few-opened, f .few)) (f .low) (f .owner) (f .binds) (f .name)
 
 pub ready-room : {texts bind : List ℕ} {c : Counts} {e : Logged} → EntryReady texts bind c e → HasRoom texts bind (c .entries) e
 ready-room r = record { log = r .log; room = fits-room (r .bound) (r .fits) }

@@ -37,11 +37,14 @@ module _ {log : List Logged} {bs : Buffers} {c : Counts} {rd : Reading} (h : Hol
         rules-counted = d .rules-counted;
         bindings-counted = d .bindings-counted;
         written-counted = ap (λ (x : ℕ). x + n) (d .written-counted);
+        opened-counted = d .opened-counted;
+        few-scopes = d .few-scopes;
         entries-counted = d .entries-counted;
         few-rules = d .few-rules;
         few-bindings = d .few-bindings;
         few-steps = d .few-steps;
         few-written = w .low;
+        few-opened = d .few-opened;
         shared = omega (arith, d .shared);
       }
 

@@ -17,7 +17,7 @@ use Rattle.hold_reading.specs.Buffers.{Buffers, buffers, withGraph}
 -- the reading with a default more: a file's number, and its path's bytes
 unfoldable pub defaulted : ℕ → ℕ → Reading → Reading
 defaulted k n rd =
-    record { rules = rd .rules; vars = rd .vars; files = rd .files; steps = rd .steps; defaults = rd .defaults ++ (k ∷ []); bindings = rd .bindings; mentions = rd .mentions + 1; written = rd .written + n }
+    record { rules = rd .rules; vars = rd .vars; files = rd .files; steps = rd .steps; defaults = rd .defaults ++ (k ∷ []); bindings = rd .bindings; mentions = rd .mentions + 1; written = rd .written + n; opened = rd .opened }
 
 abbrev pub countedDefault : ℕ → Counts → Counts
 countedDefault n c =
@@ -31,6 +31,7 @@ countedDefault n c =
       bindings = c .bindings;
       mentions = c .mentions + 1;
       written = c .written + n;
+      opened = c .opened;
     }
 
 pub record PutAsks (names index graph : List ℕ) (c : Counts) (path : List ℕ) : Type 0 where

@@ -72,11 +72,14 @@ module _ {bs : Buffers} {c : Counts} {h : LineHeld} (w : Writing bs c h) (p : Li
         rules-counted = b .rules-counted;
         bindings-counted = b .bindings-counted;
         written-counted = omega (arith, b .written-counted);
+        opened-counted = b .opened-counted;
+        few-scopes = b .few-scopes;
         entries-counted = b .entries-counted;
         few-rules = b .few-rules;
         few-bindings = b .few-bindings;
         few-steps = b .few-steps;
         few-written = l .low;
+        few-opened = b .few-opened;
         shared = omega (arith, b .shared, concat-mention (h .reading .files) p);
       }
 

@@ -29,6 +29,7 @@ countedPath files n c =
       bindings = c .bindings;
       mentions = c .mentions + 1;
       written = c .written + n;
+      opened = c .opened;
     }
 
 -- the number of a file at the end of the mentions

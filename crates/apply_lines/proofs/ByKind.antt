@@ -12,19 +12,20 @@ use Rattle.scan_lines.proofs.LineKinds.{is-comment, is-blank, is-indented, is-s
 use Rattle.hold_reading.specs.declared.Counts.{Counts}
 use Rattle.hold_reading.specs.declared.Open.{Open}
 use Rattle.hold_reading.specs.declared.LineAnswer.{LineAnswer}
-use Rattle.hold_reading.specs.declared.LineAnswer.the-variants.{Goes}
-use Rattle.hold_reading.specs.Held.{goes}
+use Rattle.hold_reading.specs.declared.LineTurn.{LineTurn}
+use Rattle.hold_reading.specs.declared.LineTurn.the-variants.{Goes as TurnGoes}
+use Rattle.hold_reading.specs.Held.{turn-goes}
 use Rattle.hold_reading.specs.Binds.{Meets}
 use Rattle.apply_indented.specs.Asks.{IndentedAsks}
-use Rattle.apply_statements.specs.Asks.{LineAsks, LineMeets}
-use Rattle.apply_statements.proofs.Outcomes.{binding-met, line-as, between-sound}
+use Rattle.apply_statements.specs.Asks.{LineAsks, LineMeets, TurnMeets}
+use Rattle.apply_statements.proofs.Outcomes.{binding-met, line-as, turn-as, between-sound}
 use Rattle.hold_reading.specs.Buffers.{Buffers, withBindings}
 
 -- k is the kind that was found, and it is the one that is named.
 module _ (l : Line) {k : LineKind} (a : k ≡ kindOf (l .text)) {bs : Buffers} {c : Counts} {o : Open} where
-  pub comment-read : k ≡ Comment → LineMeets bs c o (readLine l) bs (Goes c o)
+  pub comment-read : k ≡ Comment → TurnMeets l bs c o (readLine l) bs (TurnGoes c o)
   unfolding readLine
-  comment-read e = record { agrees = λ log rd b h p. rw (is-comment (l .text) (sym e ∙ a)) (goes h p) }
+  comment-read e = record { agrees = λ log rd b h p. rw (is-comment (l .text) (sym e ∙ a)) (turn-goes h p) }
 
   pub blank-read : {r : LineAnswer} → k ≡ Blank → Meets (bs .texts) (bs .bind) c o close (bs .texts) (bs .bind) r → LineMeets bs c o (readLine l) bs r
   unfolding readLine
@@ -35,11 +36,11 @@ module _ (l : Line) {k : LineKind} (a : k ≡ kindOf (l .text)) {bs : Buffers} {
   unfolding readLine
   indented-read e m = let w = is-indented (l .text) (sym e ∙ a) in line-as (λ rd b. rw (w .0, w .1, w .2)) (binding-met m)
 
-  pub statement-read : {bs′ : Buffers} {r : LineAnswer} → k ≡ Statement
-      → LineMeets bs c o (λ rd b. andThen (close rd b) (readStatement l)) bs′ r
-      → LineMeets bs c o (readLine l) bs′ r
+  pub statement-read : {bs′ : Buffers} {r : LineTurn} → k ≡ Statement
+      → TurnMeets l bs c o (λ rd b. andThen (close rd b) (readStatement l)) bs′ r
+      → TurnMeets l bs c o (readLine l) bs′ r
   unfolding readLine
-  statement-read e m = let w = is-statement (l .text) (sym e ∙ a) in line-as (λ rd b. rw (w .0, w .1, w .2)) m
+  statement-read e m = let w = is-statement (l .text) (sym e ∙ a) in turn-as (λ rd b. rw (w .0, w .1, w .2)) m
 
 pub indented-asks : {t : List ℕ} {start : ℕ} {l : List ℕ} {bs : Buffers} {word : List ℕ} {c : Counts} {o : Open}
     → LineAsks t start l bs word c o → IndentedAsks t start l (bs .texts) (bs .bind) word c o

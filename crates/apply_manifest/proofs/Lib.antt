@@ -1,4 +1,6 @@
+pub mod Texts
 pub mod Each
 pub mod Turns
+pub mod Files
 pub mod Answers
 pub mod Buffers

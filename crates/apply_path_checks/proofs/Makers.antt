@@ -122,11 +122,11 @@ module _ {names index graph word : List ℕ} {c : Counts} {n : ℕ} where
   pub made-held : n ≤ length word → {r : Bool} → ((log : List Logged) (rd : Reading) → Filed log names index graph c rd → r ≡ isMade (take n word) rd) → IsMade names index graph word c n r
   made-held l e = record { answer = λ path d w texts bind log rd h. e log rd (filed h) ∙ ap (λ (p : List ℕ). isMade p rd) (w l) }
 
-no-byte : (s : List ℕ) → length s ≡ 0 → isEmpty s ≡ true
+pub no-byte : (s : List ℕ) → length s ≡ 0 → isEmpty s ≡ true
 no-byte [] e = refl
 no-byte (b ∷ s) e = absurd (omega arith)
 
-some-byte : (s : List ℕ) → (length s ≡ 0 → ⊥) → isEmpty s ≡ false
+pub some-byte : (s : List ℕ) → (length s ≡ 0 → ⊥) → isEmpty s ≡ false
 some-byte [] e = absurd (e refl)
 some-byte (b ∷ s) e = refl
 

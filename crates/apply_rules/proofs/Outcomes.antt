@@ -33,7 +33,7 @@ use Rattle.hold_rules.proofs.Lookups.{keyed-held, bad-held, key-short}
 
 rule-room : {log : List Logged} {texts bind : List ℕ} {c : Counts} {rd : Reading} → HoldsBound log texts bind c rd → (n : List ℕ) → length n ≤ maxName → c .rules < maxRules
     → EntryRoom log texts bind (c .entries) (logged ofRules n [])
-rule-room d n s l = bound-room d (logged ofRules n []) (omega (arith, d .entries-counted, d .few-bindings)) (omega (arith, d .few-written)) (omega arith) (λ p. omega arith) s
+rule-room d n s l = bound-room d (logged ofRules n []) (omega (arith, d .entries-counted, d .few-bindings, d .few-opened)) (omega (arith, d .few-written)) (omega arith) (λ p. omega arith) s
 
 pub start-room : {texts bind : List ℕ} {c : Counts} → SoundBlock texts bind c Nothing → (n : List ℕ) → length n ≤ maxName → c .rules < maxRules
     → HasRoom texts bind (c .entries) (logged ofRules n [])

@@ -1,6 +1,6 @@
 -- What the rules answer to a line without indent, by its cut: one law for each answer.
 use Prim.Native.Nat.{ℕ, _≤_}
-use mathlib.Core.Bool.{true, false}
+use mathlib.Core.Bool.{Bool, true, false}
 use mathlib.Core.List.{List}
 use mathlib.Core.Path.{_≡_, _∙_, ap}
 use native.Mathlib.Nat.{le-trans}
@@ -14,28 +14,30 @@ use Rattle.spec.specs.Dollars.{expand}
 use Rattle.spec.specs.Lines.{Line}
 use Rattle.spec.specs.Forms.{BuildLine, rawValue, cutStatement, Form, fits}
 use Rattle.spec.specs.Reading.{Reading, fileVar, hasKey}
-use Rattle.spec.specs.Statements.{Block, noBlock, ruleBlock, buildBlock, Outcome, goesOn, refused, startRule, addStep, expandedLine, addDefaults, expanded, addVar, statement}
+use Rattle.spec.specs.Statements.{Block, noBlock, ruleBlock, buildBlock, Outcome, goesOn, startRule, addStep, expandedLine, addDefaults, expanded, addVar, statement}
 use Rattle.spec.specs.Manifest.{close, andThen, ifCut, readStatement}
 use Rattle.scan_raw.proofs.Faults.{raw-length}
 use Rattle.hold_bindings.specs.Log.{Logged}
 use Rattle.cut_refusals.specs.Cuts.{Wrong, SoundBinding}
 use Rattle.cut_forms.specs.declared.BuildPlaces.{BuildPlaces}
 use Rattle.cut_forms.specs.Paths.{PathsAt}
-use Rattle.cut_forms.specs.Statements.{Stands, RuleAt, BuildAt, DefaultAt}
+use Rattle.cut_forms.specs.Statements.{Stands, RuleAt, BuildAt, DefaultAt, OpenAt}
 use Rattle.hold_reading.specs.declared.Counts.{Counts}
 use Rattle.hold_reading.specs.declared.Open.{Open}
 use Rattle.hold_reading.specs.declared.Open.the-variants.{Nothing}
 use Rattle.hold_reading.specs.declared.LineAnswer.{LineAnswer}
 use Rattle.hold_reading.specs.declared.LineAnswer.the-variants.{Goes, Refused}
-use Rattle.hold_reading.specs.Held.{joined, OpensBlock, nothing, HoldsReading, refuses}
+use Rattle.hold_reading.specs.declared.LineTurn.{LineTurn}
+use Rattle.hold_reading.specs.declared.LineTurn.the-variants.{Opens as TurnOpens, Refused as TurnRefused}
+use Rattle.hold_reading.specs.Held.{joined, OpensBlock, nothing, HoldsReading, turnOf, turn-opens, turn-refuses}
 use Rattle.hold_reading.specs.Binds.{SoundBlock, Meets}
 use Rattle.hold_reading.specs.Adds.{Whole, AddsFiles}
 use Rattle.hold_reading.proofs.Lift.{met, sound, joined-none}
-use Rattle.hold_reading.proofs.Agreement.{agreed-on, agreed-refused}
+use Rattle.hold_reading.proofs.Agreement.{agreed-on, agreed-refused, turn-agrees}
 use Rattle.apply_variables.specs.Asks.{BindingAsks as ValueAsks}
 use Rattle.apply_builds.specs.Asks.{BuildAsks}
 use Rattle.apply_defaults.specs.Asks.{DefaultAsks}
-use Rattle.apply_statements.specs.Asks.{BetweenLines, LineAsks, LineMeets}
+use Rattle.apply_statements.specs.Asks.{BetweenLines, LineAsks, LineMeets, TurnMeets}
 use Rattle.hold_reading.specs.Buffers.{Buffers, withFiles, withBindings}
 
 -- ---- lines that bind, and lines that mention files
@@ -49,13 +51,17 @@ module _ {bs : Buffers} {c : Counts} where
       → LineMeets bs c Nothing (λ rd b. line rd) (withFiles bs names′ index′ graph′) r
   adding-met m = record { agrees = λ log rd b h p. m .agrees log rd (rw (joined-none rd p) at h) }
 
-  pub refused-met : {o : Open} {line : Reading → Block → Outcome} {bs′ : Buffers} {r : Refusal} → ((rd : Reading) (b : Block) → line rd b ≡ refused r)
-      → LineMeets bs c o line bs′ (Refused r)
-  refused-met e = record { agrees = λ log rd b h p. rw (e rd b) refuses }
-
   pub line-as : {o : Open} {line line′ : Reading → Block → Outcome} {bs′ : Buffers} {r : LineAnswer} → ((rd : Reading) (b : Block) → line rd b ≡ line′ rd b)
       → LineMeets bs c o line′ bs′ r → LineMeets bs c o line bs′ r
   line-as e m = record { agrees = λ log rd b h p. rw (e rd b) (m .agrees log rd b h p) }
+
+  pub turn-met : (l : Line) {o : Open} {line : Reading → Block → Outcome} {bs′ : Buffers} {r : LineAnswer} {x : LineTurn} → LineMeets bs c o line bs′ r → x ≡ turnOf r
+      → TurnMeets l bs c o line bs′ x
+  turn-met l m e = rw e (record { agrees = λ log rd b h p. turn-agrees l (m .agrees log rd b h p) })
+
+  pub turn-as : {l : Line} {o : Open} {line line′ : Reading → Block → Outcome} {bs′ : Buffers} {r : LineTurn} → ((rd : Reading) (b : Block) → line rd b ≡ line′ rd b)
+      → TurnMeets l bs c o line′ bs′ r → TurnMeets l bs c o line bs′ r
+  turn-as e m = record { agrees = λ log rd b h p. rw (e rd b) (m .agrees log rd b h p) }
 
   -- ---- what is held when no block is open
 
@@ -96,10 +102,19 @@ module _ (l : Line) {bs : Buffers} {c : Counts} {r : LineAnswer} where
   unfolding statement
   var-read a v m = line-as (λ rd b. cut-read l (a .places .cut) (a .ended) rd b ∙ rw v) (binding-met m)
 
+pub open-read : (l : Line) {bs : Buffers} {c : Counts} {sub : Bool} {from to : ℕ} → (l .ended ≡ true) × OpenAt (l .text) (cutStatement (l .text)) sub from to
+    → TurnMeets l bs c Nothing (readStatement l) bs (TurnOpens c sub from to)
+unfolding statement
+open-read l a =
+    record {
+      agrees = λ log rd b h p.
+          rw (cut-read l (a .1 .cut) (a .0) rd b) (turn-opens (rw (joined-none rd p) at h) (a .1 .longer) (a .1 .within) (a .1 .sound));
+    }
+
 pub wrong-read : (l : Line) {bs : Buffers} {c : Counts} {r : Refusal} → Wrong l (cutStatement (l .text)) r
-    → LineMeets bs c Nothing (readStatement l) bs (Refused r)
+    → TurnMeets l bs c Nothing (readStatement l) bs (TurnRefused r)
 unfolding readStatement
-wrong-read l w = refused-met (λ rd b. w _)
+wrong-read l w = record { agrees = λ log rd b h p. rw (w _) turn-refuses }
 
 -- ---- what the lines ask
 
@@ -181,9 +196,9 @@ module _ {bs : Buffers} {c d : Counts} {o o′ : Open} (m : Meets (bs .texts) (b
         between = record { log = z .log; reading = z .reading; block = noBlock; holds = z .holds; opens = nothing };
       }
 
-  pub closed-then : {line : Reading → Block → Outcome} {bs′ : Buffers} {r : LineAnswer}
-      → LineMeets bs d Nothing line bs′ r
-      → LineMeets bs c o (λ rd b. andThen (close rd b) line) bs′ r
+  pub closed-then : {l : Line} {line : Reading → Block → Outcome} {bs′ : Buffers} {r : LineTurn}
+      → TurnMeets l bs d Nothing line bs′ r
+      → TurnMeets l bs c o (λ rd b. andThen (close rd b) line) bs′ r
   unfolding andThen
   closed-then k =
       record {
@@ -192,7 +207,7 @@ module _ {bs : Buffers} {c d : Counts} {o o′ : Open} (m : Meets (bs .texts) (b
             rw (z .outcome) (k .agrees (z .log) (z .reading) noBlock (z .holds) nothing);
       }
 
-pub not-closed : {bs : Buffers} {c : Counts} {o : Open} {r : Refusal} (line : Reading → Block → Outcome) → Meets (bs .texts) (bs .bind) c o close (bs .texts) (bs .bind) (Refused r)
-    → LineMeets bs c o (λ rd b. andThen (close rd b) line) bs (Refused r)
+pub not-closed : {l : Line} {bs : Buffers} {c : Counts} {o : Open} {r : Refusal} (line : Reading → Block → Outcome) → Meets (bs .texts) (bs .bind) c o close (bs .texts) (bs .bind) (Refused r)
+    → TurnMeets l bs c o (λ rd b. andThen (close rd b) line) bs (TurnRefused r)
 unfolding andThen
-not-closed line m = record { agrees = λ log rd b h p. rw (agreed-refused (met rd h p m)) refuses }
+not-closed line m = record { agrees = λ log rd b h p. rw (agreed-refused (met rd h p m)) turn-refuses }

@@ -3,6 +3,7 @@ use Prim.Native.Nat.{ℕ, _+_, _≤_}
 use mathlib.Core.List.{List}
 use lib.ListN.{length}
 use Rattle.spec.specs.Limits.{maxManifest, maxValue, maxWritten}
+use Rattle.spec.specs.Lines.{Line}
 use Rattle.spec.specs.Reading.{Reading}
 use Rattle.spec.specs.Statements.{Block, Outcome}
 use Rattle.hold_bindings.specs.Log.{Logged}
@@ -10,7 +11,8 @@ use Rattle.cut_refusals.specs.Cuts.{CutAsks}
 use Rattle.hold_reading.specs.declared.Counts.{Counts}
 use Rattle.hold_reading.specs.declared.Open.{Open}
 use Rattle.hold_reading.specs.declared.LineAnswer.{LineAnswer}
-use Rattle.hold_reading.specs.Held.{joined, OpensBlock, HoldsReading, Agrees}
+use Rattle.hold_reading.specs.declared.LineTurn.{LineTurn}
+use Rattle.hold_reading.specs.Held.{joined, OpensBlock, HoldsReading, Agrees, TurnAgrees}
 use Rattle.apply_equal_outputs.specs.Kept.{tableStart}
 use Rattle.hold_reading.specs.Buffers.{Buffers}
 
@@ -38,3 +40,9 @@ pub record LineMeets (bs : Buffers) (c : Counts) (o : Open) (line : Reading → 
     (bs′ : Buffers) (r : LineAnswer) : Type 0 where
   pub agrees : (log : List Logged) (rd : Reading) (b : Block) → HoldsReading log bs c (joined rd b) → OpensBlock log b o
       → Agrees bs′ (line rd b) r
+
+-- The same of the line `l` that may open a file.
+pub record TurnMeets (l : Line) (bs : Buffers) (c : Counts) (o : Open) (line : Reading → Block → Outcome)
+    (bs′ : Buffers) (r : LineTurn) : Type 0 where
+  pub agrees : (log : List Logged) (rd : Reading) (b : Block) → HoldsReading log bs c (joined rd b) → OpensBlock log b o
+      → TurnAgrees l bs′ (line rd b) r

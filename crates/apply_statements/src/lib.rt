@@ -2,7 +2,7 @@
 ghost use Rattle.lists.specs.Lent.{Spare, Leaves};
 ghost use Rattle.spec.specs.Manifest.{close, andThen, readStatement};
 ghost use Rattle.scan_cursor.specs.Spans.{lineOf};
-ghost use Rattle.apply_statements.specs.Asks.{LineAsks, LineMeets};
+ghost use Rattle.apply_statements.specs.Asks.{LineAsks, TurnMeets};
 ghost use Rattle.hold_reading.specs.Buffers.{SameRoom, buffers};
 use apply_builds::add_step;
 use apply_defaults::DefaultStatement;
@@ -16,8 +16,10 @@ use cut_refusals::cut_file_line;
 use hold_reading::Counts;
 use hold_reading::Line;
 use hold_reading::LineAnswer;
+use hold_reading::LineTurn;
 use hold_reading::Open;
 use hold_reading::State;
+use hold_reading::turned;
 use scan_raw::texts::raw_value;
 
 // A line where no block is open. The word buffer is working space, and after a refusal all are.
@@ -32,26 +34,27 @@ pub fn read_statement(
     graph: &mut [u32],
     word: &mut [u8],
     c: Counts,
-) -> LineAnswer
+) -> LineTurn
     requires { ⌜ LineAsks (now t) (line .start) (now l) (buffers (now names) (now index) (now texts) (now bind) (now graph)) (now word) c Open.Nothing ⌝ }
-    ensures { λ r. ⌜ Leaves (SameRoom (buffers (now (names .entry)) (now (index .entry)) (now (texts .entry)) (now (bind .entry)) (now (graph .entry))) (buffers (now (names .exit)) (now (index .exit)) (now (texts .exit)) (now (bind .exit)) (now (graph .exit))) × (Spare (now (word .entry)) (now (word .exit)))) (LineMeets (buffers (now (names .entry)) (now (index .entry)) (now (texts .entry)) (now (bind .entry)) (now (graph .entry))) c Open.Nothing (readStatement (lineOf (line .start) (now (l .entry)) (line .ended))) (buffers (now (names .exit)) (now (index .exit)) (now (texts .exit)) (now (bind .exit)) (now (graph .exit))) r) ⌝ }
+    ensures { λ r. ⌜ Leaves (SameRoom (buffers (now (names .entry)) (now (index .entry)) (now (texts .entry)) (now (bind .entry)) (now (graph .entry))) (buffers (now (names .exit)) (now (index .exit)) (now (texts .exit)) (now (bind .exit)) (now (graph .exit))) × (Spare (now (word .entry)) (now (word .exit)))) (TurnMeets (lineOf (line .start) (now (l .entry)) (line .ended)) (buffers (now (names .entry)) (now (index .entry)) (now (texts .entry)) (now (bind .entry)) (now (graph .entry))) c Open.Nothing (readStatement (lineOf (line .start) (now (l .entry)) (line .ended))) (buffers (now (names .exit)) (now (index .exit)) (now (texts .exit)) (now (bind .exit)) (now (graph .exit))) r) ⌝ }
 {
     let start = line.start;
     match cut_file_line(t, start, l, line.ended) {
-        FileLine::Rule(from, to) => start_rule(start, &l[from..to], texts, bind, c),
+        FileLine::Rule(from, to) => turned(start_rule(start, &l[from..to], texts, bind, c)),
         FileLine::Build(p) => {
             let s = BuildStatement { start, places: p };
-            add_step(t, l, s, names, index, texts, bind, graph, word, c)
+            turned(add_step(t, l, s, names, index, texts, bind, graph, word, c))
         }
         FileLine::Default(at) => {
             let s = DefaultStatement { start, paths: at };
-            add_defaults(t, l, s, names, index, texts, bind, graph, word, c)
+            turned(add_defaults(t, l, s, names, index, texts, bind, graph, word, c))
         }
+        FileLine::Open(sub, from, to) => LineTurn::Opens(c, sub, from, to),
         FileLine::Binding(from, to, at) => {
             let raw = raw_value(l, at);
-            add_var(t, start, &l[from..to], raw, texts, bind, word, c)
+            turned(add_var(t, start, &l[from..to], raw, texts, bind, word, c))
         }
-        FileLine::Refused(r) => LineAnswer::Refused(r),
+        FileLine::Refused(r) => LineTurn::Refused(r),
     }
 }
 
@@ -67,9 +70,9 @@ pub fn read_file_line(
     graph: &mut [u32],
     word: &mut [u8],
     s: State,
-) -> LineAnswer
+) -> LineTurn
     requires { ⌜ LineAsks (now t) (line .start) (now l) (buffers (now names) (now index) (now texts) (now bind) (now graph)) (now word) (s .counts) (s .open) ⌝ }
-    ensures { λ r. ⌜ Leaves (SameRoom (buffers (now (names .entry)) (now (index .entry)) (now (texts .entry)) (now (bind .entry)) (now (graph .entry))) (buffers (now (names .exit)) (now (index .exit)) (now (texts .exit)) (now (bind .exit)) (now (graph .exit))) × (Spare (now (word .entry)) (now (word .exit)))) (LineMeets (buffers (now (names .entry)) (now (index .entry)) (now (texts .entry)) (now (bind .entry)) (now (graph .entry))) (s .counts) (s .open) (λ rd b. andThen (close rd b) (readStatement (lineOf (line .start) (now (l .entry)) (line .ended)))) (buffers (now (names .exit)) (now (index .exit)) (now (texts .exit)) (now (bind .exit)) (now (graph .exit))) r) ⌝ }
+    ensures { λ r. ⌜ Leaves (SameRoom (buffers (now (names .entry)) (now (index .entry)) (now (texts .entry)) (now (bind .entry)) (now (graph .entry))) (buffers (now (names .exit)) (now (index .exit)) (now (texts .exit)) (now (bind .exit)) (now (graph .exit))) × (Spare (now (word .entry)) (now (word .exit)))) (TurnMeets (lineOf (line .start) (now (l .entry)) (line .ended)) (buffers (now (names .entry)) (now (index .entry)) (now (texts .entry)) (now (bind .entry)) (now (graph .entry))) (s .counts) (s .open) (λ rd b. andThen (close rd b) (readStatement (lineOf (line .start) (now (l .entry)) (line .ended)))) (buffers (now (names .exit)) (now (index .exit)) (now (texts .exit)) (now (bind .exit)) (now (graph .exit))) r) ⌝ }
 {
     let c = s.counts;
     let block = s.open;
@@ -86,6 +89,6 @@ pub fn read_file_line(
             word,
             d,
         ),
-        LineAnswer::Refused(r) => LineAnswer::Refused(r),
+        LineAnswer::Refused(r) => LineTurn::Refused(r),
     }
 }

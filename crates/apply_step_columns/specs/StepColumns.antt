@@ -115,6 +115,7 @@ countedStep c =
       bindings = c .bindings;
       mentions = c .mentions;
       written = c .written;
+      opened = c .opened;
     }
 
 pub record PutsStep (graph : List ℕ) (from n scope : ℕ) (c : Counts) (graph′ : List ℕ) (r : Counts) : Type 0 where

@@ -80,11 +80,14 @@ module _ {log : List Logged} {texts bind : List ℕ} {d : Counts} {rd : Reading}
         rules-counted = b .rules-counted;
         bindings-counted = b .bindings-counted;
         written-counted = b .written-counted;
+        opened-counted = b .opened-counted;
+        few-scopes = b .few-scopes;
         entries-counted = b .entries-counted;
         few-rules = b .few-rules;
         few-bindings = b .few-bindings;
         few-steps = omega (arith, few);
         few-written = b .few-written;
+        few-opened = b .few-opened;
         shared = b .shared;
       }
 

@@ -16,7 +16,7 @@ use Rattle.spec.specs.Manifest.{refusedWith, readManifest}
 use Rattle.spec.specs.Answers.{numberOfRefusal, planSays}
 use Rattle.spec.specs.PlanAsk.{inputsOf, planManifest, planAsk}
 use Rattle.spec.specs.Promises.{leftBy, PlanMeets, PlanPromise}
-use Rattle.spec.proofs.Manifests.{of-reading}
+use Rattle.spec.proofs.Manifests.{past-1, of-reading}
 use Rattle.spec.proofs.Promises.{cleared}
 use Rattle.ask_plan_reading.specs.Asked.{ReadAsked, PlansRead}
 use Rattle.hold_reading.specs.declared.Counts.{Counts}
@@ -27,13 +27,13 @@ module _ (manifest card targets list : List ℕ) (room : leastList ≤ length li
   long : ltb (length list) leastList ≡ false
   long = le-ltb (length list) leastList room
 
-  -- 2 to 10
+  -- 19 and 2 to 10
   pub unread : {r : Refusal} {exit : List ℕ} → readManifest manifest ≡ refusedWith r → exit ≡ zeroed list 0 (length list)
       → PlanPromise (inputsOf manifest card targets) list (Refused r) exit
   unfolding planAsk planManifest PlanMeets planSays leftBy
   unread {r} e z =
-      let b = of-reading manifest e in
-      let n = ne-eqb (numberOfRefusal r) 1 (λ (q : numberOfRefusal r ≡ 1). omega (arith, q, b .least)) in
+      let b = past-1 (of-reading manifest e) in
+      let n = ne-eqb (numberOfRefusal r) 1 (λ (q : numberOfRefusal r ≡ 1). omega (arith, q, b)) in
       rw (long, e, n) (record { says = refl; leaves = z ∙ cleared list })
 
   -- 11 to 15, and the list

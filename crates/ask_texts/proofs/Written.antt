@@ -15,7 +15,7 @@ use Rattle.spec.specs.Answers.{numberOfRefusal}
 use Rattle.spec.specs.Manifest.{refusedWith, readManifest}
 use Rattle.spec.specs.Promises.{leftBy}
 use Rattle.spec.proofs.Promises.{cleared}
-use Rattle.spec.proofs.Manifests.{of-reading, accepted-sound}
+use Rattle.spec.proofs.Manifests.{past-1, of-reading, accepted-sound}
 use Rattle.scan_classes.specs.Table.{classes}
 use Rattle.hold_reading.specs.declared.Counts.{Counts}
 use Rattle.hold_reading.specs.Buffers.{Buffers}
@@ -30,13 +30,13 @@ module _ (manifest bytes ends : List ℕ) (room : maxText ≤ length bytes) wher
   enough : ltb (length bytes) maxText ≡ false
   enough = le-ltb (length bytes) maxText room
 
-  -- 2 to 10
+  -- 19 and 2 to 10
   pub unread : (steps : List ℕ) (wanted : Wanted) {r : Refusal} {bytesExit endsExit : List ℕ} → readManifest manifest ≡ refusedWith r
       → bytesExit ≡ zeroed bytes 0 (length bytes) → endsExit ≡ zeroed ends 0 (length ends) → TextsPromise manifest steps wanted bytes ends (Refused r) bytesExit endsExit
   unfolding textsAsk textsRead TextsMeets textsSays leftBy
   unread steps wanted {r} e x y =
-      let b = of-reading manifest e in
-      let n = ne-eqb (numberOfRefusal r) 1 (λ (q : numberOfRefusal r ≡ 1). omega (arith, q, b .least)) in
+      let b = past-1 (of-reading manifest e) in
+      let n = ne-eqb (numberOfRefusal r) 1 (λ (q : numberOfRefusal r ≡ 1). omega (arith, q, b)) in
       rw (enough, e, n) (record { says = refl; leaves-bytes = x ∙ cleared bytes; leaves-ends = y ∙ cleared ends })
 
   module _ {bs : Buffers} {c : Counts} (h : Held manifest bs c) where

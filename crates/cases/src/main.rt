@@ -2,6 +2,7 @@
 // the whole of each lent buffer with what is expected.
 ghost use lib.ListN.{length};
 ghost use Rattle.test_packed.specs.Parts.{PartsBehind};
+use answer_places::locate;
 use answers::of_plan;
 use answers::of_text;
 use asks::plan;
@@ -50,15 +51,15 @@ struct Tally {
 fn ask_plan(
     fd: i32,
     answers: usize,
-    manifest: &[u8],
+    bundle: &[u8],
     card: &[u8],
     targets: &[u8],
     list: &mut [u32],
     bytes: &mut [u8],
 ) -> Met {
     fill_words(list);
-    let n = of_plan(plan(manifest, card, targets, list));
-    check(fd, answers, n, true, list, manifest, bytes)
+    let n = locate(of_plan(plan(bundle, card, targets, list)), bundle);
+    check(fd, answers, n, true, list, bundle, bytes)
 }
 
 fn wanted(kind: usize) -> Wanted {
@@ -69,16 +70,9 @@ fn wanted(kind: usize) -> Wanted {
 }
 
 // The text, where the buffer has the length that the case asks for.
-fn ask_text(
-    fd: i32,
-    a: Ask,
-    manifest: &[u8],
-    list: &[u32],
-    buf: &mut [u8],
-    bytes: &mut [u8],
-) -> Met {
+fn ask_text(fd: i32, a: Ask, bundle: &[u8], list: &[u32], buf: &mut [u8], bytes: &mut [u8]) -> Met {
     fill_bytes(buf);
-    let n = of_text(text(manifest, a.step, wanted(a.kind), buf));
+    let n = locate(of_text(text(bundle, a.step, wanted(a.kind), buf)), bundle);
     check(fd, a.answers, n, false, list, buf, bytes)
 }
 
@@ -92,7 +86,7 @@ fn no_ask() -> Met {
 // The next ask of a case.
 fn ask_next(
     fd: i32,
-    manifest: &[u8],
+    bundle: &[u8],
     card: &[u8],
     targets: &[u8],
     list: &mut [u32],
@@ -111,7 +105,7 @@ fn ask_next(
         return ask_plan(
             fd,
             a.answers,
-            manifest,
+            bundle,
             card,
             targets,
             &mut list[..room],
@@ -121,7 +115,7 @@ fn ask_next(
     if buf.len() < room {
         return no_ask();
     }
-    ask_text(fd, a, manifest, list, &mut buf[..room], bytes)
+    ask_text(fd, a, bundle, list, &mut buf[..room], bytes)
 }
 
 fn one_more(n: u64) -> u64 {
@@ -184,17 +178,17 @@ fn ask_all(
     requires { ⌜ PartsBehind h (length (now input)) ⌝ }
 {
     let a = h.name;
-    let b = h.manifest;
+    let b = h.bundle;
     let c = h.card;
     let d = h.targets;
     let name = &input[..a];
-    let manifest = &input[a..b];
+    let bundle = &input[a..b];
     let card = &input[b..c];
     let targets = &input[c..d];
     let mut tally = t;
     let mut i = 0;
     while i < h.asks {
-        let m = ask_next(fd, manifest, card, targets, list, buf, bytes);
+        let m = ask_next(fd, bundle, card, targets, list, buf, bytes);
         if !m.whole {
             return cut_off(tally);
         }

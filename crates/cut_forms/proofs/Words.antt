@@ -1,27 +1,28 @@
--- `rule NAME`, `default PATHS` and `NAME = value` at places of a line.
+-- `rule NAME`, `default PATHS`, `include PATH` or `subninja PATH`, and `NAME = value` at places of a line.
 use Prim.Native.Nat.{ℕ, _+_, _-_, _≤_, _<_}
 use mathlib.Core.Bool.{Bool, true, false}
 use mathlib.Core.List.{List}
-use mathlib.Core.Option.{none}
-use mathlib.Core.Path.{_≡_, sym, _∙_}
+use mathlib.Core.Option.{Option, none, some}
+use mathlib.Core.Path.{_≡_, refl, sym, _∙_, ap}
 use native.Mathlib.Nat.{le-trans}
 use native.Mathlib.Omega.{arith}
 use borrow.Author.Tests.{ne-eqb, not-true, not-false}
 use lib.ListN.{length, drop, getD}
+use Rattle.lists.specs.Tests.{ifB, split}
 use Rattle.lists.specs.Parts.{part}
 use Rattle.lists.specs.Runs.{Reads}
-use Rattle.spec.specs.Basics.{isEmpty}
+use Rattle.spec.specs.Basics.{isEmpty, orElse}
 use Rattle.spec.specs.Bytes.{equals}
-use Rattle.spec.specs.Dollars.{badDollar}
-use Rattle.spec.specs.Forms.{Fault as Rules·Fault, noForm, fits, fails, gap, nameOf, afterName, ruleWord, keyWord, paths, checked, bindingForm, cutRule, cutDefault, rawValue, cutValue, cutBinding}
-use Rattle.scan_raw.specs.Texts.{ValueBad}
+use Rattle.spec.specs.Dollars.{badIn, badDollar}
+use Rattle.spec.specs.Forms.{Fault as Rules·Fault, noForm, leftAtDollar, Cut, fits, fails, gap, nameOf, afterName, ruleWord, keyWord, pathStop, afterPath, rawPath, pathBegins, paths, checked, Form, openForm, bindingForm, cutRule, cutDefault, cutOpen, rawValue, cutValue, cutBinding}
+use Rattle.scan_raw.specs.Texts.{FirstPath, noPath, onePath, badPath, firstAt, firstPath, PathsStop, PathNext, PathsBad, ValueBad}
 use Rattle.scan_tokens.proofs.Places.{at-cons, at-end}
 use Rattle.scan_raw.proofs.Faults.{raw-length}
 use Rattle.cut_forms.specs.declared.Fault.{Fault}
 use Rattle.cut_forms.specs.declared.Fault.the-variants.{BadDollar}
 use Rattle.cut_forms.specs.Faults.{Fails}
 use Rattle.cut_forms.specs.Paths.{ListEnds}
-use Rattle.cut_forms.specs.Statements.{NameEnds, RuleAt, DefaultAt, BindingAt}
+use Rattle.cut_forms.specs.Statements.{NameEnds, RuleAt, DefaultAt, OpenAt, BindingAt}
 use Rattle.cut_forms.proofs.Faults.{bad-dollar, fails-then}
 use Rattle.cut_forms.proofs.Walks.{paths-of}
 
@@ -69,6 +70,53 @@ module _ {l : List ℕ} {at end : ℕ} {any : Bool} (w : ListEnds l at end any) 
           raw = w .raw;
           stands = paths-of w;
           cut = rw (w .cut, not-true (isEmpty (w .raw)) (sym (w .some) ∙ e), at-end l end h);
+        }
+
+-- ---- `include PATH` and `subninja PATH`
+
+module _ (sub : Bool) where
+  -- the line by its first path
+  unfoldable openFirst : FirstPath → Cut Form
+  openFirst noPath = fails noForm
+  openFirst (onePath raw rest) = ifB (isEmpty (gap rest)) (λ _. fits (openForm sub raw)) (λ _. fails noForm)
+  openFirst (badPath left) = fails (leftAtDollar left)
+
+  open-checked : (o : Option ℕ) (t raw rest : List ℕ)
+      → checked o t (λ _. ifB (isEmpty (gap rest)) (λ _. fits (openForm sub raw)) (λ _. fails noForm))
+      ≡ openFirst (orElse o (λ at. badPath (length t - at)) (λ _. onePath raw rest))
+  unfolding checked openFirst
+  open-checked none t raw rest = refl
+  open-checked (some at) t raw rest = refl
+
+  open-first : (s : List ℕ) → cutOpen sub s ≡ openFirst (firstPath s)
+  unfolding cutOpen firstPath firstAt openFirst
+  open-first s =
+      split (pathBegins (gap s))
+      (λ (e : pathBegins (gap s) ≡ true).
+      rw e (open-checked (badIn pathStop (gap s)) (gap s) (rawPath (gap s)) (afterPath (gap s))))
+      (λ (e : pathBegins (gap s) ≡ false). rw e)
+
+  pub open-none : {l : List ℕ} {at end : ℕ} → PathsStop l at end → cutOpen sub (drop at l) ≡ fails noForm
+  unfolding openFirst
+  open-none p = open-first _ ∙ ap openFirst (p .first)
+
+  pub open-wrong : {l : List ℕ} {at p : ℕ} → PathsBad l at p → Fails l (cutOpen sub (drop at l)) (BadDollar p)
+  unfolding openFirst
+  open-wrong p = bad-dollar (p .within) (open-first _ ∙ ap openFirst (p .first))
+
+  module _ {l : List ℕ} {at from to end : ℕ} (p : PathNext l at from to) (g : Reads gap l to end) where
+    pub open-more : end < length l → cutOpen sub (drop at l) ≡ fails noForm
+    unfolding openFirst
+    open-more h = open-first _ ∙ ap openFirst (p .first) ∙ rw (← (g .rest), at-cons l end h)
+
+    pub open-ends : length l ≤ end → OpenAt l (cutOpen sub (drop at l)) sub from to
+    unfolding openFirst
+    open-ends h =
+        record {
+          longer = p .longer;
+          within = p .within;
+          sound = p .sound;
+          cut = open-first _ ∙ ap openFirst (p .first) ∙ rw (← (g .rest), at-end l end h);
         }
 
 -- ---- `NAME = value`

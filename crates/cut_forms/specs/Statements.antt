@@ -1,11 +1,14 @@
 -- What the answers about a line say of the rules' cut, case by case.
-use Prim.Native.Nat.{ℕ, _≤_}
+use Prim.Native.Nat.{ℕ, _≤_, _<_}
+use mathlib.Core.Bool.{Bool}
 use mathlib.Core.List.{List}
+use mathlib.Core.Option.{none}
 use mathlib.Core.Path.{_≡_}
 use lib.ListN.{length, drop}
 use Rattle.lists.specs.Parts.{part}
 use Rattle.lists.specs.Runs.{Reads}
-use Rattle.spec.specs.Forms.{Cut, fits, afterName, Form, ruleForm, buildForm, defaultForm, bindingForm, rawValue, BuildLine}
+use Rattle.spec.specs.Dollars.{badDollar}
+use Rattle.spec.specs.Forms.{Cut, fits, afterName, Form, ruleForm, buildForm, defaultForm, openForm, bindingForm, rawValue, BuildLine}
 use Rattle.cut_forms.specs.declared.Named.{Named}
 use Rattle.cut_forms.specs.declared.Named.the-variants.{To, Wrong as Named·Wrong}
 use Rattle.cut_forms.specs.declared.Bars.{Bars}
@@ -13,7 +16,7 @@ use Rattle.cut_forms.specs.declared.Bars.the-variants.{LineEnd, One, Two
 use Rattle.cut_forms.specs.declared.Head.{Head}
 use Rattle.cut_forms.specs.declared.BuildPlaces.{BuildPlaces}
 use Rattle.cut_forms.specs.declared.Statement.{Statement}
-use Rattle.cut_forms.specs.declared.Statement.the-variants.{Rule, Build, Default, Binding, Wrong}
+use Rattle.cut_forms.specs.declared.Statement.the-variants.{Rule, Build, Default, Open, Binding, Wrong}
 use Rattle.cut_forms.specs.declared.Assignment.{Assignment}
 use Rattle.cut_forms.specs.declared.Assignment.the-variants.{Binding as Assignment·Binding, Wrong as Assignment·Wrong}
 use Rattle.cut_forms.specs.Faults.{Fails}
@@ -73,6 +76,13 @@ pub record DefaultAt (l : List ℕ) (x : Cut Form) (at : ℕ) : Type 0 where
   pub stands : PathsAt l at raw
   pub cut : x ≡ fits (defaultForm raw)
 
+-- `subninja PATH` or else `include PATH`: the path, whose dollars are sound.
+pub record OpenAt (l : List ℕ) (x : Cut Form) (sub : Bool) (from to : ℕ) : Type 0 where
+  pub longer : from < to
+  pub within : to ≤ length l
+  pub sound : badDollar (part l from to) ≡ none
+  pub cut : x ≡ fits (openForm sub (part l from to))
+
 -- `NAME = value`: the name, and the place behind the `=`, from which the value is handed back.
 pub record BindingAt (l : List ℕ) (x : Cut Form) (from to at : ℕ) : Type 0 where
   pub ordered : from ≤ to
@@ -84,6 +94,7 @@ unfoldable pub StatementAt : List ℕ → Cut Form → Statement → Type 0
 StatementAt l x (Rule from to) = RuleAt l x from to
 StatementAt l x (Build p) = BuildAt l x p
 StatementAt l x (Default at) = DefaultAt l x at
+StatementAt l x (Open sub from to) = OpenAt l x sub from to
 StatementAt l x (Binding from to at) = BindingAt l x from to at
 StatementAt l x (Wrong f) = Fails l x f
 

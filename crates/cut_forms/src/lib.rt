@@ -1,4 +1,5 @@
-// The forms that a line is cut into, where their parts stand in it, and the cut of a list of paths.
+// The forms that a line is cut into, where their parts stand in it, and the cut of a list of paths or of one path.
+pub mod opens;
 pub mod paths;
 
 // What a line without indent is.
@@ -8,6 +9,8 @@ pub enum Statement {
     Build(BuildPlaces),
     // where the paths start
     Default(usize),
+    // `subninja` or else `include`, and where the path starts and ends
+    Open(bool, usize, usize),
     // where the name starts and ends, and the place behind the `=`: `raw_value` hands the value back from there
     Binding(usize, usize, usize),
     Wrong(Fault),

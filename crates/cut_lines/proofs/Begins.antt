@@ -9,7 +9,7 @@ use Rattle.lists.specs.Parts.{part-from-start}
 use Rattle.lists.specs.Runs.{Reads, afterRun}
 use Rattle.lists.specs.Text.{bytes}
 use Rattle.spec.specs.Lines.{isSpace}
-use Rattle.spec.specs.Forms.{nameOf, afterName, cutRule, cutBuild, cutDefault, cutBinding, cutStatement, cutIndented}
+use Rattle.spec.specs.Forms.{nameOf, afterName, cutRule, cutBuild, cutDefault, cutOpen, cutBinding, cutStatement, cutIndented}
 use Rattle.scan_tokens.proofs.Names.{part-name}
 
 pub indented-is : {l : List ℕ} {from : ℕ} → Reads (afterRun isSpace) l 0 from → cutIndented l ≡ cutBinding (drop from l)
@@ -35,6 +35,16 @@ module _ {l : List ℕ} {end : ℕ} (a : Reads afterName l 0 end) where
       unfolding cutStatement
       statement-default p = rw (first-word, n, m, p, a .rest)
 
-      pub statement-binding : eqBytes (take end l) (bytes "default") ≡ false → cutStatement l ≡ cutBinding l
-      unfolding cutStatement
-      statement-binding p = rw (first-word, n, m, p)
+      module _ (d : eqBytes (take end l) (bytes "default") ≡ false) where
+        pub statement-include : eqBytes (take end l) (bytes "include") ≡ true → cutStatement l ≡ cutOpen false (drop end l)
+        unfolding cutStatement
+        statement-include p = rw (first-word, n, m, d, p, a .rest)
+
+        module _ (i : eqBytes (take end l) (bytes "include") ≡ false) where
+          pub statement-subninja : eqBytes (take end l) (bytes "subninja") ≡ true → cutStatement l ≡ cutOpen true (drop end l)
+          unfolding cutStatement
+          statement-subninja p = rw (first-word, n, m, d, i, p, a .rest)
+
+          pub statement-binding : eqBytes (take end l) (bytes "subninja") ≡ false → cutStatement l ≡ cutBinding l
+          unfolding cutStatement
+          statement-binding p = rw (first-word, n, m, d, i, p)

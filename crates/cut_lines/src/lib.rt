@@ -9,6 +9,7 @@ use cut_bindings::cut_rule;
 use cut_builds::cut_build;
 use cut_forms::Assignment;
 use cut_forms::Statement;
+use cut_forms::opens::cut_open;
 use cut_forms::paths::cut_default;
 use scan_tokens::name_end;
 use scan_tokens::spaces;
@@ -28,6 +29,12 @@ pub fn cut_statement(t: &[u8; 256], l: &[u8]) -> Statement
     }
     if equal(w, b"default") {
         return cut_default(t, l, end);
+    }
+    if equal(w, b"include") {
+        return cut_open(t, l, end, false);
+    }
+    if equal(w, b"subninja") {
+        return cut_open(t, l, end, true);
     }
     match cut_binding(t, l, 0, end) {
         Assignment::Binding(from, to, at) => Statement::Binding(from, to, at),

@@ -1,6 +1,6 @@
 -- What the cut of a line's bytes says of the line, one law for each answer.
 use Prim.Native.Nat.{ℕ, _+_, _≤_}
-use mathlib.Core.Bool.{true, false}
+use mathlib.Core.Bool.{Bool, true, false}
 use mathlib.Core.List.{List}
 use mathlib.Core.Path.{_≡_, subst, ap}
 use native.Mathlib.Omega.{arith}
@@ -17,10 +17,10 @@ use Rattle.cut_forms.specs.declared.Fault.{Fault}
 use Rattle.cut_forms.specs.declared.Fault.the-variants.{NoForm, BadDollar, NotYet}
 use Rattle.cut_forms.specs.Faults.{faultIn, FaultWithin, Fails}
 use Rattle.cut_forms.specs.declared.BuildPlaces.{BuildPlaces}
-use Rattle.cut_forms.specs.Statements.{RuleAt, BuildAt, DefaultAt, BindingAt}
+use Rattle.cut_forms.specs.Statements.{RuleAt, BuildAt, DefaultAt, OpenAt, BindingAt}
 use Rattle.cut_refusals.specs.Cuts.{refusalOf, Near, Wrong, SoundBinding, FileLineAt, BlockLineAt}
 use Rattle.cut_refusals.specs.declared.FileLine.{FileLine}
-use Rattle.cut_refusals.specs.declared.FileLine.the-variants.{Rule, Build, Default, Binding, Refused}
+use Rattle.cut_refusals.specs.declared.FileLine.the-variants.{Rule, Build, Default, Open, Binding, Refused}
 use Rattle.cut_refusals.specs.declared.BlockLine.{BlockLine}
 use Rattle.cut_refusals.specs.declared.BlockLine.the-variants.{Binding as Setting, Refused as NoSetting}
 use Rattle.cut_refusals.proofs.Dollars.{Sound}
@@ -69,6 +69,11 @@ module _ (l : Line) where
   pub default-told : {x : FileLine} {at : ℕ} → FileLineAt l x → x ≡ Default at → (l .ended ≡ true) × DefaultAt (l .text) (cutStatement (l .text)) at
   unfolding FileLineAt
   default-told a e = subst (FileLineAt l) e a
+
+  pub open-told : {x : FileLine} {sub : Bool} {from to : ℕ} → FileLineAt l x → x ≡ Open sub from to
+      → (l .ended ≡ true) × OpenAt (l .text) (cutStatement (l .text)) sub from to
+  unfolding FileLineAt
+  open-told a e = subst (FileLineAt l) e a
 
   pub binding-told : {x : FileLine} {from to at : ℕ} → FileLineAt l x → x ≡ Binding from to at → SoundBinding l (cutStatement (l .text)) from to at
   unfolding FileLineAt

@@ -13,8 +13,8 @@ use Rattle.lists.specs.Runs.{afterRun}
 use Rattle.spec.specs.Basics.{isEmpty}
 use Rattle.spec.specs.Bytes.{colon, equals}
 use Rattle.spec.specs.Lines.{isSpace}
-use Rattle.spec.specs.Dollars.{badDollar}
-use Rattle.spec.specs.Forms.{Fault, noForm, gap, nameOf, afterName, ruleWord, keyWord, paths, pathsBehind, Cut, fits, fails, Form, ruleForm, buildForm, defaultForm, bindingForm, BuildLine, then, checked, rawValue, cutInputs, afterOutputs, cutRule, cutBuild, cutDefault, cutValue, cutBinding, cutStatement, cutIndented}
+use Rattle.spec.specs.Dollars.{badIn, badDollar}
+use Rattle.spec.specs.Forms.{Fault, noForm, gap, nameOf, afterName, ruleWord, keyWord, pathStop, afterPath, rawPath, pathBegins, paths, pathsBehind, Cut, fits, fails, Form, ruleForm, buildForm, defaultForm, openForm, bindingForm, BuildLine, then, checked, rawValue, cutInputs, afterOutputs, cutRule, cutBuild, cutDefault, cutOpen, cutValue, cutBinding, cutStatement, cutIndented}
 
 -- whatever a value's dollars are, a cut that gives it has found them sound
 pub record Sound (x : Cut Form) : Type 0 where
@@ -34,6 +34,9 @@ sound-build b = record { dollars = λ n raw h. let z : _≡_ {A = ℕ} 0 1 = cc 
 sound-default : (ps : List (List ℕ)) → Sound (fits (defaultForm ps))
 sound-default ps = record { dollars = λ n raw h. let z : _≡_ {A = ℕ} 0 1 = cc in absurd (omega arith) }
 
+sound-open : (sub : Bool) (p : List ℕ) → Sound (fits (openForm sub p))
+sound-open sub p = record { dollars = λ n raw h. let z : _≡_ {A = ℕ} 0 1 = cc in absurd (omega arith) }
+
 -- ---- one after the other
 
 sound-then : {A : Type 0} (x : Cut A) {k : A → Cut Form} → ((a : A) → Sound (k a)) → Sound (then x k)
@@ -50,6 +53,11 @@ unfolding checked
 sound-checked none s w raw e =
     record { dollars = λ n v h. let z : raw ≡ v = cc in rw (← z) e }
 sound-checked (some p) s w raw e = sound-fails _
+
+sound-behind : (o : Option ℕ) (s : List ℕ) {x : Cut Form} → Sound x → Sound (checked o s (λ _. x))
+unfolding checked
+sound-behind none s h = h
+sound-behind (some p) s h = sound-fails _
 
 -- ---- the forms
 
@@ -74,6 +82,14 @@ sound-defaults : (s : List ℕ) → Sound (cutDefault s)
 unfolding cutDefault
 sound-defaults s = sound-then (paths s) (λ p. sound-if (isEmpty (p .raw) || not (isEmpty (p .rest))) (sound-fails noForm) (sound-default _))
 
+sound-opens : (sub : Bool) (s : List ℕ) → Sound (cutOpen sub s)
+unfolding cutOpen
+sound-opens sub s =
+    sound-if (pathBegins (gap s))
+    (sound-behind (badIn pathStop (gap s)) (gap s)
+    (sound-if (isEmpty (gap (afterPath (gap s)))) (sound-open sub (rawPath (gap s))) (sound-fails noForm)))
+    (sound-fails noForm)
+
 sound-value : (w s : List ℕ) → Sound (cutValue w s)
 unfolding cutValue
 sound-value w [] = sound-fails _
@@ -88,7 +104,9 @@ unfolding cutStatement
 sound-statement s =
     sound-if (eqBytes (nameOf s) (bytes "rule")) (sound-rules (afterName s))
     (sound-if (eqBytes (nameOf s) (bytes "build")) (sound-builds (afterName s))
-    (sound-if (eqBytes (nameOf s) (bytes "default")) (sound-defaults (afterName s)) (sound-bindings s)))
+    (sound-if (eqBytes (nameOf s) (bytes "default")) (sound-defaults (afterName s))
+    (sound-if (eqBytes (nameOf s) (bytes "include")) (sound-opens false (afterName s))
+    (sound-if (eqBytes (nameOf s) (bytes "subninja")) (sound-opens true (afterName s)) (sound-bindings s)))))
 
 pub sound-indented : (s : List ℕ) → Sound (cutIndented s)
 unfolding cutIndented

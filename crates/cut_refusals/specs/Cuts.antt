@@ -16,9 +16,9 @@ use Rattle.spec.specs.Manifest.{ifCut}
 use Rattle.scan_classes.specs.Table.{classes}
 use Rattle.cut_forms.specs.declared.Fault.{Fault}
 use Rattle.cut_forms.specs.declared.Fault.the-variants.{NoForm, BadDollar as WrongDollar, NotYet as Later}
-use Rattle.cut_forms.specs.Statements.{RuleAt, BuildAt, DefaultAt, BindingAt}
+use Rattle.cut_forms.specs.Statements.{RuleAt, BuildAt, DefaultAt, OpenAt, BindingAt}
 use Rattle.cut_refusals.specs.declared.FileLine.{FileLine}
-use Rattle.cut_refusals.specs.declared.FileLine.the-variants.{Rule, Build, Default, Binding, Refused}
+use Rattle.cut_refusals.specs.declared.FileLine.the-variants.{Rule, Build, Default, Open, Binding, Refused}
 use Rattle.cut_refusals.specs.declared.BlockLine.{BlockLine}
 use Rattle.cut_refusals.specs.declared.BlockLine.the-variants.{Binding as Setting, Refused as NoSetting}
 
@@ -57,6 +57,7 @@ unfoldable pub FileLineAt : Line → FileLine → Type 0
 FileLineAt l (Rule from to) = (l .ended ≡ true) × RuleAt (l .text) (cutStatement (l .text)) from to
 FileLineAt l (Build p) = (l .ended ≡ true) × BuildAt (l .text) (cutStatement (l .text)) p
 FileLineAt l (Default at) = (l .ended ≡ true) × DefaultAt (l .text) (cutStatement (l .text)) at
+FileLineAt l (Open sub from to) = (l .ended ≡ true) × OpenAt (l .text) (cutStatement (l .text)) sub from to
 FileLineAt l (Binding from to at) = SoundBinding l (cutStatement (l .text)) from to at
 FileLineAt l (Refused r) = Wrong l (cutStatement (l .text)) r
 

@@ -17,6 +17,8 @@ pub enum FileLine {
     Build(BuildPlaces),
     // where the paths start
     Default(usize),
+    // `subninja` or else `include`, and where the path starts and ends
+    Open(bool, usize, usize),
     // where the name starts and ends, and the place behind the `=`
     Binding(usize, usize, usize),
     Refused(Refusal),
@@ -61,6 +63,12 @@ pub fn cut_file_line(t: &[u8; 256], start: usize, l: &[u8], ended: bool) -> File
         Statement::Default(at) => {
             if ended {
                 return FileLine::Default(at);
+            }
+            FileLine::Refused(Refusal::BadLine(start))
+        }
+        Statement::Open(sub, from, to) => {
+            if ended {
+                return FileLine::Open(sub, from, to);
             }
             FileLine::Refused(Refusal::BadLine(start))
         }

@@ -15,7 +15,7 @@ use Rattle.spec.specs.Basics.{orElse, among}
 use Rattle.spec.specs.Reading.{Rule, boundTo, hasKey, keysOf}
 use Rattle.hold_bindings.specs.declared.FoundEntry.{FoundEntry}
 use Rattle.hold_bindings.specs.declared.FoundEntry.the-variants.{At, Missing}
-use Rattle.hold_bindings.specs.Log.{Logged, ofScope, ofRules, ofKeys, ofBlock, entryAt, isNamed, newest, isAt, valueOf, boundOf, boundBy, rulesIn, rulesOf, newestRule, keysAt, withKey, Owner, Owned}
+use Rattle.hold_bindings.specs.Log.{Logged, ofScope, ofRules, ofMarks, ofKeys, ofBlock, entryAt, isNamed, newest, isAt, valueOf, boundOf, boundBy, rulesIn, rulesOf, newestRule, keysAt, withKey, Owner, Owned}
 
 -- ---- numbers of entries
 
@@ -87,23 +87,26 @@ key-newest o n (e ∷ l) =
 pub keys-not-step : (k s : ℕ) → ofKeys k ≡ ofBlock s → ⊥
 keys-not-step k s e = omega arith
 
-module _ (steps entries : ℕ) where
-  pub owner-scope : (j : ℕ) → Owner steps entries (ofScope j)
-  owner-scope j = record { key = λ k e. absurd (omega arith); line = λ s e. absurd (omega arith) }
+module _ (steps entries scopes : ℕ) where
+  pub owner-scope : (k : ℕ) → k < scopes → Owner steps entries scopes (ofScope k)
+  owner-scope k h = record { key = λ j e. absurd (omega arith); line = λ s e. absurd (omega arith); scope = λ j e. omega arith }
 
-  pub owner-rules : Owner steps entries ofRules
-  owner-rules = record { key = λ k e. absurd (omega arith); line = λ s e. absurd (omega arith) }
+  pub owner-rules : Owner steps entries scopes ofRules
+  owner-rules = record { key = λ k e. absurd (omega arith); line = λ s e. absurd (omega arith); scope = λ k e. absurd (omega arith) }
 
-  pub owner-keys : (j : ℕ) → j < entries → Owner steps entries (ofKeys j)
-  owner-keys j h = record { key = λ k e. omega arith; line = λ s e. absurd (keys-not-step j s e) }
+  pub owner-marks : Owner steps entries scopes ofMarks
+  owner-marks = record { key = λ k e. absurd (omega arith); line = λ s e. absurd (omega arith); scope = λ k e. absurd (omega arith) }
 
-  pub owner-step : (j : ℕ) → j < steps → Owner steps entries (ofBlock j)
-  owner-step j h = record { key = λ k e. absurd (keys-not-step k j (sym e)); line = λ s e. omega arith }
+  pub owner-keys : (j : ℕ) → j < entries → Owner steps entries scopes (ofKeys j)
+  owner-keys j h = record { key = λ k e. omega arith; line = λ s e. absurd (keys-not-step j s e); scope = λ k e. absurd (omega arith) }
+
+  pub owner-step : (j : ℕ) → j < steps → Owner steps entries scopes (ofBlock j)
+  owner-step j h = record { key = λ k e. absurd (keys-not-step k j (sym e)); line = λ s e. omega arith; scope = λ k e. absurd (omega arith) }
 
 pub owned-more : (a b : ℕ) (log : List Logged) → a ≤ b → Owned a log → Owned b log
 owned-more a b [] h w = tt
 owned-more a b (e ∷ l) h w =
-    (record { key = w .0 .key; line = λ s p. let m = w .0 .line s p in omega arith }, owned-more a b l h (w .1))
+    (record { key = w .0 .key; line = λ s p. let m = w .0 .line s p in omega arith; scope = w .0 .scope }, owned-more a b l h (w .1))
 
 -- The block of a step that was not begun has no line, and an entry that is not there has no keys.
 pub no-lines : (steps : ℕ) (log : List Logged) (s : ℕ) → Owned steps log → steps ≤ s → boundBy (ofBlock s) log ≡ []

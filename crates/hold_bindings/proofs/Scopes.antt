@@ -7,15 +7,17 @@ use mathlib.Core.Path.{_≡_, refl, sym, _∙_, ap}
 use native.Mathlib.Nat.{not-suc-le-zero}
 use native.Mathlib.Omega.{arith}
 use borrow.Author.Tests.{ne-eqb}
-use lib.ListN.{length, getD, set, drop, length-set}
+use lib.Dec.{eqb}
+use lib.ListN.{length, getD, set, drop, length-set, length-append}
 use lib.Seq.{getD-drop, getD-set-same, getD-set-other}
 use Rattle.lists.specs.Tests.{split}
 use Rattle.lists.specs.Bytes.{eqBytes}
 use Rattle.spec.specs.Reading.{Bound, Scope, scopeAt, boundTo, ownVars, seenFrom, varFrom, fileVar, bindIn}
 use Rattle.spec.specs.Statements.{bound}
+use Rattle.spec.specs.Manifest.{entered}
 use Rattle.hold_bindings.specs.declared.FoundEntry.{FoundEntry}
 use Rattle.hold_bindings.specs.declared.FoundEntry.the-variants.{At, Missing}
-use Rattle.hold_bindings.specs.Log.{Logged, logged, ofScope, ofMarks, newest, orNewest, valueOf, boundOf, boundBy, Scoping, scopingOf, scopesFrom, variablesOf, newestThrough, newestFrom}
+use Rattle.hold_bindings.specs.Log.{Logged, logged, ofScope, ofMarks, entering, backTo, Owned, scopingAfter, newest, orNewest, valueOf, boundOf, boundBy, Scoping, scopingOf, scopesFrom, variablesOf, newestThrough, newestFrom}
 use Rattle.hold_bindings.specs.Held.{scopesAt, currentAt, parentsAt, maxRows, Parent, top, inside, HoldsScopes, HoldsBindings, HasScope}
 use Rattle.hold_bindings.proofs.Lookups.{newest-below, find-newest, orEmpty, bound-same, bound-other}
 
@@ -58,6 +60,66 @@ variables-bound n v l b =
     rw (scoping-other e l (λ p. omega arith))
     (ap (λ (s : List Scope). record { scopes = s; current = scopingOf l .current }) (scopes-bound e l 0 (scopingOf l .current) (scopingOf l .outers) (omega arith)))
 
+-- ---- a scope by its number
+
+scope-at : (log : List Logged) (j k : ℕ) (os : List (List ℕ)) → k < length os → scopeAt (scopesFrom j os log) k ≡ record { outer = getD os k []; own = boundBy (ofScope (j + k)) log }
+unfolding scopesFrom
+scope-at log j k [] h = absurd (not-suc-le-zero h)
+scope-at log j zero (o ∷ os) h = let z : j + 0 ≡ j = omega arith in rw z
+scope-at log j (suc k) (o ∷ os) h = let z : j + suc k ≡ suc j + k = omega arith in rw z (scope-at log (suc j) k os (omega arith))
+
+-- ---- a scope is entered, and one is gone back to
+
+scopes-long : (k : ℕ) (os : List (List ℕ)) (log : List Logged) → length (scopesFrom k os log) ≡ length os
+unfolding scopesFrom
+scopes-long k [] log = refl
+scopes-long k (o ∷ os) log = ap suc (scopes-long (suc k) os log)
+
+scopes-last : (k : ℕ) (os : List (List ℕ)) (o : List ℕ) (log : List Logged) → scopesFrom k (os ++ (o ∷ [])) log ≡ scopesFrom k os log ++ (record { outer = o; own = boundBy (ofScope (k + length os)) log } ∷ [])
+unfolding scopesFrom
+scopes-last k [] o log = let z : k + 0 ≡ k = omega arith in rw z
+scopes-last k (x ∷ os) o log =
+    let z : suc k + length os ≡ k + suc (length os) = omega arith in
+    ap (λ (s : List Scope). record { outer = x; own = boundBy (ofScope k) log } ∷ s) (scopes-last (suc k) os o log ∙ rw z)
+
+outers-grow : (n : List ℕ) (g : Scoping) → length (g .outers) ≤ length (scopingAfter n g .outers)
+unfolding scopingAfter
+outers-grow [] g = omega (arith, length-append (g .outers) ((g .current ∷ getD (g .outers) (g .current) []) ∷ []))
+outers-grow (k ∷ n) g = omega arith
+
+scopes-grow : (e : Logged) (l : List Logged) → length (scopingOf l .outers) ≤ length (scopingOf (e ∷ l) .outers)
+unfolding scopingOf
+scopes-grow e l =
+    split (eqb (e .owner) ofMarks)
+    (λ (p : eqb (e .owner) ofMarks ≡ true). rw p (outers-grow (e .name) (scopingOf l)))
+    (λ (p : eqb (e .owner) ofMarks ≡ false). rw p (omega arith))
+
+-- A scope that was not entered has no variables.
+no-variables : (steps : ℕ) (log : List Logged) (k : ℕ) → Owned steps log → length (scopingOf log .outers) ≤ k → boundBy (ofScope k) log ≡ []
+unfolding boundBy
+no-variables steps [] k w h = refl
+no-variables steps (e ∷ l) k w h =
+    bound-other e l (ofScope k) (λ p. let m = w .0 .scope k p in omega (arith, m, h, scopes-grow e l))
+    ∙ no-variables steps l k (w .1) (omega (arith, h, scopes-grow e l))
+
+pub variables-entered : (steps : ℕ) (l : List Logged) → Owned steps l → scopingOf l .current < length (scopingOf l .outers)
+    → variablesOf (entering ∷ l) ≡ entered true (variablesOf l)
+unfolding variablesOf scopingOf scopingAfter entered
+variables-entered steps l w b =
+    let g = scopingOf l in
+    let o = g .current ∷ getD (g .outers) (g .current) [] in
+    let z : 0 + length (g .outers) ≡ length (g .outers) = omega arith in
+    let s : scopesFrom 0 (g .outers ++ (o ∷ [])) (entering ∷ l) ≡ scopesFrom 0 (g .outers) l ++ (record { outer = o; own = [] } ∷ []) =
+    scopes-other entering l 0 (g .outers ++ (o ∷ [])) (λ j c p. omega arith)
+    ∙ scopes-last 0 (g .outers) o l
+    ∙ rw (z, no-variables steps l (length (g .outers)) w (omega arith)) in
+    rw (s, scopes-long 0 (g .outers) l, scope-at l 0 (g .current) (g .outers) b)
+
+pub variables-back : (k : ℕ) (l : List Logged) → variablesOf (backTo k ∷ l) ≡ record { scopes = variablesOf l .scopes; current = k }
+unfolding variablesOf scopingOf scopingAfter
+variables-back k l =
+    ap (λ (s : List Scope). record { scopes = s; current = k }) (scopes-other (backTo k) l 0 (scopingOf l .outers) (λ j c p. omega arith))
+
 -- ---- through some scopes
 
 module _ (n : List ℕ) where
@@ -84,12 +146,6 @@ module _ (n : List ℕ) where
   found-first log a b Missing g p q = bound-second a b p ∙ q
 
 -- ---- what is seen from a scope
-
-scope-at : (log : List Logged) (j k : ℕ) (os : List (List ℕ)) → k < length os → scopeAt (scopesFrom j os log) k ≡ record { outer = getD os k []; own = boundBy (ofScope (j + k)) log }
-unfolding scopesFrom
-scope-at log j k [] h = absurd (not-suc-le-zero h)
-scope-at log j zero (o ∷ os) h = let z : j + 0 ≡ j = omega arith in rw z
-scope-at log j (suc k) (o ∷ os) h = let z : j + suc k ≡ suc j + k = omega arith in rw z (scope-at log (suc j) k os (omega arith))
 
 -- All of them are there.
 abbrev Below : ℕ → List ℕ → Type 0
@@ -229,3 +285,13 @@ module _ (bind : List ℕ) (l : maxRows ≤ length bind) where
         few = omega arith;
         parents = no-parent;
       }
+
+-- ---- the scopes of the log by number
+
+pub scopes-counted : (log : List Logged) → length (variablesOf log .scopes) ≡ length (scopingOf log .outers)
+unfolding variablesOf
+scopes-counted log = scopes-long 0 (scopingOf log .outers) log
+
+pub outer-at : (log : List Logged) (k : ℕ) → k < length (scopingOf log .outers) → scopeAt (variablesOf log .scopes) k .outer ≡ getD (scopingOf log .outers) k []
+unfolding variablesOf
+outer-at log k h = ap (λ (s : Scope). s .outer) (scope-at log 0 k (scopingOf log .outers) h)

@@ -157,11 +157,12 @@ unfoldable pub withKey : Bound → List Rule → List Rule
 withKey b [] = []
 withKey b (r ∷ rs) = record { name = r .name; keys = b ∷ r .keys } ∷ rs
 
--- A key stands after its rule's declaration, and a block line in the block of a step that was begun.
-pub record Owner (steps entries o : ℕ) : Type 0 where
+-- A key stands after its rule's declaration, a block line in the block of a step that was begun, and a variable in a scope that was entered.
+pub record Owner (steps entries scopes o : ℕ) : Type 0 where
   pub key : (k : ℕ) → o ≡ ofKeys k → k < entries
   pub line : (s : ℕ) → o ≡ ofBlock s → s < steps
+  pub scope : (k : ℕ) → o ≡ ofScope k → k < scopes
 
 abbrev pub Owned : ℕ → List Logged → Type 0
 Owned steps [] = Unit {0}
-Owned steps (e ∷ l) = Owner steps (length l) (e .owner) × Owned steps l
+Owned steps (e ∷ l) = Owner steps (length l) (length (scopingOf l .outers)) (e .owner) × Owned steps l

@@ -1,18 +1,22 @@
 -- What an agreement says of the outcome, by the answer; and what is held before the first line.
-use Prim.Native.Nat.{ℕ, _≤_}
-use mathlib.Core.Bool.{false}
+use Prim.Native.Nat.{ℕ, _≤_, _<_}
+use mathlib.Core.Bool.{Bool, false}
+use mathlib.Core.Option.{none}
 use mathlib.Core.List.{List, [], _∷_, map}
 use mathlib.Core.Path.{_≡_, refl}
 use native.Mathlib.Nat.{not-suc-le-zero}
 use native.Mathlib.Omega.{arith}
 use lib.ListN.{length, drop, length-drop}
 use Rattle.lists.specs.Members.{not-in-nil, any-none}
+use Rattle.lists.specs.Parts.{part}
 use Rattle.spec.specs.declared.Refusal.{Refusal}
 use Rattle.spec.specs.Basics.{concat, sum}
 use Rattle.spec.specs.Limits.{maxPath}
 use Rattle.spec.specs.Reading.{Reading, nothingRead}
 use Rattle.spec.specs.Graph.{makers, makersFrom}
-use Rattle.spec.specs.Statements.{Block, noBlock, Outcome, goesOn, refused, longerThan, overPaths}
+use Rattle.spec.specs.Dollars.{badDollar}
+use Rattle.spec.specs.Lines.{Line}
+use Rattle.spec.specs.Statements.{Block, noBlock, Outcome, goesOn, opens, refused, longerThan, overPaths}
 use Rattle.arena.specs.Columns.{Lies}
 use Rattle.hold_names.specs.Table.{HoldsNames}
 use Rattle.hold_bindings.specs.Log.{Logged, boundBy, scopingOf, scopesFrom, variablesOf, rulesIn, rulesOf}
@@ -20,8 +24,10 @@ use Rattle.hold_bindings.specs.Held.{HoldsBindings, valuesIn}
 use Rattle.hold_columns.specs.Columns.{madeBy}
 use Rattle.hold_reading.specs.declared.Counts.{Counts}
 use Rattle.hold_reading.specs.declared.Open.{Open}
+use Rattle.hold_reading.specs.declared.LineAnswer.{LineAnswer}
 use Rattle.hold_reading.specs.declared.LineAnswer.the-variants.{Goes, Refused}
-use Rattle.hold_reading.specs.Held.{joined, OpensBlock, capacities, HoldsReading, Agrees, goes, refuses}
+use Rattle.hold_reading.specs.declared.LineTurn.the-variants.{Goes as TurnGoes, Opens as TurnOpens, Refused as TurnRefused}
+use Rattle.hold_reading.specs.Held.{joined, OpensBlock, capacities, HoldsReading, Agrees, goes, refuses, turnOf, TurnAgrees, turn-goes, turn-opens, turn-refuses}
 use Rattle.hold_reading.specs.Buffers.{Buffers}
 
 -- ---- by the answer
@@ -42,10 +48,38 @@ module _ {bs : Buffers} where
   pub agreed-refused : {out : Outcome} {r : Refusal} → Agrees bs out (Refused r) → out ≡ refused r
   agreed-refused refuses = refl
 
+-- ---- a line that may open a file
+
+pub turn-agrees : (l : Line) {bs : Buffers} {out : Outcome} {a : LineAnswer} → Agrees bs out a → TurnAgrees l bs out (turnOf a)
+unfolding turnOf
+turn-agrees l (goes h p) = turn-goes h p
+turn-agrees l refuses = turn-refuses
+
+-- the line opens a file, and what was read before it is held
+pub record OpensAt (l : Line) (bs : Buffers) (c : Counts) (sub : Bool) (from to : ℕ) (out : Outcome) : Type 0 where
+  pub log : List Logged
+  pub reading : Reading
+  pub outcome : out ≡ opens (l .start) sub (part (l .text) from to) reading
+  pub holds : HoldsReading log bs c reading
+  pub longer : from < to
+  pub within : to ≤ length (l .text)
+  pub sound : badDollar (part (l .text) from to) ≡ none
+
+module _ {l : Line} {bs : Buffers} where
+  pub turned-on : {out : Outcome} {c : Counts} {o : Open} → TurnAgrees l bs out (TurnGoes c o) → GoesOn bs c o out
+  turned-on (turn-goes {log = l} {rd = rd} {b = b} h p) = record { log = l; reading = rd; block = b; outcome = refl; holds = h; opens = p }
+
+  pub turned-opens : {out : Outcome} {c : Counts} {sub : Bool} {from to : ℕ} → TurnAgrees l bs out (TurnOpens c sub from to) → OpensAt l bs c sub from to out
+  turned-opens (turn-opens {log = g} {rd = rd} h a b d) =
+      record { log = g; reading = rd; outcome = refl; holds = h; longer = a; within = b; sound = d }
+
+  pub turned-refused : {out : Outcome} {r : Refusal} → TurnAgrees l bs out (TurnRefused r) → out ≡ refused r
+  turned-refused turn-refuses = refl
+
 -- ---- before the first line
 
 abbrev pub noCounts : Counts
-noCounts = record { files = 0; steps = 0; paths = 0; defaults = 0; entries = 0; rules = 0; bindings = 0; mentions = 0; written = 0 }
+noCounts = record { files = 0; steps = 0; paths = 0; defaults = 0; entries = 0; rules = 0; bindings = 0; mentions = 0; written = 0; opened = 1 }
 
 none-lies : (ns a : List ℕ) → sum ns ≤ length a → Lies ns a (map (λ (n : ℕ). []) ns)
 unfolding Lies sum
@@ -75,11 +109,14 @@ module _ (bs : Buffers) where
               rules-counted = refl;
               bindings-counted = refl;
               written-counted = refl;
-              entries-counted = refl;
+              opened-counted = refl;
+              few-scopes = omega arith;
+              entries-counted = omega arith;
               few-rules = omega arith;
               few-bindings = omega arith;
               few-steps = omega arith;
               few-written = omega arith;
+              few-opened = omega arith;
               shared = omega arith;
             };
         graphed =

@@ -74,16 +74,19 @@ module _ {log : List Logged} {texts bind texts′ bind′ : List ℕ} {c : Count
             ∙ sym (rules-declared e log (length (rd .steps)) (b .owned) refl);
         blocks = λ s d. b .blocks s d ∙ sym (bound-other e log (ofBlock s) (λ p. omega arith));
         scoped = λ s d. rw (scoping-other e log (λ p. omega arith)) (b .scoped s d);
-        owned = (owner-rules (length (rd .steps)) (length log), b .owned);
+        owned = (owner-rules (length (rd .steps)) (length log) (length (scopingOf log .outers)), b .owned);
         steps-counted = b .steps-counted;
         rules-counted = omega (arith, b .rules-counted);
         bindings-counted = b .bindings-counted;
         written-counted = b .written-counted;
-        entries-counted = omega (arith, b .entries-counted);
+        opened-counted = b .opened-counted;
+        few-scopes = rw (scoping-other e log (λ p. omega arith)) (b .few-scopes);
+        entries-counted = rw (scoping-other e log (λ p. omega arith)) (omega (arith, b .entries-counted));
         few-rules = omega arith;
         few-bindings = b .few-bindings;
         few-steps = b .few-steps;
         few-written = b .few-written;
+        few-opened = b .few-opened;
         shared = omega (arith, b .shared);
       }
 
@@ -96,6 +99,7 @@ record More (log : List Logged) (n : ℕ) (rd rd′ : Reading) : Type 0 where
   rules : length (rd′ .rules) ≡ length (rd .rules)
   bindings : rd′ .bindings ≡ rd .bindings + 1
   written : rd′ .written ≡ rd .written + n
+  opened : rd′ .opened ≡ rd .opened
   scopes : (s : ℕ) → s < length (rd′ .steps) → stepAt (rd′ .steps) s .scope < length (scopingOf log .outers)
 
 module _ {log : List Logged} {texts bind texts′ bind′ : List ℕ} {c : Counts} {rd : Reading} (b : HoldsBound log texts bind c rd) (e : Logged)
@@ -116,11 +120,14 @@ module _ {log : List Logged} {texts bind texts′ bind′ : List ℕ} {c : Count
         rules-counted = omega (arith, b .rules-counted, m .rules);
         bindings-counted = omega (arith, b .bindings-counted, m .bindings);
         written-counted = omega (arith, b .written-counted, m .written);
-        entries-counted = omega (arith, b .entries-counted);
+        opened-counted = b .opened-counted ∙ sym (m .opened);
+        few-scopes = rw (scoping-other e log plain) (b .few-scopes);
+        entries-counted = rw (scoping-other e log plain) (omega (arith, b .entries-counted));
         few-rules = b .few-rules;
         few-bindings = omega arith;
         few-steps = b .few-steps;
         few-written = w;
+        few-opened = b .few-opened;
         shared = rw (m .files) (omega (arith, b .shared));
       }
 
@@ -134,12 +141,12 @@ module _ {log : List Logged} {texts bind texts′ bind′ : List ℕ} {c : Count
       let k = scopingOf log .current in
       let e = logged (ofScope k) n v in
       bound-more b e h f w
-      (record { files = refl; steps = refl; rules = refl; bindings = refl; written = refl; scopes = b .scoped })
+      (record { files = refl; steps = refl; rules = refl; bindings = refl; written = refl; opened = refl; scopes = b .scoped })
       (λ p. omega arith)
       (ap (bound (record { name = n; value = v })) (b .vars) ∙ sym (variables-bound n v log (b .held .scopes .below)))
       (b .rules ∙ sym (rules-other e log (λ p. omega arith) (λ j p. omega arith)))
       (λ s d. b .blocks s d ∙ sym (bound-other e log (ofBlock s) (λ p. omega arith)))
-      (owner-scope (length (rd .steps)) (length log) k, b .owned)
+      (owner-scope (length (rd .steps)) (length log) (length (scopingOf log .outers)) k (b .held .scopes .below), b .owned)
 
 -- a key of the open rule
 module _ {log : List Logged} {texts bind texts′ bind′ : List ℕ} {c : Counts} (rd : Reading) (r : Rule) (k : ℕ) (b : HoldsBound log texts bind c (withRule r rd))
@@ -150,12 +157,12 @@ module _ {log : List Logged} {texts bind texts′ bind′ : List ℕ} {c : Count
   bound-key =
       let e = logged (ofKeys k) n v in
       bound-more b e h f w
-      (record { files = refl; steps = refl; rules = refl; bindings = refl; written = refl; scopes = b .scoped })
+      (record { files = refl; steps = refl; rules = refl; bindings = refl; written = refl; opened = refl; scopes = b .scoped })
       (λ p. omega arith)
       (b .vars ∙ sym (variables-other e log (λ j p. omega arith) (λ p. omega arith)))
       (ap (withKey (record { name = n; value = v })) (b .rules) ∙ sym (rules-key e log k refl o))
       (λ s d. b .blocks s d ∙ sym (bound-other e log (ofBlock s) (keys-not-step k s)))
-      (owner-keys (length (rd .steps)) (length log) k (newest-rule-below log k o), b .owned)
+      (owner-keys (length (rd .steps)) (length log) (length (scopingOf log .outers)) k (newest-rule-below log k o), b .owned)
 
 -- a line of the open step's block
 module _ {log : List Logged} {texts bind texts′ bind′ : List ℕ} {c : Counts} (rd : Reading) (s : Step) (b : HoldsBound log texts bind c (withStep s rd)) (n v : List ℕ)
@@ -205,12 +212,12 @@ module _ {log : List Logged} {texts bind texts′ bind′ : List ℕ} {c : Count
       let e = logged (ofBlock (length (rd .steps))) n v in
       let m : length (rd .steps ++ (lineMore n v s ∷ [])) ≡ length (rd .steps ++ (s ∷ [])) = simp length-append in
       bound-more b e h f w
-      (record { files = refl; steps = m; rules = refl; bindings = refl; written = refl; scopes = line-scopes })
+      (record { files = refl; steps = m; rules = refl; bindings = refl; written = refl; opened = refl; scopes = line-scopes })
       (λ p. omega arith)
       (b .vars ∙ sym (variables-other e log (λ j p. omega arith) (λ p. omega arith)))
       (b .rules ∙ sym (rules-other e log (λ p. omega arith) (λ k p. keys-not-step k (length (rd .steps)) (sym p))))
       line-blocks
-      (rw m (owner-step (length (rd .steps ++ (s ∷ []))) (length log) (length (rd .steps)) (simp length-append (omega arith)), b .owned))
+      (rw m (owner-step (length (rd .steps ++ (s ∷ []))) (length log) (length (scopingOf log .outers)) (length (rd .steps)) (simp length-append (omega arith)), b .owned))
 
 -- ---- what a line leaves
 

@@ -3,3 +3,4 @@ pub mod Lift
 pub mod Grow
 pub mod Agreement
 pub mod Short
+pub mod Opened

@@ -43,6 +43,7 @@ countedMore n c =
       bindings = c .bindings + 1;
       mentions = c .mentions;
       written = c .written + n;
+      opened = c .opened;
     }
 
 -- the counts with a rule more
@@ -58,6 +59,54 @@ countedRule c =
       bindings = c .bindings;
       mentions = c .mentions;
       written = c .written;
+      opened = c .opened;
+    }
+
+-- the counts with a file more that is opened, by a path of n bytes: in the scope that is read in, and in a new one, whose mark is an entry
+abbrev pub countedOpened : ℕ → Counts → Counts
+countedOpened n c =
+    record {
+      files = c .files;
+      steps = c .steps;
+      paths = c .paths;
+      defaults = c .defaults;
+      entries = c .entries;
+      rules = c .rules;
+      bindings = c .bindings;
+      mentions = c .mentions;
+      written = c .written + n;
+      opened = c .opened + 1;
+    }
+
+abbrev pub countedEntered : ℕ → Counts → Counts
+countedEntered n c =
+    record {
+      files = c .files;
+      steps = c .steps;
+      paths = c .paths;
+      defaults = c .defaults;
+      entries = c .entries + 1;
+      rules = c .rules;
+      bindings = c .bindings;
+      mentions = c .mentions;
+      written = c .written + n;
+      opened = c .opened + 1;
+    }
+
+-- the counts with a mark more, by which a scope is gone back to
+abbrev pub countedBack : Counts → Counts
+countedBack c =
+    record {
+      files = c .files;
+      steps = c .steps;
+      paths = c .paths;
+      defaults = c .defaults;
+      entries = c .entries + 1;
+      rules = c .rules;
+      bindings = c .bindings;
+      mentions = c .mentions;
+      written = c .written;
+      opened = c .opened;
     }
 
 -- a rule with a key more, and a step with a line more in its block

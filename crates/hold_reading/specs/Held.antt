@@ -2,14 +2,18 @@
 -- with the open block already joined to it, so that closing a block changes no buffer.
 use Prim.Native.Nat.{ℕ, suc, _+_, _*_, _≤_, _<_}
 use mathlib.Core.Path.{_≡_}
-use mathlib.Core.Bool.{true, false}
+use mathlib.Core.Bool.{Bool, true, false}
+use mathlib.Core.Option.{none}
 use mathlib.Core.List.{List, [], _∷_}
 use lib.ListN.{length, getD}
+use Rattle.lists.specs.Parts.{part}
 use Rattle.spec.specs.declared.Refusal.{Refusal}
 use Rattle.spec.specs.Basics.{concat}
-use Rattle.spec.specs.Limits.{maxSteps, maxFiles, maxRules, maxBindings, maxMentions, maxWritten}
+use Rattle.spec.specs.Limits.{maxSteps, maxFiles, maxRules, maxBindings, maxMentions, maxWritten, maxOpened}
 use Rattle.spec.specs.Reading.{Step, Rule, Reading, isPhony}
-use Rattle.spec.specs.Statements.{Block, noBlock, ruleBlock, buildBlock, Outcome, goesOn, refused, overPaths}
+use Rattle.spec.specs.Statements.{Block, noBlock, ruleBlock, buildBlock, Outcome, goesOn, opens, refused, overPaths}
+use Rattle.spec.specs.Dollars.{badDollar}
+use Rattle.spec.specs.Lines.{Line}
 use Rattle.spec.specs.Manifest.{withRule, withStep}
 use Rattle.spec.specs.Graph.{stepAt}
 use Rattle.arena.specs.Columns.{Lies, startOf}
@@ -23,6 +27,8 @@ use Rattle.hold_reading.specs.declared.Open.{Open}
 use Rattle.hold_reading.specs.declared.Open.the-variants.{Nothing, Rule as OpenRule, Step as OpenStep}
 use Rattle.hold_reading.specs.declared.LineAnswer.{LineAnswer}
 use Rattle.hold_reading.specs.declared.LineAnswer.the-variants.{Goes, Refused}
+use Rattle.hold_reading.specs.declared.LineTurn.{LineTurn}
+use Rattle.hold_reading.specs.declared.LineTurn.the-variants.{Goes as TurnGoes, Opens as TurnOpens, Refused as TurnRefused}
 use Rattle.hold_reading.specs.Buffers.{Buffers}
 
 -- the reading with its open block closed
@@ -38,6 +44,10 @@ pub data OpensBlock (log : List Logged) : Block → Open → Type 0 where
   aRule : {start k : ℕ} {r : Rule} → newestRule log ≡ At k → OpensBlock log (ruleBlock start r) (OpenRule start k)
   aStep : {s : Step} → OpensBlock log (buildBlock s) OpenStep
 
+-- the scopes around the current one
+abbrev pub aroundNow : List Logged → List ℕ
+aroundNow log = getD (scopingOf log .outers) (scopingOf log .current) []
+
 -- the table of bindings holds the reading's variables, rules and blocks
 pub record HoldsBound (log : List Logged) (texts bind : List ℕ) (c : Counts) (rd : Reading) : Type 0 where
   pub held : HoldsBindings log texts bind (c .entries)
@@ -50,11 +60,15 @@ pub record HoldsBound (log : List Logged) (texts bind : List ℕ) (c : Counts) (
   pub rules-counted : c .rules ≡ length (rd .rules)
   pub bindings-counted : c .bindings ≡ rd .bindings
   pub written-counted : c .written ≡ rd .written
-  pub entries-counted : c .entries ≡ c .rules + c .bindings
+  pub opened-counted : c .opened ≡ rd .opened
+  -- each file that was opened had one scope and two marks of it at most, and each scope around the current one still has its second
+  pub few-scopes : length (scopingOf log .outers) ≤ c .opened
+  pub entries-counted : c .entries + length (aroundNow log) + 2 ≤ c .rules + c .bindings + 2 * c .opened
   pub few-rules : c .rules ≤ maxRules
   pub few-bindings : c .bindings ≤ maxBindings
   pub few-steps : c .steps ≤ maxSteps
   pub few-written : c .written ≤ maxWritten
+  pub few-opened : c .opened ≤ maxOpened
   -- values and the bytes of names share what has been written
   pub shared : valuesIn log + length (concat (rd .files)) ≤ c .written
 
@@ -141,3 +155,16 @@ pub data Agrees (bs : Buffers) : Outcome → LineAnswer → Type 0 where
   goes : {log : List Logged} {rd : Reading} {b : Block} {c : Counts} {o : Open} → HoldsReading log bs c (joined rd b) → OpensBlock log b o
       → Agrees bs (goesOn rd b) (Goes c o)
   refuses : {r : Refusal} → Agrees bs (refused r) (Refused r)
+
+-- an answer as that of a line that may open a file
+unfoldable pub turnOf : LineAnswer → LineTurn
+turnOf (Goes c o) = TurnGoes c o
+turnOf (Refused r) = TurnRefused r
+
+-- The same of the line `l` that may open a file.
+pub data TurnAgrees (l : Line) (bs : Buffers) : Outcome → LineTurn → Type 0 where
+  turn-goes : {log : List Logged} {rd : Reading} {b : Block} {c : Counts} {o : Open} → HoldsReading log bs c (joined rd b) → OpensBlock log b o
+      → TurnAgrees l bs (goesOn rd b) (TurnGoes c o)
+  turn-opens : {log : List Logged} {rd : Reading} {c : Counts} {sub : Bool} {from to : ℕ} → HoldsReading log bs c rd → from < to → to ≤ length (l .text)
+      → badDollar (part (l .text) from to) ≡ none → TurnAgrees l bs (opens (l .start) sub (part (l .text) from to) rd) (TurnOpens c sub from to)
+  turn-refuses : {r : Refusal} → TurnAgrees l bs (refused r) (TurnRefused r)

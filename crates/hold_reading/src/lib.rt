@@ -1,4 +1,7 @@
 // What the reader keeps beside its lent buffers: counts and the open block. `specs/Held.antt` says what the buffers hold.
+ghost use mathlib.Core.Path.{_≡_};
+ghost use Rattle.hold_reading.specs.Held.{turnOf};
+
 pub mod columns;
 
 use spec::Refusal;
@@ -14,6 +17,7 @@ pub struct Counts {
     pub bindings: usize,
     pub mentions: usize,
     pub written: usize,
+    pub opened: usize,
 }
 
 pub enum Open {
@@ -40,4 +44,21 @@ pub struct State {
 pub enum LineAnswer {
     Goes(Counts, Open),
     Refused(Refusal),
+}
+
+// The same of a line that may open a file: in a new scope or not, by the raw path from one place of the line to another.
+pub enum LineTurn {
+    Goes(Counts, Open),
+    Opens(Counts, bool, usize, usize),
+    Refused(Refusal),
+}
+
+// A line that opens none.
+pub fn turned(a: LineAnswer) -> LineTurn
+    ensures { λ r. ⌜ r ≡ turnOf a ⌝ }
+{
+    match a {
+        LineAnswer::Goes(c, o) => LineTurn::Goes(c, o),
+        LineAnswer::Refused(r) => LineTurn::Refused(r),
+    }
 }

@@ -1,17 +1,24 @@
-// The three asks and the status line for C and Rust: numbers and slices alone. None asks anything of its caller, and each says what document 01 says in two numbers.
+// The three asks and the status line for C and Rust: numbers and slices alone. None asks anything of its caller, and each says what documents 01 and 02 say in three
+// numbers.
 ghost use mathlib.Core.Path.{_≡_};
+ghost use mathlib.Core.List.{[]};
 ghost use lib.ListN.{length};
+ghost use Rattle.spec.specs.Answers.{plain};
+ghost use Rattle.spec.specs.Bundle.{bundleTexts};
 ghost use Rattle.spec.specs.PlanAsk.{inputsOf};
 ghost use Rattle.spec.specs.Demands.{PlanDemands, TextDemands};
 ghost use Rattle.answers.specs.Numbers.{said};
+ghost use Rattle.answer_places.specs.Places.{HasPlace};
 ghost use Rattle.text_batch.specs.TextsAsk.{textsAsk};
 ghost use Rattle.text_batch.specs.TextsPromise.{textsSays, TextsMeets};
 ghost use Rattle.status_record.specs.Record.{firstStatus, movedTo, startAt, finishAt};
 ghost use Rattle.status_line.specs.LineAsk.{lineOutcome, StatusLineMeets};
 ghost use Rattle.status_numbers.specs.Numbers.{statusHeld, recordOf};
-ghost use Rattle.kestrenyo.specs.Tells.{Tells, TellsNumbers};
+ghost use Rattle.kestrenyo.specs.Tells.{Tells};
 ghost use Rattle.kestrenyo.specs.Wants.{wantedOf};
+use answer_places::locate;
 use answers::Numbers;
+use answers::Placed;
 use answers::of_plan;
 use answers::of_refusal;
 use answers::of_text;
@@ -27,18 +34,13 @@ use status_numbers::record_moved;
 use status_numbers::record_started;
 use text_batch::TextsAnswer;
 
-// A refusal's number and its place; or 0 and the count that an answer gives.
-#[repr(C)]
-pub struct Said {
-    pub number: usize,
-    pub value: usize,
-}
-
-fn in_two(n: Numbers) -> Said
-    ensures { λ r. ⌜ TellsNumbers n r ⌝ }
+// What stands in no text.
+fn outside(n: Numbers) -> Placed
+    ensures { λ r. ⌜ HasPlace (said n .number) (plain (said n .value)) r ⌝ }
 {
-    Said {
+    Placed {
         number: n.number,
+        text: 0,
         value: n.value,
     }
 }
@@ -46,14 +48,14 @@ fn in_two(n: Numbers) -> Said
 // The plan ask: 0 and the number of steps listed, or a refusal's number and place.
 #[no_mangle]
 pub extern "C" fn kestrenyo_plan(
-    manifest: &[u8],
+    bundle: &[u8],
     card: &[u8],
     targets: &[u8],
     list: &mut [u32],
-) -> Said
-    ensures { λ r. ⌜ Tells (λ said. PlanDemands (inputsOf (now (manifest .entry)) (now (card .entry)) (now (targets .entry))) (now (list .entry)) said (now (list .exit))) r ⌝ }
+) -> Placed
+    ensures { λ r. ⌜ Tells (bundleTexts (now (bundle .entry))) (λ said. PlanDemands (inputsOf (now (bundle .entry)) (now (card .entry)) (now (targets .entry))) (now (list .entry)) said (now (list .exit))) r ⌝ }
 {
-    in_two(of_plan(plan(manifest, card, targets, list)))
+    locate(of_plan(plan(bundle, card, targets, list)), bundle)
 }
 
 // What a number asks for.
@@ -69,14 +71,17 @@ fn wanted_of(n: usize) -> Wanted
 // The text ask, of a command where `wanted` is 0 and else of a description: 0 and the number of bytes written, or a refusal's number and place.
 #[no_mangle]
 pub extern "C" fn kestrenyo_text(
-    manifest: &[u8],
+    bundle: &[u8],
     step: usize,
     wanted: usize,
     buffer: &mut [u8],
-) -> Said
-    ensures { λ r. ⌜ Tells (λ said. TextDemands (now (manifest .entry)) step (wantedOf wanted) (now (buffer .entry)) said (now (buffer .exit))) r ⌝ }
+) -> Placed
+    ensures { λ r. ⌜ Tells (bundleTexts (now (bundle .entry))) (λ said. TextDemands (now (bundle .entry)) step (wantedOf wanted) (now (buffer .entry)) said (now (buffer .exit))) r ⌝ }
 {
-    in_two(of_text(text(manifest, step, wanted_of(wanted), buffer)))
+    locate(
+        of_text(text(bundle, step, wanted_of(wanted), buffer)),
+        bundle,
+    )
 }
 
 fn of_texts(a: TextsAnswer) -> Numbers
@@ -95,15 +100,18 @@ fn of_texts(a: TextsAnswer) -> Numbers
 // The texts ask, of commands where `wanted` is 0 and else of descriptions: 0 and the number of texts written, or a refusal's number and place.
 #[no_mangle]
 pub extern "C" fn kestrenyo_texts(
-    manifest: &[u8],
+    bundle: &[u8],
     steps: &[u32],
     wanted: usize,
     bytes: &mut [u8],
     ends: &mut [u32],
-) -> Said
-    ensures { λ r. ⌜ Tells (λ said. TextsMeets (textsAsk (now (manifest .entry)) (now (steps .entry)) (wantedOf wanted) (length (now (bytes .entry))) (length (now (ends .entry)))) (now (bytes .entry)) (now (ends .entry)) said (now (bytes .exit)) (now (ends .exit))) r ⌝ }
+) -> Placed
+    ensures { λ r. ⌜ Tells (bundleTexts (now (bundle .entry))) (λ said. TextsMeets (textsAsk (now (bundle .entry)) (now (steps .entry)) (wantedOf wanted) (length (now (bytes .entry))) (length (now (ends .entry)))) (now (bytes .entry)) (now (ends .entry)) said (now (bytes .exit)) (now (ends .exit))) r ⌝ }
 {
-    in_two(of_texts(texts(manifest, steps, wanted_of(wanted), bytes, ends)))
+    locate(
+        of_texts(texts(bundle, steps, wanted_of(wanted), bytes, ends)),
+        bundle,
+    )
 }
 
 // The status before the first event, of so many steps and so many jobs at once.
@@ -144,8 +152,8 @@ pub extern "C" fn kestrenyo_status_line(
     status: StatusRecord,
     format: &[u8],
     buffer: &mut [u8],
-) -> Said
-    ensures { λ r. ⌜ Tells (λ said. StatusLineMeets (lineOutcome (statusHeld status) (now (format .entry)) (length (now (buffer .entry)))) (now (buffer .entry)) said (now (buffer .exit))) r ⌝ }
+) -> Placed
+    ensures { λ r. ⌜ Tells [] (λ said. StatusLineMeets (lineOutcome (statusHeld status) (now (format .entry)) (length (now (buffer .entry)))) (now (buffer .entry)) said (now (buffer .exit))) r ⌝ }
 {
-    in_two(record_line(status, format, buffer))
+    outside(record_line(status, format, buffer))
 }

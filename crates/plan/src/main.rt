@@ -8,6 +8,7 @@ use libc::STDIN_FILENO;
 use libc::STDOUT_FILENO;
 use report::Begun;
 use report::begin;
+use report::lend_alone;
 use report::next_lines;
 use spec::limits::CARD;
 use spec::limits::LIST;
@@ -30,6 +31,9 @@ enum Outcome {
 
 // A program of the kit has no exit status of its own: it tells the script which one to end with, on this descriptor.
 const STATUS_FILENO: i32 = 3;
+
+// Room for the bundle of `build.ninja` alone: 43 bytes beside its text, and of that one byte more than its limit.
+const ALONE: usize = 43 + (MANIFEST + 1);
 
 // Room for the texts of one reading: those of 512 steps with 512 bytes each.
 const TEXTS: usize = 262144;
@@ -84,19 +88,19 @@ fn write(bytes: &[u8]) -> bool {
 // The lines of all listed steps, in list order, as many at once as have their texts in the buffers, as long as they can be written; whether
 // all were. The texts of the first `held` steps are in the buffers.
 fn write_steps(
-    manifest: &[u8],
+    bundle: &[u8],
     steps: &[u32],
     held: usize,
     bytes: &mut [u8],
     ends: &mut [u32],
     out: &mut [u8],
 ) -> bool
-    requires { ⌜ ToWrite (now manifest) (now steps) (now bytes) (now ends) (now out) 0 held ⌝ }
+    requires { ⌜ ToWrite (now bundle) (now steps) (now bytes) (now ends) (now out) 0 held ⌝ }
 {
     let mut place = 0;
     let mut held = held;
     while place < steps.len() {
-        let made = next_lines(manifest, steps, place, held, bytes, ends, out);
+        let made = next_lines(bundle, steps, place, held, bytes, ends, out);
         if !write(&out[..made.bytes]) {
             return false;
         }
@@ -116,7 +120,7 @@ fn written(is_written: bool, if_so: Outcome) -> Outcome {
 
 // Asks, and writes the whole output or the line of each step.
 fn answer(
-    manifest: &[u8],
+    bundle: &[u8],
     card: &[u8],
     targets: &[u8],
     list: &mut [u32],
@@ -126,24 +130,26 @@ fn answer(
 ) -> Outcome
     requires { ⌜ AnswerRooms (now list) (now bytes) (now ends) (now out) ⌝ }
 {
-    match begin(manifest, card, targets, list, out, bytes, ends) {
+    match begin(bundle, card, targets, list, out, bytes, ends) {
         Begun::Whole(n) => written(write(&out[..n]), Outcome::Done),
         Begun::Refusal(n) => written(write(&out[..n]), Outcome::Refused),
         Begun::Steps(n, held) => written(
-            write_steps(manifest, &list[..n], held, bytes, ends, out),
+            write_steps(bundle, &list[..n], held, bytes, ends, out),
             Outcome::Done,
         ),
     }
 }
 
-// The same, with the working space.
+// The same for `build.ninja` alone, with the working space.
 fn run(manifest: &[u8], card: &[u8], targets: &[u8]) -> Outcome {
+    let mut bundle = [0u8; ALONE];
     let mut list = [0u32; LIST];
     let mut bytes = [0u8; TEXTS];
     let mut ends = [0u32; LIST];
     let mut out = [0u8; OUT];
+    let n = lend_alone(manifest, &mut bundle);
     answer(
-        manifest,
+        &bundle[..n],
         card,
         targets,
         &mut list,

@@ -1,5 +1,5 @@
 -- Texts put into the line one behind another, and the line's end.
-use Prim.Native.Nat.{ℕ, _+_, _-_, _*_, _≤_, _<_}
+use Prim.Native.Nat.{ℕ, zero, suc, _+_, _-_, _*_, _≤_, _<_}
 use native.Mathlib.Numerals.{add-one}
 use native.Mathlib.Omega.{arith}
 use mathlib.Core.List.{List, [], _∷_, _++_, append-nil, append-assoc}
@@ -9,10 +9,11 @@ use lib.Seq.{paste, take-paste, take-length, take-suc-set, take-suc, drop-length
 use Rattle.io.specs.Digits.{digits, Fewest}
 use Rattle.lists.specs.Fill.{zeroed}
 use Rattle.lists.specs.Text.{bytes}
-use Rattle.spec.specs.Answers.{Said, says}
+use Rattle.spec.specs.Answers.{Place, plain}
 use Rattle.spec.specs.Promises.{filled}
-use Rattle.printing.specs.Lines.{decimal, worded, refusedText, refusedLine, spaced, circleLine, circleOutput, headOf, stepLineOf}
-use Rattle.printing.specs.Writes.{stepRoom, PutsInLine, PutsUpTo, LeavesOutput}
+use Rattle.answers.specs.Numbers.{placeBy}
+use Rattle.printing.specs.Lines.{decimal, worded, placeText, refusedText, refusedLine, spaced, circleLine, circleOutput, headOf, stepLineOf}
+use Rattle.printing.specs.Writes.{stepRoom, placeRoom, refusedRoom, PutsInLine, PutsUpTo, LeavesOutput}
 use Rattle.printing.proofs.Digits.{decimal-of}
 
 pub put-law : (s d e : List ℕ) (at r : ℕ) → at + length s ≤ length d → e ≡ paste d at s (length s) → r ≡ at + length s → PutsInLine s d at e r
@@ -99,11 +100,23 @@ spaced-end {steps} {d} {e} {at} {m} {i} h p =
     let y : take i steps ≡ steps = rw (← z) (take-length steps) in
     rw z (rw y at (p .puts))
 
+-- a number by itself
+pub place-plain : (t v : ℕ) {d e : List ℕ} {at r : ℕ} → t ≡ 0 → PutsUpTo 20 (decimal v) d at e r → PutsUpTo placeRoom (placeText (placeBy t v)) d at e r
+unfolding placeText
+place-plain t v h p = rw h (record { puts = p .puts; short = omega (arith, p .short) })
+
+-- in a text
+pub place-in-text : (t v : ℕ) {d e f : List ℕ} {at m r : ℕ} → (t ≡ 0 → ⊥) → PutsUpTo 20 (decimal (t - 1)) d at e m → PutsUpTo 21 (worded (bytes ":") v) e m f r
+    → PutsUpTo placeRoom (placeText (placeBy t v)) d at f r
+unfolding placeText
+place-in-text zero v h p q = absurd (h refl)
+place-in-text (suc k) v h p q = let z : suc k - 1 ≡ k = omega arith in up-to-then (rw z at p) q
+
 -- "refused N at P"
-pub refused-law : (s : Said) {d e f : List ℕ} {m r : ℕ} → PutsUpTo 28 (worded (bytes "refused ") (s .number)) d 0 e m → PutsUpTo 24 (worded (bytes " at ") (s .value)) e m f r
-    → PutsUpTo 52 (refusedText s) d 0 f r
+pub refused-law : (n : ℕ) (p : Place) {d e f g : List ℕ} {i j r : ℕ} → PutsUpTo 28 (worded (bytes "refused ") n) d 0 e i → PutsInLine (bytes " at ") e i f j
+    → PutsUpTo placeRoom (placeText p) f j g r → PutsUpTo refusedRoom (refusedText n p) d 0 g r
 unfolding refusedText
-refused-law s p q = up-to-then p q
+refused-law n p a b c = up-to-then (up-to-then a (up-to-length b)) c
 
 pub head-law : (k n : ℕ) {d e f g : List ℕ} {at i j r : ℕ} → PutsUpTo 21 (worded (bytes "[") k) d at e i → PutsUpTo 21 (worded (bytes "/") n) e i f j
     → PutsInLine (bytes "] ") f j g r → PutsUpTo 44 (headOf k n) d at g r
@@ -116,20 +129,20 @@ pub step-law : (k n : ℕ) {t d e f g : List ℕ} {at i j r : ℕ} → PutsUpTo 
 unfolding stepLineOf
 step-law k n p q s = record { puts = puts-then (puts-then (p .puts) q) s; short = omega (arith, p .short, q .end, s .end) }
 
-pub said-refused : (s : Said) {d e f : List ℕ} {m r : ℕ} → length e ≡ length d → PutsUpTo 52 (refusedText s) d 0 e m → LeavesOutput (take m e ++ (10 ∷ [])) e r f
-    → LeavesOutput (refusedLine s) d r f
+pub said-refused : (n : ℕ) (p : Place) {d e f : List ℕ} {m r : ℕ} → length e ≡ length d → PutsUpTo refusedRoom (refusedText n p) d 0 e m → LeavesOutput (take m e ++ (10 ∷ [])) e r f
+    → LeavesOutput (refusedLine n p) d r f
 unfolding refusedLine
-said-refused s k p l = ended-law k (p .puts) l
+said-refused n p k w l = ended-law k (w .puts) l
 
 regroup : (a n w l : List ℕ) → a ++ (n ++ w) ++ l ++ n ≡ a ++ n ++ (w ++ l ++ n)
 regroup a n w l = simp append-assoc
 
 -- the refusal, a line end and the word, and the steps
-pub said-circle : (l : List ℕ) {d e f g h : List ℕ} {i j m r : ℕ} → length g ≡ length d → PutsUpTo 52 (refusedText (says 14 (length l))) d 0 e i
+pub said-circle : (l : List ℕ) {d e f g h : List ℕ} {i j m r : ℕ} → length g ≡ length d → PutsUpTo refusedRoom (refusedText 14 (plain (length l))) d 0 e i
     → PutsInLine (10 ∷ bytes "circle") e i f j → PutsUpTo (21 * length l) (spaced l) f j g m → LeavesOutput (take m g ++ (10 ∷ [])) g r h → LeavesOutput (circleOutput l) d r h
 unfolding circleOutput refusedLine circleLine
 said-circle l k p w q t =
-    rw (regroup (refusedText (says 14 (length l))) (10 ∷ []) (bytes "circle") (spaced l)) at (ended-law k (puts-then (puts-then (p .puts) w) (q .puts)) t)
+    rw (regroup (refusedText 14 (plain (length l))) (10 ∷ []) (bytes "circle") (spaced l)) at (ended-law k (puts-then (puts-then (p .puts) w) (q .puts)) t)
 
 -- What is left in the lent buffer lies within it.
 pub leaves-within : {out lent exit : List ℕ} {n : ℕ} → length exit ≡ length lent → LeavesOutput out lent n exit → n ≤ length exit

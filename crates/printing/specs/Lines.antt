@@ -5,7 +5,7 @@ use lib.Dec.{ltb}
 use lib.ListN.{length}
 use Rattle.lists.specs.Tests.{ifB}
 use Rattle.lists.specs.Text.{bytes}
-use Rattle.spec.specs.Answers.{Said, says}
+use Rattle.spec.specs.Answers.{Place, plain, inText}
 
 -- A number in decimal digits, the highest first and with no leading zero. The first argument bounds the digits: n itself is more than n has.
 unfoldable pub decimalUp : ℕ → ℕ → List ℕ
@@ -28,14 +28,20 @@ worded w n = w ++ decimal n
 abbrev pub noWork : List ℕ
 noWork = bytes "no work" ++ newlineBytes
 
--- "`refused N at P` for a refusal", without its line end
-unfoldable pub refusedText : Said → List ℕ
-unfolding worded
-refusedText s = worded (bytes "refused ") (s .number) ++ worded (bytes " at ") (s .value)
+-- a place: "printed `0:17`" where it stands in a text
+unfoldable pub placeText : Place → List ℕ
+unfolding worded decimal
+placeText (plain n) = decimal n
+placeText (inText k n) = decimal k ++ worded (bytes ":") n
 
-unfoldable pub refusedLine : Said → List ℕ
+-- "`refused N at P` for a refusal", without its line end
+unfoldable pub refusedText : ℕ → Place → List ℕ
+unfolding worded placeText
+refusedText n p = worded (bytes "refused ") n ++ bytes " at " ++ placeText p
+
+unfoldable pub refusedLine : ℕ → Place → List ℕ
 unfolding refusedText
-refusedLine s = refusedText s ++ newlineBytes
+refusedLine n p = refusedText n p ++ newlineBytes
 
 -- "after a 14 a line such as `circle 0 1`"
 unfoldable pub spaced : List ℕ → List ℕ
@@ -50,7 +56,7 @@ circleLine l = bytes "circle" ++ spaced l ++ newlineBytes
 -- after a 14: the refusal's line, then the circle's
 unfoldable pub circleOutput : List ℕ → List ℕ
 unfolding refusedLine circleLine
-circleOutput circle = refusedLine (says 14 (length circle)) ++ circleLine circle
+circleOutput circle = refusedLine 14 (plain (length circle)) ++ circleLine circle
 
 -- "a line for each listed step, with its place in the list, the list's length and its `command` text"
 unfoldable pub headOf : ℕ → ℕ → List ℕ

@@ -14,6 +14,13 @@ lineRoom = maxText + 8 * maxSteps
 abbrev pub stepRoom : ℕ
 stepRoom = 45
 
+-- what a place takes at most: two numbers and a colon between them; and a refusal without its line end
+abbrev pub placeRoom : ℕ
+placeRoom = 41
+
+abbrev pub refusedRoom : ℕ
+refusedRoom = 32 + placeRoom
+
 -- s is written from place `at` on, up to place r
 pub record PutsInLine (s entry : List ℕ) (at : ℕ) (exit : List ℕ) (r : ℕ) : Type 0 where
   pub end : r ≡ at + length s

@@ -2,10 +2,10 @@
 ghost use mathlib.Core.List.{_∷_, [], _++_};
 ghost use Prim.Native.Nat.{_+_, _*_, _≤_, _<_};
 ghost use lib.ListN.{length, take};
-ghost use Rattle.answers.specs.Numbers.{said};
-ghost use Rattle.printing.specs.Lines.{decimal, worded, noWork, refusedText, refusedLine, spaced, circleOutput, headOf, stepLineOf};
-ghost use Rattle.printing.specs.Writes.{lineRoom, stepRoom, PutsInLine, PutsUpTo, LeavesOutput};
-use answers::Numbers;
+ghost use Rattle.answers.specs.Numbers.{placeTold};
+ghost use Rattle.printing.specs.Lines.{decimal, worded, noWork, placeText, refusedText, refusedLine, spaced, circleOutput, headOf, stepLineOf};
+ghost use Rattle.printing.specs.Writes.{lineRoom, stepRoom, placeRoom, refusedRoom, PutsInLine, PutsUpTo, LeavesOutput};
+use answers::Placed;
 use slices::bytes::copy_at;
 use slices::bytes::zero_bytes_from;
 use slices::words::at;
@@ -57,20 +57,33 @@ pub fn say_no_work(line: &mut [u8]) -> usize
     end_line(line, behind)
 }
 
-fn put_refused(line: &mut [u8], n: Numbers) -> usize
-    requires { ⌜ 52 ≤ length (now line) ⌝ }
-    ensures { λ r. ⌜ PutsUpTo 52 (refusedText (said n)) (now (line .entry)) 0 (now (line .exit)) r ⌝ }
+// A place: a number, or in a text the text's number, a colon and the offset.
+fn put_place(line: &mut [u8], from: usize, p: Placed) -> usize
+    requires { ⌜ from + placeRoom ≤ length (now line) ⌝ }
+    ensures { λ r. ⌜ PutsUpTo placeRoom (placeText (placeTold p)) (now (line .entry)) from (now (line .exit)) r ⌝ }
 {
-    let behind = put_worded(line, 0, b"refused ", n.number);
-    put_worded(line, behind, b" at ", n.value)
+    if p.text == 0 {
+        return put_number(line, from, p.value);
+    }
+    let behind = put_number(line, from, p.text - 1);
+    put_worded(line, behind, b":", p.value)
+}
+
+fn put_refused(line: &mut [u8], p: Placed) -> usize
+    requires { ⌜ refusedRoom ≤ length (now line) ⌝ }
+    ensures { λ r. ⌜ PutsUpTo refusedRoom (refusedText (p .number) (placeTold p)) (now (line .entry)) 0 (now (line .exit)) r ⌝ }
+{
+    let numbered = put_worded(line, 0, b"refused ", p.number);
+    let behind = put(line, numbered, b" at ");
+    put_place(line, behind, p)
 }
 
 // "`refused N at P` for a refusal"
-pub fn say_refused(line: &mut [u8], n: Numbers) -> usize
+pub fn say_refused(line: &mut [u8], p: Placed) -> usize
     requires { ⌜ lineRoom ≤ length (now line) ⌝ }
-    ensures { λ r. ⌜ LeavesOutput (refusedLine (said n)) (now (line .entry)) r (now (line .exit)) ⌝ }
+    ensures { λ r. ⌜ LeavesOutput (refusedLine (p .number) (placeTold p)) (now (line .entry)) r (now (line .exit)) ⌝ }
 {
-    let behind = put_refused(line, n);
+    let behind = put_refused(line, p);
     end_line(line, behind)
 }
 
@@ -95,9 +108,9 @@ pub fn say_circle(line: &mut [u8], circle: &[u32]) -> usize
 {
     let refused = put_refused(
         line,
-        Numbers {
+        Placed {
             number: 14,
-            text: false,
+            text: 0,
             value: circle.len(),
         },
     );

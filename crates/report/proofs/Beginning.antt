@@ -3,25 +3,27 @@ use Prim.Native.Nat.{ℕ, _-_, _≤_}
 use native.Mathlib.Omega.{arith}
 use mathlib.Core.List.{List, [], _∷_, append-nil}
 use mathlib.Core.Path.{_≡_, refl, sym, _∙_, ap}
-use borrow.Author.Tests.{eq-eqb, ne-eqb, eqb-false}
+use borrow.Author.Tests.{eq-eqb, ne-eqb}
 use lib.ListN.{length, take, replicate, length-take}
 use lib.Seq.{drop-length, take-length, take-take}
 use Rattle.lists.specs.Fill.{zeroed}
-use Rattle.spec.specs.Answers.{Said, numberOfRefusal}
+use Rattle.spec.specs.Answers.{Said, refusalSays, numberOfRefusal}
 use Rattle.spec.specs.PlanAsk.{Inputs, PlanOutcome, listed, circular, noPlan, planAsk}
 use Rattle.spec.specs.Promises.{filled, PlanMeets}
 use Rattle.answers.specs.declared.Numbers.{Numbers as Two}
 use Rattle.answers.specs.Numbers.{said}
-use Rattle.printing.specs.Lines.{noWork, refusedLine, circleOutput}
+use Rattle.printing.specs.Lines.{noWork, circleOutput}
 use Rattle.printing.specs.Writes.{LeavesOutput}
 use Rattle.report.specs.declared.Begun.{Begun}
 use Rattle.report.specs.declared.Begun.the-variants.{Whole, Refusal, Steps}
 use Rattle.report.specs.Output.{Checks, fine, stopped, checkTexts, checkedOutput, listOutput, stepLines, Outputs}
-use Rattle.report.specs.Begins.{whole, refusal, toCome, startsAs, wholeOutput, refusing, checkedOpening, listOpening, planOpening, OpensReport, HeldBy, OpensHolding, writtenBy, StartWithin, Rooms, Planned, BeginsReport}
+use Rattle.report.specs.Begins.{whole, refusal, toCome, startsAs, wholeOutput, refusing, refusalLine, checkedOpening, listOpening, planOpening, OpensReport, HeldBy, OpensHolding, writtenBy, StartWithin, Rooms, Planned, BeginsReport}
 use Rattle.report.specs.declared.Checked.the-variants.{All, Refused}
 use Rattle.report.specs.Held.{AllFine, CheckedIs}
 use Rattle.spec.proofs.Answers.{refusal-not-0}
+use Rattle.answer_places.proofs.Siting.{sited-plan}
 use Rattle.report.proofs.Early.{not-14}
+use Rattle.report.proofs.Refusals.{SitedChecks, checks-sited, refusal-said}
 use Rattle.report.proofs.Texts.{front-filled, fits-filled}
 
 pub opens-whole : {out d f : List ℕ} {n : ℕ} → LeavesOutput out d n f → OpensReport (wholeOutput out) d (Whole n) f
@@ -34,33 +36,33 @@ opens-refusal l = record { begun = ap refusal (l .count); left = l .left }
 
 -- ---- a list
 
-pub list-none : (manifest steps : List ℕ) {d f bytes ends : List ℕ} {n : ℕ} → length steps ≡ 0 → LeavesOutput noWork d n f
-    → OpensHolding (listOpening manifest steps) manifest steps d (Whole n) f bytes ends
+pub list-none : (bundle steps : List ℕ) {d f bytes ends : List ℕ} {n : ℕ} → length steps ≡ 0 → LeavesOutput noWork d n f
+    → OpensHolding (listOpening bundle steps) bundle steps d (Whole n) f bytes ends
 unfolding listOpening
-list-none manifest [] e l = record { opens = opens-whole l; held = tt }
-list-none manifest (s ∷ steps) e l = absurd (omega arith)
+list-none bundle [] e l = record { opens = opens-whole l; held = tt }
+list-none bundle (s ∷ steps) e l = absurd (omega arith)
 
-list-some : (manifest steps : List ℕ) → (length steps ≡ 0 → ⊥) → listOpening manifest steps ≡ checkedOpening (length steps) (checkTexts manifest steps)
+list-some : (bundle steps : List ℕ) → (length steps ≡ 0 → ⊥) → listOpening bundle steps ≡ checkedOpening bundle (length steps) (checkTexts bundle steps)
 unfolding listOpening
-list-some manifest [] e = absurd (e refl)
-list-some manifest (s ∷ steps) e = refl
+list-some bundle [] e = absurd (e refl)
+list-some bundle (s ∷ steps) e = refl
 
-pub list-fine : (manifest steps d f bytes ends : List ℕ) (n : ℕ) → (length steps ≡ 0 → ⊥) → CheckedIs manifest steps bytes ends (All n) → f ≡ zeroed d 0 (length d)
-    → OpensHolding (listOpening manifest steps) manifest steps d (Steps (length steps) n) f bytes ends
+pub list-fine : (bundle steps d f bytes ends : List ℕ) (n : ℕ) → (length steps ≡ 0 → ⊥) → CheckedIs bundle steps bytes ends (All n) → f ≡ zeroed d 0 (length d)
+    → OpensHolding (listOpening bundle steps) bundle steps d (Steps (length steps) n) f bytes ends
 unfolding checkedOpening zeroed filled CheckedIs
-list-fine manifest steps d f bytes ends n h c w =
-    let o : listOpening manifest steps ≡ checkedOpening (length steps) fine = list-some manifest steps h ∙ ap (checkedOpening (length steps)) (sym (c .fine)) in
+list-fine bundle steps d f bytes ends n h c w =
+    let o : listOpening bundle steps ≡ checkedOpening bundle (length steps) fine = list-some bundle steps h ∙ ap (checkedOpening bundle (length steps)) (sym (c .fine)) in
     let t : take (length steps) steps ≡ steps = take-length steps in
     record {
       opens = rw o (record { begun = refl; left = w ∙ rw (drop-length d) (append-nil (replicate (length d - 0) 0)) });
       held = rw t c;
     }
 
-pub list-stopped : (manifest steps d f bytes ends : List ℕ) (x : Two) {n : ℕ} → (length steps ≡ 0 → ⊥) → CheckedIs manifest steps bytes ends (Refused x)
-    → LeavesOutput (refusedLine (said x)) d n f → OpensHolding (listOpening manifest steps) manifest steps d (Refusal n) f bytes ends
+pub list-stopped : (bundle steps d f bytes ends : List ℕ) (x : Two) {n : ℕ} → (length steps ≡ 0 → ⊥) → CheckedIs bundle steps bytes ends (Refused x)
+    → LeavesOutput (refusalLine bundle (said x)) d n f → OpensHolding (listOpening bundle steps) bundle steps d (Refusal n) f bytes ends
 unfolding checkedOpening CheckedIs
-list-stopped manifest steps d f bytes ends x {n} h c l =
-    let o : listOpening manifest steps ≡ refusing (refusedLine (said x)) = list-some manifest steps h ∙ ap (checkedOpening (length steps)) (sym c) in
+list-stopped bundle steps d f bytes ends x {n} h c l =
+    let o : listOpening bundle steps ≡ refusing (refusalLine bundle (said x)) = list-some bundle steps h ∙ ap (checkedOpening bundle (length steps)) (sym c) in
     record { opens = rw o (opens-refusal l); held = tt }
 
 -- ---- by the plan's numbers
@@ -74,51 +76,51 @@ no-refusal e = absurd (let z : _≡_ {A = ℕ} 0 1 = cc in omega arith)
 same-steps : {n m : ℕ} → toCome n ≡ toCome m → n ≡ m
 same-steps e = cc
 
-few-checked : {n : ℕ} (m : ℕ) (c : Checks) → toCome n ≡ checkedOpening m c .begun → n ≤ m
+few-checked : (bundle : List ℕ) {n : ℕ} (m : ℕ) (c : Checks) → toCome n ≡ checkedOpening bundle m c .begun → n ≤ m
 unfolding checkedOpening refusing
-few-checked {n} m fine e = omega (arith, same-steps e)
-few-checked {n} m (stopped s) e = no-refusal e
+few-checked bundle {n} m fine e = omega (arith, same-steps e)
+few-checked bundle {n} m (stopped s) e = no-refusal e
 
 -- Lines are to come of as many steps as there are.
-few-begun : (manifest l : List ℕ) {n : ℕ} → toCome n ≡ listOpening manifest l .begun → n ≤ length l
+few-begun : (bundle l : List ℕ) {n : ℕ} → toCome n ≡ listOpening bundle l .begun → n ≤ length l
 unfolding listOpening wholeOutput
-few-begun manifest [] e = no-whole e
-few-begun manifest (s ∷ l) e = few-checked (length (s ∷ l)) (checkTexts manifest (s ∷ l)) e
+few-begun bundle [] e = no-whole e
+few-begun bundle (s ∷ l) e = few-checked bundle (length (s ∷ l)) (checkTexts bundle (s ∷ l)) e
 
-module _ (manifest : List ℕ) (s : Said) (list : List ℕ) where
-  planned-list : s .number ≡ 0 → planOpening manifest s list ≡ listOpening manifest (take (s .value) list)
+module _ (bundle : List ℕ) (s : Said) (list : List ℕ) where
+  planned-list : s .number ≡ 0 → planOpening bundle s list ≡ listOpening bundle (take (s .value) list)
   unfolding planOpening
   planned-list e = rw (eq-eqb (s .number) 0 e)
 
-  planned-circle : s .number ≡ 14 → planOpening manifest s list ≡ refusing (circleOutput (take (s .value) list))
+  planned-circle : s .number ≡ 14 → planOpening bundle s list ≡ refusing (circleOutput (take (s .value) list))
   unfolding planOpening
   planned-circle e = rw (ne-eqb (s .number) 0 (λ (z : s .number ≡ 0). omega arith), eq-eqb (s .number) 14 e)
 
-  planned-refused : (s .number ≡ 0 → ⊥) → (s .number ≡ 14 → ⊥) → planOpening manifest s list ≡ refusing (refusedLine s)
+  planned-refused : (s .number ≡ 0 → ⊥) → (s .number ≡ 14 → ⊥) → planOpening bundle s list ≡ refusing (refusalLine bundle s)
   unfolding planOpening
   planned-refused a b = rw (ne-eqb (s .number) 0 a, ne-eqb (s .number) 14 b)
 
   -- the steps are the first of the list
-  held-list : (r : Begun) (bytes ends : List ℕ) → startsAs r ≡ listOpening manifest (take (s .value) list) .begun → HeldBy r manifest (take (s .value) list) bytes ends
-      → HeldBy r manifest list bytes ends
+  held-list : (r : Begun) (bytes ends : List ℕ) → startsAs r ≡ listOpening bundle (take (s .value) list) .begun → HeldBy r bundle (take (s .value) list) bytes ends
+      → HeldBy r bundle list bytes ends
   held-list (Whole n) bytes ends e h = tt
   held-list (Refusal n) bytes ends e h = tt
   held-list (Steps n k) bytes ends e h =
-      let a : n ≤ s .value = omega (arith, few-begun manifest (take (s .value) list) e, length-take (s .value) list) in
+      let a : n ≤ s .value = omega (arith, few-begun bundle (take (s .value) list) e, length-take (s .value) list) in
       let b : take n (take (s .value) list) ≡ take n list = take-take n (s .value) list a in
       rw b at h
 
   pub opens-list : {d f bytes ends : List ℕ} {r : Begun} → s .number ≡ 0
-      → OpensHolding (listOpening manifest (take (s .value) list)) manifest (take (s .value) list) d r f bytes ends
-      → OpensHolding (planOpening manifest s list) manifest list d r f bytes ends
+      → OpensHolding (listOpening bundle (take (s .value) list)) bundle (take (s .value) list) d r f bytes ends
+      → OpensHolding (planOpening bundle s list) bundle list d r f bytes ends
   opens-list {bytes = bytes} {ends = ends} {r = r} e p = record { opens = rw (planned-list e) (p .opens); held = held-list r bytes ends (p .opens .begun) (p .held) }
 
   pub opens-circle : {d f bytes ends : List ℕ} {n : ℕ} → s .number ≡ 14 → LeavesOutput (circleOutput (take (s .value) list)) d n f
-      → OpensHolding (planOpening manifest s list) manifest list d (Refusal n) f bytes ends
+      → OpensHolding (planOpening bundle s list) bundle list d (Refusal n) f bytes ends
   opens-circle e p = record { opens = rw (planned-circle e) (opens-refusal p); held = tt }
 
-  pub opens-refused : {d f bytes ends : List ℕ} {n : ℕ} → (s .number ≡ 0 → ⊥) → (s .number ≡ 14 → ⊥) → LeavesOutput (refusedLine s) d n f
-      → OpensHolding (planOpening manifest s list) manifest list d (Refusal n) f bytes ends
+  pub opens-refused : {d f bytes ends : List ℕ} {n : ℕ} → (s .number ≡ 0 → ⊥) → (s .number ≡ 14 → ⊥) → LeavesOutput (refusalLine bundle s) d n f
+      → OpensHolding (planOpening bundle s list) bundle list d (Refusal n) f bytes ends
   opens-refused a b p = record { opens = rw (planned-refused a b) (opens-refusal p); held = tt }
 
 -- ---- a list and a circle fit
@@ -140,7 +142,7 @@ module _ (i : Inputs) (room : ℕ) where
       let n : s .number ≡ numberOfRefusal r = ap (λ (x : Said). x .number) (m .says) in
       record {
         listed-fits = λ (z : s .number ≡ 0). absurd (refusal-not-0 r (sym n ∙ z));
-        circle-fits = λ (z : s .number ≡ 14). absurd (eqb-false (numberOfRefusal r) 14 (not-14 i room e) (sym n ∙ z));
+        circle-fits = λ (z : s .number ≡ 14). absurd (not-14 i room e (sym n ∙ z));
       }
 
   pub planned : (list exit line bytes ends : List ℕ) (n : Two) (s : Said) → Rooms list line bytes ends → said n ≡ s → length exit ≡ length list
@@ -157,43 +159,45 @@ module _ (i : Inputs) (room : ℕ) where
 
 -- ---- what is written in all
 
-record Right (manifest : List ℕ) (o : PlanOutcome) (r : Begun) (list line : List ℕ) : Type 0 where
+record Right (bundle : List ℕ) (o : PlanOutcome) (r : Begun) (list line : List ℕ) : Type 0 where
   within : StartWithin (startsAs r) list line
-  right : Outputs manifest o (writtenBy (startsAs r) manifest list line)
+  right : Outputs bundle o (writtenBy (startsAs r) bundle list line)
 
 -- where the line holds it wholeOutput
-whole-written : (manifest list out line : List ℕ) {r : Begun} {exit : List ℕ} → length exit ≡ length line → OpensReport (wholeOutput out) line r exit
-    → (StartWithin (startsAs r) list exit) × (writtenBy (startsAs r) manifest list exit ≡ out)
+whole-written : (bundle list out line : List ℕ) {r : Begun} {exit : List ℕ} → length exit ≡ length line → OpensReport (wholeOutput out) line r exit
+    → (StartWithin (startsAs r) list exit) × (writtenBy (startsAs r) bundle list exit ≡ out)
 unfolding wholeOutput writtenBy
-whole-written manifest list out line {r} {exit} k p =
+whole-written bundle list out line {r} {exit} k p =
     (rw (p .begun) (omega (arith, fits-filled out line exit (p .left) k)), rw (p .begun, p .left) (front-filled out line))
 
-refusal-written : (manifest list out line : List ℕ) {r : Begun} {exit : List ℕ} → length exit ≡ length line → OpensReport (refusing out) line r exit
-    → (StartWithin (startsAs r) list exit) × (writtenBy (startsAs r) manifest list exit ≡ out)
+refusal-written : (bundle list out line : List ℕ) {r : Begun} {exit : List ℕ} → length exit ≡ length line → OpensReport (refusing out) line r exit
+    → (StartWithin (startsAs r) list exit) × (writtenBy (startsAs r) bundle list exit ≡ out)
 unfolding refusing writtenBy
-refusal-written manifest list out line {r} {exit} k p =
+refusal-written bundle list out line {r} {exit} k p =
     (rw (p .begun) (omega (arith, fits-filled out line exit (p .left) k)), rw (p .begun, p .left) (front-filled out line))
 
 -- where the steps' lines are to come
-steps-written : (manifest l list line listExit : List ℕ) {r : Begun} {exit : List ℕ} → length listExit ≡ length list → listExit ≡ filled l list
-    → OpensReport (checkedOpening (length l) fine) line r exit → (StartWithin (startsAs r) listExit exit) × (writtenBy (startsAs r) manifest listExit exit ≡ stepLines manifest (length l) 0 l)
+steps-written : (bundle l list line listExit : List ℕ) {r : Begun} {exit : List ℕ} → length listExit ≡ length list → listExit ≡ filled l list
+    → OpensReport (checkedOpening bundle (length l) fine) line r exit → (StartWithin (startsAs r) listExit exit) × (writtenBy (startsAs r) bundle listExit exit ≡ stepLines bundle (length l) 0 l)
 unfolding checkedOpening writtenBy
-steps-written manifest l list line listExit {r} {exit} k w p = (
+steps-written bundle l list line listExit {r} {exit} k w p = (
   rw (p .begun) (omega (arith, fits-filled l list listExit w k)),
-  rw (p .begun, w) (ap (stepLines manifest (length l) 0) (front-filled l list)),
+  rw (p .begun, w) (ap (stepLines bundle (length l) 0) (front-filled l list)),
 )
 
-checked-written : (manifest l list line listExit : List ℕ) {r : Begun} {exit : List ℕ} (c : Checks) → length listExit ≡ length list → listExit ≡ filled l list
-    → length exit ≡ length line → OpensReport (checkedOpening (length l) c) line r exit → (StartWithin (startsAs r) listExit exit) × (writtenBy (startsAs r) manifest listExit exit ≡ checkedOutput manifest l c)
+checked-written : (bundle l list line listExit : List ℕ) {r : Begun} {exit : List ℕ} (c : Checks) → SitedChecks bundle c → length listExit ≡ length list → listExit ≡ filled l list
+    → length exit ≡ length line → OpensReport (checkedOpening bundle (length l) c) line r exit → (StartWithin (startsAs r) listExit exit) × (writtenBy (startsAs r) bundle listExit exit ≡ checkedOutput bundle l c)
 unfolding checkedOutput checkedOpening
-checked-written manifest l list line listExit fine k w j p = steps-written manifest l list line listExit k w p
-checked-written manifest l list line listExit (stopped s) k w j p = refusal-written manifest listExit (refusedLine s) line j p
+checked-written bundle l list line listExit fine h k w j p = steps-written bundle l list line listExit k w p
+checked-written bundle l list line listExit (stopped s) h k w j p =
+    let b = refusal-written bundle listExit (refusalLine bundle s) line j p in
+    (b .0, b .1 ∙ refusal-said bundle s h)
 
-list-written : (manifest l list line listExit : List ℕ) {r : Begun} {exit : List ℕ} → length listExit ≡ length list → listExit ≡ filled l list
-    → length exit ≡ length line → OpensReport (listOpening manifest l) line r exit → (StartWithin (startsAs r) listExit exit) × (writtenBy (startsAs r) manifest listExit exit ≡ listOutput manifest l)
+list-written : (bundle l list line listExit : List ℕ) {r : Begun} {exit : List ℕ} → length listExit ≡ length list → listExit ≡ filled l list
+    → length exit ≡ length line → OpensReport (listOpening bundle l) line r exit → (StartWithin (startsAs r) listExit exit) × (writtenBy (startsAs r) bundle listExit exit ≡ listOutput bundle l)
 unfolding listOutput listOpening
-list-written manifest [] list line listExit k w j p = whole-written manifest listExit noWork line j p
-list-written manifest (s ∷ l) list line listExit k w j p = checked-written manifest (s ∷ l) list line listExit (checkTexts manifest (s ∷ l)) k w j p
+list-written bundle [] list line listExit k w j p = whole-written bundle listExit noWork line j p
+list-written bundle (s ∷ l) list line listExit k w j p = checked-written bundle (s ∷ l) list line listExit (checkTexts bundle (s ∷ l)) (checks-sited bundle (s ∷ l)) k w j p
 
 module _ (i : Inputs) (room : ℕ) (list line listExit : List ℕ) {r : Begun} {exit : List ℕ} (s : Said)
     (k : length listExit ≡ length list) (j : length exit ≡ length line) (p : OpensReport (planOpening (i .manifest) s listExit) line r exit) where
@@ -216,10 +220,10 @@ module _ (i : Inputs) (room : ℕ) (list line listExit : List ℕ) {r : Begun} {
   plan-right (noPlan x) e m =
       let n : s .number ≡ numberOfRefusal x = ap (λ (y : Said). y .number) (m .says) in
       let a : s .number ≡ 0 → ⊥ = λ (z : s .number ≡ 0). refusal-not-0 x (sym n ∙ z) in
-      let c : s .number ≡ 14 → ⊥ = λ (z : s .number ≡ 14). eqb-false (numberOfRefusal x) 14 (not-14 i room e) (sym n ∙ z) in
-      let q : OpensReport (refusing (refusedLine s)) line r exit = rw (planned-refused (i .manifest) s listExit a c) at p in
-      let b = refusal-written (i .manifest) listExit (refusedLine s) line j q in
-      record { within = b .0; right = b .1 ∙ ap refusedLine (m .says) }
+      let c : s .number ≡ 14 → ⊥ = λ (z : s .number ≡ 14). not-14 i room e (sym n ∙ z) in
+      let q : OpensReport (refusing (refusalLine (i .manifest) s)) line r exit = rw (planned-refused (i .manifest) s listExit a c) at p in
+      let b = refusal-written (i .manifest) listExit (refusalLine (i .manifest) s) line j q in
+      record { within = b .0; right = b .1 ∙ ap (refusalLine (i .manifest)) (m .says) ∙ refusal-said (i .manifest) (refusalSays x) (sited-plan i room e) }
 
 pub begins : (i : Inputs) (list line listExit : List ℕ) {bytes ends : List ℕ} {r : Begun} {exit : List ℕ} (n : Two) (s : Said) → said n ≡ s
     → length listExit ≡ length list → length exit ≡ length line → PlanMeets (planAsk i (length list)) list s listExit
@@ -239,5 +243,5 @@ refusal-within {r} {n} list line e w = rw e at w
 pub steps-within : {r : Begun} {n h : ℕ} (list line : List ℕ) → r ≡ Steps n h → StartWithin (startsAs r) list line → n ≤ length list
 steps-within {r} {n} {h} list line e w = rw e at w
 
-pub steps-held : {r : Begun} {n h : ℕ} (manifest list bytes ends : List ℕ) → r ≡ Steps n h → HeldBy r manifest list bytes ends → AllFine manifest (take n list) bytes ends h
-steps-held {r} {n} {h} manifest list bytes ends e w = rw e at w
+pub steps-held : {r : Begun} {n h : ℕ} (bundle list bytes ends : List ℕ) → r ≡ Steps n h → HeldBy r bundle list bytes ends → AllFine bundle (take n list) bytes ends h
+steps-held {r} {n} {h} bundle list bytes ends e w = rw e at w

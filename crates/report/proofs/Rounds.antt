@@ -15,34 +15,34 @@ use Rattle.report.specs.declared.TextsRead.the-variants.{Held, Refused a
 use Rattle.report.specs.declared.Checked.the-variants.{All, Refused}
 use Rattle.report.specs.declared.Lines.{Lines}
 use Rattle.report.specs.Output.{fine, checkTexts}
-use Rattle.report.specs.Held.{TextsInOrder, cutTexts, AreCommands, HeldTexts, textLines, TextRooms, TextsWanted, HoldsSome, AskedIs, AllFine, CheckedIs, ToWrite, LineRooms, NextWanted, CutWanted, LinesWanted, MakesLines}
+use Rattle.report.specs.Held.{TextsInOrder, cutTexts, AreCommands, HeldTexts, linesOfTexts, TextRooms, TextsWanted, HoldsSome, AskedIs, AllFine, CheckedIs, ToWrite, LineRooms, NextWanted, CutWanted, LinesWanted, MakesLines}
 use Rattle.report.proofs.Texts.{commands-pass, commands-lines}
 
-held-none : (manifest steps bytes ends : List ℕ) → HeldTexts manifest steps bytes ends 0
+held-none : (bundle steps bytes ends : List ℕ) → HeldTexts bundle steps bytes ends 0
 unfolding TextsInOrder AreCommands cutTexts
-held-none manifest steps bytes ends = record { few = omega arith; placed = omega arith; order = tt; commands = tt }
+held-none bundle steps bytes ends = record { few = omega arith; placed = omega arith; order = tt; commands = tt }
 
 -- The check goes on behind the steps whose texts are held.
-held-pass : {manifest steps bytes ends : List ℕ} {n : ℕ} → HeldTexts manifest steps bytes ends n → checkTexts manifest steps ≡ checkTexts manifest (drop n steps)
-held-pass {manifest} {steps} {bytes} {ends} {n} h = commands-pass manifest n steps (cutTexts bytes 0 (take n ends)) (h .commands)
+held-pass : {bundle steps bytes ends : List ℕ} {n : ℕ} → HeldTexts bundle steps bytes ends n → checkTexts bundle steps ≡ checkTexts bundle (drop n steps)
+held-pass {bundle} {steps} {bytes} {ends} {n} h = commands-pass bundle n steps (cutTexts bytes 0 (take n ends)) (h .commands)
 
-none-left : (manifest steps : List ℕ) (n : ℕ) → n ≡ length steps → checkTexts manifest (drop n steps) ≡ fine
+none-left : (bundle steps : List ℕ) (n : ℕ) → n ≡ length steps → checkTexts bundle (drop n steps) ≡ fine
 unfolding checkTexts
-none-left manifest steps n e = rw (e, drop-length steps)
+none-left bundle steps n e = rw (e, drop-length steps)
 
 -- ---- the check of all texts
 
 -- the first i texts are fine
-pub record Checking (manifest steps bytes₀ ends₀ bytes ends : List ℕ) (i : ℕ) : Type 0 where
+pub record Checking (bundle steps bytes₀ ends₀ bytes ends : List ℕ) (i : ℕ) : Type 0 where
   pub within : i ≤ length steps
   pub bytes-kept : length bytes ≡ length bytes₀
   pub ends-kept : length ends ≡ length ends₀
-  pub rest : checkTexts manifest (drop i steps) ≡ checkTexts manifest steps
+  pub rest : checkTexts bundle (drop i steps) ≡ checkTexts bundle steps
 
-pub checking-start : (manifest steps bytes ends : List ℕ) → Checking manifest steps bytes ends bytes ends 0
-checking-start manifest steps bytes ends = record { within = omega arith; bytes-kept = refl; ends-kept = refl; rest = refl }
+pub checking-start : (bundle steps bytes ends : List ℕ) → Checking bundle steps bytes ends bytes ends 0
+checking-start bundle steps bytes ends = record { within = omega arith; bytes-kept = refl; ends-kept = refl; rest = refl }
 
-module _ {manifest steps bytes₀ ends₀ bytes ends : List ℕ} {i : ℕ} (k : i < length steps) (c : Checking manifest steps bytes₀ ends₀ bytes ends i) where
+module _ {bundle steps bytes₀ ends₀ bytes ends : List ℕ} {i : ℕ} (k : i < length steps) (c : Checking bundle steps bytes₀ ends₀ bytes ends i) where
   pub checking-asks : TextRooms bytes₀ ends₀ → TextsWanted (part steps i (length steps)) bytes ends
   checking-asks r =
       record {
@@ -51,68 +51,68 @@ module _ {manifest steps bytes₀ ends₀ bytes ends : List ℕ} {i : ℕ} (k : 
       }
 
   module _ (bytes₁ ends₁ : List ℕ) where
-    asked-some : (n : ℕ) → AskedIs manifest (part steps i (length steps)) bytes₁ ends₁ (Held n) → HoldsSome manifest (drop i steps) bytes₁ ends₁ n
+    asked-some : (n : ℕ) → AskedIs bundle (part steps i (length steps)) bytes₁ ends₁ (Held n) → HoldsSome bundle (drop i steps) bytes₁ ends₁ n
     unfolding AskedIs
     asked-some n a = rw (part-to-end steps i) at a
 
-    pub checking-more : (n : ℕ) → AskedIs manifest (part steps i (length steps)) bytes₁ ends₁ (Held n) → (0 < n) × (i + n ≤ length steps)
+    pub checking-more : (n : ℕ) → AskedIs bundle (part steps i (length steps)) bytes₁ ends₁ (Held n) → (0 < n) × (i + n ≤ length steps)
     checking-more n a = (asked-some n a .some, omega (arith, k, asked-some n a .held .few, length-drop i steps))
 
-    pub checking-on : (n : ℕ) → length bytes₁ ≡ length bytes → length ends₁ ≡ length ends → AskedIs manifest (part steps i (length steps)) bytes₁ ends₁ (Held n)
-        → Checking manifest steps bytes₀ ends₀ bytes₁ ends₁ (i + n)
+    pub checking-on : (n : ℕ) → length bytes₁ ≡ length bytes → length ends₁ ≡ length ends → AskedIs bundle (part steps i (length steps)) bytes₁ ends₁ (Held n)
+        → Checking bundle steps bytes₀ ends₀ bytes₁ ends₁ (i + n)
     checking-on n x y a =
         record {
           within = checking-more n a .1;
           bytes-kept = x ∙ c .bytes-kept;
           ends-kept = y ∙ c .ends-kept;
-          rest = sym (ap (checkTexts manifest) (drop-drop n i steps)) ∙ sym (held-pass (asked-some n a .held)) ∙ c .rest;
+          rest = sym (ap (checkTexts bundle) (drop-drop n i steps)) ∙ sym (held-pass (asked-some n a .held)) ∙ c .rest;
         }
 
     -- All steps' texts are held: it was the first reading.
-    pub checking-all : (n : ℕ) → n ≡ length steps → AskedIs manifest (part steps i (length steps)) bytes₁ ends₁ (Held n) → CheckedIs manifest steps bytes₁ ends₁ (All n)
+    pub checking-all : (n : ℕ) → n ≡ length steps → AskedIs bundle (part steps i (length steps)) bytes₁ ends₁ (Held n) → CheckedIs bundle steps bytes₁ ends₁ (All n)
     unfolding CheckedIs
     checking-all n e a =
         let z : i ≡ 0 = omega (arith, k, e, asked-some n a .held .few, length-drop i steps) in
-        let h : HeldTexts manifest steps bytes₁ ends₁ n = rw z at (asked-some n a .held) in
-        record { fine = sym (held-pass h ∙ none-left manifest steps n e); held = h }
+        let h : HeldTexts bundle steps bytes₁ ends₁ n = rw z at (asked-some n a .held) in
+        record { fine = sym (held-pass h ∙ none-left bundle steps n e); held = h }
 
-    pub checking-stops : (x : Two) → AskedIs manifest (part steps i (length steps)) bytes₁ ends₁ (NotHeld x) → CheckedIs manifest steps bytes₁ ends₁ (Refused x)
+    pub checking-stops : (x : Two) → AskedIs bundle (part steps i (length steps)) bytes₁ ends₁ (NotHeld x) → CheckedIs bundle steps bytes₁ ends₁ (Refused x)
     unfolding CheckedIs AskedIs
-    checking-stops x a = a ∙ ap (checkTexts manifest) (part-to-end steps i) ∙ c .rest
+    checking-stops x a = a ∙ ap (checkTexts bundle) (part-to-end steps i) ∙ c .rest
 
-pub checking-end : {manifest steps bytes₀ ends₀ bytes ends : List ℕ} {i : ℕ} → length steps ≤ i → Checking manifest steps bytes₀ ends₀ bytes ends i
-    → CheckedIs manifest steps bytes ends (All 0)
+pub checking-end : {bundle steps bytes₀ ends₀ bytes ends : List ℕ} {i : ℕ} → length steps ≤ i → Checking bundle steps bytes₀ ends₀ bytes ends i
+    → CheckedIs bundle steps bytes ends (All 0)
 unfolding CheckedIs
-checking-end {manifest} {steps} {bytes₀} {ends₀} {bytes} {ends} {i} h c =
-    record { fine = sym (sym (c .rest) ∙ none-left manifest steps i (omega (arith, c .within))); held = held-none manifest steps bytes ends }
+checking-end {bundle} {steps} {bytes₀} {ends₀} {bytes} {ends} {i} h c =
+    record { fine = sym (sym (c .rest) ∙ none-left bundle steps i (omega (arith, c .within))); held = held-none bundle steps bytes ends }
 
 -- ---- the next steps
 
-module _ {manifest steps bytes ends : List ℕ} {held : ℕ} (w : NextWanted manifest steps bytes ends held) where
-  pub next-held : (held ≡ 0 → ⊥) → HoldsSome manifest steps bytes ends held
+module _ {bundle steps bytes ends : List ℕ} {held : ℕ} (w : NextWanted bundle steps bytes ends held) where
+  pub next-held : (held ≡ 0 → ⊥) → HoldsSome bundle steps bytes ends held
   next-held h = record { some = omega (arith, h); held = w .rest .held }
 
-  pub next-asked : (n : ℕ) (bytes₁ ends₁ : List ℕ) → AskedIs manifest steps bytes₁ ends₁ (Held n) → HoldsSome manifest steps bytes₁ ends₁ n
+  pub next-asked : (n : ℕ) (bytes₁ ends₁ : List ℕ) → AskedIs bundle steps bytes₁ ends₁ (Held n) → HoldsSome bundle steps bytes₁ ends₁ n
   unfolding AskedIs
   next-asked n bytes₁ ends₁ a = a
 
   -- All texts are checked.
-  pub next-refused : {A : Type 0} (x : Two) (bytes₁ ends₁ : List ℕ) → AskedIs manifest steps bytes₁ ends₁ (NotHeld x) → A
+  pub next-refused : {A : Type 0} (x : Two) (bytes₁ ends₁ : List ℕ) → AskedIs bundle steps bytes₁ ends₁ (NotHeld x) → A
   unfolding AskedIs
   next-refused x bytes₁ ends₁ a =
       let e = a ∙ sym (w .rest .fine) in
       absurd (let z : _≡_ {A = ℕ} 0 1 = cc in omega arith)
 
-module _ {manifest steps bytes ends out : List ℕ} {place held : ℕ} (w : LinesWanted manifest steps bytes ends out place held) where
-  pub lines-next : NextWanted manifest (part steps place (length steps)) bytes ends held
+module _ {bundle steps bytes ends out : List ℕ} {place held : ℕ} (w : LinesWanted bundle steps bytes ends out place held) where
+  pub lines-next : NextWanted bundle (part steps place (length steps)) bytes ends held
   lines-next =
       record {
         wanted = record { some = omega (arith, w .more, length-part steps place (length steps) (omega arith)); rooms = w .left .rooms .texts };
         rest = rw (part-to-end steps place) (w .left .rest);
       }
 
-  module _ (n : ℕ) (bytes₁ ends₁ : List ℕ) (h : HoldsSome manifest (part steps place (length steps)) bytes₁ ends₁ n) where
-    now-held : HoldsSome manifest (drop place steps) bytes₁ ends₁ n
+  module _ (n : ℕ) (bytes₁ ends₁ : List ℕ) (h : HoldsSome bundle (part steps place (length steps)) bytes₁ ends₁ n) where
+    now-held : HoldsSome bundle (drop place steps) bytes₁ ends₁ n
     now-held = rw (part-to-end steps place) at h
 
     pub lines-placed : n ≤ length ends₁
@@ -126,12 +126,12 @@ module _ {manifest steps bytes ends out : List ℕ} {place held : ℕ} (w : Line
           room = omega (arith, x, y, lines-placed, w .left .rooms .lines, length-take-le n ends₁ lines-placed);
         }
 
-    pub lines-made : (outExit : List ℕ) (r : ℕ) → LeavesOutput (textLines (length steps) place (cutTexts bytes₁ 0 (take n ends₁))) out r outExit
-        → MakesLines manifest steps place (record { steps = n; bytes = r }) bytes₁ ends₁ out outExit
+    pub lines-made : (outExit : List ℕ) (r : ℕ) → LeavesOutput (linesOfTexts (length steps) place (cutTexts bytes₁ 0 (take n ends₁))) out r outExit
+        → MakesLines bundle steps place (record { steps = n; bytes = r }) bytes₁ ends₁ out outExit
     lines-made outExit r l =
         record {
           holds = now-held;
-          lines = rw (commands-lines manifest (length steps) place (take n (drop place steps)) (cutTexts bytes₁ 0 (take n ends₁)) (now-held .held .commands)) at l;
+          lines = rw (commands-lines bundle (length steps) place (take n (drop place steps)) (cutTexts bytes₁ 0 (take n ends₁)) (now-held .held .commands)) at l;
         }
 
 -- ---- lines of texts
@@ -143,7 +143,7 @@ pub record Lining (place count : ℕ) (bytes ends out₀ out : List ℕ) (i from
   pub order : TextsInOrder bytes from (drop i ends)
   pub start : from ≤ length bytes
   pub room : behind + (length bytes - from) + stepRoom * (length ends - i) ≤ length out₀
-  pub front : take behind out ++ textLines count (place + i) (cutTexts bytes from (drop i ends)) ≡ textLines count place (cutTexts bytes 0 ends)
+  pub front : take behind out ++ linesOfTexts count (place + i) (cutTexts bytes from (drop i ends)) ≡ linesOfTexts count place (cutTexts bytes 0 ends)
 
 pub lining-start : {bytes ends out : List ℕ} {place count : ℕ} → CutWanted bytes ends out place count → Lining place count bytes ends out out 0 0 0
 lining-start {bytes} {ends} {out} {place} {count} w =
@@ -168,9 +168,9 @@ module _ {place count : ℕ} {bytes ends out₀ out : List ℕ} {i from behind :
   pub lining-room : behind + (length (part bytes from e) + stepRoom) ≤ length out
   lining-room = omega (arith, k, long, lining-from, lining-to, l .room, l .kept)
 
-  next-front : textLines count (place + i) (cutTexts bytes from (drop i ends))
-      ≡ stepLineOf (place + i + 1) count (part bytes from e) ++ textLines count (place + (i + 1)) (cutTexts bytes e (drop (i + 1) ends))
-  unfolding textLines cutTexts
+  next-front : linesOfTexts count (place + i) (cutTexts bytes from (drop i ends))
+      ≡ stepLineOf (place + i + 1) count (part bytes from e) ++ linesOfTexts count (place + (i + 1)) (cutTexts bytes e (drop (i + 1) ends))
+  unfolding linesOfTexts cutTexts
   next-front =
       let a : place + i + 1 ≡ suc (place + i) = omega arith in
       let b : place + (i + 1) ≡ suc (place + i) = omega arith in
@@ -188,21 +188,21 @@ module _ {place count : ℕ} {bytes ends out₀ out : List ℕ} {i from behind :
         start = lining-to;
         room = omega (arith, k, long, lining-from, lining-to, l .room, p .short);
         front =
-            ap (λ (s : List ℕ). s ++ textLines count (place + (i + 1)) (cutTexts bytes e (drop (i + 1) ends))) (p .puts .front)
-            ∙ append-assoc (take behind out) (stepLineOf (place + i + 1) count (part bytes from e)) (textLines count (place + (i + 1)) (cutTexts bytes e (drop (i + 1) ends)))
+            ap (λ (s : List ℕ). s ++ linesOfTexts count (place + (i + 1)) (cutTexts bytes e (drop (i + 1) ends))) (p .puts .front)
+            ∙ append-assoc (take behind out) (stepLineOf (place + i + 1) count (part bytes from e)) (linesOfTexts count (place + (i + 1)) (cutTexts bytes e (drop (i + 1) ends)))
             ∙ ap (λ (s : List ℕ). take behind out ++ s) (sym next-front)
             ∙ l .front;
       }
 
 lined : {place count : ℕ} {bytes ends out₀ out : List ℕ} {i from behind : ℕ} → length ends ≤ i → Lining place count bytes ends out₀ out i from behind
-    → take behind out ≡ textLines count place (cutTexts bytes 0 ends)
-unfolding textLines cutTexts
+    → take behind out ≡ linesOfTexts count place (cutTexts bytes 0 ends)
+unfolding linesOfTexts cutTexts
 lined {place} {count} {bytes} {ends} {out₀} {out} {i} {from} {behind} h l =
     let z : i ≡ length ends = omega (arith, l .within) in
     sym (append-nil (take behind out)) ∙ (rw (z, drop-length ends) at (l .front))
 
 pub lining-end : {place count : ℕ} {bytes ends out₀ out : List ℕ} {i from behind : ℕ} (exit : List ℕ) → length ends ≤ i → Lining place count bytes ends out₀ out i from behind
-    → exit ≡ zeroed out behind (length out) → LeavesOutput (textLines count place (cutTexts bytes 0 ends)) out₀ behind exit
+    → exit ≡ zeroed out behind (length out) → LeavesOutput (linesOfTexts count place (cutTexts bytes 0 ends)) out₀ behind exit
 unfolding zeroed filled
 lining-end {place} {count} {bytes} {ends} {out₀} {out} {i} {from} {behind} exit h l z =
     let f = lined h l in
@@ -212,8 +212,8 @@ lining-end {place} {count} {bytes} {ends} {out₀} {out} {i} {from} {behind} exi
 
 -- ---- the program's rounds
 
-pub rounds-start : {manifest steps bytes ends out : List ℕ} {held : ℕ} → AllFine manifest steps bytes ends held → LineRooms bytes ends out
-    → ToWrite manifest steps bytes ends out 0 held
+pub rounds-start : {bundle steps bytes ends out : List ℕ} {held : ℕ} → AllFine bundle steps bytes ends held → LineRooms bytes ends out
+    → ToWrite bundle steps bytes ends out 0 held
 rounds-start a r = record { within = omega arith; rest = a; rooms = r }
 
 -- Only the lengths of the buffers count.
@@ -225,19 +225,19 @@ rooms-kept x y z r =
       lines = omega (arith, x, y, z, r .lines);
     }
 
-module _ {manifest steps bytes ends out bytes₁ ends₁ out₁ : List ℕ} {place held : ℕ} {r : Lines} (w : ToWrite manifest steps bytes ends out place held)
-    (m : MakesLines manifest steps place r bytes₁ ends₁ out out₁) where
+module _ {bundle steps bytes ends out bytes₁ ends₁ out₁ : List ℕ} {place held : ℕ} {r : Lines} (w : ToWrite bundle steps bytes ends out place held)
+    (m : MakesLines bundle steps place r bytes₁ ends₁ out out₁) where
   -- one step at least, and no more than there are
   pub rounds-more : (0 < r .steps) × (place + r .steps ≤ length steps)
   rounds-more = (m .holds .some, omega (arith, w .within, m .holds .held .few, length-drop place steps))
 
-  pub rounds-next : length bytes₁ ≡ length bytes → length ends₁ ≡ length ends → length out₁ ≡ length out → ToWrite manifest steps bytes₁ ends₁ out₁ (place + r .steps) 0
+  pub rounds-next : length bytes₁ ≡ length bytes → length ends₁ ≡ length ends → length out₁ ≡ length out → ToWrite bundle steps bytes₁ ends₁ out₁ (place + r .steps) 0
   rounds-next x y z =
       record {
         within = rounds-more .1;
         rest = record {
-          fine = w .rest .fine ∙ held-pass (m .holds .held) ∙ ap (checkTexts manifest) (drop-drop (r .steps) place steps);
-          held = held-none manifest (drop (place + r .steps) steps) bytes₁ ends₁;
+          fine = w .rest .fine ∙ held-pass (m .holds .held) ∙ ap (checkTexts bundle) (drop-drop (r .steps) place steps);
+          held = held-none bundle (drop (place + r .steps) steps) bytes₁ ends₁;
         };
         rooms = rooms-kept x y z (w .rooms);
       }

@@ -24,7 +24,7 @@ use Rattle.text_batch.specs.TextsPromise.{textsSays, Are, TextsMeets}
 use Rattle.text_batch.proofs.Asked.{onRead, each-asked, texts-leading, texts-progress}
 use Rattle.report.specs.declared.TextsRead.the-variants.{Held, Refused as NotHeld}
 use Rattle.report.specs.Output.{commandText, stopped, afterText, checkTexts, stepLine, stepLines}
-use Rattle.report.specs.Held.{TextsInOrder, cutTexts, AreCommands, textLines, TextsWanted, HoldsSome, AskedIs}
+use Rattle.report.specs.Held.{TextsInOrder, cutTexts, AreCommands, linesOfTexts, TextsWanted, HoldsSome, AskedIs}
 use Rattle.spec.proofs.Answers.{refusal-not-0}
 
 -- What is filled begins with what it is filled with, which fits.
@@ -75,16 +75,16 @@ many-ends at (t ∷ ts) = ap suc (many-ends (at + length t) ts)
 
 -- ---- the commands of leading steps
 
-module _ (manifest : List ℕ) where
+module _ (bundle : List ℕ) where
   leading-commands : (steps : List ℕ) (ts : List (List ℕ)) → length ts ≤ length steps
-      → ((i : ℕ) → i < length ts → commandText manifest (getD steps i 0) ≡ text (getD ts i [])) → AreCommands manifest (take (length ts) steps) ts
+      → ((i : ℕ) → i < length ts → commandText bundle (getD steps i 0) ≡ text (getD ts i [])) → AreCommands bundle (take (length ts) steps) ts
   unfolding AreCommands
   leading-commands steps [] h e = tt
   leading-commands [] (t ∷ ts) h e = absurd (omega arith)
   leading-commands (s ∷ ss) (t ∷ ts) h e = (e 0 (omega arith), leading-commands ss ts (omega arith) (λ i k. e (suc i) (omega arith)))
 
   -- The check goes on behind them.
-  pub commands-pass : (n : ℕ) (l : List ℕ) (ts : List (List ℕ)) → AreCommands manifest (take n l) ts → checkTexts manifest l ≡ checkTexts manifest (drop n l)
+  pub commands-pass : (n : ℕ) (l : List ℕ) (ts : List (List ℕ)) → AreCommands bundle (take n l) ts → checkTexts bundle l ≡ checkTexts bundle (drop n l)
   unfolding AreCommands checkTexts afterText
   commands-pass zero l ts c = refl
   commands-pass (suc n) [] ts c = refl
@@ -92,8 +92,8 @@ module _ (manifest : List ℕ) where
   commands-pass (suc n) (s ∷ l) (t ∷ ts) c = rw (c .0) (commands-pass n l ts (c .1))
 
   -- Their lines are the lines of the texts.
-  pub commands-lines : (n k : ℕ) (ss : List ℕ) (ts : List (List ℕ)) → AreCommands manifest ss ts → textLines n k ts ≡ stepLines manifest n k ss
-  unfolding AreCommands textLines stepLines stepLine
+  pub commands-lines : (n k : ℕ) (ss : List ℕ) (ts : List (List ℕ)) → AreCommands bundle ss ts → linesOfTexts n k ts ≡ stepLines bundle n k ss
+  unfolding AreCommands linesOfTexts stepLines stepLine
   commands-lines n k [] [] c = refl
   commands-lines n k [] (t ∷ ts) c = absurd c
   commands-lines n k (s ∷ ss) [] c = absurd c
@@ -112,86 +112,86 @@ unfolding inFront
 front-refused t (texts ts) e = no-texts e
 front-refused t (noTexts x) e = e
 
-module _ (manifest : List ℕ) where
-  refused-on : (s : ℕ) (ss : List ℕ) (room places : ℕ) (r : Refusal) (o : TextOutcome) → commandText manifest s ≡ o
-      → ((room places : ℕ) → textsFrom (commandText manifest) ss room places ≡ noTexts r → stopped (refusalSays r) ≡ checkTexts manifest ss)
-      → onText o (λ t. ifB (hasRoom room places t) (λ _. inFront t (textsFrom (commandText manifest) ss (room - length t) (places - 1))) (λ _. texts [])) ≡ noTexts r
-      → stopped (refusalSays r) ≡ afterText o (checkTexts manifest ss)
+module _ (bundle : List ℕ) where
+  refused-on : (s : ℕ) (ss : List ℕ) (room places : ℕ) (r : Refusal) (o : TextOutcome) → commandText bundle s ≡ o
+      → ((room places : ℕ) → textsFrom (commandText bundle) ss room places ≡ noTexts r → stopped (refusalSays r) ≡ checkTexts bundle ss)
+      → onText o (λ t. ifB (hasRoom room places t) (λ _. inFront t (textsFrom (commandText bundle) ss (room - length t) (places - 1))) (λ _. texts [])) ≡ noTexts r
+      → stopped (refusalSays r) ≡ afterText o (checkTexts bundle ss)
   unfolding afterText
   refused-on s ss room places r (noText x) e rest q = ap (λ (y : Refusal). stopped (refusalSays y)) (sym (same-refusal q))
   refused-on s ss room places r (text t) e rest q =
       split (hasRoom room places t)
       (λ (f : hasRoom room places t ≡ true).
-      rest (room - length t) (places - 1) (front-refused t (textsFrom (commandText manifest) ss (room - length t) (places - 1)) (rw f at q)))
+      rest (room - length t) (places - 1) (front-refused t (textsFrom (commandText bundle) ss (room - length t) (places - 1)) (rw f at q)))
       (λ (f : hasRoom room places t ≡ false). no-texts (rw f at q))
 
-  from-refused : (steps : List ℕ) (room places : ℕ) (r : Refusal) → textsFrom (commandText manifest) steps room places ≡ noTexts r → stopped (refusalSays r) ≡ checkTexts manifest steps
+  from-refused : (steps : List ℕ) (room places : ℕ) (r : Refusal) → textsFrom (commandText bundle) steps room places ≡ noTexts r → stopped (refusalSays r) ≡ checkTexts bundle steps
   unfolding textsFrom checkTexts
   from-refused [] room places r q = no-texts q
   from-refused (s ∷ ss) room places r q =
-      refused-on s ss room places r (commandText manifest s) refl (λ room places e. from-refused ss room places r e) q
+      refused-on s ss room places r (commandText bundle s) refl (λ room places e. from-refused ss room places r e) q
 
-  -- Where the manifest is refused, so is each text.
-  unread : (s : ℕ) (x : Refusal) → readManifest manifest ≡ refusedWith x → commandText manifest s ≡ noText x
+  -- Where the bundle is refused, so is each text.
+  unread : (s : ℕ) (x : Refusal) → readManifest bundle ≡ refusedWith x → commandText bundle s ≡ noText x
   unfolding commandText textAsk textRead
   unread s x e = rw e
 
-  read-refused : (steps : List ℕ) (room places : ℕ) (r : Refusal) (x : Read) → readManifest manifest ≡ x → 0 < length steps
-      → onRead x (λ _. textsFrom (commandText manifest) steps room places) ≡ noTexts r → stopped (refusalSays r) ≡ checkTexts manifest steps
+  read-refused : (steps : List ℕ) (room places : ℕ) (r : Refusal) (x : Read) → readManifest bundle ≡ x → 0 < length steps
+      → onRead x (λ _. textsFrom (commandText bundle) steps room places) ≡ noTexts r → stopped (refusalSays r) ≡ checkTexts bundle steps
   unfolding checkTexts afterText
   read-refused [] room places r x e k q = absurd (omega arith)
   read-refused (s ∷ ss) room places r (refusedWith x) e k q = rw (unread s x e) (ap (λ (y : Refusal). stopped (refusalSays y)) (sym (same-refusal q)))
   read-refused (s ∷ ss) room places r (accepted rd) e k q = from-refused (s ∷ ss) room places r q
 
-  texts-refused : (steps : List ℕ) (room places : ℕ) (r : Refusal) → maxText ≤ room → 0 < length steps → textsAsk manifest steps Command room places ≡ noTexts r
-      → stopped (refusalSays r) ≡ checkTexts manifest steps
+  texts-refused : (steps : List ℕ) (room places : ℕ) (r : Refusal) → maxText ≤ room → 0 < length steps → textsAsk bundle steps Command room places ≡ noTexts r
+      → stopped (refusalSays r) ≡ checkTexts bundle steps
   unfolding commandText
   texts-refused steps room places r h k q =
-      read-refused steps (endable room) places r (readManifest manifest) refl k (sym (each-asked manifest steps Command room places h) ∙ q)
+      read-refused steps (endable room) places r (readManifest bundle) refl k (sym (each-asked bundle steps Command room places h) ∙ q)
 
 -- ---- what a reading gives
 
-module _ (manifest steps bytes ends bytesExit endsExit : List ℕ) (w : TextsWanted steps bytes ends) where
-  held-of : (ts : List (List ℕ)) (n : ℕ) → textsAsk manifest steps Command (length bytes) (length ends) ≡ texts ts → length endsExit ≡ length ends
+module _ (bundle steps bytes ends bytesExit endsExit : List ℕ) (w : TextsWanted steps bytes ends) where
+  held-of : (ts : List (List ℕ)) (n : ℕ) → textsAsk bundle steps Command (length bytes) (length ends) ≡ texts ts → length endsExit ≡ length ends
       → Are (textsSays (Written n)) bytesExit endsExit (says 0 (length ts)) (filled (concat ts) bytes) (filled (endsFrom 0 ts) ends)
-      → HoldsSome manifest steps bytesExit endsExit n
+      → HoldsSome bundle steps bytesExit endsExit n
   unfolding textsSays commandText filled
   held-of ts n q k a =
-      let l = texts-leading manifest Command (length bytes) (w .rooms .bytes-room) steps (length ends) ts q in
+      let l = texts-leading bundle Command (length bytes) (w .rooms .bytes-room) steps (length ends) ts q in
       let c : n ≡ length ts = ap (λ (x : Said). x .value) (a .says) in
       let p : length ts ≡ length (endsFrom 0 ts) = sym (many-ends 0 ts) in
       let e : take (length ts) endsExit ≡ endsFrom 0 ts = rw (a .leaves-ends, p) (front-filled (endsFrom 0 ts) ends) in
       let b : cutTexts bytesExit 0 (endsFrom 0 ts) ≡ ts = rw (a .leaves-bytes) (cut-ends [] ts (replicate (length bytes - length (concat ts)) 0)) in
       record {
-        some = omega (arith, c, texts-progress manifest Command (length bytes) (w .rooms .bytes-room) steps (length ends) ts q (w .some) (w .rooms .ends-room));
+        some = omega (arith, c, texts-progress bundle Command (length bytes) (w .rooms .bytes-room) steps (length ends) ts q (w .some) (w .rooms .ends-room));
         held = record {
           few = omega (arith, c, l .few);
           placed = omega (arith, c, l .ends);
           order = rw (c, e, a .leaves-bytes) (order-ends [] ts (replicate (length bytes - length (concat ts)) 0));
-          commands = rw (c, e, b) (leading-commands manifest steps ts (l .few) (l .each));
+          commands = rw (c, e, b) (leading-commands bundle steps ts (l .few) (l .each));
         };
       }
 
-  held-by : (o : TextsOutcome) (n : ℕ) → textsAsk manifest steps Command (length bytes) (length ends) ≡ o → length endsExit ≡ length ends
-      → TextsMeets o bytes ends (textsSays (Written n)) bytesExit endsExit → HoldsSome manifest steps bytesExit endsExit n
+  held-by : (o : TextsOutcome) (n : ℕ) → textsAsk bundle steps Command (length bytes) (length ends) ≡ o → length endsExit ≡ length ends
+      → TextsMeets o bytes ends (textsSays (Written n)) bytesExit endsExit → HoldsSome bundle steps bytesExit endsExit n
   unfolding TextsMeets textsSays numberOfRefusal
   held-by (texts ts) n q k m = held-of ts n q k m
   held-by (noTexts r) n q k m = absurd (refusal-not-0 r (sym (ap (λ (x : Said). x .number) (m .says))))
 
-  refused-by : (o : TextsOutcome) (r : Refusal) → textsAsk manifest steps Command (length bytes) (length ends) ≡ o
-      → TextsMeets o bytes ends (textsSays (Refused r)) bytesExit endsExit → stopped (refusalSays r) ≡ checkTexts manifest steps
+  refused-by : (o : TextsOutcome) (r : Refusal) → textsAsk bundle steps Command (length bytes) (length ends) ≡ o
+      → TextsMeets o bytes ends (textsSays (Refused r)) bytesExit endsExit → stopped (refusalSays r) ≡ checkTexts bundle steps
   unfolding TextsMeets textsSays numberOfRefusal
   refused-by (texts ts) r q m = absurd (refusal-not-0 r (ap (λ (x : Said). x .number) (m .says)))
-  refused-by (noTexts x) r q m = ap stopped (m .says) ∙ texts-refused manifest steps (length bytes) (length ends) x (w .rooms .bytes-room) (w .some) q
+  refused-by (noTexts x) r q m = ap stopped (m .says) ∙ texts-refused bundle steps (length bytes) (length ends) x (w .rooms .bytes-room) (w .some) q
 
   pub asked-held : (n : ℕ) → length endsExit ≡ length ends
-      → TextsMeets (textsAsk manifest steps Command (length bytes) (length ends)) bytes ends (textsSays (Written n)) bytesExit endsExit
-      → AskedIs manifest steps bytesExit endsExit (Held n)
+      → TextsMeets (textsAsk bundle steps Command (length bytes) (length ends)) bytes ends (textsSays (Written n)) bytesExit endsExit
+      → AskedIs bundle steps bytesExit endsExit (Held n)
   unfolding AskedIs
-  asked-held n k m = held-by (textsAsk manifest steps Command (length bytes) (length ends)) n refl k m
+  asked-held n k m = held-by (textsAsk bundle steps Command (length bytes) (length ends)) n refl k m
 
   pub asked-refused : (r : Refusal) (x : Two) → said x ≡ refusalSays r
-      → TextsMeets (textsAsk manifest steps Command (length bytes) (length ends)) bytes ends (textsSays (Refused r)) bytesExit endsExit
-      → AskedIs manifest steps bytesExit endsExit (NotHeld x)
+      → TextsMeets (textsAsk bundle steps Command (length bytes) (length ends)) bytes ends (textsSays (Refused r)) bytesExit endsExit
+      → AskedIs bundle steps bytesExit endsExit (NotHeld x)
   unfolding AskedIs
-  asked-refused r x e m = ap stopped e ∙ refused-by (textsAsk manifest steps Command (length bytes) (length ends)) r refl m
+  asked-refused r x e m = ap stopped e ∙ refused-by (textsAsk bundle steps Command (length bytes) (length ends)) r refl m

@@ -10,6 +10,7 @@ use Rattle.spec.specs.Answers.{Said}
 use Rattle.spec.specs.PlanAsk.{Inputs, planAsk}
 use Rattle.spec.specs.Promises.{filled, PlanMeets}
 use Rattle.answers.specs.declared.Numbers.{Numbers as Two}
+use Rattle.answer_places.specs.Places.{placedIn}
 use Rattle.printing.specs.Lines.{noWork, refusedLine, circleOutput}
 use Rattle.printing.specs.Writes.{lineRoom}
 use Rattle.report.specs.declared.Begun.{Begun}
@@ -40,23 +41,28 @@ wholeOutput out = record { begun = whole (length out); bytes = out }
 unfoldable pub refusing : List ℕ → Opening
 refusing out = record { begun = refusal (length out); bytes = out }
 
-unfoldable pub checkedOpening : ℕ → Checks → Opening
-unfolding refusing refusedLine
-checkedOpening n fine = record { begun = toCome n; bytes = [] }
-checkedOpening n (stopped s) = refusing (refusedLine s)
+-- the line of a refusal, whose place is looked up in the bundle
+unfoldable pub refusalLine : List ℕ → Said → List ℕ
+unfolding refusedLine placedIn
+refusalLine bundle s = refusedLine (s .number) (placedIn bundle s)
+
+unfoldable pub checkedOpening : List ℕ → ℕ → Checks → Opening
+unfolding refusing refusalLine
+checkedOpening bundle n fine = record { begun = toCome n; bytes = [] }
+checkedOpening bundle n (stopped s) = refusing (refusalLine bundle s)
 
 unfoldable pub listOpening : List ℕ → List ℕ → Opening
 unfolding wholeOutput checkedOpening checkTexts
-listOpening manifest [] = wholeOutput noWork
-listOpening manifest (s ∷ l) = checkedOpening (length (s ∷ l)) (checkTexts manifest (s ∷ l))
+listOpening bundle [] = wholeOutput noWork
+listOpening bundle (s ∷ l) = checkedOpening bundle (length (s ∷ l)) (checkTexts bundle (s ∷ l))
 
 -- by what the plan's answer says and its list
 unfoldable pub planOpening : List ℕ → Said → List ℕ → Opening
-unfolding refusing listOpening circleOutput refusedLine
-planOpening manifest s list =
-    ifB (eqb (s .number) 0) (λ _. listOpening manifest (take (s .value) list)) λ _.
+unfolding refusing refusalLine listOpening circleOutput
+planOpening bundle s list =
+    ifB (eqb (s .number) 0) (λ _. listOpening bundle (take (s .value) list)) λ _.
     ifB (eqb (s .number) 14) (λ _. refusing (circleOutput (take (s .value) list))) λ _.
-    refusing (refusedLine s)
+    refusing (refusalLine bundle s)
 
 pub record OpensReport (o : Opening) (lent : List ℕ) (r : Begun) (exit : List ℕ) : Type 0 where
   pub begun : startsAs r ≡ o .begun
@@ -64,20 +70,20 @@ pub record OpensReport (o : Opening) (lent : List ℕ) (r : Begun) (exit : List 
 
 -- Where lines are to come, all texts are checked, and the buffers hold those of the first steps; else the buffers were working space.
 abbrev pub HeldBy : Begun → List ℕ → List ℕ → List ℕ → List ℕ → Type 0
-HeldBy (Whole n) manifest list bytes ends = Unit {0}
-HeldBy (Refusal n) manifest list bytes ends = Unit {0}
-HeldBy (Steps n held) manifest list bytes ends = AllFine manifest (take n list) bytes ends held
+HeldBy (Whole n) bundle list bytes ends = Unit {0}
+HeldBy (Refusal n) bundle list bytes ends = Unit {0}
+HeldBy (Steps n held) bundle list bytes ends = AllFine bundle (take n list) bytes ends held
 
-pub record OpensHolding (o : Opening) (manifest list lent : List ℕ) (r : Begun) (exit bytes ends : List ℕ) : Type 0 where
+pub record OpensHolding (o : Opening) (bundle list lent : List ℕ) (r : Begun) (exit bytes ends : List ℕ) : Type 0 where
   pub opens : OpensReport o lent r exit
-  pub held : HeldBy r manifest list bytes ends
+  pub held : HeldBy r bundle list bytes ends
 
 -- what is written in all: the bytes in the line, or the line of each listed step
 unfoldable pub writtenBy : Start → List ℕ → List ℕ → List ℕ → List ℕ
 unfolding stepLines
-writtenBy (whole n) manifest list line = take n line
-writtenBy (refusal n) manifest list line = take n line
-writtenBy (toCome n) manifest list line = stepLines manifest n 0 (take n list)
+writtenBy (whole n) bundle list line = take n line
+writtenBy (refusal n) bundle list line = take n line
+writtenBy (toCome n) bundle list line = stepLines bundle n 0 (take n list)
 
 -- how many of the line's bytes or of the list's numbers are to be read
 abbrev pub StartWithin : Start → List ℕ → List ℕ → Type 0

@@ -29,23 +29,23 @@ cutTexts bytes at (e ∷ es) = part bytes at e ∷ cutTexts bytes e es
 -- these are the `command` texts of these steps
 unfoldable pub AreCommands : List ℕ → List ℕ → List (List ℕ) → Type 0
 unfolding commandText
-AreCommands manifest [] [] = Unit {0}
-AreCommands manifest [] (t ∷ ts) = ⊥
-AreCommands manifest (s ∷ ss) [] = ⊥
-AreCommands manifest (s ∷ ss) (t ∷ ts) = (commandText manifest s ≡ text t) × AreCommands manifest ss ts
+AreCommands bundle [] [] = Unit {0}
+AreCommands bundle [] (t ∷ ts) = ⊥
+AreCommands bundle (s ∷ ss) [] = ⊥
+AreCommands bundle (s ∷ ss) (t ∷ ts) = (commandText bundle s ≡ text t) × AreCommands bundle ss ts
 
 -- the buffers hold the `command` texts of the first n of these steps
-pub record HeldTexts (manifest steps bytes ends : List ℕ) (n : ℕ) : Type 0 where
+pub record HeldTexts (bundle steps bytes ends : List ℕ) (n : ℕ) : Type 0 where
   pub few : n ≤ length steps
   pub placed : n ≤ length ends
   pub order : TextsInOrder bytes 0 (take n ends)
-  pub commands : AreCommands manifest (take n steps) (cutTexts bytes 0 (take n ends))
+  pub commands : AreCommands bundle (take n steps) (cutTexts bytes 0 (take n ends))
 
 -- the lines of these texts, k of the list's n steps having gone before
-unfoldable pub textLines : ℕ → ℕ → List (List ℕ) → List ℕ
+unfoldable pub linesOfTexts : ℕ → ℕ → List (List ℕ) → List ℕ
 unfolding stepLineOf
-textLines n k [] = []
-textLines n k (t ∷ ts) = stepLineOf (suc k) n t ++ textLines n (suc k) ts
+linesOfTexts n k [] = []
+linesOfTexts n k (t ∷ ts) = stepLineOf (suc k) n t ++ linesOfTexts n (suc k) ts
 
 -- ------------------------------------------------------------------ asking
 
@@ -59,26 +59,26 @@ pub record TextsWanted (steps bytes ends : List ℕ) : Type 0 where
   pub rooms : TextRooms bytes ends
 
 -- one step at least
-pub record HoldsSome (manifest steps bytes ends : List ℕ) (n : ℕ) : Type 0 where
+pub record HoldsSome (bundle steps bytes ends : List ℕ) (n : ℕ) : Type 0 where
   pub some : 0 < n
-  pub held : HeldTexts manifest steps bytes ends n
+  pub held : HeldTexts bundle steps bytes ends n
 
 unfoldable pub AskedIs : List ℕ → List ℕ → List ℕ → List ℕ → TextsRead → Type 0
 unfolding checkTexts
-AskedIs manifest steps bytes ends (Held n) = HoldsSome manifest steps bytes ends n
-AskedIs manifest steps bytes ends (NotHeld x) = stopped (said x) ≡ checkTexts manifest steps
+AskedIs bundle steps bytes ends (Held n) = HoldsSome bundle steps bytes ends n
+AskedIs bundle steps bytes ends (NotHeld x) = stopped (said x) ≡ checkTexts bundle steps
 
 -- ------------------------------------------------------------------ the check of all texts
 
 -- all steps have a text, and the buffers hold those of the first n
-pub record AllFine (manifest steps bytes ends : List ℕ) (n : ℕ) : Type 0 where
-  pub fine : fine ≡ checkTexts manifest steps
-  pub held : HeldTexts manifest steps bytes ends n
+pub record AllFine (bundle steps bytes ends : List ℕ) (n : ℕ) : Type 0 where
+  pub fine : fine ≡ checkTexts bundle steps
+  pub held : HeldTexts bundle steps bytes ends n
 
 unfoldable pub CheckedIs : List ℕ → List ℕ → List ℕ → List ℕ → Checked → Type 0
 unfolding checkTexts
-CheckedIs manifest steps bytes ends (All n) = AllFine manifest steps bytes ends n
-CheckedIs manifest steps bytes ends (Refused x) = stopped (said x) ≡ checkTexts manifest steps
+CheckedIs bundle steps bytes ends (All n) = AllFine bundle steps bytes ends n
+CheckedIs bundle steps bytes ends (Refused x) = stopped (said x) ≡ checkTexts bundle steps
 
 -- ------------------------------------------------------------------ the lines
 
@@ -88,25 +88,25 @@ pub record LineRooms (bytes ends out : List ℕ) : Type 0 where
   pub lines : length bytes + stepRoom * length ends ≤ length out
 
 -- `place` lines are written, and those of the other steps are to come
-pub record ToWrite (manifest steps bytes ends out : List ℕ) (place held : ℕ) : Type 0 where
+pub record ToWrite (bundle steps bytes ends out : List ℕ) (place held : ℕ) : Type 0 where
   pub within : place ≤ length steps
-  pub rest : AllFine manifest (drop place steps) bytes ends held
+  pub rest : AllFine bundle (drop place steps) bytes ends held
   pub rooms : LineRooms bytes ends out
 
-pub record NextWanted (manifest steps bytes ends : List ℕ) (held : ℕ) : Type 0 where
+pub record NextWanted (bundle steps bytes ends : List ℕ) (held : ℕ) : Type 0 where
   pub wanted : TextsWanted steps bytes ends
-  pub rest : AllFine manifest steps bytes ends held
+  pub rest : AllFine bundle steps bytes ends held
 
 pub record CutWanted (bytes ends out : List ℕ) (place count : ℕ) : Type 0 where
   pub order : TextsInOrder bytes 0 ends
   pub counted : place + length ends ≤ count
   pub room : length bytes + stepRoom * length ends ≤ length out
 
-pub record LinesWanted (manifest steps bytes ends out : List ℕ) (place held : ℕ) : Type 0 where
+pub record LinesWanted (bundle steps bytes ends out : List ℕ) (place held : ℕ) : Type 0 where
   pub more : place < length steps
-  pub left : ToWrite manifest steps bytes ends out place held
+  pub left : ToWrite bundle steps bytes ends out place held
 
 -- The lines of one step at least, which come next; the buffers hold their texts.
-pub record MakesLines (manifest steps : List ℕ) (place : ℕ) (r : Lines) (bytes ends out outExit : List ℕ) : Type 0 where
-  pub holds : HoldsSome manifest (drop place steps) bytes ends (r .steps)
-  pub lines : LeavesOutput (stepLines manifest (length steps) place (take (r .steps) (drop place steps))) out (r .bytes) outExit
+pub record MakesLines (bundle steps : List ℕ) (place : ℕ) (r : Lines) (bytes ends out outExit : List ℕ) : Type 0 where
+  pub holds : HoldsSome bundle (drop place steps) bytes ends (r .steps)
+  pub lines : LeavesOutput (stepLines bundle (length steps) place (take (r .steps) (drop place steps))) out (r .bytes) outExit

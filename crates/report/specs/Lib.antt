@@ -1,3 +1,4 @@
 pub mod Begins
 pub mod Held
+pub mod Lends
 pub mod Output

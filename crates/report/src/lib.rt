@@ -1,9 +1,13 @@
 // What the program writes: document 01's section "Gauges on the bench", from the lent bytes to lines in a lent buffer.
+ghost use Prim.Native.Nat.{_≤_};
+ghost use lib.ListN.{length};
 ghost use Rattle.spec.specs.PlanAsk.{inputsOf};
 ghost use Rattle.answers.specs.Numbers.{said};
-ghost use Rattle.printing.specs.Writes.{LeavesOutput};
-ghost use Rattle.report.specs.Begins.{listOpening, planOpening, OpensHolding, Rooms, ListRooms, Planned, BeginsReport};
-ghost use Rattle.report.specs.Held.{TextRooms, TextsWanted, AskedIs, CheckedIs, NextWanted, HoldsSome, cutTexts, textLines, CutWanted, LinesWanted, MakesLines};
+ghost use Rattle.printing.specs.Writes.{lineRoom, LeavesOutput};
+ghost use Rattle.report.specs.Begins.{refusalLine, listOpening, planOpening, OpensHolding, Rooms, ListRooms, Planned, BeginsReport};
+ghost use Rattle.report.specs.Held.{TextRooms, TextsWanted, AskedIs, CheckedIs, NextWanted, HoldsSome, cutTexts, linesOfTexts, CutWanted, LinesWanted, MakesLines};
+ghost use Rattle.report.specs.Lends.{aloneRoom, LendsAlone};
+use answer_places::locate;
 use answers::Numbers;
 use answers::of_plan;
 use answers::of_refusal;
@@ -13,9 +17,11 @@ use printing::put_step_line;
 use printing::say_circle;
 use printing::say_no_work;
 use printing::say_refused;
+use scan_bundle::wrap;
 use slices::bytes::zero_bytes_from;
 use slices::words::at;
 use spec::Wanted;
+use spec::limits::MANIFEST;
 use text_batch::TextsAnswer;
 
 // What a reading for texts gives: how many leading steps have their texts in the buffers, or the first refusal.
@@ -44,25 +50,36 @@ pub struct Lines {
     pub bytes: usize,
 }
 
-// One reading: the texts of as many of the steps as have room.
-fn ask_texts(manifest: &[u8], steps: &[u32], bytes: &mut [u8], ends: &mut [u32]) -> TextsRead
-    requires { ⌜ TextsWanted (now steps) (now bytes) (now ends) ⌝ }
-    ensures { λ r. ⌜ AskedIs (now (manifest .entry)) (now (steps .entry)) (now (bytes .exit)) (now (ends .exit)) r ⌝ }
+// The bundle of `build.ninja` alone, in a lent buffer: its length. Of a text over the limit one byte more is lent, so that it is seen to be too long.
+pub fn lend_alone(manifest: &[u8], bundle: &mut [u8]) -> usize
+    requires { ⌜ aloneRoom ≤ length (now bundle) ⌝ }
+    ensures { λ r. ⌜ LendsAlone (now (manifest .entry)) (now (bundle .entry)) (now (bundle .exit)) r ⌝ }
 {
-    match texts(manifest, steps, Wanted::Command, bytes, ends) {
+    if manifest.len() <= MANIFEST {
+        return wrap(b"build.ninja", manifest, bundle);
+    }
+    wrap(b"build.ninja", &manifest[..MANIFEST + 1], bundle)
+}
+
+// One reading: the texts of as many of the steps as have room.
+fn ask_texts(bundle: &[u8], steps: &[u32], bytes: &mut [u8], ends: &mut [u32]) -> TextsRead
+    requires { ⌜ TextsWanted (now steps) (now bytes) (now ends) ⌝ }
+    ensures { λ r. ⌜ AskedIs (now (bundle .entry)) (now (steps .entry)) (now (bytes .exit)) (now (ends .exit)) r ⌝ }
+{
+    match texts(bundle, steps, Wanted::Command, bytes, ends) {
         TextsAnswer::Written(n) => TextsRead::Held(n),
         TextsAnswer::Refused(r) => TextsRead::Refused(of_refusal(r)),
     }
 }
 
 // "Texts are all checked, in list order": by one reading, where the buffers have room for all.
-fn check_texts(manifest: &[u8], steps: &[u32], bytes: &mut [u8], ends: &mut [u32]) -> Checked
+fn check_texts(bundle: &[u8], steps: &[u32], bytes: &mut [u8], ends: &mut [u32]) -> Checked
     requires { ⌜ TextRooms (now bytes) (now ends) ⌝ }
-    ensures { λ r. ⌜ CheckedIs (now (manifest .entry)) (now (steps .entry)) (now (bytes .exit)) (now (ends .exit)) r ⌝ }
+    ensures { λ r. ⌜ CheckedIs (now (bundle .entry)) (now (steps .entry)) (now (bytes .exit)) (now (ends .exit)) r ⌝ }
 {
     let mut i = 0;
     while i < steps.len() {
-        match ask_texts(manifest, &steps[i..], bytes, ends) {
+        match ask_texts(bundle, &steps[i..], bytes, ends) {
             TextsRead::Held(n) => {
                 if n == steps.len() {
                     return Checked::All(n);
@@ -77,32 +94,40 @@ fn check_texts(manifest: &[u8], steps: &[u32], bytes: &mut [u8], ends: &mut [u32
     Checked::All(0)
 }
 
+// The line of a refusal, with its place among the texts of the bundle.
+fn say_refusal(line: &mut [u8], bundle: &[u8], n: Numbers) -> usize
+    requires { ⌜ lineRoom ≤ length (now line) ⌝ }
+    ensures { λ r. ⌜ LeavesOutput (refusalLine (now (bundle .entry)) (said n)) (now (line .entry)) r (now (line .exit)) ⌝ }
+{
+    say_refused(line, locate(n, bundle))
+}
+
 // The start of the output for a list.
 fn begin_list(
-    manifest: &[u8],
+    bundle: &[u8],
     steps: &[u32],
     line: &mut [u8],
     bytes: &mut [u8],
     ends: &mut [u32],
 ) -> Begun
     requires { ⌜ ListRooms (now line) (now bytes) (now ends) ⌝ }
-    ensures { λ r. ⌜ OpensHolding (listOpening (now (manifest .entry)) (now (steps .entry))) (now (manifest .entry)) (now (steps .entry)) (now (line .entry)) r (now (line .exit)) (now (bytes .exit)) (now (ends .exit)) ⌝ }
+    ensures { λ r. ⌜ OpensHolding (listOpening (now (bundle .entry)) (now (steps .entry))) (now (bundle .entry)) (now (steps .entry)) (now (line .entry)) r (now (line .exit)) (now (bytes .exit)) (now (ends .exit)) ⌝ }
 {
     if steps.len() == 0 {
         return Begun::Whole(say_no_work(line));
     }
-    match check_texts(manifest, steps, bytes, ends) {
+    match check_texts(bundle, steps, bytes, ends) {
         Checked::All(held) => {
             zero_bytes_from(line, 0);
             Begun::Steps(steps.len(), held)
         }
-        Checked::Refused(n) => Begun::Refusal(say_refused(line, n)),
+        Checked::Refused(n) => Begun::Refusal(say_refusal(line, bundle, n)),
     }
 }
 
 // The start of the output for what the plan ask says and its list.
 fn begin_planned(
-    manifest: &[u8],
+    bundle: &[u8],
     n: Numbers,
     list: &[u32],
     line: &mut [u8],
@@ -110,21 +135,21 @@ fn begin_planned(
     ends: &mut [u32],
 ) -> Begun
     requires { ⌜ Planned n (now list) (now line) (now bytes) (now ends) ⌝ }
-    ensures { λ r. ⌜ OpensHolding (planOpening (now (manifest .entry)) (said n) (now (list .entry))) (now (manifest .entry)) (now (list .entry)) (now (line .entry)) r (now (line .exit)) (now (bytes .exit)) (now (ends .exit)) ⌝ }
+    ensures { λ r. ⌜ OpensHolding (planOpening (now (bundle .entry)) (said n) (now (list .entry))) (now (bundle .entry)) (now (list .entry)) (now (line .entry)) r (now (line .exit)) (now (bytes .exit)) (now (ends .exit)) ⌝ }
 {
     let count = n.value;
     if n.number == 0 {
-        return begin_list(manifest, &list[..count], line, bytes, ends);
+        return begin_list(bundle, &list[..count], line, bytes, ends);
     }
     if n.number == 14 {
         return Begun::Refusal(say_circle(line, &list[..count]));
     }
-    Begun::Refusal(say_refused(line, n))
+    Begun::Refusal(say_refusal(line, bundle, n))
 }
 
 // Asks for the plan and checks all texts. The output is whole in the line, or the line of each listed step is to be written.
 pub fn begin(
-    manifest: &[u8],
+    bundle: &[u8],
     card: &[u8],
     targets: &[u8],
     list: &mut [u32],
@@ -133,27 +158,21 @@ pub fn begin(
     ends: &mut [u32],
 ) -> Begun
     requires { ⌜ Rooms (now list) (now line) (now bytes) (now ends) ⌝ }
-    ensures { λ r. ⌜ BeginsReport (inputsOf (now (manifest .entry)) (now (card .entry)) (now (targets .entry))) (now (list .entry)) (now (line .entry)) r (now (list .exit)) (now (line .exit)) (now (bytes .exit)) (now (ends .exit)) ⌝ }
+    ensures { λ r. ⌜ BeginsReport (inputsOf (now (bundle .entry)) (now (card .entry)) (now (targets .entry))) (now (list .entry)) (now (line .entry)) r (now (list .exit)) (now (line .exit)) (now (bytes .exit)) (now (ends .exit)) ⌝ }
 {
-    let n = of_plan(plan(manifest, card, targets, list));
-    begin_planned(manifest, n, list, line, bytes, ends)
+    let n = of_plan(plan(bundle, card, targets, list));
+    begin_planned(bundle, n, list, line, bytes, ends)
 }
 
 // Has the texts of the next steps in the buffers, by a reading where none are held: of how many steps.
-fn hold_next(
-    manifest: &[u8],
-    steps: &[u32],
-    held: usize,
-    bytes: &mut [u8],
-    ends: &mut [u32],
-) -> usize
-    requires { ⌜ NextWanted (now manifest) (now steps) (now bytes) (now ends) held ⌝ }
-    ensures { λ r. ⌜ HoldsSome (now (manifest .entry)) (now (steps .entry)) (now (bytes .exit)) (now (ends .exit)) r ⌝ }
+fn hold_next(bundle: &[u8], steps: &[u32], held: usize, bytes: &mut [u8], ends: &mut [u32]) -> usize
+    requires { ⌜ NextWanted (now bundle) (now steps) (now bytes) (now ends) held ⌝ }
+    ensures { λ r. ⌜ HoldsSome (now (bundle .entry)) (now (steps .entry)) (now (bytes .exit)) (now (ends .exit)) r ⌝ }
 {
     if held != 0 {
         return held;
     }
-    match ask_texts(manifest, steps, bytes, ends) {
+    match ask_texts(bundle, steps, bytes, ends) {
         TextsRead::Held(n) => n,
         // never met: all texts are checked
         TextsRead::Refused(_) => 0,
@@ -163,7 +182,7 @@ fn hold_next(
 // The line of each text that ends at one of the places, the list's first `place` steps having gone before.
 fn text_lines(place: usize, count: usize, bytes: &[u8], ends: &[u32], out: &mut [u8]) -> usize
     requires { ⌜ CutWanted (now bytes) (now ends) (now out) place count ⌝ }
-    ensures { λ r. ⌜ LeavesOutput (textLines count place (cutTexts (now (bytes .entry)) 0 (now (ends .entry)))) (now (out .entry)) r (now (out .exit)) ⌝ }
+    ensures { λ r. ⌜ LeavesOutput (linesOfTexts count place (cutTexts (now (bytes .entry)) 0 (now (ends .entry)))) (now (out .entry)) r (now (out .exit)) ⌝ }
 {
     let mut i = 0;
     let mut from = 0;
@@ -180,7 +199,7 @@ fn text_lines(place: usize, count: usize, bytes: &[u8], ends: &[u32], out: &mut 
 
 // The lines of the steps from `place` on, as many as have their texts in the buffers, once a reading was made for them where none are held.
 pub fn next_lines(
-    manifest: &[u8],
+    bundle: &[u8],
     steps: &[u32],
     place: usize,
     held: usize,
@@ -188,10 +207,10 @@ pub fn next_lines(
     ends: &mut [u32],
     out: &mut [u8],
 ) -> Lines
-    requires { ⌜ LinesWanted (now manifest) (now steps) (now bytes) (now ends) (now out) place held ⌝ }
-    ensures { λ r. ⌜ MakesLines (now (manifest .entry)) (now (steps .entry)) place r (now (bytes .exit)) (now (ends .exit)) (now (out .entry)) (now (out .exit)) ⌝ }
+    requires { ⌜ LinesWanted (now bundle) (now steps) (now bytes) (now ends) (now out) place held ⌝ }
+    ensures { λ r. ⌜ MakesLines (now (bundle .entry)) (now (steps .entry)) place r (now (bytes .exit)) (now (ends .exit)) (now (out .entry)) (now (out .exit)) ⌝ }
 {
-    let steps_held = hold_next(manifest, &steps[place..], held, bytes, ends);
+    let steps_held = hold_next(bundle, &steps[place..], held, bytes, ends);
     let behind = text_lines(place, steps.len(), bytes, &ends[..steps_held], out);
     Lines {
         steps: steps_held,

@@ -10,11 +10,12 @@ use borrow.Author.Tests.{le-leb, lt-leb, lt-ltb, le-ltb}
 use lib.ListN.{length, drop, getD, length-drop, drop-of-length-le}
 use lib.Seq.{length-take-le, drop-cons}
 use Rattle.spec.specs.Answers.{Place, plain, inText, nextText, spot, baseOf}
+use Rattle.spec.specs.Basics.{sum}
 use Rattle.spec.specs.Card.{numberAt, cardNames}
 use Rattle.spec.specs.Bundle.{Extent, extentAt, textExtents, lyingAt, bundleTexts, extentsEnd}
 use Rattle.scan_bundle.specs.Bundles.{LaidBundle, recordPlaceOf}
-use Rattle.scan_bundle.proofs.Extents.{noExtent, step, end-forward}
-use Rattle.scan_bundle.proofs.Lying.{text-extent, text-at, length-text-extents, length-texts, length-body, laid-ends, record-lies}
+use Rattle.scan_bundle.proofs.Extents.{noExtent, step, ended, end-forward}
+use Rattle.scan_bundle.proofs.Lying.{text-extent, text-at, length-text-extents, length-texts, length-body, laid-room, laid-ends, record-lies}
 
 -- ---- where a text begins
 
@@ -35,16 +36,40 @@ base-lies least most at (e ∷ es) t body h w (suc k) l =
     let g = base-lies least most (at + e .size) es t body (x .rest) w k (le-of-suc-le-suc l) in
     omega arith
 
-base-none : (ts : List (List ℕ)) → baseOf ts 0 ≡ 0
+pub base-none : (ts : List (List ℕ)) → baseOf ts 0 ≡ 0
 unfolding baseOf
 base-none [] = refl
 base-none (t ∷ ts) = refl
 
-base-more : (ts : List (List ℕ)) (k : ℕ) → k < length ts → k ≤ baseOf ts k
+pub base-more : (ts : List (List ℕ)) (k : ℕ) → k < length ts → k ≤ baseOf ts k
 unfolding baseOf
 base-more [] k l = absurd (not-suc-le-zero l)
 base-more (t ∷ ts) zero l = omega arith
 base-more (t ∷ ts) (suc k) l = let h = base-more ts k (le-of-suc-le-suc l) in omega arith
+
+-- All texts together are as long as the way from the first one's offset to the end of the last.
+extents-sum : (least most at : ℕ) (es : List Extent) (t : ℕ) (body : List ℕ) → extentsEnd least most at es ≡ some t → t ≤ length body
+    → sum (map (λ (l : List ℕ). length l) (map (lyingAt body) es)) + at ≡ t
+unfolding sum
+extents-sum least most at [] t body h w = let x = ended least most at t h in omega arith
+extents-sum least most at (e ∷ es) t body h w =
+    let x = step least most at e es t h in
+    let f = end-forward least most (at + e .size) es t (x .rest) in
+    let n = length-lying body e (omega (arith, x .fits .starts)) in
+    let g = extents-sum least most (at + e .size) es t body (x .rest) w in
+    omega arith
+
+pub texts-sum : (s : List ℕ) → LaidBundle s → 0 < numberAt 0 4 s → sum (map (λ (l : List ℕ). length l) (bundleTexts s)) + (16 + 16 * numberAt 0 4 s + numberAt 24 4 s) ≡ length s
+unfolding bundleTexts extentAt
+texts-sum s l h =
+    let x = laid-ends s l in
+    let body = cardNames s in
+    let all = extents-sum 0 (length s) (x .named) (textExtents s) (length body) body (x .texts) (omega arith) in
+    let first = rw (text-extent s 0 h) at (base-lies 0 (length s) (x .named) (textExtents s) (length body) body (x .texts) (omega arith) 0 (omega (arith, length-text-extents s))) in
+    let none = base-none (map (lyingAt body) (textExtents s)) in
+    let room = laid-room s l in
+    let long = length-body s in
+    omega arith
 
 pub record Based (s : List ℕ) (k : ℕ) : Type 0 where
   pub forward : numberAt 24 4 s ≤ numberAt (24 + 16 * k) 4 s

@@ -20,19 +20,19 @@ pub fn keyword(w: &[u8]) -> bool
     if equal(w, b"build") {
         return true;
     }
-    equal(w, b"default")
-}
-
-pub fn later_keyword(w: &[u8]) -> bool
-    ensures { λ r. ⌜ r ≡ laterKeyword (now (w .entry)) ⌝ }
-{
-    if equal(w, b"pool") {
+    if equal(w, b"default") {
         return true;
     }
     if equal(w, b"include") {
         return true;
     }
     equal(w, b"subninja")
+}
+
+pub fn later_keyword(w: &[u8]) -> bool
+    ensures { λ r. ⌜ r ≡ laterKeyword (now (w .entry)) ⌝ }
+{
+    equal(w, b"pool")
 }
 
 pub fn later_key(w: &[u8]) -> bool

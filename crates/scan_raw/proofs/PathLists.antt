@@ -16,7 +16,7 @@ use Rattle.spec.specs.Bytes.{newline, space, dollar, colon, bar}
 use Rattle.spec.specs.Dollars.{Element, literal, joins, names, wrong, element, Raw, withPiece, goOn, readUp, readRaw, badIn, badDollar}
 use Rattle.spec.specs.Forms.{Cut, fits, fails, leftAtDollar, then, gap, pathStop, afterPath, rawPath, Paths, withPath, checked, pathBegins, pathsUp, paths}
 use Rattle.scan_dollars.specs.Element.{restOf}
-use Rattle.scan_raw.specs.Texts.{PathEnds, PathBad, PathsStop, PathNext, PathsBad}
+use Rattle.scan_raw.specs.Texts.{PathEnds, PathBad, firstAt, firstPath, PathsStop, PathNext, PathsBad}
 use Rattle.scan_tokens.proofs.Places.{at-cons, at-end, part-passed}
 use Rattle.scan_raw.proofs.Look.{element-shorter, sound-none, none-sound}
 use Rattle.scan_raw.proofs.Fronts.{Front, front-of}
@@ -184,13 +184,17 @@ module _ {s : List ℕ} {i g : ℕ} (a : Reads gap s i g) where
   turn-at : paths (drop i s) ≡ pathsTurn (drop g s)
   turn-at = paths-turn (drop i s) ∙ ap pathsTurn (sym (a .rest))
 
+  first-at : firstPath (drop i s) ≡ firstAt (drop g s)
+  unfolding firstPath
+  first-at = ap firstAt (sym (a .rest))
+
   pub stops : pathBegins (drop g s) ≡ false → PathsStop s i g
-  unfolding pathsTurn
-  stops e = record { forward = a .forward; within = a .within; is = turn-at ∙ rw e }
+  unfolding pathsTurn firstAt
+  stops e = record { forward = a .forward; within = a .within; first = first-at ∙ rw e; is = turn-at ∙ rw e }
 
   module _ (e : pathBegins (drop g s) ≡ true) where
     pub next : {r : ℕ} → PathEnds s g r → PathNext s i g r
-    unfolding pathsTurn pathThen checked
+    unfolding pathsTurn pathThen checked firstAt
     next {r} p =
         let h : length (afterPath (drop g s)) < length (drop g s) =
         after-shorter (drop i s) (drop g s) (sym (a .rest)) e (none-sound pathStop (drop g s) (p .sound)) in
@@ -199,16 +203,18 @@ module _ {s : List ℕ} {i g : ℕ} (a : Reads gap s i g) where
           longer = omega (arith, length-drop g s, length-drop r s, p .reads .within, ap length (p .reads .rest));
           within = p .reads .within;
           sound = part-sound p;
+          first = first-at ∙ rw (e, p .sound, ← (p .reads .rest), ← (part-path p));
           is = turn-at ∙ rw (e, p .sound, ← (p .reads .rest), ← (part-path p));
         }
 
     pub wrong-next : {p : ℕ} → PathBad s g p → PathsBad s i p
-    unfolding pathsTurn pathThen checked
+    unfolding pathsTurn pathThen checked firstAt
     wrong-next {p} b =
         let z : length (drop g s) - (p - g) ≡ length s - p = omega (arith, length-drop g s, b .forward, b .within) in
         record {
           forward = omega (arith, a .forward, b .forward);
           within = b .within;
+          first = first-at ∙ rw (e, b .bad, z);
           is = turn-at ∙ rw (e, b .bad, z);
         }
 

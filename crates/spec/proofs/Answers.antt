@@ -8,7 +8,7 @@ use borrow.Author.Tests.{le-leb, lt-leb}
 use mathlib.Core.Path.{_≡_, refl}
 use mathlib.Core.List.{List, [], _∷_, map}
 use Rattle.spec.specs.declared.Refusal.{Refusal}
-use Rattle.spec.specs.declared.Refusal.the-variants.{ShortBuffer, LongManifest, BadByte, BadLine, BadDollar, NotYet, BadRule, BadPath, OverLimit, BadVersion, BadCard, BadTarget, NoRoot, Circle, MissingSource, EndlessText, LongText, NoCommand}
+use Rattle.spec.specs.declared.Refusal.the-variants.{ShortBuffer, LongManifest, BadByte, BadLine, BadDollar, NotYet, BadRule, BadPath, OverLimit, BadVersion, BadCard, BadTarget, NoRoot, Circle, MissingSource, EndlessText, LongText, NoCommand, BadBundle, BadOpen}
 use Rattle.spec.specs.Answers.{numberOfRefusal, placeOfRefusal, refusalSays, inText, spot, baseOf, placed}
 
 abbrev rows : ℕ → List Refusal
@@ -63,3 +63,5 @@ refusal-not-0 (MissingSource f) e = omega arith
 refusal-not-0 (EndlessText s) e = omega arith
 refusal-not-0 (LongText s) e = omega arith
 refusal-not-0 (NoCommand s) e = omega arith
+refusal-not-0 BadBundle e = omega arith
+refusal-not-0 (BadOpen p) e = omega arith

@@ -12,7 +12,7 @@ use Rattle.spec.specs.Reading.{Reading}
 use Rattle.spec.specs.Stale.{Verdict}
 use Rattle.spec.specs.Words.{Needed, Stale}
 use Rattle.spec.specs.PlanAsk.{Inputs, rootsOf}
-use Rattle.spec.specs.Demands.{PastChecks, refused-ahead, passed, Listing, Ordered, MissingIn, Demand3}
+use Rattle.spec.specs.Demands.{PastChecks, refused-ahead, refused-opening, passed, Listing, Ordered, MissingIn, Demand3}
 
 module _ {i : Inputs} {rd : Reading} {l r : List ℕ} (g : Listing i rd l) (h : Listing i rd r) where
   same-verdict : (s : ℕ) → Needed (rd .steps) (rootsOf i rd) s → h .verdicts s .stale ≡ g .verdicts s .stale
@@ -30,15 +30,17 @@ module _ {i : Inputs} {rd : Reading} {l r : List ℕ} (g : Listing i rd l) (h : 
 
 module _ {i : Inputs} {lent : List ℕ} {said : Said} {exit : List ℕ} (d : Demand3 i lent said exit) where
   -- a list, a 14 or a 15 before the checks ahead of circles are passed
-  pub no-early-14 : ((rd : Reading) → ¬ PastChecks i (length lent) rd) → 14 ≤ said .number → ⊥
-  no-early-14 n h = elim (d .ahead) [
+  pub no-early-14 : ((rd : Reading) → ¬ PastChecks i (length lent) rd) → 14 ≤ said .number → said .number ≤ 15 → ⊥
+  no-early-14 n h m = elim (d .ahead) [
     | refused-ahead l k ↦ omega (arith, h, k)
+    | refused-opening e ↦ omega (arith, m, e)
     | passed rd p ↦ n rd p
   ]
 
   pub no-early-list : ((rd : Reading) → ¬ PastChecks i (length lent) rd) → said .number ≡ 0 → ⊥
   no-early-list n e = elim (d .ahead) [
     | refused-ahead l k ↦ omega (arith, e, l)
+    | refused-opening k ↦ omega (arith, e, k)
     | passed rd p ↦ n rd p
   ]
 

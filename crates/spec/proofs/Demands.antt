@@ -29,12 +29,12 @@ use Rattle.spec.specs.Words.{NeededCircle}
 use Rattle.spec.specs.PlanAsk.{Inputs, PlanOutcome, listed, circular, noPlan, targetFiles, rootsOf, cardTime, missingSource, planListed, planSources, planOrdered, planRooted, planTargets, planRead, planManifest, planAsk}
 use Rattle.spec.specs.TextAsk.{TextOutcome, text, noText, textAsk}
 use Rattle.spec.specs.Promises.{filled, leftBy, AnswerIs, Shows, PlanMeets, TextMeets}
-use Rattle.spec.proofs.Manifests.{of-reading, accepted-few}
+use Rattle.spec.proofs.Manifests.{OfReading, lines, files, of-reading, accepted-few}
 use Rattle.spec.proofs.Graph.{needed-low}
 use Rattle.spec.proofs.Sources.{missing-lowest, none-missing}
 use Rattle.spec.proofs.Outcomes.{Not14, TextWithin, text-within}
 use Rattle.spec.proofs.GraphWords.{order-right, no-order, verdicts-right, verdicts-unique, list-right}
-use Rattle.spec.specs.Demands.{PastChecks, ChecksAhead, refused-ahead, passed, Demand1, answers, shows, short, refuses, CircleRead, NoCircle, Listing, Ordered, PlansPast, Demand3, PlanDemands, TextDemands}
+use Rattle.spec.specs.Demands.{PastChecks, ChecksAhead, refused-ahead, refused-opening, passed, Demand1, answers, shows, short, refuses, CircleRead, NoCircle, Listing, Ordered, PlansPast, Demand3, PlanDemands, TextDemands}
 
 -- the number that is said
 number : {said right : Said} {exit left : List ℕ} → AnswerIs said exit right left → said .number ≡ right .number
@@ -46,6 +46,11 @@ refused-with : (r : Refusal) {i : Inputs} {room : ℕ} {said : Said} {exit left 
     → AnswerIs said exit (refusalSays r) left → ChecksAhead i room said
 unfolding refusalSays numberOfRefusal
 refused-with r l h p = refused-ahead (rw (number p) l) (rw (number p) h)
+
+of-lines : (r : Refusal) {i : Inputs} {room : ℕ} {said : Said} {exit left : List ℕ} → OfReading r → AnswerIs said exit (refusalSays r) left → ChecksAhead i room said
+unfolding refusalSays numberOfRefusal
+of-lines r (lines a b) p = refused-with r (omega (arith, a)) (omega (arith, b)) p
+of-lines r (files a) p = refused-opening (number p ∙ a)
 
 module _ (i : Inputs) (lent : List ℕ) (said : Said) (exit : List ℕ) where
   abbrev Meets : PlanOutcome → Type 0
@@ -78,9 +83,7 @@ module _ (i : Inputs) (lent : List ℕ) (said : Said) (exit : List ℕ) where
 
   from-2 : leastList ≤ length lent → (x : Read) → readManifest (i .manifest) ≡ x → Meets (planManifest i x) → Ahead
   unfolding planManifest PlanMeets
-  from-2 long (refusedWith r) e m =
-      let o = of-reading (i .manifest) e in
-      refused-with r (omega (arith, o .least)) (omega (arith, o .most)) m
+  from-2 long (refusedWith r) e m = of-lines r (of-reading (i .manifest) e) m
   from-2 long (accepted rd) e m = from-11 long rd e m
 
   checked : Meets (planAsk i (length lent)) → Ahead
@@ -216,12 +219,14 @@ module _ (i : Inputs) (lent : List ℕ) (said : Said) (exit : List ℕ) where
   on-circle : said .number ≡ 14 → Demand3 i lent said exit → Demand1 (CircleRead i (length lent)) lent said exit
   on-circle n d = elim (d .ahead) [
     | refused-ahead l h ↦ absurd (omega (arith, n, h))
+    | refused-opening e ↦ absurd (omega (arith, n, e))
     | passed rd p ↦ (let s = d .past rd p .real n in shows (s .circle) (record { reading = rd; past = p; real = s .real }) (circle-room p (s .real)) (s .shown))
   ]
 
   on-list : said .number ≡ 0 → Demand3 i lent said exit → Demand1 (CircleRead i (length lent)) lent said exit
   on-list n d = elim (d .ahead) [
     | refused-ahead l h ↦ absurd (omega (arith, n, l))
+    | refused-opening e ↦ absurd (omega (arith, n, e))
     | passed rd p ↦ (let s = d .past rd p .listed n in answers (s .list) (list-room p (s .listing)) (s .shown))
   ]
 

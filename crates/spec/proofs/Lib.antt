@@ -12,6 +12,7 @@ pub mod Answers
 pub mod Bundle
 pub mod BundleCases
 pub mod Manifests
+pub mod Scopes
 pub mod Outcomes
 pub mod Demands
 pub mod Demand3

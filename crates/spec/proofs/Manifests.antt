@@ -1,6 +1,6 @@
--- What any manifest is read into has sound rules, and a manifest is refused with 2 to 10 and nothing else: one walk over the reading's definitions.
-use Prim.Native.Nat.{ℕ, _≤_, _<_}
-use mathlib.Core.List.{List, [], _∷_, _++_}
+-- What any bundle is read into has sound rules, and a bundle is refused with 2 to 10 or 19 and nothing else: one walk over the reading's definitions.
+use Prim.Native.Nat.{ℕ, zero, suc, _-_, _≤_, _<_}
+use mathlib.Core.List.{List, [], _∷_, _++_, map}
 use mathlib.Core.Option.{Option, none, some}
 use mathlib.Core.Bool.{Bool, true, false, not, _||_}
 use mathlib.Core.Path.{_≡_, refl, sym, subst}
@@ -14,22 +14,28 @@ use Rattle.lists.specs.Bytes.{eqBytes, eqBytes-true}
 use Rattle.lists.specs.Members.{any}
 use Rattle.lists.specs.Runs.{afterRun}
 use Rattle.spec.specs.declared.Refusal.{Refusal}
-use Rattle.spec.specs.declared.Refusal.the-variants.{LongManifest, BadByte, BadLine, BadRule, BadPath, OverLimit, BadVersion}
-use Rattle.spec.specs.Basics.{isEmpty, orElse}
+use Rattle.spec.specs.declared.Refusal.the-variants.{LongManifest, BadByte, BadLine, BadRule, BadPath, OverLimit, BadVersion, BadBundle, BadOpen}
+use Rattle.spec.specs.Basics.{isEmpty, orElse, among, sum}
 use Rattle.spec.specs.Answers.{numberOfRefusal}
-use Rattle.spec.specs.Limits.{maxManifest, maxSteps, maxRules, maxName, maxValue}
-use Rattle.spec.specs.Bytes.{newline, equals}
-use Rattle.spec.specs.Lines.{Line, linesOf, isComment, isBlank, isIndented, isSpace}
+use Rattle.spec.specs.Limits.{maxManifest, maxSteps, maxRules, maxName, maxPath, maxValue, maxBundle, maxOpen, maxOpened}
+use Rattle.spec.specs.Bundle.{soundBundle, bundleNames, bundleTexts}
+use Rattle.spec.specs.Bytes.{equals}
+use Rattle.spec.specs.Lines.{Line, isComment, isBlank, isIndented, isSpace}
 use Rattle.spec.specs.Dollars.{badDollar, expand}
-use Rattle.spec.specs.Forms.{BuildLine, Fault, noForm, leftAtDollar, notYet, Cut, fits, fails, then, checked, Form, ruleForm, buildForm, defaultForm, bindingForm, keyWord, nameOf, afterName, gap, rawValue, cutValue, cutBinding, cutStatement, cutIndented}
-use Rattle.spec.specs.Reading.{Bound, Rule, Step, Reading, nothingRead, boundTo, fileVar, hasKey, keysOf, declared, isMade}
-use Rattle.spec.specs.Statements.{Block, noBlock, ruleBlock, buildBlock, Outcome, goesOn, refused, overCounts, longerThan, ruleKey, countBinding, badPaths, mentioned, inputsOfLine, overPaths, overBinding, wrongVersion, setVar, withDefaults, startRule, addKey, addStep, addVar, addToBlock, addDefaults, expanded, expandedLine, statement, blockLine}
-use Rattle.spec.specs.Manifest.{badByte, withRule, withStep, close, andThen, faultOf, ifCut, indented, readIndented, readStatement, readLine, readLines, Read, accepted, refusedWith, readOf, readManifest}
+use Rattle.spec.specs.Forms.{BuildLine, Fault, noForm, leftAtDollar, notYet, Cut, fits, fails, then, checked, Form, ruleForm, buildForm, defaultForm, openForm, bindingForm, keyWord, nameOf, afterName, gap, rawValue, cutValue, cutBinding, cutStatement, cutIndented}
+use Rattle.spec.specs.Reading.{Bound, Rule, Step, Reading, nothingRead, boundTo, fileVar, hasKey, keysOf, declared, numberOf, isMade}
+use Rattle.spec.specs.Statements.{Block, noBlock, ruleBlock, buildBlock, Outcome, goesOn, opens, refused, overCounts, longerThan, ruleKey, countBinding, badPaths, mentioned, inputsOfLine, overPaths, overBinding, wrongVersion, setVar, withDefaults, startRule, addKey, addStep, addVar, addToBlock, addDefaults, expanded, expandedLine, statement, blockLine}
+use Rattle.spec.specs.Manifest.{badByteIn, withRule, withStep, close, andThen, faultOf, ifCut, indented, readIndented, readStatement, readLine, Opener, opening, readLines, textLines, withOpened, entered, backIn, openPath, opener, Read, accepted, refusedWith, readOf, readManifest}
 use Rattle.spec.specs.Sound.{SoundKey, SoundKeys, SoundRules}
 
-pub record OfReading (r : Refusal) : Type 0 where
-  pub least : 2 ≤ numberOfRefusal r
-  pub most : numberOfRefusal r ≤ 10
+pub data OfReading (r : Refusal) : Type 0 where
+  lines : 2 ≤ numberOfRefusal r → numberOfRefusal r ≤ 10 → OfReading r
+  files : numberOfRefusal r ≡ 19 → OfReading r
+
+-- 1 is of lent buffers alone
+pub past-1 : {r : Refusal} → OfReading r → 2 ≤ numberOfRefusal r
+past-1 (lines a b) = a
+past-1 (files e) = omega (arith, e)
 
 -- sound rules, and no more steps than the limit
 abbrev Good : Reading → Type 0
@@ -43,6 +49,7 @@ data SoundBlock (n : ℕ) : Block → Type 0 where
 
 data Sound : Outcome → Type 0 where
   on : {rd : Reading} {b : Block} → Good rd → SoundBlock (length (rd .steps)) b → Sound (goesOn rd b)
+  door : {start : ℕ} {sub : Bool} {raw : List ℕ} {rd : Reading} → Good rd → Sound (opens start sub raw rd)
   off : {r : Refusal} → OfReading r → Sound (refused r)
 
 -- one or the other
@@ -59,23 +66,27 @@ otherwise false a f = f refl
 
 bad-line : (p : ℕ) → OfReading (BadLine p)
 unfolding numberOfRefusal
-bad-line p = record { least = omega arith; most = omega arith }
+bad-line p = lines (omega arith) (omega arith)
 
 bad-rule : (p : ℕ) → OfReading (BadRule p)
 unfolding numberOfRefusal
-bad-rule p = record { least = omega arith; most = omega arith }
+bad-rule p = lines (omega arith) (omega arith)
 
 bad-path : (p : ℕ) → OfReading (BadPath p)
 unfolding numberOfRefusal
-bad-path p = record { least = omega arith; most = omega arith }
+bad-path p = lines (omega arith) (omega arith)
 
 over-limit : (p : ℕ) → OfReading (OverLimit p)
 unfolding numberOfRefusal
-over-limit p = record { least = omega arith; most = omega arith }
+over-limit p = lines (omega arith) (omega arith)
 
 bad-version : (p : ℕ) → OfReading (BadVersion p)
 unfolding numberOfRefusal
-bad-version p = record { least = omega arith; most = omega arith }
+bad-version p = lines (omega arith) (omega arith)
+
+bad-open : (p : ℕ) → OfReading (BadOpen p)
+unfolding numberOfRefusal
+bad-open p = files refl
 
 -- ---- rules and keys
 
@@ -147,6 +158,7 @@ unfolding statement
 sound-statement start (ruleForm n) rd h = sound-rule start n rd h
 sound-statement start (buildForm b) rd h = sound-step start (expandedLine rd b) rd h
 sound-statement start (defaultForm ps) rd h = sound-default start (expanded rd ps) rd h
+sound-statement start (openForm sub raw) rd h = door h
 sound-statement start (bindingForm n raw) rd h = sound-var start n (expand (fileVar (rd .vars)) raw) rd h
 
 sound-line : (start : ℕ) (b : Block) (n raw : List ℕ) (rd : Reading) → Good rd → SoundBlock (length (rd .steps)) b → badDollar raw ≡ none
@@ -162,6 +174,7 @@ SoundForm : Form → Type 0
 SoundForm (ruleForm n) = Unit {0}
 SoundForm (buildForm b) = Unit {0}
 SoundForm (defaultForm ps) = Unit {0}
+SoundForm (openForm sub raw) = Unit {0}
 SoundForm (bindingForm n raw) = badDollar raw ≡ none
 
 SoundCut : Cut Form → Type 0
@@ -194,9 +207,9 @@ sound-binding s = sound-after (keyWord (nameOf (afterRun isSpace s))) (gap (afte
 
 sound-fault : (l : Line) (e : Fault) → OfReading (faultOf l e)
 unfolding faultOf numberOfRefusal
-sound-fault l noForm = record { least = omega arith; most = omega arith }
-sound-fault l (leftAtDollar n) = record { least = omega arith; most = omega arith }
-sound-fault l notYet = record { least = omega arith; most = omega arith }
+sound-fault l noForm = lines (omega arith) (omega arith)
+sound-fault l (leftAtDollar n) = lines (omega arith) (omega arith)
+sound-fault l notYet = lines (omega arith) (omega arith)
 
 sound-cut : (l : Line) (c : Cut Form) (f : Form → Outcome) → ((x : Form) → c ≡ fits x → Sound (f x)) → Sound (ifCut l c f)
 unfolding ifCut
@@ -209,6 +222,7 @@ sound-form l rd b (bindingForm n raw) h k d = sound-line (l .start) b n raw rd h
 sound-form l rd b (ruleForm n) h k d = off (bad-line (l .start))
 sound-form l rd b (buildForm x) h k d = off (bad-line (l .start))
 sound-form l rd b (defaultForm ps) h k d = off (bad-line (l .start))
+sound-form l rd b (openForm sub raw) h k d = off (bad-line (l .start))
 
 sound-indented : (l : Line) (rd : Reading) (b : Block) → Good rd → SoundBlock (length (rd .steps)) b → Sound (readIndented l rd b)
 unfolding readIndented
@@ -232,6 +246,7 @@ sound-then : (o : Outcome) (f : Reading → Block → Outcome) → Sound o → (
     → Sound (andThen o f)
 unfolding andThen
 sound-then (goesOn rd b) f (on h k) g = g rd b h k
+sound-then (opens start sub raw rd) f (door h) g = door h
 sound-then (refused r) f (off a) g = off a
 
 sound-read : (l : Line) (rd : Reading) (b : Block) → Good rd → SoundBlock (length (rd .steps)) b → Sound (readLine l rd b)
@@ -243,10 +258,47 @@ sound-read l rd b h k =
     (sound-then (close rd b) (readStatement l) (sound-close rd b h k)
     (λ rd′ b′ h′ k′. sound-cut l (cutStatement (l .text)) (λ x. statement (l .start) x rd′) (λ x e. sound-statement (l .start) x rd′ h′)))))
 
-sound-lines : (ls : List Line) (rd : Reading) (b : Block) → Good rd → SoundBlock (length (rd .steps)) b → Sound (readLines ls rd b)
+-- what opens a file gives a sound outcome
+abbrev SoundOpener : Opener → Type 0
+SoundOpener via = (start : ℕ) (sub : Bool) (raw : List ℕ) (rd : Reading) → Good rd → Sound (via start sub raw rd)
+
+sound-opening : (via : Opener) → SoundOpener via → (o : Outcome) → Sound o → Sound (opening via o)
+unfolding opening
+sound-opening via f (goesOn rd b) (on h k) = on h k
+sound-opening via f (opens start sub raw rd) (door h) = f start sub raw rd h
+sound-opening via f (refused r) (off a) = off a
+
+sound-lines : (via : Opener) → SoundOpener via → (ls : List Line) (rd : Reading) (b : Block) → Good rd → SoundBlock (length (rd .steps)) b → Sound (readLines via ls rd b)
 unfolding readLines
-sound-lines [] rd b h k = sound-close rd b h k
-sound-lines (l ∷ ls) rd b h k = sound-then (readLine l rd b) (readLines ls) (sound-read l rd b h k) (sound-lines ls)
+sound-lines via f [] rd b h k = sound-close rd b h k
+sound-lines via f (l ∷ ls) rd b h k =
+    sound-then (opening via (readLine l rd b)) (readLines via ls) (sound-opening via f (readLine l rd b) (sound-read l rd b h k)) (sound-lines via f ls)
+
+-- ---- files that are opened
+
+sound-path : (names : List (List ℕ)) (reads : ℕ → Reading → Outcome) → ((k : ℕ) (rd : Reading) → Good rd → Sound (reads k rd))
+    → (start : ℕ) (sub : Bool) (p : List ℕ) (rd : Reading) → Good rd → Sound (openPath names reads start sub p rd)
+unfolding openPath withOpened
+sound-path names reads f start sub p rd h =
+    either (isEmpty p) (off (bad-path start))
+    (either (longerThan maxPath p || overCounts (withOpened (length p) (entered sub (rd .vars)) rd)) (off (over-limit start))
+    (either (not (among p names) || leb maxOpened (rd .opened)) (off (bad-open start)) (f (numberOf p names) (withOpened (length p) (entered sub (rd .vars)) rd) h)))
+
+sound-back : (k : ℕ) (rd : Reading) (b : Block) → Good rd → SoundBlock (length (rd .steps)) b → Sound (backIn k rd b)
+unfolding backIn
+sound-back k rd b h o = on h none-open
+
+sound-opener : (names texts : List (List ℕ)) (more : ℕ) → SoundOpener (opener names texts more)
+unfolding opener
+sound-opener names texts zero start sub raw rd h =
+    sound-path names (λ k after. refused (BadOpen start)) (λ k after g. off (bad-open start)) start sub (expand (fileVar (rd .vars)) raw) rd h
+sound-opener names texts (suc more) start sub raw rd h =
+    sound-path names (λ k after. andThen (readLines (opener names texts more) (textLines texts k) after noBlock) (backIn (rd .vars .current)))
+    (λ k after g.
+    sound-then (readLines (opener names texts more) (textLines texts k) after noBlock) (backIn (rd .vars .current))
+    (sound-lines (opener names texts more) (sound-opener names texts more) (textLines texts k) after noBlock g none-open)
+    (sound-back (rd .vars .current)))
+    start sub (expand (fileVar (rd .vars)) raw) rd h
 
 -- ---- the manifest
 
@@ -257,12 +309,13 @@ data SoundRead : Read → Type 0 where
 sound-of : {o : Outcome} → Sound o → SoundRead (readOf o)
 unfolding readOf
 sound-of (on h k) = read-on h
+sound-of (door {start = start} h) = read-off (bad-open start)
 sound-of (off a) = read-off a
 
 sound-bytes : (o : Option ℕ) (k : Unit {0} → Read) → SoundRead (k tt) → SoundRead (orElse o (λ at. refusedWith (BadByte at)) k)
 unfolding numberOfRefusal
 sound-bytes none k a = a
-sound-bytes (some at) k a = read-off {r = BadByte at} (record { least = omega arith; most = omega arith })
+sound-bytes (some at) k a = read-off {r = BadByte at} (lines (omega arith) (omega arith))
 
 either-read : {x y : Read} (o : Bool) → SoundRead x → SoundRead y → SoundRead (ifB o (λ _. x) (λ _. y))
 either-read true a b = a
@@ -270,18 +323,25 @@ either-read false a b = b
 
 too-long : OfReading LongManifest
 unfolding numberOfRefusal
-too-long = record { least = omega arith; most = omega arith }
+too-long = lines (omega arith) (omega arith)
 
 nothing-sound : Good nothingRead
 unfolding keysOf
 nothing-sound = (λ n. no-keys, omega arith)
 
+bad-bundle : OfReading BadBundle
+unfolding numberOfRefusal
+bad-bundle = files refl
+
 sound-manifest : (s : List ℕ) → SoundRead (readManifest s)
 unfolding readManifest
 sound-manifest s =
-    either-read (ltb maxManifest (length s)) (read-off too-long)
-    (sound-bytes (badByte newline 0 s) (λ _. readOf (readLines (linesOf s) nothingRead noBlock))
-    (sound-of (sound-lines (linesOf s) nothingRead noBlock nothing-sound none-open)))
+    let texts = bundleTexts s in
+    let via = opener (bundleNames s) texts (maxOpen - 1) in
+    either-read (not (soundBundle 1 maxBundle s)) (read-off bad-bundle)
+    (either-read (ltb maxManifest (sum (map (λ (t : List ℕ). length t) texts))) (read-off too-long)
+    (sound-bytes (badByteIn 0 texts) (λ _. readOf (readLines via (textLines texts 0) nothingRead noBlock))
+    (sound-of (sound-lines via (sound-opener (bundleNames s) texts (maxOpen - 1)) (textLines texts 0) nothingRead noBlock nothing-sound none-open))))
 
 of-refused : {x : Read} {r : Refusal} → SoundRead x → x ≡ refusedWith r → OfReading r
 of-refused {r = r} (read-on h) e = absurd (let z : _≡_ {A = ℕ} 0 1 = cc in omega arith)

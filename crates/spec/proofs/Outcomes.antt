@@ -20,14 +20,15 @@ use Rattle.spec.specs.Manifest.{Read, accepted, refusedWith, readManifes
 use Rattle.spec.specs.Graph.{stepAt}
 use Rattle.spec.specs.Text.{leadsBack, deep, nameText, nameRefusal}
 use Rattle.spec.specs.TextAsk.{TextOutcome, text, noText, wantedName, nameOutcome, textOfStep, textRead, textAsk}
-use Rattle.spec.proofs.Manifests.{OfReading, of-reading}
+use Rattle.spec.proofs.Manifests.{OfReading, lines, files, of-reading}
 
 -- a refusal other than 14
 abbrev pub Not14 : Refusal → Type 0
 Not14 r = ¬ (numberOfRefusal r ≡ 14)
 
-of-read : {r : Refusal} → OfReading r → Not14 r
-of-read o e = omega (arith, o .most, e)
+pub of-read : {r : Refusal} → OfReading r → Not14 r
+of-read (lines a b) e = omega (arith, b, e)
+of-read (files a) e = omega (arith, a, e)
 
 not-short : Not14 ShortBuffer
 unfolding numberOfRefusal

@@ -6,6 +6,7 @@ use mathlib.Core.Option.{Option, none, some}
 use lib.Dec.{eqb, leb}
 use lib.ListN.{length, take, drop}
 use Rattle.lists.specs.Tests.{ifB}
+use Rattle.lists.specs.Text.{bytes}
 use Rattle.spec.specs.Basics.{orElse, concat}
 use Rattle.spec.specs.Limits.{maxPath}
 use Rattle.spec.specs.Statements.{twice}
@@ -102,3 +103,8 @@ unfoldable pub bundled : List BundleRecord → List ℕ
 unfolding recordsBytes bodyOf concat recordNames
 bundled rs =
     inBytes 4 (length rs) ++ (inBytes 4 16 ++ (inBytes 4 (16 + 16 * length rs) ++ (inBytes 4 (16 + 16 * length rs + length (bodyOf rs)) ++ (recordsBytes 0 (length (concat (recordNames rs))) rs ++ bodyOf rs))))
+
+-- "The program lends `build.ninja` alone."
+unfoldable pub alone : List ℕ → List ℕ
+unfolding bundled
+alone text = bundled (record { name = bytes "build.ninja"; bytes = text } ∷ [])

@@ -27,12 +27,12 @@ use Rattle.spec.specs.Promises.{filled, AnswerIs, Shows, PlanMeets, Text
 
 -- ------------------------------------------------------------------ the checks ahead of circles
 
--- "the checks ahead of circles are all that the order of refusals puts before 14": 1 to 13 do not apply, and `rd` is
--- what the manifest was read into
+-- "the checks ahead of circles are all that the order of refusals puts before 14": 1 to 13 and 19 do not apply, and
+-- `rd` is what the manifest was read into
 pub record PastChecks (i : Inputs) (room : ℕ) (rd : Reading) : Type 0 where
   -- 1
   pub buffer : leastList ≤ room
-  -- 2 to 10
+  -- 19 and 2 to 10
   pub read : readManifest (i .manifest) ≡ accepted rd
   -- 11
   pub sound : soundCard (i .card) ≡ true
@@ -45,6 +45,8 @@ pub record PastChecks (i : Inputs) (room : ℕ) (rd : Reading) : Type 0 where
 -- they are passed.
 pub data ChecksAhead (i : Inputs) (room : ℕ) (said : Said) : Type 0 where
   refused-ahead : 0 < said .number → said .number < 14 → ChecksAhead i room said
+  -- 19 stands before 2, or in a line
+  refused-opening : said .number ≡ 19 → ChecksAhead i room said
   passed : (rd : Reading) → PastChecks i room rd → ChecksAhead i room said
 
 -- ------------------------------------------------------------------ demand 1

@@ -2,7 +2,7 @@
 use Prim.Native.Nat.{ℕ, zero, suc, _-_}
 use mathlib.Core.List.{List, [], _∷_}
 use mathlib.Core.Option.{Option}
-use mathlib.Core.Bool.{Bool, false, not, _&&_, _||_}
+use mathlib.Core.Bool.{Bool, true, false, not, _&&_, _||_}
 use lib.Dec.{eqb}
 use lib.ListN.{length, take, drop}
 use Rattle.lists.specs.Tests.{ifB}
@@ -49,14 +49,14 @@ unfoldable pub afterName : List ℕ → List ℕ
 unfolding afterRun nameByte
 afterName s = afterRun nameByte s
 
--- "The keywords `rule build default pool include subninja` are a 4 where a rule or key is named, the last three a 6."
+-- "The keywords `rule build default pool include subninja` are a 4 where a rule or key is named"; "The three keywords' 6 shrinks to `pool`."
 unfoldable pub keyword : List ℕ → Bool
 unfolding among
-keyword w = among w (bytes "rule" ∷ bytes "build" ∷ bytes "default" ∷ [])
+keyword w = among w (bytes "rule" ∷ bytes "build" ∷ bytes "default" ∷ bytes "include" ∷ bytes "subninja" ∷ [])
 
 unfoldable pub laterKeyword : List ℕ → Bool
-unfolding among
-laterKeyword w = among w (bytes "pool" ∷ bytes "include" ∷ bytes "subninja" ∷ [])
+unfolding eqBytes
+laterKeyword w = eqBytes w (bytes "pool")
 
 -- "the names `depfile deps dyndep msvc_deps_prefix pool restat rspfile rspfile_content` on the left of any `=`"
 unfoldable pub laterKey : List ℕ → Bool
@@ -138,6 +138,8 @@ pub data Form : Type 0 where
   ruleForm : List ℕ → Form
   buildForm : BuildLine → Form
   defaultForm : List (List ℕ) → Form
+  -- `subninja PATH` or else `include PATH`, the path raw
+  openForm : Bool → List ℕ → Form
   -- `NAME = value` at file level or in a block, the value raw
   bindingForm : List ℕ → List ℕ → Form
 
@@ -186,6 +188,15 @@ unfolding then paths
 cutDefault s =
     then (paths s) λ p. ifB (isEmpty (p .raw) || not (isEmpty (p .rest))) (λ _. fails noForm) (λ _. fits (defaultForm (p .raw)))
 
+-- "`include PATH` and `subninja PATH`": one path and nothing behind it (reading 02.3)
+unfoldable pub cutOpen : Bool → List ℕ → Cut Form
+unfolding gap pathBegins checked badIn pathStop rawPath
+cutOpen sub s =
+    let t = gap s in
+    ifB (pathBegins t)
+    (λ _. checked (badIn pathStop t) t (λ _. ifB (isEmpty (gap (afterPath t))) (λ _. fits (openForm sub (rawPath t))) (λ _. fails noForm)))
+    (λ _. fails noForm)
+
 -- "A raw value is handed back as the caller's own bytes without their leading spaces. Trailing spaces stay."
 unfoldable pub rawValue : List ℕ → List ℕ
 unfolding afterRun
@@ -205,12 +216,14 @@ cutBinding s = then (keyWord (nameOf s)) λ w. cutValue w (gap (afterName s))
 
 -- a line without indent; a keyword at its start always begins its statement (reading 6)
 unfoldable pub cutStatement : List ℕ → Cut Form
-unfolding cutRule cutBuild cutDefault cutBinding nameOf afterName eqBytes
+unfolding cutRule cutBuild cutDefault cutOpen cutBinding nameOf afterName eqBytes
 cutStatement s =
     let w = nameOf s in
     ifB (eqBytes w (bytes "rule")) (λ _. cutRule (afterName s)) λ _.
     ifB (eqBytes w (bytes "build")) (λ _. cutBuild (afterName s)) λ _.
-    ifB (eqBytes w (bytes "default")) (λ _. cutDefault (afterName s)) λ _. cutBinding s
+    ifB (eqBytes w (bytes "default")) (λ _. cutDefault (afterName s)) λ _.
+    ifB (eqBytes w (bytes "include")) (λ _. cutOpen false (afterName s)) λ _.
+    ifB (eqBytes w (bytes "subninja")) (λ _. cutOpen true (afterName s)) λ _. cutBinding s
 
 -- an indented line; in a block the first word is always a key (reading 6)
 unfoldable pub cutIndented : List ℕ → Cut Form

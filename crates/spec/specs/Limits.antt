@@ -38,6 +38,13 @@ maxManifest = 49152
 abbrev pub maxBundle : ℕ
 maxBundle = 64
 
+-- "At most eight files are open and 64 opened in all, the top one counted" (document 02)
+abbrev pub maxOpen : ℕ
+maxOpen = 8
+
+abbrev pub maxOpened : ℕ
+maxOpened = 64
+
 -- the highest place in texts of so many bytes together, 64 of them at most, laid end to end with one place between two
 abbrev pub maxPlace : ℕ
 maxPlace = maxManifest + 63

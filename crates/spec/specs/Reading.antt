@@ -20,8 +20,8 @@ pub record Rule : Type 0 where
   pub name : List ℕ
   pub keys : List Bound
 
--- A scope: the scopes around it, the nearest first, and its own variables, newest first. There is one for the manifest; document 02 [1] will enter
--- others, each "a new one that sees the parent's variables and changes none".
+-- A scope: the scopes around it, the nearest first, and its own variables, newest first. The top file has one; each
+-- `subninja` enters "a new one that sees the parent's variables and changes none".
 pub record Scope : Type 0 where
   pub outer : List ℕ
   pub own : List Bound
@@ -48,7 +48,8 @@ pub record Step : Type 0 where
   pub scope : ℕ
 
 -- what a manifest has said so far: rules newest first, file variables; "Steps are numbered from 0 as written, files from 0 by first
--- mention"; the files named by `default`; and the counts of bindings, mentions and bytes that the limits speak of
+-- mention"; the files named by `default`; and the counts of bindings, mentions and bytes that the limits speak of,
+-- and of files opened
 pub record Reading : Type 0 where
   pub rules : List Rule
   pub vars : Variables
@@ -58,9 +59,10 @@ pub record Reading : Type 0 where
   pub bindings : ℕ
   pub mentions : ℕ
   pub written : ℕ
+  pub opened : ℕ
 
 abbrev pub nothingRead : Reading
-nothingRead = record { rules = []; vars = record { scopes = noScope ∷ []; current = 0 }; files = []; steps = []; defaults = []; bindings = 0; mentions = 0; written = 0 }
+nothingRead = record { rules = []; vars = record { scopes = noScope ∷ []; current = 0 }; files = []; steps = []; defaults = []; bindings = 0; mentions = 0; written = 0; opened = 1 }
 
 -- what the newest binding of a name binds it to: "a later line replaces it", "last one wins"
 unfoldable pub boundTo : List ℕ → List Bound → Option (List ℕ)

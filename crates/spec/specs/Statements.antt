@@ -13,7 +13,7 @@ use Rattle.lists.specs.Bytes.{eqBytes}
 use Rattle.spec.specs.Basics.{isEmpty, among, sum}
 use Rattle.spec.specs.Limits.{maxSteps, maxFiles, maxRules, maxBindings, maxMentions, maxName, maxPath, maxValue, maxWritten}
 use Rattle.spec.specs.Dollars.{expand}
-use Rattle.spec.specs.Forms.{Form, ruleForm, buildForm, defaultForm, bindingForm, BuildLine}
+use Rattle.spec.specs.Forms.{Form, ruleForm, buildForm, defaultForm, openForm, bindingForm, BuildLine}
 use Rattle.spec.specs.Reading.{Bound, Rule, Variables, Step, Reading, varFrom, fileVar, bindIn, hasKey, declared, mention, numbersOf, isMade}
 use Rattle.version.specs.Version.{refusedVersion}
 
@@ -23,9 +23,11 @@ pub data Block : Type 0 where
   ruleBlock : ℕ → Rule → Block
   buildBlock : Step → Block
 
--- what has been read and the block that is open, or a refusal
+-- what has been read and the block that is open; a line that opens a file, by its start, whether in a new scope, its raw path and what has been read
+-- before it; or a refusal
 pub data Outcome : Type 0 where
   goesOn : Reading → Block → Outcome
+  opens : ℕ → Bool → List ℕ → Reading → Outcome
   refused : Refusal → Outcome
 
 -- ------------------------------------------------------------------ limits
@@ -56,7 +58,7 @@ ruleKey n = among n (bytes "command" ∷ bytes "description" ∷ bytes "generato
 -- a binding line more, with so many bytes
 unfoldable pub countBinding : ℕ → Reading → Reading
 countBinding n rd =
-    record { rules = rd .rules; vars = rd .vars; files = rd .files; steps = rd .steps; defaults = rd .defaults; bindings = rd .bindings + 1; mentions = rd .mentions; written = rd .written + n }
+    record { rules = rd .rules; vars = rd .vars; files = rd .files; steps = rd .steps; defaults = rd .defaults; bindings = rd .bindings + 1; mentions = rd .mentions; written = rd .written + n; opened = rd .opened }
 
 -- "key twice or unknown in a rule" (7); "rule values as written" (9)
 unfoldable pub addKey : ℕ → ℕ → Rule → List ℕ → List ℕ → Reading → Outcome
@@ -89,7 +91,7 @@ badPaths outs ps rd = any isEmpty (outs ++ ps) || any (λ p. isMade p rd) outs |
 unfoldable pub mentioned : List (List ℕ) → Reading → Reading
 unfolding mention sum
 mentioned ps rd =
-    record { rules = rd .rules; vars = rd .vars; files = mention (rd .files) ps; steps = rd .steps; defaults = rd .defaults; bindings = rd .bindings; mentions = rd .mentions + length ps; written = rd .written + sum (map (λ (p : List ℕ). length p) ps) }
+    record { rules = rd .rules; vars = rd .vars; files = mention (rd .files) ps; steps = rd .steps; defaults = rd .defaults; bindings = rd .bindings; mentions = rd .mentions + length ps; written = rd .written + sum (map (λ (p : List ℕ). length p) ps); opened = rd .opened }
 
 -- the line with its paths expanded
 unfoldable pub expandedLine : Reading → BuildLine → BuildLine
@@ -141,7 +143,7 @@ bound b vars = record { scopes = bindIn (vars .current) b (vars .scopes); curren
 unfoldable pub setVar : List ℕ → List ℕ → Reading → Reading
 unfolding bindIn
 setVar n v rd =
-    record { rules = rd .rules; vars = bound (record { name = n; value = v }) (rd .vars); files = rd .files; steps = rd .steps; defaults = rd .defaults; bindings = rd .bindings; mentions = rd .mentions; written = rd .written }
+    record { rules = rd .rules; vars = bound (record { name = n; value = v }) (rd .vars); files = rd .files; steps = rd .steps; defaults = rd .defaults; bindings = rd .bindings; mentions = rd .mentions; written = rd .written; opened = rd .opened }
 
 -- "`ninja_required_version` at file level is checked at once": "version malformed or above OURS" (10)
 unfoldable pub wrongVersion : List ℕ → List ℕ → Bool
@@ -162,7 +164,7 @@ addVar start n v rd =
 unfoldable pub withDefaults : List (List ℕ) → Reading → Reading
 unfolding numbersOf
 withDefaults ps rd =
-    record { rules = rd .rules; vars = rd .vars; files = rd .files; steps = rd .steps; defaults = rd .defaults ++ numbersOf (rd .files) ps; bindings = rd .bindings; mentions = rd .mentions; written = rd .written }
+    record { rules = rd .rules; vars = rd .vars; files = rd .files; steps = rd .steps; defaults = rd .defaults ++ numbersOf (rd .files) ps; bindings = rd .bindings; mentions = rd .mentions; written = rd .written; opened = rd .opened }
 
 -- "`default PATHS`, one at least, each the output of an earlier step": "empty path, .. default that is no earlier output" (8)
 unfoldable pub addDefaults : ℕ → List (List ℕ) → Reading → Outcome
@@ -181,6 +183,7 @@ unfolding startRule addStep expandedLine addDefaults expanded addVar expand varF
 statement start (ruleForm n) rd = startRule start n rd
 statement start (buildForm b) rd = addStep start (expandedLine rd b) rd
 statement start (defaultForm ps) rd = addDefaults start (expanded rd ps) rd
+statement start (openForm sub raw) rd = opens start sub raw rd
 statement start (bindingForm n raw) rd = addVar start n (expand (fileVar (rd .vars)) raw) rd
 
 -- "An indented line belongs to the open rule or build block; with none open it is refused with 4."

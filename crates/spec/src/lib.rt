@@ -40,6 +40,10 @@ pub enum Refusal {
     LongText(usize),
     // 18: no such step, or a phony one
     NoCommand(usize),
+    // 19: the bundle is malformed
+    BadBundle,
+    // 19: a file that cannot be opened
+    BadOpen(usize),
 }
 
 // What the plan ask answers: the number of steps listed, or a refusal.

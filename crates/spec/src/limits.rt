@@ -21,6 +21,10 @@ pub const WRITTEN: usize = 60000;
 pub const MANIFEST: usize = 49152;
 
 pub const BUNDLE: usize = 64;
+// files open at once, and files opened in all; the top one counts
+pub const OPEN: usize = 8;
+
+pub const OPENED: usize = 64;
 
 pub const RECORDS: usize = 1024;
 

@@ -1,8 +1,8 @@
 -- Room in the buffers, and the answer.
-use Prim.Native.Nat.{ℕ, _+_, _≤_, _<_}
+use Prim.Native.Nat.{ℕ, zero, suc, _+_, _≤_, _<_}
 use mathlib.Core.Bool.{Bool, true, false}
 use mathlib.Core.List.{List}
-use mathlib.Core.Path.{_≡_, refl, sym, ap, _∙_}
+use mathlib.Core.Path.{_≡_, refl, sym, ap, _∙_, subst}
 use native.Mathlib.Omega.{arith}
 use lib.ListN.{length}
 use Rattle.lists.specs.Tests.{differ}
@@ -14,12 +14,14 @@ use Rattle.hold_names.specs.Table.{maxNumbers}
 use Rattle.hold_bindings.specs.Held.{maxTexts, maxRows}
 use Rattle.hold_reading.specs.Held.{columnsEnd}
 use Rattle.spec.specs.Answers.{Said, refusalSays}
-use Rattle.answers.specs.declared.Numbers.{Numbers as Two}
-use Rattle.answers.specs.Numbers.{said}
+use Rattle.answers.specs.declared.Numbers.{Numbers as Three}
+use Rattle.answers.specs.declared.Placed.{Placed}
+use Rattle.answers.specs.Numbers.{said, placeBy}
+use Rattle.answer_places.specs.Places.{PlacedIn}
 use Rattle.scan_classes.specs.Table.{classes}
 use Rattle.apply_manifest.specs.Manifests.{Roomy}
 use Rattle.test_manifest.specs.declared.ReadNumbers.{ReadNumbers}
-use Rattle.test_manifest.specs.Numbers.{bareNumbers, inNumbers, JudgesRoom, ReadsManifest, ReadWhole}
+use Rattle.test_manifest.specs.Numbers.{placeRecord, placeValue, bareNumbers, inNumbers, JudgesRoom, ReadsManifest, ReadWhole}
 use Rattle.hold_reading.specs.Buffers.{Buffers}
 
 module _ {bs : Buffers} {word : List ℕ} where
@@ -62,13 +64,13 @@ module _ {bs : Buffers} {word : List ℕ} where
   }
 
 module _ {m : List ℕ} {bs : Buffers} {word : List ℕ} {b : Bool} (j : JudgesRoom bs word b) where
-  pub too-small : {r : ReadNumbers} → b ≡ false → r ≡ bareNumbers 255 0 → ReadsManifest m bs word r bs word
+  pub too-small : {r : ReadNumbers} → b ≡ false → r ≡ bareNumbers 255 0 0 → ReadsManifest m bs word r bs word
   too-small e q = record {
     roomy = λ p. absurd (j .lacking e p);
     small = λ n. (q, record { names-stay = refl; index-stay = refl; texts-stay = refl; bind-stay = refl; graph-stay = refl; word-stay = refl });
   }
 
-  pub has-read : (a : ReadAnswer) {r : ReadNumbers} {bs′ : Buffers} {word′ : List ℕ} → b ≡ true → ReadWhole m bs word a bs′ word′ → r ≡ inNumbers a
+  pub has-read : (a : ReadAnswer) {r : ReadNumbers} {bs′ : Buffers} {word′ : List ℕ} → b ≡ true → ReadWhole m bs word a bs′ word′ → r ≡ inNumbers m a
       → ReadsManifest m bs word r bs′ word′
   has-read a e i q = record { roomy = λ p. record { answer = a; read = i; says = q }; small = λ n. absurd (n (j .enough e)) }
 
@@ -77,9 +79,22 @@ pub lent : {t : List ℕ} {bs : Buffers} {word : List ℕ} → t ≡ classes →
 lent e r = record { table = e; room = r .room; names-small = r .names-small; numbers-room = r .numbers-room; texts-room = r .texts-room; bind-room = r .bind-room }
 
 -- the numbers of an answer
-pub counted : {a b : ReadAnswer} → a ≡ b → inNumbers b ≡ inNumbers a
-counted e = ap inNumbers (sym e)
+pub counted : (m : List ℕ) {a b : ReadAnswer} → a ≡ b → inNumbers m b ≡ inNumbers m a
+counted m e = ap (inNumbers m) (sym e)
 
-pub refused-so : (r : Refusal) {a : ReadAnswer} {two : Two} {x : ReadNumbers} → a ≡ Refused r → said two ≡ refusalSays r → x ≡ bareNumbers (two .number) (two .value) → x ≡ inNumbers a
+text-told : (t v : ℕ) → placeRecord (placeBy t v) ≡ t
+text-told zero v = refl
+text-told (suc k) v = refl
+
+value-told : (t v : ℕ) → placeValue (placeBy t v) ≡ v
+value-told zero v = refl
+value-told (suc k) v = refl
+
+placed-so : (m : List ℕ) (r : Refusal) (p : Placed) → PlacedIn m (refusalSays r) p → bareNumbers (p .number) (p .text) (p .value) ≡ inNumbers m (Refused r)
 unfolding inNumbers
-refused-so r e s q = q ∙ ap (λ (z : Said). bareNumbers (z .number) (z .value)) s ∙ counted e
+placed-so m r p h =
+    rw (← h .place-is, ← h .number-is) (rw (text-told (p .text) (p .value), value-told (p .text) (p .value)) refl)
+
+pub refused-so : (m : List ℕ) (r : Refusal) {a : ReadAnswer} {three : Three} (p : Placed) {x : ReadNumbers} → a ≡ Refused r → said three ≡ refusalSays r → PlacedIn m (said three) p
+    → x ≡ bareNumbers (p .number) (p .text) (p .value) → x ≡ inNumbers m a
+refused-so m r p e s h q = q ∙ placed-so m r p (subst (λ (z : Said). PlacedIn m z p) s h) ∙ counted m e

@@ -1,11 +1,12 @@
 -- The reader's answer in numbers, and what is answered for buffers of any length.
-use Prim.Native.Nat.{ℕ}
+use Prim.Native.Nat.{ℕ, suc}
 use mathlib.Core.Bool.{Bool, true, false}
 use mathlib.Core.List.{List}
 use mathlib.Core.Path.{_≡_}
 use lib.ListN.{length}
 use Rattle.lists.specs.Fill.{zeros}
-use Rattle.spec.specs.Answers.{refusalSays}
+use Rattle.spec.specs.Answers.{refusalSays, Place, plain, inText}
+use Rattle.answer_places.specs.Places.{placedIn}
 use Rattle.scan_classes.specs.Table.{classes}
 use Rattle.apply_manifest.specs.declared.ReadAnswer.{ReadAnswer}
 use Rattle.apply_manifest.specs.declared.ReadAnswer.the-variants.{Accepted, Refused}
@@ -13,15 +14,26 @@ use Rattle.apply_manifest.specs.Manifests.{Roomy, IsRead}
 use Rattle.test_manifest.specs.declared.ReadNumbers.{ReadNumbers}
 use Rattle.hold_reading.specs.Buffers.{Buffers, SameRoom}
 
--- a number and a place, and nothing counted
-abbrev pub bareNumbers : ℕ → ℕ → ReadNumbers
-bareNumbers n p =
-    record { number = n; place = p; files = 0; steps = 0; paths = 0; defaults = 0; entries = 0; rules = 0; bindings = 0; mentions = 0; written = 0 }
+-- a place in two numbers: 0 and itself, or the record of its text and one more, and the offset there
+abbrev pub placeRecord : Place → ℕ
+placeRecord (plain v) = 0
+placeRecord (inText k v) = suc k
 
-unfoldable pub inNumbers : ReadAnswer → ReadNumbers
-inNumbers (Accepted c) =
+abbrev pub placeValue : Place → ℕ
+placeValue (plain v) = v
+placeValue (inText k v) = v
+
+-- a number and a place, and nothing counted
+abbrev pub bareNumbers : ℕ → ℕ → ℕ → ReadNumbers
+bareNumbers n t p =
+    record { number = n; text = t; place = p; files = 0; steps = 0; paths = 0; defaults = 0; entries = 0; rules = 0; bindings = 0; mentions = 0; written = 0 }
+
+unfoldable pub inNumbers : List ℕ → ReadAnswer → ReadNumbers
+unfolding placedIn
+inNumbers bundle (Accepted c) =
     record {
       number = 0;
+      text = 0;
       place = 0;
       files = c .files;
       steps = c .steps;
@@ -33,7 +45,9 @@ inNumbers (Accepted c) =
       mentions = c .mentions;
       written = c .written;
     }
-inNumbers (Refused r) = bareNumbers (refusalSays r .number) (refusalSays r .value)
+inNumbers bundle (Refused r) =
+    let p = placedIn bundle (refusalSays r) in
+    bareNumbers (refusalSays r .number) (placeRecord p) (placeValue p)
 
 -- a test that is true exactly where the buffers have room for any manifest
 pub record JudgesRoom (bs : Buffers) (word : List ℕ) (r : Bool) : Type 0 where
@@ -63,7 +77,7 @@ pub record ReadWhole (m : List ℕ) (bs : Buffers) (word : List ℕ) (a : ReadAn
 pub record ReadAs (m : List ℕ) (bs : Buffers) (word : List ℕ) (r : ReadNumbers) (bs′ : Buffers) (word′ : List ℕ) : Type 0 where
   pub answer : ReadAnswer
   pub read : ReadWhole m bs word answer bs′ word′
-  pub says : r ≡ inNumbers answer
+  pub says : r ≡ inNumbers m answer
 
 -- buffers as they were
 pub record Untouched (bs : Buffers) (word : List ℕ) (bs′ : Buffers) (word′ : List ℕ) : Type 0 where
@@ -77,4 +91,4 @@ pub record Untouched (bs : Buffers) (word : List ℕ) (bs′ : Buffers) (word′
 -- What the reader answers; or, where a buffer has no room for some manifest, 255 and the buffers as they were.
 pub record ReadsManifest (m : List ℕ) (bs : Buffers) (word : List ℕ) (r : ReadNumbers) (bs′ : Buffers) (word′ : List ℕ) : Type 0 where
   pub roomy : Roomy classes bs word → ReadAs m bs word r bs′ word′
-  pub small : (Roomy classes bs word → ⊥) → (r ≡ bareNumbers 255 0) × Untouched bs word bs′ word′
+  pub small : (Roomy classes bs word → ⊥) → (r ≡ bareNumbers 255 0 0) × Untouched bs word bs′ word′

@@ -3,6 +3,8 @@ ghost use mathlib.Core.Path.{_≡_};
 ghost use Rattle.apply_manifest.specs.Manifests.{Roomy};
 ghost use Rattle.test_manifest.specs.Numbers.{bareNumbers, inNumbers, Cleared, JudgesRoom, ReadWhole, ReadsManifest};
 ghost use Rattle.hold_reading.specs.Buffers.{buffers};
+use answer_places::locate;
+use answers::Placed;
 use answers::of_refusal;
 use apply_manifest::ReadAnswer;
 use apply_manifest::read_manifest;
@@ -14,10 +16,12 @@ use scan_classes::table;
 use spec::limits::VALUE;
 use spec::limits::WRITTEN;
 
-// What is answered: 0, 0 and how much the buffers hold; or a refusal's number and place; or 255 for buffers without room.
+// What is answered: three times 0 and how much the buffers hold; or a refusal's number and its place in two numbers; or 255 for buffers without room.
 #[repr(C)]
 pub struct ReadNumbers {
     pub number: usize,
+    // 0 where the place is a number by itself, else the record of its text and one more
+    pub text: usize,
     pub place: usize,
     pub files: usize,
     pub steps: usize,
@@ -66,12 +70,13 @@ fn is_roomy(
 }
 
 // A number and a place, and nothing counted.
-fn uncounted(number: usize, place: usize) -> ReadNumbers
-    ensures { λ r. ⌜ r ≡ bareNumbers number place ⌝ }
+fn uncounted(p: Placed) -> ReadNumbers
+    ensures { λ r. ⌜ r ≡ bareNumbers (p .number) (p .text) (p .value) ⌝ }
 {
     ReadNumbers {
-        number: number,
-        place: place,
+        number: p.number,
+        text: p.text,
+        place: p.value,
         files: 0,
         steps: 0,
         paths: 0,
@@ -84,12 +89,13 @@ fn uncounted(number: usize, place: usize) -> ReadNumbers
     }
 }
 
-fn in_numbers(a: ReadAnswer) -> ReadNumbers
-    ensures { λ r. ⌜ r ≡ inNumbers a ⌝ }
+fn in_numbers(bundle: &[u8], a: ReadAnswer) -> ReadNumbers
+    ensures { λ r. ⌜ r ≡ inNumbers (now (bundle .entry)) a ⌝ }
 {
     match a {
         ReadAnswer::Accepted(c) => ReadNumbers {
             number: 0,
+            text: 0,
             place: 0,
             files: c.files,
             steps: c.steps,
@@ -101,10 +107,7 @@ fn in_numbers(a: ReadAnswer) -> ReadNumbers
             mentions: c.mentions,
             written: c.written,
         },
-        ReadAnswer::Refused(r) => {
-            let n = of_refusal(r);
-            uncounted(n.number, n.value)
-        }
+        ReadAnswer::Refused(r) => uncounted(locate(of_refusal(r), bundle)),
     }
 }
 
@@ -150,11 +153,11 @@ fn read_or_clear(
     }
 }
 
-// Reads a manifest into buffers of any length. The word buffer is left zero, and all are after a refusal. Buffers without room are answered with 255
+// Reads the manifest of a bundle into buffers of any length. The word buffer is left zero, and all are after a refusal. Buffers without room are answered with 255
 // and not touched.
 #[no_mangle]
 pub extern "C" fn kestrenyo_read(
-    manifest: &[u8],
+    bundle: &[u8],
     names: &mut [u8],
     index: &mut [u32],
     texts: &mut [u8],
@@ -162,11 +165,18 @@ pub extern "C" fn kestrenyo_read(
     graph: &mut [u32],
     word: &mut [u8],
 ) -> ReadNumbers
-    ensures { λ r. ⌜ ReadsManifest (now (manifest .entry)) (buffers (now (names .entry)) (now (index .entry)) (now (texts .entry)) (now (bind .entry)) (now (graph .entry))) (now (word .entry)) r (buffers (now (names .exit)) (now (index .exit)) (now (texts .exit)) (now (bind .exit)) (now (graph .exit))) (now (word .exit)) ⌝ }
+    ensures { λ r. ⌜ ReadsManifest (now (bundle .entry)) (buffers (now (names .entry)) (now (index .entry)) (now (texts .entry)) (now (bind .entry)) (now (graph .entry))) (now (word .entry)) r (buffers (now (names .exit)) (now (index .exit)) (now (texts .exit)) (now (bind .exit)) (now (graph .exit))) (now (word .exit)) ⌝ }
 {
     if !is_roomy(names, index, texts, bind, graph, word) {
-        return uncounted(255, 0);
+        return uncounted(Placed {
+            number: 255,
+            text: 0,
+            value: 0,
+        });
     }
     let t = table();
-    in_numbers(read_or_clear(&t, manifest, names, index, texts, bind, graph, word))
+    in_numbers(
+        bundle,
+        read_or_clear(&t, bundle, names, index, texts, bind, graph, word),
+    )
 }

@@ -6,7 +6,7 @@ ghost use Prim.Native.Nat.{_≤_};
 ghost use lib.ListN.{length};
 ghost use Rattle.lists.specs.Lent.{Spare};
 ghost use Rattle.test_packed.specs.Parts.{PartsBehind};
-use answers::Numbers;
+use answers::Placed;
 use byteorder::equal;
 use scan_numbers::word;
 use slices::words::at;
@@ -20,6 +20,7 @@ pub struct Met {
 // An expected answer; its bytes are the first `length` ones of the buffer that it was read into.
 struct Expected {
     number: usize,
+    text: usize,
     value: usize,
     length: usize,
     whole: bool,
@@ -34,10 +35,10 @@ pub struct Ask {
     pub whole: bool,
 }
 
-// Where a case's name, manifest, card and target list end that lie one behind another, and how many asks follow them.
+// Where a case's name, bundle, card and target list end that lie one behind another, and how many asks follow them.
 pub struct CaseHead {
     pub name: usize,
-    pub manifest: usize,
+    pub bundle: usize,
     pub card: usize,
     pub targets: usize,
     pub asks: usize,
@@ -102,27 +103,39 @@ fn holds_words(list: &[u32], bytes: &[u8]) -> bool {
 fn read_expected(fd: i32, bytes: &mut [u8]) -> Expected
     ensures { λ r. ⌜ (r .whole ≡ true → r .length ≤ length (now (bytes .exit))) ⌝ }
 {
-    let mut head = [0u8; 16];
-    if !read_part(fd, &mut head, 16) {
+    let mut head = [0u8; 20];
+    if !read_part(fd, &mut head, 20) {
         return Expected {
             number: 0,
+            text: 0,
             value: 0,
             length: 0,
             whole: false,
         };
     }
-    let length = word(&head, 12);
+    let length = word(&head, 16);
     let whole = read_part(fd, bytes, length);
     Expected {
         number: word(&head, 0),
-        value: word(&head, 4) + word(&head, 8) * 4294967296,
+        text: word(&head, 4),
+        value: word(&head, 8) + word(&head, 12) * 4294967296,
         length,
         whole,
     }
 }
 
+fn is_said(e: Expected, n: Placed) -> bool {
+    if e.number != n.number {
+        return false;
+    }
+    if e.text != n.text {
+        return false;
+    }
+    e.value == n.value
+}
+
 // Is the answer the next one of those expected, which is read into `bytes`: working space.
-fn meets(fd: i32, n: Numbers, is_plan: bool, list: &[u32], buf: &[u8], bytes: &mut [u8]) -> Met
+fn meets(fd: i32, n: Placed, is_plan: bool, list: &[u32], buf: &[u8], bytes: &mut [u8]) -> Met
     ensures { λ _. ⌜ Spare (now (bytes .entry)) (now (bytes .exit)) ⌝ }
 {
     let e = read_expected(fd, bytes);
@@ -133,7 +146,7 @@ fn meets(fd: i32, n: Numbers, is_plan: bool, list: &[u32], buf: &[u8], bytes: &m
         };
     }
     let length = e.length;
-    let mut yes = e.number == n.number && e.value == n.value;
+    let mut yes = is_said(e, n);
     if yes {
         if is_plan {
             yes = holds_words(list, &bytes[..length]);
@@ -148,7 +161,7 @@ fn meets(fd: i32, n: Numbers, is_plan: bool, list: &[u32], buf: &[u8], bytes: &m
 pub fn check(
     fd: i32,
     count: usize,
-    n: Numbers,
+    n: Placed,
     is_plan: bool,
     list: &[u32],
     buf: &[u8],
@@ -188,7 +201,7 @@ pub fn read_head(fd: i32) -> CaseHead {
     let whole = read_part(fd, &mut head, 20);
     CaseHead {
         name: word(&head, 0),
-        manifest: word(&head, 4),
+        bundle: word(&head, 4),
         card: word(&head, 8),
         targets: word(&head, 12),
         asks: word(&head, 16),
@@ -200,10 +213,10 @@ pub fn read_head(fd: i32) -> CaseHead {
 pub fn is_sound(h: CaseHead) -> bool
     ensures { λ r. ⌜ (r ≡ true → PartsBehind h (h .targets)) ⌝ }
 {
-    if h.manifest < h.name {
+    if h.bundle < h.name {
         return false;
     }
-    if h.card < h.manifest {
+    if h.card < h.bundle {
         return false;
     }
     if h.targets < h.card {

@@ -17,7 +17,7 @@ use Rattle.spec.specs.Promises.{filled, leftBy, TextMeets, TextPromise}
 use Rattle.spec.specs.Manifest.{accepted, refusedWith, readManifest}
 use Rattle.spec.specs.Reading.{Reading}
 use Rattle.spec.specs.TextAsk.{textRead, textAsk}
-use Rattle.spec.proofs.Manifests.{of-reading, accepted-sound}
+use Rattle.spec.proofs.Manifests.{past-1, of-reading, accepted-sound}
 use Rattle.scan_classes.specs.Table.{classes}
 use Rattle.hold_bindings.specs.Log.{Logged}
 use Rattle.hold_reading.specs.declared.Counts.{Counts}
@@ -40,11 +40,11 @@ module _ (manifest before : List ℕ) (h : maxText ≤ length before) where
     unfolding textAsk textRead
     text-promised p = rw (enough, e) (p .meets log rd k)
 
-  -- 2 to 10, and a cleared buffer
+  -- 19, 2 to 10, and a cleared buffer
   pub refusal-promised : (step : ℕ) (wanted : Wanted) {r : Refusal} {after : List ℕ} → readManifest manifest ≡ refusedWith r → after ≡ filled [] before
       → TextPromise manifest step wanted before (Refused r) after
   unfolding textAsk textRead TextMeets textSays leftBy
   refusal-promised step wanted {r} e z =
-      let b = of-reading manifest e in
-      let n = ne-eqb (numberOfRefusal r) 1 (λ (q : numberOfRefusal r ≡ 1). omega (arith, q, b .least)) in
+      let b = past-1 (of-reading manifest e) in
+      let n = ne-eqb (numberOfRefusal r) 1 (λ (q : numberOfRefusal r ≡ 1). omega (arith, q, b)) in
       rw (enough, e, n) (record { says = refl; leaves = z })

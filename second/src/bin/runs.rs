@@ -1,5 +1,5 @@
-//! Runs the program on every case, in a folder with its `build.ninja` and `times.card` and with its
-//! targets on standard input, and compares what it writes, its exit status (1 for a refusal) and
+//! Runs the program on every case that lends one `build.ninja` alone, in a folder with that and its
+//! `times.card` and with its targets on standard input, and compares what it writes, its exit status (1 for a refusal) and
 //! what standard error has. The command is: runs PROGRAM. What a case does not give (`prints`) is
 //! what the second planner's program writes. A file without bytes is once empty and once not there,
 //! of which standard error has a line.
@@ -13,7 +13,8 @@ use std::process::{Command, ExitCode, Output};
 
 /// The files that the program reads by name.
 fn named(case: &Case) -> [(&'static str, &[u8]); 2] {
-    [("build.ninja", &case.lent.manifest), ("times.card", &case.lent.card)]
+    let manifest = case.manifest_alone().unwrap_or_default();
+    [("build.ninja", manifest), ("times.card", &case.lent.card)]
 }
 
 /// Runs the program in a new folder of the case's files, if wanted without those that are empty.
@@ -61,8 +62,8 @@ fn difference(case: &Case, without: bool, ran: &Output) -> Option<String> {
 fn run_all(program: &Path, room: &Path) -> Result<bool, Error> {
     let cases = read(&files(&folder())?)?;
     let (mut runs, mut differing) = (0, 0);
-    for case in &cases {
-        let has_empty = case.lent.manifest.is_empty() || case.lent.card.is_empty();
+    for case in cases.iter().filter(|case| case.manifest_alone().is_some()) {
+        let has_empty = named(case).iter().any(|(_, bytes)| bytes.is_empty());
         for without in if has_empty { &[false, true][..] } else { &[false] } {
             let ran = run(program, &room.join(runs.to_string()), case, *without);
             let ran = ran.map_err(|error| Error::Run(case.name.clone(), error))?;

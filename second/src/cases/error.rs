@@ -1,5 +1,6 @@
 //! What can be wrong with case files, and where.
 
+use crate::Refusal;
 use std::error;
 use std::fmt::{self, Display, Formatter};
 use std::io;
@@ -79,7 +80,11 @@ pub enum Fault {
     /// `at @` without a `\@` before it.
     NoMark,
     EmptyCircle,
-    /// A number of a card with another width than 1, 4 or 8 bytes.
+    /// A place that no refusal of this number has.
+    Place(Refusal),
+    /// Behind the last byte of the bundle.
+    Beyond(usize),
+    /// A number of a card or a bundle with another width than 1, 4 or 8 bytes.
     Width(usize),
     TooWide {
         value: u64,
@@ -107,10 +112,12 @@ impl Display for Fault {
             Fault::Expected(what) => write!(f, "expected {what}"),
             Fault::Number(word) => write!(f, "`{word}` is not a number that fits here"),
             Fault::NoEarlierCase(name) => write!(f, "no earlier case {name} in this file"),
-            Fault::StrayPiece => f.write_str("a piece outside `manifest` and `prints`"),
+            Fault::StrayPiece => f.write_str("a piece outside `manifest`, `file` and `prints`"),
             Fault::NoMark => f.write_str("no `\\@` before this line"),
             Fault::EmptyCircle => f.write_str("a circle has one step at least"),
-            Fault::Width(width) => write!(f, "a card's number has 1, 4 or 8 bytes, not {width}"),
+            Fault::Place(refusal) => write!(f, "`{refusal}` is at no place that it can have"),
+            Fault::Beyond(at) => write!(f, "{at} is beyond the bundle's bytes"),
+            Fault::Width(width) => write!(f, "a number has 1, 4 or 8 bytes, not {width}"),
             Fault::TooWide { value, width } => write!(f, "{value} does not fit into {width} bytes"),
             Fault::UnknownEscape => f.write_str("an unknown `\\`"),
             Fault::NoHexDigits => f.write_str("`\\x` without two hex digits"),

@@ -2,12 +2,13 @@
 //! texts ask has two lent buffers and is not packed: `compare/` puts it to the library.
 //! Every number has four bytes, the lowest first:
 //!
-//! - a case: where its name, manifest, card and target list end that follow one behind another, how
+//! - a case: where its name, bundle, card and target list end that follow one behind another, how
 //!   many asks follow, those bytes, and the asks; the last one has only zeros
 //! - an ask: 0 for a plan, 1 for a command, 2 for a description; the step, in two numbers; the
 //!   length of the lent buffer; how many answers are right, and these
-//! - an answer: number and value, in two numbers, as in document 01 (0 and a count, or a refusal
-//!   and its place), the number of bytes that the lent buffer begins with, and these; zeros follow
+//! - an answer: its number, 0 or a refusal's; 0 where its value is a number by itself (a count, or a
+//!   place that is no place in a text), else the number of the text's record and one more; its value,
+//!   in two numbers; the number of bytes that the lent buffer begins with, and these; zeros follow
 
 use super::{Case, Expected};
 use crate::{Answer, Lent, Question, Wanted};
@@ -102,9 +103,9 @@ fn packed_ask(asked: &Asked, expected: &Expected) -> Result<Vec<u8>, TooGreat> {
     let answers = expected.answers();
     let mut packed = numbers(&[kind, low(step), high(step), room, answers.len()])?;
     for answer in answers {
-        let (refused, value) = answer.numbers();
+        let (refused, text, value) = answer.numbers();
         let left = asked.left(&answer);
-        packed.extend(numbers(&[refused.into(), low(value), high(value), left.len()])?);
+        packed.extend(numbers(&[refused.into(), text, low(value), high(value), left.len()])?);
         packed.extend(left);
     }
     Ok(packed)
@@ -117,8 +118,8 @@ fn packed_case(case: &Case) -> Result<Vec<u8>, TooGreat> {
     if asks.is_empty() {
         return Ok(Vec::new());
     }
-    let Lent { manifest, card, targets } = &case.lent;
-    let parts = [case.name.as_bytes(), manifest, card, targets];
+    let Lent { bundle, card, targets } = &case.lent;
+    let parts = [case.name.as_bytes(), bundle, card, targets];
     let ends = parts.iter().scan(0, |end, part| {
         *end += part.len();
         Some(*end)

@@ -1,8 +1,8 @@
 //! A case file's lines: what each word says, and the case that is made of them.
 
 use super::escapes::{expand, Expanded};
-use super::{card, number, Case, Error, Expected, Fault, Origin};
-use crate::{limits, Answer, Lent, Place, Question, Refusal, Wanted};
+use super::{number, pieces, Case, Error, Expected, Fault, Origin};
+use crate::{bundle, limits, Answer, Lent, Place, Question, Refusal, Wanted};
 
 /// The cases of one file's text; an error names the file and the line.
 pub fn parse(file: &str, content: &str) -> Result<Vec<Case>, Error> {
@@ -62,21 +62,58 @@ impl Reader {
 /// What is written piece by piece.
 #[derive(Clone, Copy)]
 enum Block {
-    Manifest,
+    Text,
     Prints,
+}
+
+/// Where the bundle comes from.
+enum Source {
+    None,
+    /// Names and texts: one manifest, or files by name.
+    Manifest(Vec<u8>),
+    Files(Vec<(Vec<u8>, Vec<u8>)>),
+    /// All of its bytes.
+    Bytes(Vec<u8>),
+}
+
+impl Source {
+    /// The text that pieces are added to, and the number of its record.
+    fn last(&mut self) -> Option<(usize, &mut Vec<u8>)> {
+        match self {
+            Source::None | Source::Bytes(_) => None,
+            Source::Manifest(text) => Some((0, text)),
+            Source::Files(files) => {
+                let record = files.len() - 1;
+                files.last_mut().map(|(_, text)| (record, text))
+            }
+        }
+    }
+
+    fn bundle(&self) -> Vec<u8> {
+        match self {
+            Source::None => Vec::new(),
+            Source::Manifest(text) => bundle::alone(text),
+            Source::Files(files) => {
+                let files: Vec<_> =
+                    files.iter().map(|(name, text)| (&name[..], &text[..])).collect();
+                bundle::write(&files)
+            }
+            Source::Bytes(bytes) => bytes.clone(),
+        }
+    }
 }
 
 /// A case while its lines are read.
 struct Draft {
     case: Case,
-    has_manifest: bool,
+    source: Source,
     /// The lengths of the lent buffers, which may be given after the asks.
     list_len: usize,
     buf_len: usize,
     ends_len: usize,
     /// What the pieces that may follow belong to.
     open: Option<Block>,
-    mark: Option<usize>,
+    mark: Option<Place>,
 }
 
 impl Draft {
@@ -85,13 +122,13 @@ impl Draft {
             name: name.to_string(),
             origin,
             says: Vec::new(),
-            lent: Lent::manifest([]),
+            lent: Lent::bundle([]),
             asks: Vec::new(),
             prints: None,
         };
         Draft {
             case,
-            has_manifest: false,
+            source: Source::None,
             list_len: limits::LIST,
             buf_len: limits::TEXT,
             ends_len: limits::STEPS,
@@ -112,6 +149,9 @@ impl Draft {
             "says" => self.case.says.push(rest.to_string()),
             "reading" | "manual" => self.case.says.push(format!("{word} {rest}")),
             "manifest" => self.manifest(rest, earlier)?,
+            "file" => self.file(rest)?,
+            "files" => self.files(rest)?,
+            "bundle" => self.bundle(rest)?,
             "card" => self.case.lent.card = self.card(rest)?,
             "targets" => self.case.lent.targets = self.targets(rest)?,
             "list-buffer" => self.list_len = number(rest)?,
@@ -154,9 +194,12 @@ impl Draft {
                 }
             }
         }
-        let case = self.case;
-        let missing = if !self.has_manifest {
+        let mut case = self.case;
+        case.lent.bundle = self.source.bundle();
+        let missing = if matches!(self.source, Source::None) {
             "manifest"
+        } else if case.prints.is_some() && case.manifest_alone().is_none() {
+            "manifest that the program would lend: `build.ninja` alone"
         } else if case.says.is_empty() {
             "`says`, `reading` or `manual`"
         } else if case.asks.is_empty() && case.prints.is_none() {
@@ -168,65 +211,126 @@ impl Draft {
     }
 
     fn manifest(&mut self, rest: &str, earlier: &[Case]) -> Result<(), Fault> {
-        if std::mem::replace(&mut self.has_manifest, true) {
+        if !matches!(self.source, Source::None) {
             return Err(Fault::Second("manifest"));
         }
         if rest.is_empty() {
-            self.open = Some(Block::Manifest);
+            self.source = Source::Manifest(Vec::new());
+            self.open = Some(Block::Text);
             return Ok(());
         }
         let name = rest.strip_prefix("of ");
         let name = name.ok_or(Fault::Expected("`manifest` or `manifest of NAME`"))?;
         let of = earlier.iter().find(|case| case.name == name);
         let of = of.ok_or_else(|| Fault::NoEarlierCase(name.to_string()))?;
-        self.case.lent.manifest = of.lent.manifest.clone();
+        self.source = Source::Bytes(of.lent.bundle.clone());
+        Ok(())
+    }
+
+    /// The next record, by its name; its text follows.
+    fn file(&mut self, name: &str) -> Result<(), Fault> {
+        let name = self.expanded(name, Place::Number)?.bytes;
+        self.record(name)?;
+        self.open = Some(Block::Text);
+        Ok(())
+    }
+
+    /// Records without bytes, by their names.
+    fn files(&mut self, names: &str) -> Result<(), Fault> {
+        let names = self.expanded(names, Place::Number)?;
+        names.words(b' ').into_iter().try_for_each(|name| self.record(name.to_vec()))
+    }
+
+    fn record(&mut self, name: Vec<u8>) -> Result<(), Fault> {
+        let record = (name, Vec::new());
+        match &mut self.source {
+            Source::None => self.source = Source::Files(vec![record]),
+            Source::Files(files) => files.push(record),
+            Source::Manifest(_) | Source::Bytes(_) => return Err(Fault::Second("manifest")),
+        }
+        Ok(())
+    }
+
+    /// All bytes of the bundle, or what becomes of those that the texts before it make.
+    fn bundle(&mut self, rest: &str) -> Result<(), Fault> {
+        let (word, rest) = rest.split_once(' ').unwrap_or((rest, ""));
+        let mut bundle = self.source.bundle();
+        match (word, &self.source) {
+            ("raw", Source::None) => {
+                bundle = pieces::bytes(&self.expanded(rest, Place::Number)?)?;
+            }
+            ("raw", _) => return Err(Fault::Second("manifest")),
+            ("cut", _) => {
+                let count: usize = number(rest)?;
+                let left = bundle.len().checked_sub(count).ok_or(Fault::Beyond(count))?;
+                bundle.truncate(left);
+            }
+            ("put", _) => {
+                let (at, put) = rest.split_once(' ').unwrap_or((rest, ""));
+                let at = if at == "end" { bundle.len() } else { number(at)? };
+                let put = pieces::bytes(&self.expanded(put, Place::Number)?)?;
+                if at > bundle.len() {
+                    return Err(Fault::Beyond(at));
+                }
+                let end = (at + put.len()).min(bundle.len());
+                bundle.splice(at..end, put);
+            }
+            _ => return Err(Fault::Expected("`bundle raw`, `bundle cut` or `bundle put`")),
+        }
+        self.source = Source::Bytes(bundle);
         Ok(())
     }
 
     fn piece(&mut self, source: &str, is_line: bool) -> Result<(), Fault> {
-        let block = self.open.ok_or(Fault::StrayPiece)?;
-        let piece = self.expanded(source, self.case.lent.manifest.len())?.bytes;
-        let whole = match block {
-            Block::Manifest => &mut self.case.lent.manifest,
-            Block::Prints => self.case.prints.get_or_insert_default(),
+        let mut piece = expand(source)?;
+        let (record, whole) = match self.open.ok_or(Fault::StrayPiece)? {
+            Block::Text => self.source.last().ok_or(Fault::StrayPiece)?,
+            Block::Prints => (0, self.case.prints.get_or_insert_default()),
         };
-        whole.extend(piece);
+        let start = whole.len();
+        whole.append(&mut piece.bytes);
         if is_line {
             whole.push(b'\n');
         }
-        Ok(())
+        self.marked(&piece, |mark| Place::Text { record, offset: start + mark })
     }
 
     fn targets(&mut self, rest: &str) -> Result<Vec<u8>, Fault> {
         if let Some(raw) = rest.strip_prefix("raw ") {
-            return Ok(self.expanded(raw, 0)?.bytes);
+            return Ok(self.expanded(raw, Place::Number)?.bytes);
         }
-        let names = self.expanded(rest, 0)?;
+        let names = self.expanded(rest, Place::Number)?;
         let ended = names.words(b' ').into_iter().map(|name| [name, b"\n"].concat());
         Ok(ended.flatten().collect())
     }
 
-    /// A text with its backslashes read; a mark in it is a place counted from `start`.
-    fn expanded(&mut self, source: &str, start: usize) -> Result<Expanded, Fault> {
+    /// A text with its backslashes read, and what place a mark in it is.
+    fn expanded(&mut self, source: &str, place: fn(usize) -> Place) -> Result<Expanded, Fault> {
         let expanded = expand(source)?;
-        if let Some(mark) = expanded.mark {
-            if self.mark.replace(start + mark).is_some() {
-                return Err(Fault::Second("\\@"));
-            }
-        }
+        self.marked(&expanded, place)?;
         Ok(expanded)
+    }
+
+    /// Takes the mark of a text, if it has one.
+    fn marked(&mut self, expanded: &Expanded, place: impl Fn(usize) -> Place) -> Result<(), Fault> {
+        let mark = expanded.mark.map(place);
+        if mark.is_some() && self.mark.is_some() {
+            return Err(Fault::Second("\\@"));
+        }
+        self.mark = self.mark.or(mark);
+        Ok(())
     }
 
     fn card(&mut self, rest: &str) -> Result<Vec<u8>, Fault> {
         match rest.strip_prefix("raw ") {
-            Some(pieces) => card::of_pieces(&self.expanded(pieces, 0)?),
-            None => card::of_records(&self.expanded(rest, 0)?),
+            Some(pieces) => pieces::bytes(&self.expanded(pieces, Place::Number)?),
+            None => pieces::card(&self.expanded(rest, Place::Number)?),
         }
     }
 
     /// The expected answer of a plan.
     fn plan(&mut self, rest: &str) -> Result<Expected, Fault> {
-        let line = String::from_utf8_lossy(&self.expanded(rest, 0)?.bytes).into_owned();
+        let line = String::from_utf8_lossy(&self.expanded(rest, Place::Number)?.bytes).into_owned();
         let (word, rest) = line.split_once(' ').unwrap_or((&line, ""));
         match word {
             "list" => Ok(Expected::One(Answer::List(steps(rest)?))),
@@ -249,7 +353,7 @@ impl Draft {
         let wanted = wanted.ok_or(Fault::Expected("`command` or `description`"))?;
         let (kind, rest) = (words.next(), words.next().unwrap_or(""));
         let answer = match kind {
-            Some("=") => Answer::Text(self.expanded(rest, 0)?.bytes),
+            Some("=") => Answer::Text(self.expanded(rest, Place::Number)?.bytes),
             Some("refused") => Answer::Refused(self.refusal(rest)?),
             _ => return Err(Fault::Expected("`=` or `refused`")),
         };
@@ -264,13 +368,15 @@ impl Draft {
                 (asked, Answer::Refused(self.refusal(refusal)?))
             }
             (Some((asked, texts)), _) => {
-                let texts = self.expanded(texts.strip_prefix(' ').unwrap_or(texts), 0)?;
+                let texts = texts.strip_prefix(' ').unwrap_or(texts);
+                let texts = self.expanded(texts, Place::Number)?;
                 let texts = texts.ended(b',').ok_or(Fault::Expected("a comma behind each text"))?;
                 (asked, Answer::Texts(texts.into_iter().map(<[u8]>::to_vec).collect()))
             }
             _ => return Err(Fault::Expected("`=` or `refused`")),
         };
-        let asked = String::from_utf8_lossy(&self.expanded(asked, 0)?.bytes).into_owned();
+        let asked = self.expanded(asked, Place::Number)?.bytes;
+        let asked = String::from_utf8_lossy(&asked).into_owned();
         let (listed, wanted) = asked.rsplit_once(' ').unwrap_or(("", &asked));
         let wanted = Wanted::of(wanted);
         let wanted = wanted.ok_or(Fault::Expected("`command` or `description`"))?;
@@ -281,10 +387,17 @@ impl Draft {
         let parts = rest.split_once(" at ");
         let (refused, place) = parts.ok_or(Fault::Expected("`refused NUMBER at PLACE`"))?;
         let place = match place {
-            "@" => Place::from(self.mark.ok_or(Fault::NoMark)?),
+            "@" => self.mark.ok_or(Fault::NoMark)?,
             _ => number(place)?,
         };
-        Ok(Refusal { number: number(refused)?, place })
+        let refusal = Refusal { number: number(refused)?, place };
+        // in a manifest's text stand 3 to 10, and 19 at a line
+        let fits = match (refusal.number, place) {
+            (3..=10, Place::Text { .. }) | (19, Place::Text { .. } | Place::Number(0)) => true,
+            (3..=10 | 19, _) | (_, Place::Text { .. }) => false,
+            _ => true,
+        };
+        fits.then_some(refusal).ok_or(Fault::Place(refusal))
     }
 }
 

@@ -12,6 +12,7 @@ const NAMES: &[&str] = &["a", "b", "c", "o0", "o1", "f0", "f1"];
 const SCRAPS: &[&str] = &[
     "$", "$\n", "\n", " ", "  ", "|", "||", ":", "=", "#", "{", "}", "${", ".", "$$", "x", "a",
     "$in", "\t", "\r", "\0", "\u{e9}", "rule ", "build ", "default ", "phony", "command",
+    "include ", "subninja ", "include a\n",
 ];
 
 /// A file as the manifest tells of it.
@@ -20,9 +21,9 @@ struct File {
     made: bool,
 }
 
-/// The files that a manifest mentions, if it can be read.
-fn files(manifest: &[u8]) -> Vec<File> {
-    let Ok(manifest) = manifest::read(manifest) else {
+/// The files that the manifests of a bundle mention, if they can be read.
+fn files(bundle: &[u8]) -> Vec<File> {
+    let Ok(manifest) = manifest::read(bundle) else {
         let known = |name: &&str| File { name: name.as_bytes().to_vec(), made: false };
         return NAMES.iter().map(known).collect();
     };
@@ -53,9 +54,9 @@ pub fn edit(rng: &mut Rng, manifest: &mut Vec<u8>) {
     }
 }
 
-/// A step of the manifest, mostly a command step if it has one.
-pub fn step(rng: &mut Rng, manifest: &[u8]) -> usize {
-    let steps = manifest::read(manifest).map_or(Vec::new(), |manifest| manifest.graph.steps);
+/// A step of the bundle's manifests, mostly a command step if there is one.
+pub fn step(rng: &mut Rng, bundle: &[u8]) -> usize {
+    let steps = manifest::read(bundle).map_or(Vec::new(), |manifest| manifest.graph.steps);
     let commands: Vec<usize> = (0..steps.len()).filter(|&step| !steps[step].phony).collect();
     if commands.is_empty() || rng.chance(8) {
         rng.below(steps.len() + 2)
@@ -64,13 +65,13 @@ pub fn step(rng: &mut Rng, manifest: &[u8]) -> usize {
     }
 }
 
-/// A time card that lists most of the manifest's files; one in twelve is damaged.
-pub fn card(rng: &mut Rng, manifest: &[u8]) -> Vec<u8> {
+/// A time card that lists most of the files mentioned; one in twelve is damaged.
+pub fn card(rng: &mut Rng, bundle: &[u8]) -> Vec<u8> {
     let missing_outputs = rng.below(4) * 25;
     let missing_sources = rng.below(4) * 6;
     let latest = rng.between(1, 4);
     let mut records: Vec<(Vec<u8>, u64)> = Vec::new();
-    for file in files(manifest) {
+    for file in files(bundle) {
         let missing = if file.made { missing_outputs } else { missing_sources };
         if !rng.chance(missing) && records.len() < limits::RECORDS {
             records.push((file.name, rng.between(1, latest) as u64));
@@ -128,9 +129,9 @@ fn damage_card(rng: &mut Rng, card: &mut Vec<u8>) {
     }
 }
 
-/// A target list: none, or some of the manifest's files; one in ten is damaged.
-pub fn targets(rng: &mut Rng, manifest: &[u8]) -> Vec<u8> {
-    let files = files(manifest);
+/// A target list: none, or some of the files mentioned; one in ten is damaged.
+pub fn targets(rng: &mut Rng, bundle: &[u8]) -> Vec<u8> {
+    let files = files(bundle);
     let mut targets = Vec::new();
     let count = if files.is_empty() { 0 } else { [0, 0, 1, 1, 2, 3][rng.below(6)] };
     for _ in 0..count {

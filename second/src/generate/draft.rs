@@ -1,5 +1,7 @@
 //! Near-valid manifests, drawn line by line from a small vocabulary.
 
+use super::split::{Files, NAMES};
+use crate::bundle;
 use crate::rng::Rng;
 
 const RULES: &[&str] = &["cc", "ld", "r.1", "depfile", "in"];
@@ -32,7 +34,10 @@ const WILD_WORDS: &[&str] = &[
 const WILD_LINES: &[&str] = &[
     "pool p", "include $.", "subninja", "  depth = 1", "depfile x", "builda: cc", "rule", "build",
     "default", "build a", "build : cc", "= x", "$a = 1", "|", "rule cc x", "x", " ", "  # c", "$",
-    "  $", "default = x", "build$.", "build a: $.", "rule $.", "a b = c", "  a",
+    "  $", "default = x", "build$.", "build a: $.", "rule $.", "a b = c", "  a", "include",
+    "include a b", "include = x", "include =", "include a:", "subninja a |", "include a $%",
+    "subninja $u", "include$.", "  include x", "rule include", "build q: subninja",
+    "subninja missing", "include $v", "includea",
 ];
 const VERSIONS: &[&str] = &[
     "1.5", "1.5.0", "0", "01.005", "1.4.65535", "$v", "1.5.1", "1.6", "2", "", "1.", "1.5 ",
@@ -50,6 +55,9 @@ pub struct Draft<'r> {
     values: &'static [&'static str],
     rules: Vec<&'static str>,
     outputs: Vec<String>,
+    /// The files drawn, and those under way, by name; the bytes left to draw.
+    files: Files,
+    left: usize,
 }
 
 impl<'r> Draft<'r> {
@@ -67,6 +75,8 @@ impl<'r> Draft<'r> {
             values: VALUES,
             rules: vec!["phony"],
             outputs: Vec::new(),
+            files: Files::new(),
+            left: 0,
         }
     }
 
@@ -89,6 +99,66 @@ impl<'r> Draft<'r> {
             }
         }
         self.text.into_bytes()
+    }
+
+    /// Draws several files in reading order, of that many bytes together or a few more.
+    pub fn files(mut self, length: usize) -> Files {
+        self.left = self.rng.between(length / 4, length);
+        if self.rng.chance(30) {
+            self.values = LEADING_VALUES;
+        }
+        let top = if self.rng.chance(80) { bundle::ALONE } else { b"top" };
+        self.files.push((top.to_vec(), Vec::new()));
+        self.rule();
+        self.file(0, 1);
+        self.files
+    }
+
+    /// Draws the rest of a file, and by its openings other files, `depth` deep.
+    fn file(&mut self, at: usize, depth: usize) {
+        let part = self.left / if depth == 1 { 1 } else { 2 };
+        let rest = self.left.saturating_sub(part);
+        self.left = part;
+        while self.text.len() < self.left {
+            match self.rng.below(100) {
+                0..=29 => self.variable(),
+                30..=34 => self.rule(),
+                35..=59 => self.build(),
+                60..=64 => self.default(),
+                65..=67 => self.comment(),
+                68 => self.blank(),
+                69 => self.version(),
+                70..=71 => self.wild_line(),
+                _ => self.opening(depth),
+            }
+        }
+        self.left = self.left.saturating_sub(self.text.len()) + rest;
+        self.files[at].1 = std::mem::take(&mut self.text).into_bytes();
+    }
+
+    /// Opens a file: mostly a new one, which is drawn at once, now and then one that is there.
+    fn opening(&mut self, depth: usize) {
+        let keyword = self.rng.pick(&["include", "subninja", "subninja"]);
+        let known = |files: &Files, name: &str| files.iter().any(|(n, _)| n == name.as_bytes());
+        let name = self.rng.pick(NAMES);
+        let is_new = !known(&self.files, name);
+        if depth > 3 || (!is_new && self.rng.chance(90)) || (is_new && self.left < 20) {
+            return;
+        }
+        self.push(keyword);
+        self.gap();
+        let path = name.replace('$', "$$").replace(' ', "$ ");
+        self.push(&path);
+        self.end();
+        if is_new && !self.rng.chance(2) {
+            let at = self.files.len();
+            self.files.push((name.as_bytes().to_vec(), Vec::new()));
+            let text = std::mem::take(&mut self.text);
+            self.left = self.left.saturating_sub(text.len());
+            self.file(at, depth + 1);
+            self.left += text.len();
+            self.text = text;
+        }
     }
 
     /// One rule whose texts may lead to each other, steps that use it, and variables around them.

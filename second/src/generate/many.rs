@@ -1,4 +1,4 @@
-//! What is asked of a manifest by a texts ask: a list of steps, and buffers at the edges of what their
+//! What is asked of a bundle by a texts ask: a list of steps, and buffers at the edges of what their
 //! texts need.
 
 use crate::manifest::{self, Manifest};
@@ -8,9 +8,9 @@ use crate::{limits, text, Question, Wanted};
 /// The most steps of a list.
 const MOST: usize = 2_000;
 
-/// Texts of steps of the manifest.
-pub fn texts(rng: &mut Rng, manifest: &[u8], wanted: Wanted) -> Question {
-    let manifest = manifest::read(manifest).ok();
+/// Texts of steps of the bundle's manifests.
+pub fn texts(rng: &mut Rng, bundle: &[u8], wanted: Wanted) -> Question {
+    let manifest = manifest::read(bundle).ok();
     let mut steps = list(rng, manifest.as_ref());
     let mut ends = ends(manifest.as_ref(), &steps, wanted);
     let total = ends.last().copied().unwrap_or(0);

@@ -113,6 +113,18 @@ enum-known-r-14 c = search needs
 told-requires-18 : tie.Need-told-requires-18
 told-requires-18 c κs = search needs
 
+enum-told-5 : tie.Need-enum-told-5
+enum-told-5 c = search needs
+
+told-requires-19 : tie.Need-told-requires-19
+told-requires-19 c κs = search needs
+
+enum-known-r-15 : tie.Need-enum-known-r-15
+enum-known-r-15 c = search needs
+
+told-requires-20 : tie.Need-told-requires-20
+told-requires-20 c κs = search needs
+
 returns : tie.Need-returns
 unfolding refusalSays numberOfRefusal placeOfRefusal
 returns c = c .told .ensures ∙ ap refusalSays (sym (c .before .enum-told .given .1))
@@ -185,6 +197,14 @@ returns-18 : tie.Need-returns-18
 unfolding refusalSays numberOfRefusal placeOfRefusal
 returns-18 c = c .told18 .ensures ∙ ap refusalSays (sym (c .before .before .r14 .given .1))
 
+returns-19 : tie.Need-returns-19
+unfolding refusalSays numberOfRefusal placeOfRefusal
+returns-19 c = c .told19 .ensures ∙ ap refusalSays (sym (c .before .enum-told5 .given .1))
+
+returns-20 : tie.Need-returns-20
+unfolding refusalSays numberOfRefusal placeOfRefusal
+returns-20 c = c .told20 .ensures ∙ ap refusalSays (sym (c .before .before .r15 .given .1))
+
 pub of-refusal-spec : {M : Type 1} → statement M
 of-refusal-spec =
     tie.close
@@ -225,6 +245,10 @@ of-refusal-spec =
     told-requires-17
     enum-known-r-14
     told-requires-18
+    enum-told-5
+    told-requires-19
+    enum-known-r-15
+    told-requires-20
     returns
     returns-2
     returns-3
@@ -242,4 +266,6 @@ of-refusal-spec =
     returns-15
     returns-16
     returns-17
-    returns-18)
+    returns-18
+    returns-19
+    returns-20)

@@ -1,38 +1,56 @@
--- `apply_manifest::read_lines` meets its contract.
-use Rattle.apply_manifest.proofs.Answers.{top-ask}
+use Rattle.apply_manifest.proofs.Answers.{top-asks, top-read}
 use borrow.Author.Needs.{needs}
 use Rattle.apply_manifest.proofs.read_lines.Statement.{statement}
 use Rattle.apply_manifest.proofs.read_lines.Tie as tie
+use Rattle.apply_manifest.proofs.read_lines.Reads as reads
+use Rattle.apply_manifest.proofs.read_lines.Lts as lts
+use Rattle.apply_manifest.proofs.read_text.Reads as read-text-reads
+use Rattle.hold_bindings.proofs.begin_bindings.Reads as begin-bindings-reads
+use Rattle.hold_names.proofs.clear.Reads as clear-reads
 
+-- src/lib.rt:301:5
 clear-requires : tie.Need-clear-requires
-clear-requires c κs = search needs
+clear-requires c κs = c .before .before .before .before .before .before .before .before .pre .roomy .numbers-room
 
+-- src/lib.rt:302:5
 begin-bindings-requires : tie.Need-begin-bindings-requires
 begin-bindings-requires c κs = c .before .before .before .before .before .before .before .before .before .before .before .before .pre .roomy .bind-room
 
-read-from-top-requires : tie.Need-read-from-top-requires
-read-from-top-requires c κs = top-ask (c .before .before .before .before .before .before .before .before .before .before .before .before .before .before .before .before .before .before .before .before .before .pre) (c .before .before .before .before .before .before .before .before .before .before .before .before .clear .ensures) (c .before .before .before .before .before .before .before .before .begin-bindings .ensures)
+-- src/lib.rt:305:15
+sub-t15 : tie.Need-sub-t15
+sub-t15 c = search needs
 
+-- src/lib.rt:307:5
+read-text-requires : tie.Need-read-text-requires
+read-text-requires c κs = top-asks (c .before .before .before .before .before .before .before .before .before .before .before .before .before .before .before .before .before .before .before .before .before .pre) (c .before .before .before .before .before .before .before .before .before .before .before .before .clear .ensures) (c .before .before .before .before .before .before .before .before .begin-bindings .ensures)
+
+-- src/lib.rt:288:1
 same-length : tie.Need-same-length
 same-length c = search needs
 
+-- src/lib.rt:288:1
 same-length-2 : tie.Need-same-length-2
 same-length-2 c = search needs
 
+-- src/lib.rt:288:1
 same-length-3 : tie.Need-same-length-3
 same-length-3 c = search needs
 
+-- src/lib.rt:288:1
 same-length-4 : tie.Need-same-length-4
 same-length-4 c = search needs
 
+-- src/lib.rt:288:1
 same-length-5 : tie.Need-same-length-5
 same-length-5 c = search needs
 
+-- src/lib.rt:288:1
 same-length-6 : tie.Need-same-length-6
 same-length-6 c = search needs
 
+-- src/lib.rt:288:1
 returns : tie.Need-returns
-returns c = record { space = search needs; promise = c .before .before .before .before .before .before .before .before .before .before .before .before .read-from-top .ensures .promise }
+returns c = record { space = search needs; promise = top-read (c .before .before .before .before .before .before .before .before .before .before .before .before .before .before .before .before .before .before .before .before .before .before .before .before .before .before .before .before .before .before .before .before .before .before .pre) (c .before .before .before .before .before .before .before .before .before .before .before .before .before .before .before .before .before .before .before .before .before .before .before .before .before .clear .ensures) (c .before .before .before .before .before .before .before .before .before .before .before .before .before .before .before .before .before .before .before .before .before .begin-bindings .ensures) (c .before .before .before .before .before .before .before .before .before .before .before .before .read-text .ensures .promise) }
 
 pub read-lines-spec : {M : Type 1} → statement M
 read-lines-spec =
@@ -40,7 +58,8 @@ read-lines-spec =
     (tie.spec
     clear-requires
     begin-bindings-requires
-    read-from-top-requires
+    sub-t15
+    read-text-requires
     same-length
     same-length-2
     same-length-3

@@ -10,23 +10,23 @@ use Rattle.cases.proofs.ask_all.Statement.{statement}
 use Rattle.cases.proofs.ask_all.Tie as tie
 
 abbrev Inv-loop : tie.InvT-loop
-Inv-loop fd h input list₀ buf₀ bytes₀ a b c d name manifest card targets tally₀ i₀ list buf bytes tally i =
+Inv-loop fd h input list₀ buf₀ bytes₀ a b c d name bundle card targets tally₀ i₀ list buf bytes tally i =
     (i ≤ h .asks) × (length list ≡ length list₀) × (length buf ≡ length buf₀) × (length bytes ≡ length bytes₀)
 
 abbrev μ-loop : tie.MeasureT-loop
-μ-loop fd h input list₀ buf₀ bytes₀ a b c d name manifest card targets tally₀ i₀ list buf bytes tally i = h .asks - i
+μ-loop fd h input list₀ buf₀ bytes₀ a b c d name bundle card targets tally₀ i₀ list buf bytes tally i = h .asks - i
 
 slice-aggregate-name : tie.Need-slice-aggregate-name Inv-loop μ-loop
-slice-aggregate-name c = sym (length-take-le _ (now (c .before .before .before .before .before .args .input)) (omega (arith, c .before .before .before .before .before .pre .manifest-behind, c .before .before .before .before .before .pre .card-behind, c .before .before .before .before .before .pre .targets-behind, c .before .before .before .before .before .pre .within)))
+slice-aggregate-name c = sym (length-take-le _ (now (c .before .before .before .before .before .args .input)) (omega (arith, c .before .before .before .before .before .pre .bundle-behind, c .before .before .before .before .before .pre .card-behind, c .before .before .before .before .before .pre .targets-behind, c .before .before .before .before .before .pre .within)))
 
-sub-manifest : tie.Need-sub-manifest Inv-loop μ-loop
-sub-manifest c = search needs
+sub-bundle : tie.Need-sub-bundle Inv-loop μ-loop
+sub-bundle c = search needs
 
-part-manifest-start : tie.Need-part-manifest-start Inv-loop μ-loop
-part-manifest-start c = search needs
+part-bundle-start : tie.Need-part-bundle-start Inv-loop μ-loop
+part-bundle-start c = search needs
 
-part-manifest-end : tie.Need-part-manifest-end Inv-loop μ-loop
-part-manifest-end c = search needs
+part-bundle-end : tie.Need-part-bundle-end Inv-loop μ-loop
+part-bundle-end c = search needs
 
 sub-card : tie.Need-sub-card Inv-loop μ-loop
 sub-card c = search needs
@@ -98,9 +98,9 @@ ask-all-spec =
     Inv-loop
     μ-loop
     slice-aggregate-name
-    sub-manifest
-    part-manifest-start
-    part-manifest-end
+    sub-bundle
+    part-bundle-start
+    part-bundle-end
     sub-card
     part-card-start
     part-card-end

@@ -1,6 +1,6 @@
--- `kestrenyo_plan` meets its contract: what the ask ensures, with two numbers for the answer.
+-- `kestrenyo_plan` meets its contract: what the ask ensures, with three numbers for the answer.
+use Rattle.kestrenyo.proofs.Telling.{tells-plan}
 use borrow.Author.Needs.{needs}
-use Rattle.kestrenyo.specs.Tells.{tells}
 use Rattle.kestrenyo.proofs.kestrenyo_plan.Statement.{statement}
 use Rattle.kestrenyo.proofs.kestrenyo_plan.Tie as tie
 
@@ -10,14 +10,15 @@ plan-requires c κs = search needs
 of-plan-requires : tie.Need-of-plan-requires
 of-plan-requires c κs = search needs
 
-in-two-requires : tie.Need-in-two-requires
-in-two-requires c κs = search needs
+locate-requires : tie.Need-locate-requires
+locate-requires c κs = search needs
 
 same-length : tie.Need-same-length
 same-length c = search needs
 
 returns : tie.Need-returns
-returns c = tells (c .in-two .ensures) (rw (c .before .of-plan .ensures) (c .before .before .before .before .plan .ensures))
+returns c = tells-plan _ (c .before .of-plan .ensures) (c .locate .ensures) (c .before .before .before .before .plan .ensures)
 
 pub kestrenyo-plan-spec : {M : Type 1} → statement M
-kestrenyo-plan-spec = tie.close (tie.spec plan-requires of-plan-requires in-two-requires same-length returns)
+kestrenyo-plan-spec =
+    tie.close (tie.spec plan-requires of-plan-requires locate-requires same-length returns)

@@ -1,6 +1,6 @@
--- `kestrenyo_text` meets its contract: what the ask ensures, with two numbers for the answer and one for what is wanted.
+-- `kestrenyo_text` meets its contract: what the ask ensures, with three numbers for the answer and one for what is wanted.
+use Rattle.kestrenyo.proofs.Telling.{tells-text}
 use borrow.Author.Needs.{needs}
-use Rattle.kestrenyo.specs.Tells.{tells}
 use Rattle.kestrenyo.proofs.kestrenyo_text.Statement.{statement}
 use Rattle.kestrenyo.proofs.kestrenyo_text.Tie as tie
 
@@ -13,17 +13,22 @@ text-requires c κs = search needs
 of-text-requires : tie.Need-of-text-requires
 of-text-requires c κs = search needs
 
-in-two-requires : tie.Need-in-two-requires
-in-two-requires c κs = search needs
+locate-requires : tie.Need-locate-requires
+locate-requires c κs = search needs
 
 same-length : tie.Need-same-length
 same-length c = search needs
 
 returns : tie.Need-returns
-returns c =
-    tells (c .in-two .ensures)
-    (rw (c .before .of-text .ensures) (rw (c .before .before .before .before .before .before .wanted-of .ensures) at (c .before .before .before .before .text .ensures)))
+returns c = tells-text _ (c .before .of-text .ensures) (c .locate .ensures) (rw (c .before .before .before .before .before .before .wanted-of .ensures) at (c .before .before .before .before .text .ensures))
 
 pub kestrenyo-text-spec : {M : Type 1} → statement M
 kestrenyo-text-spec =
-    tie.close (tie.spec wanted-of-requires text-requires of-text-requires in-two-requires same-length returns)
+    tie.close
+    (tie.spec
+    wanted-of-requires
+    text-requires
+    of-text-requires
+    locate-requires
+    same-length
+    returns)

@@ -51,7 +51,7 @@ slice-aggregate-write-steps : tie.Need-slice-aggregate-write-steps
 slice-aggregate-write-steps c = sym (length-take-le _ (c .before .before .before .before .before .before .before .before .before .before .before .before .begin .last .1 .1 .1 .0) (steps-within (c .before .before .before .before .before .before .before .before .before .before .before .before .begin .last .1 .1 .1 .0) (c .before .before .before .before .before .before .before .before .before .before .before .before .begin .last .1 .1 .1 .1 .0) (c .before .before .n3 .given .1) (c .before .before .before .before .before .before .before .before .before .before .before .before .begin .ensures .within)))
 
 write-steps-requires : tie.Need-write-steps-requires
-write-steps-requires c κs = rounds-start (steps-held (now (c .before .before .before .before .before .before .before .before .before .before .before .before .before .before .before .before .before .before .before .before .before .before .before .before .before .before .before .args .manifest)) (c .before .before .before .before .before .before .before .before .before .before .before .before .before .before .before .begin .last .1 .1 .1 .0) (c .before .before .before .before .before .before .before .before .before .before .before .before .before .before .before .begin .last .1 .1 .1 .1 .1 .0) (c .before .before .before .before .before .before .before .before .before .before .before .before .before .before .before .begin .last .1 .1 .1 .1 .1 .1 .0) (c .before .before .before .before .before .n3 .given .1) (c .before .before .before .before .before .before .before .before .before .before .before .before .before .before .before .begin .ensures .held)) (rooms-kept (c .before .before .before .before .before .before .before .before .before .before .before .before .before .before .before .begin .kept .1 .1 .1 .1 .1 .0) (c .before .before .before .before .before .before .before .before .before .before .before .before .before .before .before .begin .kept .1 .1 .1 .1 .1 .1 .0) (c .before .before .before .before .before .before .before .before .before .before .before .before .before .before .before .begin .kept .1 .1 .1 .1 .0) (c .before .before .before .before .before .before .before .before .before .before .before .before .before .before .before .before .before .before .before .before .before .before .before .before .before .before .before .pre .lines))
+write-steps-requires c κs = rounds-start (steps-held (now (c .before .before .before .before .before .before .before .before .before .before .before .before .before .before .before .before .before .before .before .before .before .before .before .before .before .before .before .args .bundle)) (c .before .before .before .before .before .before .before .before .before .before .before .before .before .before .before .begin .last .1 .1 .1 .0) (c .before .before .before .before .before .before .before .before .before .before .before .before .before .before .before .begin .last .1 .1 .1 .1 .1 .0) (c .before .before .before .before .before .before .before .before .before .before .before .before .before .before .before .begin .last .1 .1 .1 .1 .1 .1 .0) (c .before .before .before .before .before .n3 .given .1) (c .before .before .before .before .before .before .before .before .before .before .before .before .before .before .before .begin .ensures .held)) (rooms-kept (c .before .before .before .before .before .before .before .before .before .before .before .before .before .before .before .begin .kept .1 .1 .1 .1 .1 .0) (c .before .before .before .before .before .before .before .before .before .before .before .before .before .before .before .begin .kept .1 .1 .1 .1 .1 .1 .0) (c .before .before .before .before .before .before .before .before .before .before .before .before .before .before .before .begin .kept .1 .1 .1 .1 .0) (c .before .before .before .before .before .before .before .before .before .before .before .before .before .before .before .before .before .before .before .before .before .before .before .before .before .before .before .pre .lines))
 
 written-requires-3 : tie.Need-written-requires-3
 written-requires-3 c κs = search needs

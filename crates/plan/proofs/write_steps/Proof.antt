@@ -12,11 +12,11 @@ use Rattle.plan.proofs.write_steps.Statement.{statement}
 use Rattle.plan.proofs.write_steps.Tie as tie
 
 abbrev Inv-loop : tie.InvT-loop
-Inv-loop manifest steps held bytes₀ ends₀ out₀ place₀ held₀ bytes ends out place held' =
-    (length bytes ≡ length bytes₀) × (length ends ≡ length ends₀) × (length out ≡ length out₀) × ToWrite manifest steps bytes ends out place held'
+Inv-loop bundle steps held bytes₀ ends₀ out₀ place₀ held₀ bytes ends out place held' =
+    (length bytes ≡ length bytes₀) × (length ends ≡ length ends₀) × (length out ≡ length out₀) × ToWrite bundle steps bytes ends out place held'
 
 abbrev μ-loop : tie.MeasureT-loop
-μ-loop manifest steps held bytes₀ ends₀ out₀ place₀ held₀ bytes ends out place held' = length steps - place
+μ-loop bundle steps held bytes₀ ends₀ out₀ place₀ held₀ bytes ends out place held' = length steps - place
 
 loop-holds : tie.Need-loop-holds Inv-loop μ-loop
 loop-holds c = (refl, refl, refl, c .before .before .before .before .before .pre)

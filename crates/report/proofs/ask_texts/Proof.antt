@@ -24,7 +24,7 @@ same-length-2 : tie.Need-same-length-2
 same-length-2 c = search needs
 
 returns : tie.Need-returns
-returns c = asked-held (now (c .before .before .before .before .before .before .before .before .before .before .before .before .before .before .args .manifest)) (now (c .before .before .before .before .before .before .before .before .before .before .before .before .before .before .args .steps)) (now (c .before .before .before .before .before .before .before .before .before .before .before .before .before .before .args .bytes)) (now (c .before .before .before .before .before .before .before .before .before .before .before .before .before .before .args .ends)) _ _ (c .before .before .before .before .before .before .before .before .before .before .before .before .before .before .pre) _ (same-length-2 c) (rw (c .before .n .given .1) at (c .before .before .before .before .before .before .before .texts .ensures))
+returns c = asked-held (now (c .before .before .before .before .before .before .before .before .before .before .before .before .before .before .args .bundle)) (now (c .before .before .before .before .before .before .before .before .before .before .before .before .before .before .args .steps)) (now (c .before .before .before .before .before .before .before .before .before .before .before .before .before .before .args .bytes)) (now (c .before .before .before .before .before .before .before .before .before .before .before .before .before .before .args .ends)) _ _ (c .before .before .before .before .before .before .before .before .before .before .before .before .before .before .pre) _ (same-length-2 c) (rw (c .before .n .given .1) at (c .before .before .before .before .before .before .before .texts .ensures))
 
 same-length-3 : tie.Need-same-length-3
 same-length-3 c = search needs
@@ -33,7 +33,7 @@ same-length-4 : tie.Need-same-length-4
 same-length-4 c = search needs
 
 returns-2 : tie.Need-returns-2
-returns-2 c = asked-refused (now (c .before .before .before .before .before .before .before .before .before .before .before .before .before .before .before .args .manifest)) (now (c .before .before .before .before .before .before .before .before .before .before .before .before .before .before .before .args .steps)) (now (c .before .before .before .before .before .before .before .before .before .before .before .before .before .before .before .args .bytes)) (now (c .before .before .before .before .before .before .before .before .before .before .before .before .before .before .before .args .ends)) _ _ (c .before .before .before .before .before .before .before .before .before .before .before .before .before .before .before .pre) _ _ (c .of-refusal .ensures) (rw (c .before .before .r .given .1) at (c .before .before .before .before .before .before .before .before .texts .ensures))
+returns-2 c = asked-refused (now (c .before .before .before .before .before .before .before .before .before .before .before .before .before .before .before .args .bundle)) (now (c .before .before .before .before .before .before .before .before .before .before .before .before .before .before .before .args .steps)) (now (c .before .before .before .before .before .before .before .before .before .before .before .before .before .before .before .args .bytes)) (now (c .before .before .before .before .before .before .before .before .before .before .before .before .before .before .before .args .ends)) _ _ (c .before .before .before .before .before .before .before .before .before .before .before .before .before .before .before .pre) _ _ (c .of-refusal .ensures) (rw (c .before .before .r .given .1) at (c .before .before .before .before .before .before .before .before .texts .ensures))
 
 pub ask-texts-spec : {M : Type 1} → statement M
 ask-texts-spec =

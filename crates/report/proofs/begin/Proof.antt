@@ -13,7 +13,7 @@ of-plan-requires : tie.Need-of-plan-requires
 of-plan-requires c κs = search needs
 
 begin-planned-requires : tie.Need-begin-planned-requires
-begin-planned-requires c κs = planned (inputsOf (now (c .before .before .before .before .before .before .before .before .before .before .before .before .before .before .before .before .args .manifest)) (now (c .before .before .before .before .before .before .before .before .before .before .before .before .before .before .before .before .args .card)) (now (c .before .before .before .before .before .before .before .before .before .before .before .before .before .before .before .before .args .targets))) _ (now (c .before .before .before .before .before .before .before .before .before .before .before .before .before .before .before .before .args .list)) (c .before .before .before .before .before .before .before .plan .last .1 .1 .1 .0) (now (c .before .before .before .before .before .before .before .before .before .before .before .before .before .before .before .before .args .line)) (now (c .before .before .before .before .before .before .before .before .before .before .before .before .before .before .before .before .args .bytes)) (now (c .before .before .before .before .before .before .before .before .before .before .before .before .before .before .before .before .args .ends)) (c .before .before .before .before .of-plan .result) _ (c .before .before .before .before .before .before .before .before .before .before .before .before .before .before .before .before .pre) (c .before .before .before .before .of-plan .ensures) (c .before .before .before .before .before .before .before .plan .kept .1 .1 .1 .0) (c .before .before .before .before .before .before .before .plan .ensures .promise)
+begin-planned-requires c κs = planned (inputsOf (now (c .before .before .before .before .before .before .before .before .before .before .before .before .before .before .before .before .args .bundle)) (now (c .before .before .before .before .before .before .before .before .before .before .before .before .before .before .before .before .args .card)) (now (c .before .before .before .before .before .before .before .before .before .before .before .before .before .before .before .before .args .targets))) _ (now (c .before .before .before .before .before .before .before .before .before .before .before .before .before .before .before .before .args .list)) (c .before .before .before .before .before .before .before .plan .last .1 .1 .1 .0) (now (c .before .before .before .before .before .before .before .before .before .before .before .before .before .before .before .before .args .line)) (now (c .before .before .before .before .before .before .before .before .before .before .before .before .before .before .before .before .args .bytes)) (now (c .before .before .before .before .before .before .before .before .before .before .before .before .before .before .before .before .args .ends)) (c .before .before .before .before .of-plan .result) _ (c .before .before .before .before .before .before .before .before .before .before .before .before .before .before .before .before .pre) (c .before .before .before .before .of-plan .ensures) (c .before .before .before .before .before .before .before .plan .kept .1 .1 .1 .0) (c .before .before .before .before .before .before .before .plan .ensures .promise)
 
 same-length : tie.Need-same-length
 same-length c = search needs
@@ -28,7 +28,7 @@ same-length-4 : tie.Need-same-length-4
 same-length-4 c = search needs
 
 returns : tie.Need-returns
-returns c = begins (inputsOf (now (c .before .before .before .before .before .before .before .before .before .before .before .before .before .before .before .before .before .before .before .before .before .before .before .args .manifest)) (now (c .before .before .before .before .before .before .before .before .before .before .before .before .before .before .before .before .before .before .before .before .before .before .before .args .card)) (now (c .before .before .before .before .before .before .before .before .before .before .before .before .before .before .before .before .before .before .before .before .before .before .before .args .targets))) (now (c .before .before .before .before .before .before .before .before .before .before .before .before .before .before .before .before .before .before .before .before .before .before .before .args .list)) (now (c .before .before .before .before .before .before .before .before .before .before .before .before .before .before .before .before .before .before .before .before .before .before .before .args .line)) (c .before .before .before .before .before .before .before .before .before .before .before .before .before .before .plan .last .1 .1 .1 .0) (c .before .before .before .before .before .before .before .before .before .before .before .of-plan .result) _ (c .before .before .before .before .before .before .before .before .before .before .before .of-plan .ensures) (c .before .before .before .before .before .before .before .before .before .before .before .before .before .before .plan .kept .1 .1 .1 .0) (c .before .before .before .before .before .before .begin-planned .kept .1 .1 .1 .0) (c .before .before .before .before .before .before .before .before .before .before .before .before .before .before .plan .ensures .promise) (c .before .before .before .before .before .before .begin-planned .ensures)
+returns c = begins (inputsOf (now (c .before .before .before .before .before .before .before .before .before .before .before .before .before .before .before .before .before .before .before .before .before .before .before .args .bundle)) (now (c .before .before .before .before .before .before .before .before .before .before .before .before .before .before .before .before .before .before .before .before .before .before .before .args .card)) (now (c .before .before .before .before .before .before .before .before .before .before .before .before .before .before .before .before .before .before .before .before .before .before .before .args .targets))) (now (c .before .before .before .before .before .before .before .before .before .before .before .before .before .before .before .before .before .before .before .before .before .before .before .args .list)) (now (c .before .before .before .before .before .before .before .before .before .before .before .before .before .before .before .before .before .before .before .before .before .before .before .args .line)) (c .before .before .before .before .before .before .before .before .before .before .before .before .before .before .plan .last .1 .1 .1 .0) (c .before .before .before .before .before .before .before .before .before .before .before .of-plan .result) _ (c .before .before .before .before .before .before .before .before .before .before .before .of-plan .ensures) (c .before .before .before .before .before .before .before .before .before .before .before .before .before .before .plan .kept .1 .1 .1 .0) (c .before .before .before .before .before .before .begin-planned .kept .1 .1 .1 .0) (c .before .before .before .before .before .before .before .before .before .before .before .before .before .before .plan .ensures .promise) (c .before .before .before .before .before .before .begin-planned .ensures)
 
 pub begin-spec : {M : Type 1} → statement M
 begin-spec =

@@ -25,7 +25,7 @@ same-length-3 : tie.Need-same-length-3
 same-length-3 c = search needs
 
 returns : tie.Need-returns
-returns c = opens-list (now (c .before .before .before .before .before .before .before .before .before .before .before .before .before .before .before .before .before .before .args .manifest)) (said (c .before .before .before .before .before .before .before .before .before .before .before .before .before .before .before .before .before .before .args .n)) (now (c .before .before .before .before .before .before .before .before .before .before .before .before .before .before .before .before .before .before .args .list)) (c .before .before .before .before .before .before .before .before .before .before .before .if1 .taken) (c .before .before .before .before .before .before .begin-list .ensures)
+returns c = opens-list (now (c .before .before .before .before .before .before .before .before .before .before .before .before .before .before .before .before .before .before .args .bundle)) (said (c .before .before .before .before .before .before .before .before .before .before .before .before .before .before .before .before .before .before .args .n)) (now (c .before .before .before .before .before .before .before .before .before .before .before .before .before .before .before .before .before .before .args .list)) (c .before .before .before .before .before .before .before .before .before .before .before .if1 .taken) (c .before .before .before .before .before .before .begin-list .ensures)
 
 slice-aggregate-say-circle : tie.Need-slice-aggregate-say-circle
 slice-aggregate-say-circle c = sym (length-take-le (c .before .before .before .before .before .before .before .before .before .before .before .args .n .value) (now (c .before .before .before .before .before .before .before .before .before .before .before .args .list)) (c .before .before .before .before .before .before .before .before .before .before .before .pre .shown (c .before .before .if2 .taken)))
@@ -37,16 +37,16 @@ same-length-4 : tie.Need-same-length-4
 same-length-4 c = search needs
 
 returns-2 : tie.Need-returns-2
-returns-2 c = opens-circle (now (c .before .before .before .before .before .before .before .before .before .before .before .before .before .before .args .manifest)) (said (c .before .before .before .before .before .before .before .before .before .before .before .before .before .before .args .n)) (now (c .before .before .before .before .before .before .before .before .before .before .before .before .before .before .args .list)) (c .before .before .before .before .before .if2 .taken) (c .before .before .say-circle .ensures)
+returns-2 c = opens-circle (now (c .before .before .before .before .before .before .before .before .before .before .before .before .before .before .args .bundle)) (said (c .before .before .before .before .before .before .before .before .before .before .before .before .before .before .args .n)) (now (c .before .before .before .before .before .before .before .before .before .before .before .before .before .before .args .list)) (c .before .before .before .before .before .if2 .taken) (c .before .before .say-circle .ensures)
 
-say-refused-requires : tie.Need-say-refused-requires
-say-refused-requires c κs = search needs
+say-refusal-requires : tie.Need-say-refusal-requires
+say-refusal-requires c κs = search needs
 
 same-length-5 : tie.Need-same-length-5
 same-length-5 c = search needs
 
 returns-3 : tie.Need-returns-3
-returns-3 c = opens-refused (now (c .before .before .before .before .before .before .before .before .before .before .before .before .before .args .manifest)) (said (c .before .before .before .before .before .before .before .before .before .before .before .before .before .args .n)) (now (c .before .before .before .before .before .before .before .before .before .before .before .before .before .args .list)) (c .before .before .before .before .before .before .if1 .left) (c .before .before .before .before .if2 .left) (c .before .before .say-refused .ensures)
+returns-3 c = opens-refused (now (c .before .before .before .before .before .before .before .before .before .before .before .before .before .args .bundle)) (said (c .before .before .before .before .before .before .before .before .before .before .before .before .before .args .n)) (now (c .before .before .before .before .before .before .before .before .before .before .before .before .before .args .list)) (c .before .before .before .before .before .before .if1 .left) (c .before .before .before .before .if2 .left) (c .before .before .say-refusal .ensures)
 
 pub begin-planned-spec : {M : Type 1} → statement M
 begin-planned-spec =
@@ -62,6 +62,6 @@ begin-planned-spec =
     say-circle-requires
     same-length-4
     returns-2
-    say-refused-requires
+    say-refusal-requires
     same-length-5
     returns-3)

@@ -9,10 +9,10 @@ use Rattle.report.proofs.check_texts.Statement.{statement}
 use Rattle.report.proofs.check_texts.Tie as tie
 
 abbrev Inv-loop : tie.InvT-loop
-Inv-loop manifest steps bytes₀ ends₀ i₀ bytes ends i = Checking manifest steps bytes₀ ends₀ bytes ends i
+Inv-loop bundle steps bytes₀ ends₀ i₀ bytes ends i = Checking bundle steps bytes₀ ends₀ bytes ends i
 
 abbrev μ-loop : tie.MeasureT-loop
-μ-loop manifest steps bytes₀ ends₀ i₀ bytes ends i = length steps - i
+μ-loop bundle steps bytes₀ ends₀ i₀ bytes ends i = length steps - i
 
 loop-holds : tie.Need-loop-holds Inv-loop μ-loop
 loop-holds c = checking-start _ _ _ _

@@ -31,11 +31,11 @@ later-key-requires c κs = search needs
 
 returns-4 : tie.Need-returns-4
 unfolding wordCut keyWord
-returns-4 c = rw (not-empty (now (c .before .before .before .before .before .before .before .before .args .w)) (c .before .before .before .before .before .before .if1 .left), sym (c .before .before .before .before .before .keyword .ensures) ∙ c .before .before .before .before .if2 .left, sym (c .before .before .before .later-keyword .ensures) ∙ c .before .before .if3 .left, sym (c .before .later-key .ensures) ∙ c .if4 .taken)
+returns-4 c = rw (not-empty (now (c .before .before .before .before .before .before .before .before .args .w)) (c .before .before .before .before .before .before .if1 .left), sym (c .before .before .before .before .before .keyword .ensures) ∙ c .before .before .before .before .if2 .left, sym (c .before .later-key .ensures) ∙ c .if4 .taken, sym (c .before .before .before .later-keyword .ensures) ∙ c .before .before .if3 .left)
 
 returns-5 : tie.Need-returns-5
 unfolding wordCut keyWord
-returns-5 c = rw (not-empty (now (c .before .before .before .before .before .before .before .before .args .w)) (c .before .before .before .before .before .before .if1 .left), sym (c .before .before .before .before .before .keyword .ensures) ∙ c .before .before .before .before .if2 .left, sym (c .before .before .before .later-keyword .ensures) ∙ c .before .before .if3 .left, sym (c .before .later-key .ensures) ∙ c .if4 .left)
+returns-5 c = rw (not-empty (now (c .before .before .before .before .before .before .before .before .args .w)) (c .before .before .before .before .before .before .if1 .left), sym (c .before .before .before .before .before .keyword .ensures) ∙ c .before .before .before .before .if2 .left, sym (c .before .later-key .ensures) ∙ c .if4 .left, sym (c .before .before .before .later-keyword .ensures) ∙ c .before .before .if3 .left)
 
 pub key-word-spec : {M : Type 1} → statement M
 key-word-spec =

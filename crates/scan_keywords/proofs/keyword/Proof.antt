@@ -35,7 +35,27 @@ equal-requires-3 c κs = tt
 
 returns-3 : tie.Need-returns-3
 unfolding keyword among any
-returns-3 c = rw (sym (c .before .before .before .before .before .before .equal .ensures) ∙ c .before .before .before .before .before .if1 .left, sym (c .before .before .before .equal2 .ensures) ∙ c .before .before .if2 .left) (c .equal3 .ensures ∙ sym (or-false _))
+returns-3 c = rw (sym (c .before .before .before .before .before .before .before .equal .ensures) ∙ c .before .before .before .before .before .before .if1 .left, sym (c .before .before .before .before .equal2 .ensures) ∙ c .before .before .before .if2 .left, sym (c .before .equal3 .ensures) ∙ c .if3 .taken)
+
+slice-aggregate-equal-4 : tie.Need-slice-aggregate-equal-4
+slice-aggregate-equal-4 c = refl
+
+equal-requires-4 : tie.Need-equal-requires-4
+equal-requires-4 c κs = tt
+
+returns-4 : tie.Need-returns-4
+unfolding keyword among any
+returns-4 c = rw (sym (c .before .before .before .before .before .before .before .before .before .before .equal .ensures) ∙ c .before .before .before .before .before .before .before .before .before .if1 .left, sym (c .before .before .before .before .before .before .before .equal2 .ensures) ∙ c .before .before .before .before .before .before .if2 .left, sym (c .before .before .before .before .equal3 .ensures) ∙ c .before .before .before .if3 .left, sym (c .before .equal4 .ensures) ∙ c .if4 .taken)
+
+slice-aggregate-equal-5 : tie.Need-slice-aggregate-equal-5
+slice-aggregate-equal-5 c = refl
+
+equal-requires-5 : tie.Need-equal-requires-5
+equal-requires-5 c κs = tt
+
+returns-5 : tie.Need-returns-5
+unfolding keyword among any
+returns-5 c = rw (sym (c .before .before .before .before .before .before .before .before .before .before .before .before .equal .ensures) ∙ c .before .before .before .before .before .before .before .before .before .before .before .if1 .left, sym (c .before .before .before .before .before .before .before .before .before .equal2 .ensures) ∙ c .before .before .before .before .before .before .before .before .if2 .left, sym (c .before .before .before .before .before .before .equal3 .ensures) ∙ c .before .before .before .before .before .if3 .left, sym (c .before .before .before .equal4 .ensures) ∙ c .before .before .if4 .left) (c .equal5 .ensures ∙ sym (or-false _))
 
 pub keyword-spec : {M : Type 1} → statement M
 keyword-spec =
@@ -49,4 +69,10 @@ keyword-spec =
     returns-2
     slice-aggregate-equal-3
     equal-requires-3
-    returns-3)
+    returns-3
+    slice-aggregate-equal-4
+    equal-requires-4
+    returns-4
+    slice-aggregate-equal-5
+    equal-requires-5
+    returns-5)

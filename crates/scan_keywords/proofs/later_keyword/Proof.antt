@@ -1,8 +1,5 @@
 -- `scan_keywords::later_keyword` meets its contract.
-use mathlib.Core.Bool.{or-false}
-use mathlib.Core.Path.{refl, sym, _∙_}
-use Rattle.lists.specs.Members.{any}
-use Rattle.spec.specs.Basics.{among}
+use mathlib.Core.Path.{refl}
 use Rattle.spec.specs.Forms.{laterKeyword}
 use Rattle.scan_keywords.proofs.later_keyword.Statement.{statement}
 use Rattle.scan_keywords.proofs.later_keyword.Tie as tie
@@ -14,39 +11,8 @@ equal-requires : tie.Need-equal-requires
 equal-requires c κs = tt
 
 returns : tie.Need-returns
-unfolding laterKeyword among any
-returns c = rw (sym (c .before .equal .ensures) ∙ c .if1 .taken)
-
-slice-aggregate-equal-2 : tie.Need-slice-aggregate-equal-2
-slice-aggregate-equal-2 c = refl
-
-equal-requires-2 : tie.Need-equal-requires-2
-equal-requires-2 c κs = tt
-
-returns-2 : tie.Need-returns-2
-unfolding laterKeyword among any
-returns-2 c = rw (sym (c .before .before .before .before .equal .ensures) ∙ c .before .before .before .if1 .left, sym (c .before .equal2 .ensures) ∙ c .if2 .taken)
-
-slice-aggregate-equal-3 : tie.Need-slice-aggregate-equal-3
-slice-aggregate-equal-3 c = refl
-
-equal-requires-3 : tie.Need-equal-requires-3
-equal-requires-3 c κs = tt
-
-returns-3 : tie.Need-returns-3
-unfolding laterKeyword among any
-returns-3 c = rw (sym (c .before .before .before .before .before .before .equal .ensures) ∙ c .before .before .before .before .before .if1 .left, sym (c .before .before .before .equal2 .ensures) ∙ c .before .before .if2 .left) (c .equal3 .ensures ∙ sym (or-false _))
+unfolding laterKeyword
+returns c = c .equal .ensures
 
 pub later-keyword-spec : {M : Type 1} → statement M
-later-keyword-spec =
-    tie.close
-    (tie.spec
-    slice-aggregate-equal
-    equal-requires
-    returns
-    slice-aggregate-equal-2
-    equal-requires-2
-    returns-2
-    slice-aggregate-equal-3
-    equal-requires-3
-    returns-3)
+later-keyword-spec = tie.close (tie.spec slice-aggregate-equal equal-requires returns)

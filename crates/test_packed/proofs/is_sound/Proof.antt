@@ -1,4 +1,4 @@
--- `cases::is_sound` meets its contract.
+-- `test_packed::is_sound` meets its contract.
 use mathlib.Core.Path.{refl}
 use Rattle.lists.specs.Tests.{differ}
 use borrow.Author.Needs.{needs}

@@ -1,11 +1,11 @@
-//! A `card` line: the bytes of a card, from its records or piece by piece.
+//! The bytes of a card, from its records, and those of a card or a bundle piece by piece.
 
 use super::escapes::Expanded;
 use super::{number, Fault};
 use crate::card;
 
 /// The card of the records `NAME TIME` between commas, in this order.
-pub fn of_records(records: &Expanded) -> Result<Vec<u8>, Fault> {
+pub fn card(records: &Expanded) -> Result<Vec<u8>, Fault> {
     let records = records.words(b',').into_iter().map(record);
     Ok(card::write(&records.collect::<Result<Vec<_>, _>>()?))
 }
@@ -17,13 +17,13 @@ fn record(record: &[u8]) -> Result<(&[u8], u64), Fault> {
     Ok((&record[..cut], number(&String::from_utf8_lossy(&record[cut + 1..]))?))
 }
 
-/// The card of pieces between spaces, sound or not.
-pub fn of_pieces(pieces: &Expanded) -> Result<Vec<u8>, Fault> {
+/// The bytes of pieces between spaces, whatever they make.
+pub fn bytes(pieces: &Expanded) -> Result<Vec<u8>, Fault> {
     let bytes = pieces.words(b' ').into_iter().map(piece);
     Ok(bytes.collect::<Result<Vec<_>, _>>()?.concat())
 }
 
-/// A piece of a card: `=TEXT`, or `WIDTH:NUMBER` with the lowest byte first.
+/// A piece: `=TEXT`, or `WIDTH:NUMBER` with the lowest byte first.
 fn piece(piece: &[u8]) -> Result<Vec<u8>, Fault> {
     if let Some(text) = piece.strip_prefix(b"=") {
         return Ok(text.to_vec());

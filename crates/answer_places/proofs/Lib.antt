@@ -1,0 +1,3 @@
+pub mod Outcomes
+pub mod Placing
+pub mod Siting
