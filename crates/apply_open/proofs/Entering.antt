@@ -29,11 +29,6 @@ module _ {texts bind : List ℕ} {c : Counts} {n : ℕ} (a : EnterAsks texts bin
   pub scope-room : HasScopeRoom texts bind (c .entries)
   scope-room = enter-room (none-bound (a .sound .known)) n (a .few) (a .low)
 
-  pub entries-low : c .entries < 2048
-  entries-low =
-      let d = none-bound (a .sound .known) in
-      omega (arith, d .entries-counted, d .few-rules, d .few-bindings, d .few-opened)
-
   -- k is the scope that is read in
   module _ {k : ℕ} (s : (g : Scoping) → HoldsScopes g bind → k ≡ g .current) where
     scope-is : (log : List Logged) (rd : Reading) (b : Block) → Known log texts bind c rd b Nothing → k ≡ rd .vars .current
@@ -77,11 +72,6 @@ module _ {sub : Bool} {k : ℕ} {texts bind : List ℕ} {c : Counts} where
   leave-room a e =
       let i = subst (λ (s : Bool). EnteredFrom s k (a .sound .reading .vars)) e (a .inside) in
       back-room (none-bound (a .sound .known)) k (i .0) (i .1)
-
-  pub leave-low : LeaveAsks sub k texts bind c → c .entries < 2048
-  leave-low a =
-      let d = none-bound (a .sound .known) in
-      omega (arith, d .entries-counted, d .few-rules, d .few-bindings, d .few-opened)
 
   pub not-left : sub ≡ false → LeavesScope sub k texts bind c texts bind c
   unfolding joined EnteredFrom backIn

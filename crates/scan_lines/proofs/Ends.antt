@@ -15,7 +15,7 @@ use Rattle.lists.specs.Tests.{split, differ}
 use Rattle.lists.specs.Parts.{part}
 use Rattle.lists.specs.Runs.{Reads, afterRun, run-stops}
 use Rattle.spec.specs.Bytes.{newline, space, hash, dollar}
-use Rattle.spec.specs.Lines.{At, indent, comment, body, escape, lineTurn, endsLine, withByte, linesFrom, linesOf, isSpace, startsWith, isComment}
+use Rattle.spec.specs.Lines.{At, indent, comment, body, escape, lineTurn, endsLine, withByte, linesFrom, isSpace, startsWith, isComment}
 use Rattle.scan_lines.specs.declared.LineEnd.{LineEnd}
 use Rattle.scan_lines.specs.declared.LineEnd.the-variants.{Ended, Comment as CommentEnded, Open}
 use Rattle.scan_lines.specs.Endings.{linesAt, endFrom, EndsAt, EndAt, LineEnded, EndedAs, openLine, LineOpen, LineAt}
@@ -225,10 +225,6 @@ module _ {m : List ℕ} {i k : ℕ} (a : Reads (afterRun isSpace) m i k) where
       line-of-body Open f = open-from body (a .forward) from-body f
 
 -- ---- the lines of a manifest, one after the other
-
-pub lines-begin : (m : List ℕ) → linesOf m ≡ linesAt 0 m
-unfolding linesOf
-lines-begin m = refl
 
 pub lines-end : (m : List ℕ) (i : ℕ) → length m ≤ i → linesAt i (drop i m) ≡ []
 unfolding linesFrom

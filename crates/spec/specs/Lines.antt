@@ -51,10 +51,6 @@ linesFrom q at (b ∷ s) =
     ifB (endsLine q b) (λ _. record { start = at; text = []; ended = true } ∷ linesFrom indent (suc at) s)
     (λ _. withByte at b (linesFrom (lineTurn q b) (suc at) s))
 
-unfoldable pub linesOf : List ℕ → List Line
-unfolding linesFrom
-linesOf s = linesFrom indent 0 s
-
 abbrev pub isSpace : ℕ → Bool
 isSpace b = eqb b space
 

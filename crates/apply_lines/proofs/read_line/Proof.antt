@@ -5,13 +5,6 @@ use mathlib.Core.Path.{refl}
 use borrow.Author.Needs.{needs}
 use Rattle.apply_lines.proofs.read_line.Statement.{statement}
 use Rattle.apply_lines.proofs.read_line.Tie as tie
-use Rattle.apply_lines.proofs.read_line.Reads as reads
-use Rattle.apply_lines.proofs.read_line.Lts as lts
-use Rattle.apply_indented.proofs.read_indented.Reads as read-indented-reads
-use Rattle.apply_rules.proofs.close.Reads as close-reads
-use Rattle.apply_statements.proofs.read_file_line.Reads as read-file-line-reads
-use Rattle.hold_reading.proofs.turned.Reads as turned-reads
-use Rattle.scan_lines.proofs.line_kind.Reads as line-kind-reads
 
 -- src/lib.rt:35:11
 line-kind-requires : tie.Need-line-kind-requires

@@ -2,11 +2,6 @@ use Rattle.apply_manifest.proofs.Answers.{top-asks, top-read}
 use borrow.Author.Needs.{needs}
 use Rattle.apply_manifest.proofs.read_lines.Statement.{statement}
 use Rattle.apply_manifest.proofs.read_lines.Tie as tie
-use Rattle.apply_manifest.proofs.read_lines.Reads as reads
-use Rattle.apply_manifest.proofs.read_lines.Lts as lts
-use Rattle.apply_manifest.proofs.read_text.Reads as read-text-reads
-use Rattle.hold_bindings.proofs.begin_bindings.Reads as begin-bindings-reads
-use Rattle.hold_names.proofs.clear.Reads as clear-reads
 
 -- src/lib.rt:301:5
 clear-requires : tie.Need-clear-requires

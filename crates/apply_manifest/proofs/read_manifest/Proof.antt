@@ -5,12 +5,6 @@ use mathlib.Core.Path.{sym, _∙_}
 use borrow.Author.Needs.{needs}
 use Rattle.apply_manifest.proofs.read_manifest.Statement.{statement}
 use Rattle.apply_manifest.proofs.read_manifest.Tie as tie
-use Rattle.apply_manifest.proofs.read_manifest.Reads as reads
-use Rattle.apply_manifest.proofs.read_manifest.Lts as lts
-use Rattle.apply_manifest.proofs.checks.bytes_together.Reads as bytes-together-reads
-use Rattle.apply_manifest.proofs.checks.first_bad.Reads as first-bad-reads
-use Rattle.apply_manifest.proofs.checks.is_sound_bundle.Reads as is-sound-bundle-reads
-use Rattle.apply_manifest.proofs.read_lines.Reads as read-lines-reads
 
 -- src/lib.rt:325:9
 is-sound-bundle-requires : tie.Need-is-sound-bundle-requires

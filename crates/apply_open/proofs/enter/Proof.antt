@@ -4,10 +4,6 @@ use mathlib.Core.Path.{refl}
 use borrow.Author.Needs.{needs}
 use Rattle.apply_open.proofs.enter.Statement.{statement}
 use Rattle.apply_open.proofs.enter.Tie as tie
-use Rattle.apply_open.proofs.enter.Reads as reads
-use Rattle.apply_open.proofs.enter.Lts as lts
-use Rattle.hold_bindings.proofs.current_scope.Reads as current-scope-reads
-use Rattle.hold_bindings.proofs.enter_scope.Reads as enter-scope-reads
 
 -- src/lib.rt:97:9
 current-scope-requires : tie.Need-current-scope-requires

@@ -5,11 +5,6 @@ use mathlib.Core.Path.{sym, _∙_}
 use Prim.Native.Nat.{_-_}
 use Rattle.apply_open.proofs.find_named.Statement.{statement}
 use Rattle.apply_open.proofs.find_named.Tie as tie
-use Rattle.apply_open.proofs.find_named.Reads as reads
-use Rattle.apply_open.proofs.find_named.Lts as lts
-use Rattle.byteorder.proofs.equal.Reads as equal-reads
-use Rattle.scan_bundle.proofs.record_name.Reads as record-name-reads
-use Rattle.scan_numbers.proofs.word.Reads as word-reads
 
 abbrev Inv-loop : tie.InvT-loop
 Inv-loop b path n k₀ k = NoneYet (bundleNames b) path k

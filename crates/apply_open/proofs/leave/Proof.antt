@@ -3,9 +3,6 @@ use mathlib.Core.Path.{refl}
 use borrow.Author.Needs.{needs}
 use Rattle.apply_open.proofs.leave.Statement.{statement}
 use Rattle.apply_open.proofs.leave.Tie as tie
-use Rattle.apply_open.proofs.leave.Reads as reads
-use Rattle.apply_open.proofs.leave.Lts as lts
-use Rattle.hold_bindings.proofs.back_to.Reads as back-to-reads
 
 -- src/lib.rt:128:9
 back-to-requires : tie.Need-back-to-requires

@@ -5,8 +5,6 @@ use native.Mathlib.Omega.{arith}
 use borrow.Author.Needs.{needs}
 use Rattle.apply_open.proofs.open_over.Statement.{statement}
 use Rattle.apply_open.proofs.open_over.Tie as tie
-use Rattle.apply_open.proofs.open_over.Reads as reads
-use Rattle.apply_open.proofs.open_over.Lts as lts
 
 -- src/lib.rt:57:9
 returns : tie.Need-returns

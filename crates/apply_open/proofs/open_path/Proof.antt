@@ -5,11 +5,6 @@ use denote.Ref.{now}
 use mathlib.Core.Path.{sym, _∙_}
 use Rattle.apply_open.proofs.open_path.Statement.{statement}
 use Rattle.apply_open.proofs.open_path.Tie as tie
-use Rattle.apply_open.proofs.open_path.Reads as reads
-use Rattle.apply_open.proofs.open_path.Lts as lts
-use Rattle.apply_open.proofs.find_named.Reads as find-named-reads
-use Rattle.apply_open.proofs.open_over.Reads as open-over-reads
-use Rattle.expand_dollars.proofs.expand.Reads as expand-reads
 
 -- src/lib.rt:76:9
 expand-requires : tie.Need-expand-requires

@@ -6,15 +6,6 @@ use Rattle.scan_cursor.specs.Spans.{lineOf}
 use borrow.Author.Needs.{needs}
 use Rattle.apply_statements.proofs.read_statement.Statement.{statement}
 use Rattle.apply_statements.proofs.read_statement.Tie as tie
-use Rattle.apply_statements.proofs.read_statement.Reads as reads
-use Rattle.apply_statements.proofs.read_statement.Lts as lts
-use Rattle.apply_builds.proofs.add_step.Reads as add-step-reads
-use Rattle.apply_defaults.proofs.add_defaults.Reads as add-defaults-reads
-use Rattle.apply_rules.proofs.start_rule.Reads as start-rule-reads
-use Rattle.apply_variables.proofs.add_var.Reads as add-var-reads
-use Rattle.cut_refusals.proofs.cut_file_line.Reads as cut-file-line-reads
-use Rattle.hold_reading.proofs.turned.Reads as turned-reads
-use Rattle.scan_raw.proofs.texts.raw_value.Reads as raw-value-reads
 
 -- src/lib.rt:42:11
 cut-file-line-requires : tie.Need-cut-file-line-requires

@@ -7,9 +7,6 @@ use native.Mathlib.Omega.{arith}
 use borrow.Author.Needs.{needs}
 use Rattle.apply_manifest.proofs.checks.bytes_together.Statement.{statement}
 use Rattle.apply_manifest.proofs.checks.bytes_together.Tie as tie
-use Rattle.apply_manifest.proofs.checks.bytes_together.Reads as reads
-use Rattle.apply_manifest.proofs.checks.bytes_together.Lts as lts
-use Rattle.scan_numbers.proofs.word.Reads as word-reads
 
 -- src/checks.rt:38:9
 word-requires : tie.Need-word-requires

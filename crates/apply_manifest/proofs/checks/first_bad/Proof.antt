@@ -9,16 +9,9 @@ use Rattle.scan_bundle.proofs.Lying.{length-texts}
 use Rattle.spec.specs.Bundle.{bundleTexts}
 use denote.Ref.{now}
 use native.Mathlib.Omega.{arith}
-use mathlib.Core.Path.{sym, _∙_}
 use Prim.Native.Nat.{_-_}
 use Rattle.apply_manifest.proofs.checks.first_bad.Statement.{statement}
 use Rattle.apply_manifest.proofs.checks.first_bad.Tie as tie
-use Rattle.apply_manifest.proofs.checks.first_bad.Reads as reads
-use Rattle.apply_manifest.proofs.checks.first_bad.Lts as lts
-use Rattle.scan_bundle.proofs.record_text.Reads as record-text-reads
-use Rattle.scan_bundle.proofs.text_base.Reads as text-base-reads
-use Rattle.scan_numbers.proofs.word.Reads as word-reads
-use Rattle.scan_raw.proofs.manifest.bad_byte.Reads as bad-byte-reads
 
 abbrev Inv-loop : tie.InvT-loop
 Inv-loop b n k₀ k = BadLeft (bundleTexts b) k

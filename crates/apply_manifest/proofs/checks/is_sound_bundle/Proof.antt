@@ -6,9 +6,6 @@ use Prim.Native.Nat.{ℕ}
 use borrow.Author.Needs.{needs}
 use Rattle.apply_manifest.proofs.checks.is_sound_bundle.Statement.{statement}
 use Rattle.apply_manifest.proofs.checks.is_sound_bundle.Tie as tie
-use Rattle.apply_manifest.proofs.checks.is_sound_bundle.Reads as reads
-use Rattle.apply_manifest.proofs.checks.is_sound_bundle.Lts as lts
-use Rattle.scan_bundle.proofs.index.Reads as index-reads
 
 -- src/checks.rt:27:31
 slice-aggregate-index : tie.Need-slice-aggregate-index
