@@ -183,7 +183,7 @@ fn manifests_agree() {
         [0, 2, 3, 4, 5, 6, 7, 8, 9, 10, 19],
         "{answers:?}"
     );
-    assert!(answers.values().all(|&count| count > manifests / 200), "{answers:?}");
+    assert!(answers.values().all(|&count| count > manifests / 300), "{answers:?}");
 }
 
 #[test]
