@@ -1,0 +1,52 @@
+-- Which records of a bundle are opened, in the order in which they are: the reading of `Manifest.readLines` and `Manifest.opener` once more, noting the
+-- record at every opening.
+use Prim.Native.Nat.{ℕ, zero, suc, _-_}
+use mathlib.Core.List.{List, [], _∷_, _++_}
+use mathlib.Core.Bool.{Bool}
+use Rattle.spec.specs.Limits.{maxOpen}
+use Rattle.spec.specs.Lines.{Line}
+use Rattle.spec.specs.Dollars.{expand}
+use Rattle.spec.specs.Bundle.{bundleNames, bundleTexts}
+use Rattle.spec.specs.Reading.{Reading, nothingRead, varFrom, fileVar, numberOf}
+use Rattle.spec.specs.Statements.{Block, noBlock, Outcome, goesOn, opens, refused}
+use Rattle.spec.specs.Manifest.{Opener, opening, readLine, readLines, openPath, opener, textLines}
+
+-- the records that a line opens which opens a file, and those that are opened from there
+abbrev pub Noting : Type 0
+Noting = ℕ → Bool → List ℕ → Reading → List ℕ
+
+unfoldable pub notedAt : Noting → Outcome → List ℕ
+notedAt note (goesOn rd b) = []
+notedAt note (opens start sub raw rd) = note start sub raw rd
+notedAt note (refused r) = []
+
+-- the next part's, where the reading goes on
+unfoldable pub notedThen : Outcome → (Reading → Block → List ℕ) → List ℕ
+notedThen (goesOn rd b) f = f rd b
+notedThen (opens start sub raw rd) f = []
+notedThen (refused r) f = []
+
+-- the records that these lines open, as `readLines` reads them
+unfoldable pub notedIn : Opener → Noting → List Line → Reading → Block → List ℕ
+unfolding notedAt notedThen opening readLine
+notedIn via note [] rd b = []
+notedIn via note (l ∷ ls) rd b = notedAt note (readLine l rd b) ++ notedThen (opening via (readLine l rd b)) (notedIn via note ls)
+
+-- the records that are opened by a line that opens a file, where so many more may be open: the one of its path, if `openPath` lets it be read, then those
+-- that its lines open
+unfoldable pub noting : List (List ℕ) → List (List ℕ) → ℕ → Noting
+unfolding notedThen notedIn openPath opener expand varFrom numberOf textLines
+noting names texts zero start sub raw rd = []
+noting names texts (suc more) start sub raw rd =
+    let p = expand (fileVar (rd .vars)) raw in
+    let k = numberOf p names in
+    notedThen (openPath names (λ j after. goesOn after noBlock) start sub p rd)
+    (λ after b. k ∷ notedIn (opener names texts more) (noting names texts more) (textLines texts k) after noBlock)
+
+-- the records of a bundle that are opened, the top file first
+unfoldable pub openedRecords : List ℕ → List ℕ
+unfolding notedIn opener noting textLines bundleNames bundleTexts
+openedRecords s =
+    let names = bundleNames s in
+    let texts = bundleTexts s in
+    0 ∷ notedIn (opener names texts (maxOpen - 1)) (noting names texts (maxOpen - 1)) (textLines texts 0) nothingRead noBlock
