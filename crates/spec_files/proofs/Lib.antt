@@ -1,1 +1,3 @@
 pub mod Parents
+pub mod Moved
+pub mod Unopened

@@ -1,15 +1,22 @@
 -- Which records of a bundle are opened, in the order in which they are: the reading of `Manifest.readLines` and `Manifest.opener` once more, noting the
--- record at every opening.
+-- record at every opening. And what it is that two bundles are read alike.
 use Prim.Native.Nat.{ℕ, zero, suc, _-_}
-use mathlib.Core.List.{List, [], _∷_, _++_}
-use mathlib.Core.Bool.{Bool}
-use Rattle.spec.specs.Limits.{maxOpen}
+use mathlib.Core.List.{List, [], _∷_, _++_, map}
+use mathlib.Core.Bool.{Bool, true, false}
+use mathlib.Core.Option.{none}
+use mathlib.Core.Path.{_≡_}
+use lib.Dec.{ltb}
+use lib.ListN.{length}
+use Rattle.spec.specs.declared.Refusal.{Refusal}
+use Rattle.spec.specs.Basics.{sum}
+use Rattle.spec.specs.Limits.{maxManifest, maxBundle, maxOpen}
+use Rattle.spec.specs.Answers.{refusalSays, numberOfRefusal, placed}
 use Rattle.spec.specs.Lines.{Line}
 use Rattle.spec.specs.Dollars.{expand}
-use Rattle.spec.specs.Bundle.{bundleNames, bundleTexts}
+use Rattle.spec.specs.Bundle.{soundBundle, bundleNames, bundleTexts}
 use Rattle.spec.specs.Reading.{Reading, nothingRead, varFrom, fileVar, numberOf}
 use Rattle.spec.specs.Statements.{Block, noBlock, Outcome, goesOn, opens, refused}
-use Rattle.spec.specs.Manifest.{Opener, opening, readLine, readLines, openPath, opener, textLines}
+use Rattle.spec.specs.Manifest.{Opener, opening, readLine, readLines, openPath, opener, textLines, badByteIn, Read, accepted, refusedWith, readManifest}
 
 -- the records that a line opens which opens a file, and those that are opened from there
 abbrev pub Noting : Type 0
@@ -50,3 +57,21 @@ openedRecords s =
     let names = bundleNames s in
     let texts = bundleTexts s in
     0 ∷ notedIn (opener names texts (maxOpen - 1)) (noting names texts (maxOpen - 1)) (textLines texts 0) nothingRead noBlock
+
+-- ------------------------------------------------------------------ bundles that are read alike
+
+-- a bundle that is neither refused with 19 at place 0 nor with 2 or 3, which go over all its records
+pub record PassesBytes (s : List ℕ) : Type 0 where
+  pub sound : soundBundle 1 maxBundle s ≡ true
+  pub short : ltb maxManifest (sum (map (λ (t : List ℕ). length t) (bundleTexts s))) ≡ false
+  pub clean : badByteIn 0 (bundleTexts s) ≡ none
+
+-- Both are accepted and the same has been read, or both are refused with the same number at the same place, which is a record's number and an
+-- offset in its text: one number over all texts (`Answers.spot`) moves where a text before it is longer.
+pub data SameRead (texts texts′ : List (List ℕ)) : Read → Read → Type 0 where
+  both-accepted : {rd : Reading} → SameRead texts texts′ (accepted rd) (accepted rd)
+  both-refused : {r r′ : Refusal} → numberOfRefusal r ≡ numberOfRefusal r′ → placed texts (refusalSays r) ≡ placed texts′ (refusalSays r′)
+      → SameRead texts texts′ (refusedWith r) (refusedWith r′)
+
+abbrev pub ReadAlike : List ℕ → List ℕ → Type 0
+ReadAlike s s′ = SameRead (bundleTexts s) (bundleTexts s′) (readManifest s) (readManifest s′)
