@@ -1,3 +1,5 @@
 pub mod Parents
 pub mod Moved
 pub mod Unopened
+pub mod Counting
+pub mod Circles

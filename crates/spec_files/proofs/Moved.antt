@@ -11,7 +11,7 @@ use Rattle.lists.specs.Tests.{ifB}
 use Rattle.lists.specs.Text.{bytes}
 use Rattle.lists.specs.Members.{any}
 use Rattle.spec.specs.declared.Refusal.{Refusal}
-use Rattle.spec.specs.declared.Refusal.the-variants.{BadLine, BadDollar, NotYet, BadRule, BadPath, OverLimit, BadVersion}
+use Rattle.spec.specs.declared.Refusal.the-variants.{BadLine, BadRule, BadPath, OverLimit, BadVersion}
 use Rattle.spec.specs.Basics.{isEmpty}
 use Rattle.spec.specs.Answers.{saysAt, refusalSays}
 use Rattle.spec.specs.Limits.{maxSteps, maxRules, maxName, maxValue}

@@ -1,9 +1,8 @@
 -- Two bundles of the same names are read alike if each record that is opened has the same text in both. So a record that is opened by nobody changes nothing
 -- but 2 and 3.
-use Prim.Native.Nat.{ℕ, zero, suc, _+_, _-_, _<_}
-use mathlib.Core.List.{List, [], _∷_, _++_, map}
+use Prim.Native.Nat.{ℕ, zero, suc, _-_, _<_}
+use mathlib.Core.List.{List, [], _∷_, _++_}
 use mathlib.Core.Bool.{Bool, true, false, not, _||_}
-use mathlib.Core.Option.{none}
 use mathlib.Core.Path.{_≡_, refl, sym, _∙_, ap, subst}
 use native.Mathlib.Omega.{arith}
 use lib.Dec.{leb, ltb}
@@ -13,19 +12,19 @@ use borrow.Author.Tests.{ltb-true, ltb-false}
 use Rattle.lists.specs.Tests.{ifB, split}
 use Rattle.lists.specs.Members.{_∈_, _∉_, here, there}
 use Rattle.spec.specs.declared.Refusal.{Refusal}
-use Rattle.spec.specs.declared.Refusal.the-variants.{BadPath, OverLimit, BadOpen}
-use Rattle.spec.specs.Basics.{isEmpty, among, sum}
-use Rattle.spec.specs.Limits.{maxManifest, maxPath, maxBundle, maxOpen, maxOpened}
+use Rattle.spec.specs.declared.Refusal.the-variants.{BadOpen}
+use Rattle.spec.specs.Basics.{isEmpty, among}
+use Rattle.spec.specs.Limits.{maxPath, maxOpen, maxOpened}
 use Rattle.spec.specs.Answers.{Said, refusalSays, numberOfRefusal, spot, baseOf, placed}
 use Rattle.spec.specs.Lines.{Line, indent, linesFrom}
 use Rattle.spec.specs.Dollars.{expand}
-use Rattle.spec.specs.Bundle.{soundBundle, bundleNames, bundleTexts}
+use Rattle.spec.specs.Bundle.{bundleNames, bundleTexts}
 use Rattle.spec.specs.Reading.{Reading, nothingRead, fileVar, numberOf}
-use Rattle.spec.specs.Statements.{Block, noBlock, Outcome, goesOn, opens, refused, overCounts, longerThan}
-use Rattle.spec.specs.Manifest.{andThen, readLine, Opener, opening, readLines, textLines, withOpened, entered, backIn, openPath, opener, badByteIn, readOf, readManifest}
+use Rattle.spec.specs.Statements.{Block, noBlock, Outcome, goesOn, refused, overCounts, longerThan}
+use Rattle.spec.specs.Manifest.{andThen, readLine, Opener, opening, readLines, textLines, withOpened, entered, backIn, openPath, opener, readOf, readManifest}
 use Rattle.spec.proofs.Answers.{spot-base}
 use Rattle.spec_files.specs.Opened.{Noting, notedAt, notedThen, notedIn, noting, openedRecords, PassesBytes, SameRead, both-accepted, both-refused, ReadAlike}
-use Rattle.spec_files.proofs.Moved.{RefusalMoved, moved, BlockMoved, in-none, OutcomeMoved, on, door, off, either-moved, then-moved, close-moved, bad-path, over-limit, read-moved, LinesMoved, none-left, line-and, lines-moved}
+use Rattle.spec_files.proofs.Moved.{moved, BlockMoved, in-none, OutcomeMoved, on, door, off, then-moved, close-moved, bad-path, over-limit, read-moved, LinesMoved, none-left, line-and, lines-moved}
 
 cons-not-empty : {b : ℕ} {t : List ℕ} → b ∷ t ≡ [] → ⊥
 cons-not-empty {b} {t} e = omega (arith, ap (λ (l : List ℕ). length l) e)
@@ -74,7 +73,7 @@ module _ (texts texts′ : List (List ℕ)) (count : length texts′ ≡ length 
 
   module _ (via via′ : Opener) (note : Noting)
       (alike : (start start′ : ℕ) (sub : Bool) (raw : List ℕ) (rd : Reading) → SamePlace start start′ → SameTexts texts texts′ (note start sub raw rd)
-          → Like (via start sub raw rd) (via′ start′ sub raw rd)) where
+      → Like (via start sub raw rd) (via′ start′ sub raw rd)) where
     opening-alike : {o o′ : Outcome} → Like o o′ → SameTexts texts texts′ (notedAt note o) → Like (opening via o) (opening via′ o′)
     unfolding opening notedAt
     opening-alike (on m) h = on m
@@ -105,7 +104,7 @@ module _ (texts texts′ : List (List ℕ)) (count : length texts′ ≡ length 
       → Like (refused x) (refused x′) → Like (refused y) (refused y′) → Like (refused z) (refused z′)
       → (ifB a (λ _. refused x) (λ _. ifB b (λ _. refused y) (λ _. ifB c (λ _. refused z) (λ _. goesOn after noBlock))) ≡ goesOn after noBlock → Like f g)
       → Like (ifB a (λ _. refused x) (λ _. ifB b (λ _. refused y) (λ _. ifB c (λ _. refused z) (λ _. f))))
-          (ifB a (λ _. refused x′) (λ _. ifB b (λ _. refused y′) (λ _. ifB c (λ _. refused z′) (λ _. g))))
+      (ifB a (λ _. refused x′) (λ _. ifB b (λ _. refused y′) (λ _. ifB c (λ _. refused z′) (λ _. g))))
   gate-alike true b c after r s t h = r
   gate-alike false true c after r s t h = s
   gate-alike false false true after r s t h = t
@@ -117,7 +116,7 @@ module _ (texts texts′ : List (List ℕ)) (count : length texts′ ≡ length 
 
   path-alike : (names : List (List ℕ)) (f g : ℕ → Reading → Outcome) (start start′ : ℕ) (sub : Bool) (p : List ℕ) (rd : Reading) → SamePlace start start′
       → (openPath names (λ j after. goesOn after noBlock) start sub p rd ≡ goesOn (withOpened (length p) (entered sub (rd .vars)) rd) noBlock
-          → Like (f (numberOf p names) (withOpened (length p) (entered sub (rd .vars)) rd)) (g (numberOf p names) (withOpened (length p) (entered sub (rd .vars)) rd)))
+      → Like (f (numberOf p names) (withOpened (length p) (entered sub (rd .vars)) rd)) (g (numberOf p names) (withOpened (length p) (entered sub (rd .vars)) rd)))
       → Like (openPath names f start sub p rd) (openPath names g start′ sub p rd)
   unfolding openPath
   path-alike names f g start start′ sub p rd m h =
@@ -149,10 +148,10 @@ module _ (texts texts′ : List (List ℕ)) (count : length texts′ ≡ length 
       path-alike names (λ j after. andThen (readLines via (textLines texts j) after noBlock) (backIn (rd .vars .current)))
       (λ j after. andThen (readLines via′ (textLines texts′ j) after noBlock) (backIn (rd .vars .current))) start start′ sub p rd m
       (λ e.
-         let after = withOpened (length p) (entered sub (rd .vars)) rd in
-         let inside = opened-on _ after (λ later b. k ∷ notedIn via note (textLines texts k) later noBlock) e h in
-         back-alike (rd .vars .current)
-         (lines-alike via via′ note (opener-alike names more) (text-moved k (inside k (here refl))) after in-none (λ j i. inside j (there i))))
+      let after = withOpened (length p) (entered sub (rd .vars)) rd in
+      let inside = opened-on _ after (λ later b. k ∷ notedIn via note (textLines texts k) later noBlock) e h in
+      back-alike (rd .vars .current)
+      (lines-alike via via′ note (opener-alike names more) (text-moved k (inside k (here refl))) after in-none (λ j i. inside j (there i))))
 
   read-alike : {o o′ : Outcome} → Like o o′ → SameRead texts texts′ (readOf o) (readOf o′)
   unfolding readOf placed numberOfRefusal refusalSays
@@ -163,7 +162,7 @@ module _ (texts texts′ : List (List ℕ)) (count : length texts′ ≡ length 
 
 -- ------------------------------------------------------------------ bundles
 
-lines-read : (s : List ℕ) → PassesBytes s
+pub lines-read : (s : List ℕ) → PassesBytes s
     → readManifest s ≡ readOf (readLines (opener (bundleNames s) (bundleTexts s) (maxOpen - 1)) (textLines (bundleTexts s) 0) nothingRead noBlock)
 unfolding readManifest
 lines-read s p = rw (p .sound, p .short, p .clean) refl

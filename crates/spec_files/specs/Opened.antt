@@ -16,7 +16,7 @@ use Rattle.spec.specs.Dollars.{expand}
 use Rattle.spec.specs.Bundle.{soundBundle, bundleNames, bundleTexts}
 use Rattle.spec.specs.Reading.{Reading, nothingRead, varFrom, fileVar, numberOf}
 use Rattle.spec.specs.Statements.{Block, noBlock, Outcome, goesOn, opens, refused}
-use Rattle.spec.specs.Manifest.{Opener, opening, readLine, readLines, openPath, opener, textLines, badByteIn, Read, accepted, refusedWith, readManifest}
+use Rattle.spec.specs.Manifest.{Opener, opening, readLine, openPath, opener, textLines, badByteIn, Read, accepted, refusedWith, readManifest}
 
 -- the records that a line opens which opens a file, and those that are opened from there
 abbrev pub Noting : Type 0
