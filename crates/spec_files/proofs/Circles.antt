@@ -9,16 +9,17 @@ use lib.ListN.{length}
 use Rattle.lists.specs.Tests.{ifB}
 use Rattle.lists.specs.Text.{bytes}
 use Rattle.spec.specs.declared.Refusal.{Refusal}
-use Rattle.spec.specs.declared.Refusal.the-variants.{LongManifest, BadByte, BadBundle, BadOpen}
+use Rattle.spec.specs.declared.Refusal.the-variants.{LongManifest, BadByte, BadRule, BadBundle, BadOpen}
 use Rattle.spec.specs.Basics.{isEmpty, orElse, among, sum}
 use Rattle.spec.specs.Limits.{maxManifest, maxPath, maxBundle, maxOpen, maxOpened}
-use Rattle.spec.specs.Lines.{Line}
+use Rattle.spec.specs.Lines.{Line, indent, linesFrom, isComment, isBlank, isIndented}
 use Rattle.spec.specs.Dollars.{expand}
+use Rattle.spec.specs.Forms.{fits, openForm, cutStatement}
 use Rattle.spec.specs.Bundle.{soundBundle, bundleNames, bundleTexts, bundled, alone}
-use Rattle.spec.specs.Reading.{Reading, nothingRead, fileVar, numberOf}
-use Rattle.spec.specs.Statements.{Block, noBlock, Outcome, goesOn, opens, refused, overCounts, longerThan}
+use Rattle.spec.specs.Reading.{Variables, Reading, nothingRead, fileVar, hasKey, numberOf}
+use Rattle.spec.specs.Statements.{Block, noBlock, ruleBlock, buildBlock, Outcome, goesOn, opens, refused, overCounts, longerThan, statement}
 use Rattle.spec_files.specs.Opened.{openedRecords}
-use Rattle.spec.specs.Manifest.{andThen, readLine, opening, readLines, textLines, withOpened, entered, backIn, openPath, opener, badByteIn, Read, refusedWith, readOf, readManifest}
+use Rattle.spec.specs.Manifest.{withRule, withStep, close, andThen, ifCut, readStatement, readLine, opening, readLines, textLines, withOpened, entered, backIn, openPath, opener, badByteIn, Read, refusedWith, readOf, readManifest}
 
 -- what does not go on
 data Stops : Outcome → Type 0 where
@@ -138,6 +139,75 @@ circle-refused s In circle i =
     or-read : {y : Read} (o : Option ℕ) → (r : Refusal) × (y ≡ refusedWith r) → (r : Refusal) × (orElse o (λ at. refusedWith (BadByte at)) (λ _. y) ≡ refusedWith r)
     or-read (some at) h = (BadByte at, refl)
     or-read none h = h
+
+-- ------------------------------------------------------------------ which lines open a record
+
+-- A whole line `include` or `subninja` whose path names the record, whatever the variables: such a path holds no name.
+module _ (names : List (List ℕ)) (k : ℕ) (l : Line) (sub : Bool) (raw : List ℕ)
+    (cut : cutStatement (l .text) ≡ fits (openForm sub raw)) (whole : l .ended ≡ true)
+    (names-it : (vs : Variables) → numberOf (expand (fileVar vs) raw) names ≡ k) where
+  statement-opens : (rd : Reading) (b : Block) → OpensRecord names k (readStatement l rd b)
+  unfolding readStatement ifCut statement
+  statement-opens rd b = rw (cut, whole) (opens-it (names-it (rd .vars)))
+
+  closed-opens : (rd : Reading) (b : Block) → OpensRecord names k (andThen (close rd b) (readStatement l))
+  unfolding close andThen
+  closed-opens rd noBlock = statement-opens rd noBlock
+  closed-opens rd (ruleBlock start r) = either-opens (hasKey (bytes "command") (r .keys))
+    where
+      either-opens : (o : Bool) → OpensRecord names k (andThen (ifB o (λ _. goesOn (withRule r rd) noBlock) (λ _. refused (BadRule start))) (readStatement l))
+      either-opens true = statement-opens (withRule r rd) noBlock
+      either-opens false = is-refused
+  closed-opens rd (buildBlock s) = statement-opens (withStep s rd) noBlock
+
+  pub line-opens : isComment (l .text) ≡ false → isBlank (l .text) ≡ false → isIndented (l .text) ≡ false
+      → (rd : Reading) (b : Block) → OpensRecord names k (readLine l rd b)
+  unfolding readLine
+  line-opens c s i rd b = rw (c, s, i) (closed-opens rd b)
+
+-- So a file that begins with `include` of itself is refused, whatever else it holds.
+abbrev itsName : List ℕ
+itsName = bytes "build.ninja"
+
+abbrev itsLine : Line
+itsLine = record { start = 0; text = bytes "include build.ninja"; ended = true }
+
+its-form : cutStatement (bytes "include build.ninja") ≡ fits (openForm false itsName)
+unfolding cutStatement
+its-form = refl
+
+its-path : (vs : Variables) → numberOf (expand (fileVar vs) itsName) (itsName ∷ []) ≡ 0
+unfolding expand numberOf
+its-path vs = refl
+
+its-comment : isComment (bytes "include build.ninja") ≡ false
+unfolding isComment
+its-comment = refl
+
+its-blank : isBlank (bytes "include build.ninja") ≡ false
+unfolding isBlank
+its-blank = refl
+
+its-indent : isIndented (bytes "include build.ninja") ≡ false
+unfolding isIndented
+its-indent = refl
+
+opens-itself : (rest : List ℕ) → OpensOneOf (itsName ∷ []) ((bytes "include build.ninja\n" ++ rest) ∷ []) (λ k. k ≡ 0) 0
+unfolding textLines
+opens-itself rest =
+    record {
+      before = [];
+      line = itsLine;
+      behind = linesFrom indent 20 rest;
+      lines-are = refl;
+      next = 0;
+      next-in = refl;
+      opens-next = line-opens (itsName ∷ []) 0 itsLine false itsName its-form refl its-path its-comment its-blank its-indent;
+    }
+
+pub itself-refused : (s rest : List ℕ) → bundleNames s ≡ bytes "build.ninja" ∷ [] → bundleTexts s ≡ (bytes "include build.ninja\n" ++ rest) ∷ []
+    → (r : Refusal) × (readManifest s ≡ refusedWith r)
+itself-refused s rest n t = circle-refused s (λ k. k ≡ 0) (λ k i. rw (n, t, i) (opens-itself rest)) refl
 
 -- ------------------------------------------------------------------ computed
 

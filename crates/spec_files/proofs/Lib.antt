@@ -1,5 +1,6 @@
 pub mod Parents
 pub mod Moved
 pub mod Unopened
+pub mod Asks
 pub mod Counting
 pub mod Circles

@@ -156,9 +156,13 @@ module _ (texts texts′ : List (List ℕ)) (count : length texts′ ≡ length 
   read-alike : {o o′ : Outcome} → Like o o′ → SameRead texts texts′ (readOf o) (readOf o′)
   unfolding readOf placed numberOfRefusal refusalSays
   read-alike (on m) = both-accepted
-  read-alike (door m) = both-refused refl m
+  read-alike (door m) = both-refused (record { number = refl; place = m })
   read-alike (off (moved e e′ m)) =
-      both-refused (ap (λ (s : Said). s .number) e ∙ sym (ap (λ (s : Said). s .number) e′)) (ap (placed texts) e ∙ m ∙ sym (ap (placed texts′) e′))
+      both-refused
+      (record {
+        number = ap (λ (s : Said). s .number) e ∙ sym (ap (λ (s : Said). s .number) e′);
+        place = ap (placed texts) e ∙ m ∙ sym (ap (placed texts′) e′);
+      })
 
 -- ------------------------------------------------------------------ bundles
 

@@ -14,7 +14,10 @@ use Rattle.spec.specs.Answers.{refusalSays, numberOfRefusal, placed}
 use Rattle.spec.specs.Lines.{Line}
 use Rattle.spec.specs.Dollars.{expand}
 use Rattle.spec.specs.Bundle.{soundBundle, bundleNames, bundleTexts}
-use Rattle.spec.specs.Reading.{Reading, nothingRead, varFrom, fileVar, numberOf}
+use Rattle.spec.specs.declared.Wanted.{Wanted}
+use Rattle.spec.specs.PlanAsk.{inputsOf, PlanOutcome, listed, circular, noPlan, planAsk}
+use Rattle.spec.specs.TextAsk.{TextOutcome, text, noText, textAsk}
+use Rattle.spec.specs.Reading.{Step, Reading, nothingRead, varFrom, fileVar, numberOf}
 use Rattle.spec.specs.Statements.{Block, noBlock, Outcome, goesOn, opens, refused}
 use Rattle.spec.specs.Manifest.{Opener, opening, readLine, openPath, opener, textLines, badByteIn, Read, accepted, refusedWith, readManifest}
 
@@ -66,12 +69,31 @@ pub record PassesBytes (s : List ℕ) : Type 0 where
   pub short : ltb maxManifest (sum (map (λ (t : List ℕ). length t) (bundleTexts s))) ≡ false
   pub clean : badByteIn 0 (bundleTexts s) ≡ none
 
--- Both are accepted and the same has been read, or both are refused with the same number at the same place, which is a record's number and an
--- offset in its text: one number over all texts (`Answers.spot`) moves where a text before it is longer.
+-- The same number at the same place, which is a record's number and an offset in its text: one number over all texts (`Answers.spot`) moves where a text
+-- before it is longer.
+pub record SameRefusal (texts texts′ : List (List ℕ)) (r r′ : Refusal) : Type 0 where
+  pub number : numberOfRefusal r ≡ numberOfRefusal r′
+  pub place : placed texts (refusalSays r) ≡ placed texts′ (refusalSays r′)
+
+-- both are accepted and the same has been read, or both are refused
 pub data SameRead (texts texts′ : List (List ℕ)) : Read → Read → Type 0 where
   both-accepted : {rd : Reading} → SameRead texts texts′ (accepted rd) (accepted rd)
-  both-refused : {r r′ : Refusal} → numberOfRefusal r ≡ numberOfRefusal r′ → placed texts (refusalSays r) ≡ placed texts′ (refusalSays r′)
-      → SameRead texts texts′ (refusedWith r) (refusedWith r′)
+  both-refused : {r r′ : Refusal} → SameRefusal texts texts′ r r′ → SameRead texts texts′ (refusedWith r) (refusedWith r′)
 
 abbrev pub ReadAlike : List ℕ → List ℕ → Type 0
 ReadAlike s s′ = SameRead (bundleTexts s) (bundleTexts s′) (readManifest s) (readManifest s′)
+
+-- the same of what the asks come out with
+pub data SamePlan (texts texts′ : List (List ℕ)) : PlanOutcome → PlanOutcome → Type 0 where
+  both-listed : {l : List ℕ} → SamePlan texts texts′ (listed l) (listed l)
+  both-circular : {steps : List Step} {roots : List ℕ} → SamePlan texts texts′ (circular steps roots) (circular steps roots)
+  no-plan : {r r′ : Refusal} → SameRefusal texts texts′ r r′ → SamePlan texts texts′ (noPlan r) (noPlan r′)
+
+pub data SameText (texts texts′ : List (List ℕ)) : TextOutcome → TextOutcome → Type 0 where
+  both-texts : {t : List ℕ} → SameText texts texts′ (text t) (text t)
+  no-text : {r r′ : Refusal} → SameRefusal texts texts′ r r′ → SameText texts texts′ (noText r) (noText r′)
+
+-- Whatever is asked of the two bundles, the answers are the same.
+pub record AnsweredAlike (s s′ : List ℕ) : Type 0 where
+  pub plans : (card targets : List ℕ) (room : ℕ) → SamePlan (bundleTexts s) (bundleTexts s′) (planAsk (inputsOf s card targets) room) (planAsk (inputsOf s′ card targets) room)
+  pub texts : (step : ℕ) (wanted : Wanted) (room : ℕ) → SameText (bundleTexts s) (bundleTexts s′) (textAsk s step wanted room) (textAsk s′ step wanted room)
