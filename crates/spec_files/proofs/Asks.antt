@@ -1,9 +1,9 @@
 -- Bundles that are read alike get the same answers, whatever is asked.
-use Prim.Native.Nat.{ℕ}
-use mathlib.Core.List.{List, []}
+use Prim.Native.Nat.{ℕ, _+_, _*_, _<_}
+use mathlib.Core.List.{List, [], _∷_, _++_}
 use mathlib.Core.Bool.{Bool, true, false, not, _||_}
 use mathlib.Core.Option.{Option, none, some}
-use mathlib.Core.Path.{_≡_, refl}
+use mathlib.Core.Path.{_≡_, refl, sym, _∙_, ap}
 use lib.Dec.{leb, ltb}
 use lib.ListN.{length, set}
 use Rattle.lists.specs.Tests.{ifB}
@@ -13,7 +13,7 @@ use Rattle.spec.specs.declared.Refusal.the-variants.{ShortBuffer, BadCard, BadT
 use Rattle.spec.specs.Basics.{orElse}
 use Rattle.spec.specs.Limits.{leastList, maxText}
 use Rattle.spec.specs.Answers.{refusalSays, placed}
-use Rattle.spec.specs.Bundle.{bundleNames, bundleTexts}
+use Rattle.spec.specs.Bundle.{bundleNames, bundleTexts, BundleRecord, recordNames, recordTexts, bodyOf, bundled}
 use Rattle.spec.specs.Card.{soundCard}
 use Rattle.spec.specs.Targets.{badTarget}
 use Rattle.spec.specs.Graph.{noRoot, hasOrder, stepAt}
@@ -22,6 +22,7 @@ use Rattle.spec.specs.Manifest.{Read}
 use Rattle.spec.specs.Text.{leadsBack, deep, nameText, nameRefusal}
 use Rattle.spec.specs.PlanAsk.{inputsOf, PlanOutcome, noPlan, targetFiles, missingSource, rootsOf, planListed, planSources, planOrdered, planRooted, planTargets, planRead, planManifest, planAsk}
 use Rattle.spec.specs.TextAsk.{TextOutcome, text, noText, wantedName, nameOutcome, textOfStep, textRead, textAsk}
+use Rattle.spec.proofs.Bundle.{names-back, texts-back}
 use Rattle.spec_files.specs.Opened.{openedRecords, PassesBytes, SameRefusal, SameRead, both-accepted, both-refused, ReadAlike, SamePlan, both-listed, both-circular, no-plan, SameText, both-texts, no-text, AnsweredAlike}
 use Rattle.spec_files.proofs.Unopened.{unopened-changes-nothing}
 
@@ -118,3 +119,36 @@ answered-alike s s′ h =
 pub unopened-changes-no-answer : (s s′ : List ℕ) (j : ℕ) (other : List ℕ) → PassesBytes s → PassesBytes s′ → bundleNames s′ ≡ bundleNames s
     → bundleTexts s′ ≡ set (bundleTexts s) j other → j ∉ openedRecords s → AnsweredAlike s s′
 unopened-changes-no-answer s s′ j other p p′ n t h = answered-alike s s′ (unopened-changes-nothing s s′ j other p p′ n t h)
+
+-- ---- a bundle that is written
+
+abbrev pub withRecord : List BundleRecord → List BundleRecord → List ℕ → List ℕ → List BundleRecord
+withRecord before behind name bytes = before ++ record { name = name; bytes = bytes } ∷ behind
+
+module _ (behind : List BundleRecord) (name old new : List ℕ) where
+  names-stay : (before : List BundleRecord) → recordNames (withRecord before behind name new) ≡ recordNames (withRecord before behind name old)
+  unfolding recordNames
+  names-stay [] = refl
+  names-stay (r ∷ before) = ap (λ (l : List (List ℕ)). r .name ∷ l) (names-stay before)
+
+  text-set : (before : List BundleRecord)
+      → recordTexts (withRecord before behind name new) ≡ set (recordTexts (withRecord before behind name old)) (length before) new
+  unfolding recordTexts
+  text-set [] = refl
+  text-set (r ∷ before) = ap (λ (l : List (List ℕ)). r .bytes ∷ l) (text-set before)
+
+abbrev Short : List BundleRecord → Type 0
+Short rs = 16 + 16 * length rs + length (bodyOf rs) < 4294967296
+
+-- The same of two bundles that are written with one name, once with this text and once with that.
+pub unopened-record : (before behind : List BundleRecord) (name old new : List ℕ)
+    → (let s = bundled (withRecord before behind name old) in
+    let s′ = bundled (withRecord before behind name new) in
+    Short (withRecord before behind name old) → Short (withRecord before behind name new) → PassesBytes s → PassesBytes s′
+    → length before ∉ openedRecords s → AnsweredAlike s s′)
+unopened-record before behind name old new h h′ p p′ n =
+    let rs = withRecord before behind name old in
+    let rs′ = withRecord before behind name new in
+    unopened-changes-no-answer (bundled rs) (bundled rs′) (length before) new p p′
+    (names-back rs′ h′ ∙ names-stay behind name old new before ∙ sym (names-back rs h))
+    (texts-back rs′ h′ ∙ text-set behind name old new before ∙ sym (ap (λ (l : List (List ℕ)). set l (length before) new) (texts-back rs h))) n

@@ -18,7 +18,7 @@ use Rattle.spec.specs.Forms.{fits, openForm, cutStatement}
 use Rattle.spec.specs.Bundle.{soundBundle, bundleNames, bundleTexts, bundled, alone}
 use Rattle.spec.specs.Reading.{Variables, Reading, nothingRead, fileVar, hasKey, numberOf}
 use Rattle.spec.specs.Statements.{Block, noBlock, ruleBlock, buildBlock, Outcome, goesOn, opens, refused, overCounts, longerThan, statement}
-use Rattle.spec_files.specs.Opened.{openedRecords}
+use Rattle.spec_files.specs.Opened.{openedRecords, PassesBytes}
 use Rattle.spec.specs.Manifest.{withRule, withStep, close, andThen, ifCut, readStatement, readLine, opening, readLines, textLines, withOpened, entered, backIn, openPath, opener, badByteIn, Read, refusedWith, readOf, readManifest}
 
 -- what does not go on
@@ -226,6 +226,14 @@ unfolding readManifest bundled
 each-other = refl
 
 -- the top file opens the second record twice; the third is opened by nobody
-opened-twice : openedRecords (bundled (record { name = bytes "a"; bytes = bytes "include b\nsubninja b\n" } ∷ record { name = bytes "b"; bytes = bytes "x = 1\n" } ∷ record { name = bytes "c"; bytes = bytes "include a\n" } ∷ [])) ≡ 0 ∷ 1 ∷ 1 ∷ []
+abbrev three : List ℕ
+three =
+    bundled (record { name = bytes "a"; bytes = bytes "include b\nsubninja b\n" } ∷ record { name = bytes "b"; bytes = bytes "x = 1\n" } ∷ record { name = bytes "c"; bytes = bytes "include a\n" } ∷ [])
+
+opened-twice : openedRecords three ≡ 0 ∷ 1 ∷ 1 ∷ []
 unfolding openedRecords bundled
 opened-twice = refl
+
+passes-bytes : PassesBytes three
+unfolding soundBundle bundleTexts sum badByteIn bundled
+passes-bytes = record { sound = refl; short = refl; clean = refl }

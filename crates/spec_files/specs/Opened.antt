@@ -21,7 +21,7 @@ use Rattle.spec.specs.Reading.{Step, Reading, nothingRead, varFrom, fileVar, nu
 use Rattle.spec.specs.Statements.{Block, noBlock, Outcome, goesOn, opens, refused}
 use Rattle.spec.specs.Manifest.{Opener, opening, readLine, openPath, opener, textLines, badByteIn, Read, accepted, refusedWith, readManifest}
 
--- the records that a line opens which opens a file, and those that are opened from there
+-- what is noted of a line that opens a file: its record, and those that are opened from there
 abbrev pub Noting : Type 0
 Noting = ℕ → Bool → List ℕ → Reading → List ℕ
 
