@@ -21,99 +21,16 @@ use Rattle.spec.specs.Bundle.{bundleNames, bundleTexts}
 use Rattle.spec.specs.Reading.{Reading, nothingRead, fileVar, hasKey, declared, numberOf, isMade}
 use Rattle.spec.specs.Statements.{Block, noBlock, ruleBlock, buildBlock, Outcome, goesOn, opens, refused, overCounts, longerThan, ruleKey, countBinding, badPaths, mentioned, inputsOfLine, overPaths, overBinding, wrongVersion, setVar, withDefaults, startRule, addKey, addStep, addVar, addToBlock, addDefaults, expanded, expandedLine, statement, blockLine}
 use Rattle.spec.specs.Manifest.{withRule, withStep, close, andThen, ifCut, indented, readIndented, readStatement, readLine, Opener, opening, readLines, textLines, withOpened, entered, backIn, openPath, opener, Read, accepted, refusedWith, readOf, readManifest}
+use Rattle.spec_files.proofs.Walk.{After, after-on, after-door, after-off, after-read}
 use Rattle.spec_files.specs.Opened.{Noting, notedAt, notedThen, notedIn, noting, openedRecords, PassesBytes}
 use Rattle.spec_files.proofs.Unopened.{lines-read}
 
--- ------------------------------------------------------------------ a line opens none by itself
-
--- so many have been opened
-data Counted (n : ℕ) : Outcome → Type 0 where
-  count-on : {rd : Reading} {b : Block} → rd .opened ≡ n → Counted n (goesOn rd b)
-  count-door : {start : ℕ} {sub : Bool} {raw : List ℕ} {rd : Reading} → rd .opened ≡ n → Counted n (opens start sub raw rd)
-  count-off : {r : Refusal} → Counted n (refused r)
-
-either-counted : {n : ℕ} {x y : Outcome} (o : Bool) → Counted n x → Counted n y → Counted n (ifB o (λ _. x) (λ _. y))
-either-counted true a b = a
-either-counted false a b = b
-
-counted-then : {n : ℕ} {o : Outcome} (f : Reading → Block → Outcome) → Counted n o → ((rd : Reading) (b : Block) → rd .opened ≡ n → Counted n (f rd b))
-    → Counted n (andThen o f)
-unfolding andThen
-counted-then f (count-on e) g = g _ _ e
-counted-then f (count-door e) g = count-door e
-counted-then f count-off g = count-off
-
-module _ {n : ℕ} (rd : Reading) (e : rd .opened ≡ n) where
-  counted-var : (start : ℕ) (m v : List ℕ) → Counted n (addVar start m v rd)
-  unfolding addVar setVar countBinding
-  counted-var start m v =
-      either-counted (overBinding m v (countBinding (length v) rd)) count-off (either-counted (wrongVersion m v) count-off (count-on e))
-
-  counted-step : (start : ℕ) (b : BuildLine) → Counted n (addStep start b rd)
-  unfolding addStep mentioned
-  counted-step start b =
-      either-counted (not (declared (b .rule) rd)) count-off
-      (either-counted (badPaths (b .outs) (inputsOfLine b) rd) count-off
-      (either-counted (overPaths (b .outs ++ inputsOfLine b) || overCounts (mentioned (b .outs ++ inputsOfLine b) rd) || leb maxSteps (length (rd .steps))) count-off (count-on e)))
-
-  counted-default : (start : ℕ) (ps : List (List ℕ)) → Counted n (addDefaults start ps rd)
-  unfolding addDefaults withDefaults mentioned
-  counted-default start ps =
-      either-counted (any isEmpty ps || any (λ p. not (isMade p rd)) ps) count-off (either-counted (overPaths ps || overCounts (mentioned ps rd)) count-off (count-on e))
-
-  counted-statement : (start : ℕ) (x : Form) → Counted n (statement start x rd)
-  unfolding statement startRule
-  counted-statement start (ruleForm m) =
-      either-counted (declared m rd) count-off (either-counted (longerThan maxName m || leb maxRules (length (rd .rules))) count-off (count-on e))
-  counted-statement start (buildForm b) = counted-step start (expandedLine rd b)
-  counted-statement start (defaultForm ps) = counted-default start (expanded rd ps)
-  counted-statement start (openForm sub raw) = count-door e
-  counted-statement start (bindingForm m raw) = counted-var start m (expand (fileVar (rd .vars)) raw)
-
-  counted-line : (start : ℕ) (b : Block) (m raw : List ℕ) → Counted n (blockLine start b m raw rd)
-  unfolding blockLine addKey addToBlock countBinding
-  counted-line start noBlock m raw = count-off
-  counted-line start (ruleBlock head r) m raw =
-      either-counted (not (ruleKey m) || hasKey m (r .keys)) count-off
-      (either-counted (longerThan maxValue raw || overCounts (countBinding (length raw) rd)) count-off (count-on e))
-  counted-line start (buildBlock s) m raw =
-      either-counted (overBinding m (expand (fileVar (rd .vars)) raw) (countBinding (length (expand (fileVar (rd .vars)) raw)) rd)) count-off (count-on e)
-
-  counted-cut : (l : Line) (c : Cut Form) (f : Form → Outcome) → ((x : Form) → Counted n (f x)) → Counted n (ifCut l c f)
-  unfolding ifCut
-  counted-cut l (fails x) f g = count-off
-  counted-cut l (fits x) f g = either-counted (l .ended) (g x) count-off
-
-  counted-form : (l : Line) (b : Block) (x : Form) → Counted n (indented l rd b x)
-  unfolding indented
-  counted-form l b (bindingForm m raw) = counted-line (l .start) b m raw
-  counted-form l b (ruleForm m) = count-off
-  counted-form l b (buildForm x) = count-off
-  counted-form l b (defaultForm ps) = count-off
-  counted-form l b (openForm sub raw) = count-off
-
-  counted-indented : (l : Line) (b : Block) → Counted n (readIndented l rd b)
-  unfolding readIndented
-  counted-indented l noBlock = count-off
-  counted-indented l (ruleBlock head r) = counted-cut l (cutIndented (l .text)) (indented l rd (ruleBlock head r)) (counted-form l (ruleBlock head r))
-  counted-indented l (buildBlock s) = counted-cut l (cutIndented (l .text)) (indented l rd (buildBlock s)) (counted-form l (buildBlock s))
-
-  counted-close : (b : Block) → Counted n (close rd b)
-  unfolding close withRule withStep
-  counted-close noBlock = count-on e
-  counted-close (ruleBlock head r) = either-counted (hasKey (bytes "command") (r .keys)) (count-on e) count-off
-  counted-close (buildBlock s) = count-on e
+-- a line opens none by itself: so many have been opened
+abbrev Counted : ℕ → Outcome → Type 0
+Counted n = After (λ vs m. m ≡ n) (λ b vs m e. e)
 
 counted-read : {n : ℕ} (l : Line) (rd : Reading) (b : Block) → rd .opened ≡ n → Counted n (readLine l rd b)
-unfolding readLine readStatement
-counted-read l rd b e =
-    either-counted (isComment (l .text)) (count-on e)
-    (either-counted (isBlank (l .text)) (counted-close rd e b)
-    (either-counted (isIndented (l .text)) (counted-indented rd e l b)
-    (counted-then (readStatement l) (counted-close rd e b)
-    (λ rd′ b′ e′. counted-cut rd′ e′ l (cutStatement (l .text)) (λ x. statement (l .start) x rd′) (counted-statement rd′ e′ (l .start))))))
-
--- ------------------------------------------------------------------ at most 64 are opened
+counted-read {n} l rd b e = after-read (λ vs m. m ≡ n) (λ x vs m h. h) l rd b e
 
 -- what a text leaves where n were opened before it and these by it: the reading's own count is right, and within the limit
 data Tally (n : ℕ) (ks : List ℕ) : Outcome → Type 0 where
@@ -147,10 +64,10 @@ module _ (via : Opener) (note : Noting)
     (right : (start : ℕ) (sub : Bool) (raw : List ℕ) (rd : Reading) → rd .opened ≤ maxOpened → Tally (rd .opened) (note start sub raw rd) (via start sub raw rd)) where
   tally-opening : {n : ℕ} {o : Outcome} → n ≤ maxOpened → Counted n o → Tally n (notedAt note o) (opening via o)
   unfolding opening notedAt
-  tally-opening h (count-on {rd} e) = tally-on {rd = rd} (omega (arith, e)) (omega (arith, h))
-  tally-opening {n} h (count-door {start} {sub} {raw} {rd} e) =
+  tally-opening h (after-on {rd} e) = tally-on {rd = rd} (omega (arith, e)) (omega (arith, h))
+  tally-opening {n} h (after-door {start} {sub} {raw} {rd} e) =
       subst (λ (m : ℕ). Tally m (note start sub raw rd) (via start sub raw rd)) e (right start sub raw rd (omega (arith, e, h)))
-  tally-opening h count-off = tally-off (omega (arith, h))
+  tally-opening h after-off = tally-off (omega (arith, h))
 
   tally-lines : (ls : List Line) (rd : Reading) (b : Block) → rd .opened ≤ maxOpened → Tally (rd .opened) (notedIn via note ls rd b) (readLines via ls rd b)
   unfolding readLines notedIn

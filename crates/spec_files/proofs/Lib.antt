@@ -1,4 +1,5 @@
 pub mod Parents
+pub mod Walk
 pub mod Moved
 pub mod Unopened
 pub mod Asks
