@@ -1,5 +1,6 @@
 pub mod Parents
 pub mod Walk
+pub mod Nested
 pub mod Moved
 pub mod Unopened
 pub mod Asks

@@ -29,11 +29,11 @@ module _ (P : Variables → ℕ → Type 0) (binds : (b : Bound) (vs : Variables
     after-door : {start : ℕ} {sub : Bool} {raw : List ℕ} {rd : Reading} → P (rd .vars) (rd .opened) → After (opens start sub raw rd)
     after-off : {r : Refusal} → After (refused r)
 
-  either-after : {x y : Outcome} (o : Bool) → After x → After y → After (ifB o (λ _. x) (λ _. y))
+  pub either-after : {x y : Outcome} (o : Bool) → After x → After y → After (ifB o (λ _. x) (λ _. y))
   either-after true a b = a
   either-after false a b = b
 
-  after-then : {o : Outcome} (f : Reading → Block → Outcome) → After o → ((rd : Reading) (b : Block) → P (rd .vars) (rd .opened) → After (f rd b))
+  pub after-then : {o : Outcome} (f : Reading → Block → Outcome) → After o → ((rd : Reading) (b : Block) → P (rd .vars) (rd .opened) → After (f rd b))
       → After (andThen o f)
   unfolding andThen
   after-then f (after-on e) g = g _ _ e
@@ -95,7 +95,7 @@ module _ (P : Variables → ℕ → Type 0) (binds : (b : Bound) (vs : Variables
     after-indented l (ruleBlock head r) = after-cut l (cutIndented (l .text)) (indented l rd (ruleBlock head r)) (after-form l (ruleBlock head r))
     after-indented l (buildBlock s) = after-cut l (cutIndented (l .text)) (indented l rd (buildBlock s)) (after-form l (buildBlock s))
 
-    after-close : (b : Block) → After (close rd b)
+    pub after-close : (b : Block) → After (close rd b)
     unfolding close withRule withStep
     after-close noBlock = after-on e
     after-close (ruleBlock head r) = either-after (hasKey (bytes "command") (r .keys)) (after-on e) after-off
