@@ -9,18 +9,16 @@ use lib.ListN.{length, length-append}
 use borrow.Author.Tests.{leb-false}
 use Rattle.lists.specs.Tests.{ifB, or-right}
 use Rattle.lists.specs.Text.{bytes}
-use Rattle.lists.specs.Members.{any}
 use Rattle.spec.specs.declared.Refusal.{Refusal}
 use Rattle.spec.specs.declared.Refusal.the-variants.{BadPath, OverLimit, BadOpen}
 use Rattle.spec.specs.Basics.{isEmpty, among}
-use Rattle.spec.specs.Limits.{maxSteps, maxRules, maxName, maxPath, maxValue, maxOpen, maxOpened}
-use Rattle.spec.specs.Lines.{Line, isComment, isBlank, isIndented}
+use Rattle.spec.specs.Limits.{maxPath, maxOpen, maxOpened}
+use Rattle.spec.specs.Lines.{Line}
 use Rattle.spec.specs.Dollars.{expand}
-use Rattle.spec.specs.Forms.{BuildLine, Cut, fits, fails, Form, ruleForm, buildForm, defaultForm, openForm, bindingForm, cutStatement, cutIndented}
 use Rattle.spec.specs.Bundle.{bundleNames, bundleTexts}
-use Rattle.spec.specs.Reading.{Reading, nothingRead, fileVar, hasKey, declared, numberOf, isMade}
-use Rattle.spec.specs.Statements.{Block, noBlock, ruleBlock, buildBlock, Outcome, goesOn, opens, refused, overCounts, longerThan, ruleKey, countBinding, badPaths, mentioned, inputsOfLine, overPaths, overBinding, wrongVersion, setVar, withDefaults, startRule, addKey, addStep, addVar, addToBlock, addDefaults, expanded, expandedLine, statement, blockLine}
-use Rattle.spec.specs.Manifest.{withRule, withStep, close, andThen, ifCut, indented, readIndented, readStatement, readLine, Opener, opening, readLines, textLines, withOpened, entered, backIn, openPath, opener, Read, accepted, refusedWith, readOf, readManifest}
+use Rattle.spec.specs.Reading.{Reading, nothingRead, fileVar, hasKey, numberOf}
+use Rattle.spec.specs.Statements.{Block, noBlock, ruleBlock, buildBlock, Outcome, goesOn, refused, overCounts, longerThan}
+use Rattle.spec.specs.Manifest.{withRule, withStep, close, andThen, readLine, Opener, opening, readLines, textLines, withOpened, entered, backIn, openPath, opener, Read, accepted, refusedWith, readOf, readManifest}
 use Rattle.spec_files.proofs.Walk.{After, after-on, after-door, after-off, after-read}
 use Rattle.spec_files.specs.Opened.{Noting, notedAt, notedThen, notedIn, noting, openedRecords, PassesBytes}
 use Rattle.spec_files.proofs.Unopened.{lines-read}

@@ -5,7 +5,6 @@ use mathlib.Core.List.{List, [], _∷_, _++_, map, append-nil}
 use mathlib.Core.Bool.{Bool, true, false, not, _||_}
 use mathlib.Core.Option.{Option, none, some}
 use mathlib.Core.Path.{_≡_, refl, sym, _∙_, ap, subst}
-use native.Mathlib.Decide.{decLt}
 use native.Mathlib.Omega.{arith}
 use lib.Dec.{leb, ltb}
 use lib.ListN.{length, length-append, List·getD-append}
@@ -13,15 +12,15 @@ use lib.Seq.{getD-append-seam}
 use borrow.Author.Tests.{ltb-true, ltb-false}
 use Rattle.lists.specs.Tests.{ifB, split}
 use Rattle.spec.specs.declared.Refusal.{Refusal}
-use Rattle.spec.specs.declared.Refusal.the-variants.{LongManifest, BadByte, BadBundle, BadOpen}
+use Rattle.spec.specs.declared.Refusal.the-variants.{LongManifest, BadByte, BadBundle}
 use Rattle.spec.specs.Basics.{isEmpty, orElse, among, sum}
 use Rattle.spec.specs.Limits.{maxManifest, maxPath, maxBundle, maxOpen, maxOpened}
 use Rattle.spec.specs.Lines.{Line}
 use Rattle.spec.specs.Dollars.{expand}
 use Rattle.spec.specs.Bundle.{soundBundle, bundleNames, bundleTexts}
 use Rattle.spec.specs.Reading.{Bound, Scope, Variables, Reading, nothingRead, noScope, scopeAt, bindIn, boundTo, ownVars, seenFrom, varFrom, fileVar, numberOf}
-use Rattle.spec.specs.Statements.{Block, noBlock, Outcome, goesOn, opens, refused, overCounts, longerThan, bound}
-use Rattle.spec.specs.Manifest.{andThen, readLine, Opener, opening, readLines, textLines, withOpened, entered, backIn, openPath, opener, badByteIn, Read, accepted, refusedWith, readOf, readManifest}
+use Rattle.spec.specs.Statements.{Block, noBlock, Outcome, overCounts, longerThan, bound}
+use Rattle.spec.specs.Manifest.{andThen, Opener, opening, readLines, textLines, withOpened, entered, backIn, openPath, opener, badByteIn, Read, accepted, refusedWith, readOf, readManifest}
 use Rattle.spec_files.proofs.Walk.{After, after-on, after-door, after-off, either-after, after-then, after-close, after-read}
 use Rattle.spec_files.proofs.Parents.{seen-outward}
 
@@ -93,8 +92,8 @@ nested-entered m true vs h = record { long = omega (arith, e); current = omega (
     in-one k l =
         split (ltb k (length (vs .scopes)))
         (λ (t : ltb k (length (vs .scopes)) ≡ true).
-           let i = ltb-true k (length (vs .scopes)) t in
-           inside-same (vs .scopes) (vs .scopes ++ (x ∷ [])) k (λ j q. kept j (omega (arith, i, q))) (h .inside k i))
+        let i = ltb-true k (length (vs .scopes)) t in
+        inside-same (vs .scopes) (vs .scopes ++ (x ∷ [])) k (λ j q. kept j (omega (arith, i, q))) (h .inside k i))
         (λ (f : ltb k (length (vs .scopes)) ≡ false). last k (omega (arith, e, l, ltb-false k (length (vs .scopes)) f)))
 
 -- ---- lines and files

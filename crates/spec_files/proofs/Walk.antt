@@ -1,27 +1,22 @@
 -- What a line of a manifest changes of the scopes and of the count of opened files: one variable may be bound in the current scope, and no more. One walk over the
 -- reading of a line, for whatever holds of both and stays so where a variable is bound.
-use Prim.Native.Nat.{ℕ, zero, suc, _+_, _-_, _≤_, _<_}
-use mathlib.Core.List.{List, [], _∷_, _++_}
+use Prim.Native.Nat.{ℕ}
+use mathlib.Core.List.{List, _++_}
 use mathlib.Core.Bool.{Bool, true, false, not, _||_}
-use mathlib.Core.Path.{_≡_, refl, sym, _∙_, ap, subst}
-use native.Mathlib.Omega.{arith}
 use lib.Dec.{leb}
-use lib.ListN.{length, length-append}
-use borrow.Author.Tests.{leb-false}
-use Rattle.lists.specs.Tests.{ifB, or-right}
+use lib.ListN.{length}
+use Rattle.lists.specs.Tests.{ifB}
 use Rattle.lists.specs.Text.{bytes}
 use Rattle.lists.specs.Members.{any}
 use Rattle.spec.specs.declared.Refusal.{Refusal}
-use Rattle.spec.specs.declared.Refusal.the-variants.{BadPath, OverLimit, BadOpen}
-use Rattle.spec.specs.Basics.{isEmpty, among}
-use Rattle.spec.specs.Limits.{maxSteps, maxRules, maxName, maxPath, maxValue, maxOpen, maxOpened}
+use Rattle.spec.specs.Basics.{isEmpty}
+use Rattle.spec.specs.Limits.{maxSteps, maxRules, maxName, maxValue}
 use Rattle.spec.specs.Lines.{Line, isComment, isBlank, isIndented}
 use Rattle.spec.specs.Dollars.{expand}
 use Rattle.spec.specs.Forms.{BuildLine, Cut, fits, fails, Form, ruleForm, buildForm, defaultForm, openForm, bindingForm, cutStatement, cutIndented}
-use Rattle.spec.specs.Bundle.{bundleNames, bundleTexts}
-use Rattle.spec.specs.Reading.{Bound, Variables, Reading, nothingRead, fileVar, hasKey, declared, numberOf, isMade}
+use Rattle.spec.specs.Reading.{Bound, Variables, Reading, fileVar, hasKey, declared, isMade}
 use Rattle.spec.specs.Statements.{Block, noBlock, ruleBlock, buildBlock, Outcome, goesOn, opens, refused, overCounts, longerThan, ruleKey, countBinding, badPaths, mentioned, inputsOfLine, overPaths, overBinding, wrongVersion, bound, setVar, withDefaults, startRule, addKey, addStep, addVar, addToBlock, addDefaults, expanded, expandedLine, statement, blockLine}
-use Rattle.spec.specs.Manifest.{withRule, withStep, close, andThen, ifCut, indented, readIndented, readStatement, readLine, Opener, opening, readLines, textLines, withOpened, entered, backIn, openPath, opener, Read, accepted, refusedWith, readOf, readManifest}
+use Rattle.spec.specs.Manifest.{withRule, withStep, close, andThen, ifCut, indented, readIndented, readStatement, readLine}
 
 module _ (P : Variables → ℕ → Type 0) (binds : (b : Bound) (vs : Variables) (n : ℕ) → P vs n → P (bound b vs) n) where
   pub data After : Outcome → Type 0 where
