@@ -1,0 +1,1 @@
+// Laws of split manifests, over the definitions of `spec`: no code.
