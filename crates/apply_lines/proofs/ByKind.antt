@@ -12,9 +12,10 @@ use Rattle.scan_lines.proofs.LineKinds.{is-comment, is-blank, is-indented, is-s
 use Rattle.hold_reading.specs.declared.Counts.{Counts}
 use Rattle.hold_reading.specs.declared.Open.{Open}
 use Rattle.hold_reading.specs.declared.LineAnswer.{LineAnswer}
+use Rattle.hold_reading.specs.declared.LineAnswer.the-variants.{Goes}
 use Rattle.hold_reading.specs.declared.LineTurn.{LineTurn}
-use Rattle.hold_reading.specs.declared.LineTurn.the-variants.{Goes as TurnGoes}
-use Rattle.hold_reading.specs.Held.{turn-goes}
+use Rattle.hold_reading.specs.declared.LineTurn.the-variants.{Answered}
+use Rattle.hold_reading.specs.Held.{goes, turn-answers}
 use Rattle.hold_reading.specs.Binds.{Meets}
 use Rattle.apply_indented.specs.Asks.{IndentedAsks}
 use Rattle.apply_statements.specs.Asks.{LineAsks, LineMeets, TurnMeets}
@@ -23,9 +24,9 @@ use Rattle.hold_reading.specs.Buffers.{Buffers, withBindings}
 
 -- k is the kind that was found, and it is the one that is named.
 module _ (l : Line) {k : LineKind} (a : k ≡ kindOf (l .text)) {bs : Buffers} {c : Counts} {o : Open} where
-  pub comment-read : k ≡ Comment → TurnMeets l bs c o (readLine l) bs (TurnGoes c o)
+  pub comment-read : k ≡ Comment → TurnMeets l bs c o (readLine l) bs (Answered (Goes c o))
   unfolding readLine
-  comment-read e = record { agrees = λ log rd b h p. rw (is-comment (l .text) (sym e ∙ a)) (turn-goes h p) }
+  comment-read e = record { agrees = λ log rd b h p. rw (is-comment (l .text) (sym e ∙ a)) (turn-answers (goes h p)) }
 
   pub blank-read : {r : LineAnswer} → k ≡ Blank → Meets (bs .texts) (bs .bind) c o close (bs .texts) (bs .bind) r → LineMeets bs c o (readLine l) bs r
   unfolding readLine

@@ -8,6 +8,7 @@ use apply_indented::read_indented;
 use apply_rules::close;
 use apply_statements::read_file_line;
 use hold_reading::Line;
+use hold_reading::LineAnswer;
 use hold_reading::LineTurn;
 use hold_reading::State;
 use hold_reading::turned;
@@ -33,7 +34,7 @@ pub fn read_line(
     let c = s.counts;
     let block = s.open;
     match line_kind(t, l) {
-        LineKind::Comment => LineTurn::Goes(c, block),
+        LineKind::Comment => LineTurn::Answered(LineAnswer::Goes(c, block)),
         LineKind::Blank => turned(close(texts, bind, c, block)),
         LineKind::Indented => turned(read_indented(
             t,

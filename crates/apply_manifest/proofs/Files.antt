@@ -22,12 +22,12 @@ use Rattle.hold_reading.specs.declared.Open.{Open}
 use Rattle.hold_reading.specs.declared.Open.the-variants.{Nothing}
 use Rattle.hold_reading.specs.declared.LineAnswer.{LineAnswer}
 use Rattle.hold_reading.specs.declared.LineAnswer.the-variants.{Goes, Refused}
-use Rattle.hold_reading.specs.declared.LineTurn.the-variants.{Goes as TurnGoes, Opens as TurnOpens, Refused as TurnRefused}
+use Rattle.hold_reading.specs.declared.LineTurn.the-variants.{Answered, Opens as TurnOpens}
 use Rattle.hold_reading.specs.Held.{joined, OpensBlock, nothing, HoldsReading, Agrees, goes, refuses}
 use Rattle.hold_reading.specs.Binds.{Known}
 use Rattle.hold_reading.specs.Buffers.{Buffers, withBindings, SameRoom}
 use Rattle.hold_reading.proofs.Lift.{known, met, lifted, none-bound}
-use Rattle.hold_reading.proofs.Agreement.{agreed-on, agreed-refused, OpensAt, turned-on, turned-opens, turned-refused}
+use Rattle.hold_reading.proofs.Agreement.{agreed-on, agreed-refused, OpensAt, turned-answer, turned-opens}
 use Rattle.hold_reading.proofs.Opened.{scope-there}
 use Rattle.apply_statements.specs.Asks.{BetweenLines, LineMeets, TurnMeets}
 use Rattle.apply_statements.proofs.Outcomes.{between-sound, close-none}
@@ -53,15 +53,15 @@ lines-closed via (l ∷ ls) rd b e = then-closed (opening via (readLine l rd b))
 
 -- ---- a line
 
-module _ (via : Opener) {l : Line} {bs : Buffers} {c : Counts} {o : Open} {bs′ : Buffers} where
-  pub turn-went : {d : Counts} {q : Open} → TurnMeets l bs c o (readLine l) bs′ (TurnGoes d q) → LineMeets bs c o (λ rd b. opening via (readLine l rd b)) bs′ (Goes d q)
-  unfolding opening
-  turn-went m =
-      record { agrees = λ log rd b h p. let g = turned-on (m .agrees log rd b h p) in rw (g .outcome) (goes (g .holds) (g .opens)) }
+-- what an answer agrees with opens no file
+opens-none : (via : Opener) {bs : Buffers} {out : Outcome} {r : LineAnswer} → Agrees bs out r → Agrees bs (opening via out) r
+unfolding opening
+opens-none via (goes h p) = goes h p
+opens-none via refuses = refuses
 
-  pub turn-stopped : {r : Refusal} → TurnMeets l bs c o (readLine l) bs′ (TurnRefused r) → LineMeets bs c o (λ rd b. opening via (readLine l rd b)) bs′ (Refused r)
-  unfolding opening
-  turn-stopped m = record { agrees = λ log rd b h p. rw (turned-refused (m .agrees log rd b h p)) refuses }
+module _ (via : Opener) {l : Line} {bs : Buffers} {c : Counts} {o : Open} {bs′ : Buffers} where
+  pub turn-answered : {r : LineAnswer} → TurnMeets l bs c o (readLine l) bs′ (Answered r) → LineMeets bs c o (λ rd b. opening via (readLine l rd b)) bs′ r
+  turn-answered m = record { agrees = λ log rd b h p. opens-none via (turned-answer (m .agrees log rd b h p)) }
 
   module _ {d : Counts} {sub : Bool} {from to : ℕ} (m : TurnMeets l bs c o (readLine l) bs′ (TurnOpens d sub from to)) where
     pub turn-opened : {bs″ : Buffers} {r : LineAnswer} → LineMeets bs′ d Nothing (λ rd b. via (l .start) sub (part (l .text) from to) rd) bs″ r

@@ -145,7 +145,7 @@ fn read_turn(
         ended: line.ended,
     };
     match read_line(t, here, l, names, index, texts, bind, graph, word, s) {
-        LineTurn::Goes(c, o) => LineAnswer::Goes(c, o),
+        LineTurn::Answered(a) => a,
         LineTurn::Opens(c, sub, from, to) => {
             let o = OpenLine {
                 start: line.start,
@@ -166,7 +166,6 @@ fn read_turn(
                 c,
             )
         }
-        LineTurn::Refused(r) => LineAnswer::Refused(r),
     }
 }
 

@@ -28,12 +28,12 @@ use Rattle.hold_reading.specs.declared.Open.the-variants.{Nothing}
 use Rattle.hold_reading.specs.declared.LineAnswer.{LineAnswer}
 use Rattle.hold_reading.specs.declared.LineAnswer.the-variants.{Goes, Refused}
 use Rattle.hold_reading.specs.declared.LineTurn.{LineTurn}
-use Rattle.hold_reading.specs.declared.LineTurn.the-variants.{Opens as TurnOpens, Refused as TurnRefused}
-use Rattle.hold_reading.specs.Held.{joined, OpensBlock, nothing, HoldsReading, turnOf, turn-opens, turn-refuses}
+use Rattle.hold_reading.specs.declared.LineTurn.the-variants.{Answered, Opens as TurnOpens}
+use Rattle.hold_reading.specs.Held.{joined, OpensBlock, nothing, HoldsReading, refuses, turn-opens, turn-answers}
 use Rattle.hold_reading.specs.Binds.{SoundBlock, Meets}
 use Rattle.hold_reading.specs.Adds.{Whole, AddsFiles}
 use Rattle.hold_reading.proofs.Lift.{met, sound, joined-none}
-use Rattle.hold_reading.proofs.Agreement.{agreed-on, agreed-refused, turn-agrees}
+use Rattle.hold_reading.proofs.Agreement.{agreed-on, agreed-refused}
 use Rattle.apply_variables.specs.Asks.{BindingAsks as ValueAsks}
 use Rattle.apply_builds.specs.Asks.{BuildAsks}
 use Rattle.apply_defaults.specs.Asks.{DefaultAsks}
@@ -55,9 +55,9 @@ module _ {bs : Buffers} {c : Counts} where
       → LineMeets bs c o line′ bs′ r → LineMeets bs c o line bs′ r
   line-as e m = record { agrees = λ log rd b h p. rw (e rd b) (m .agrees log rd b h p) }
 
-  pub turn-met : (l : Line) {o : Open} {line : Reading → Block → Outcome} {bs′ : Buffers} {r : LineAnswer} {x : LineTurn} → LineMeets bs c o line bs′ r → x ≡ turnOf r
+  pub turn-met : (l : Line) {o : Open} {line : Reading → Block → Outcome} {bs′ : Buffers} {r : LineAnswer} {x : LineTurn} → LineMeets bs c o line bs′ r → x ≡ Answered r
       → TurnMeets l bs c o line bs′ x
-  turn-met l m e = rw e (record { agrees = λ log rd b h p. turn-agrees l (m .agrees log rd b h p) })
+  turn-met l m e = rw e (record { agrees = λ log rd b h p. turn-answers (m .agrees log rd b h p) })
 
   pub turn-as : {l : Line} {o : Open} {line line′ : Reading → Block → Outcome} {bs′ : Buffers} {r : LineTurn} → ((rd : Reading) (b : Block) → line rd b ≡ line′ rd b)
       → TurnMeets l bs c o line′ bs′ r → TurnMeets l bs c o line bs′ r
@@ -112,9 +112,9 @@ open-read l a =
     }
 
 pub wrong-read : (l : Line) {bs : Buffers} {c : Counts} {r : Refusal} → Wrong l (cutStatement (l .text)) r
-    → TurnMeets l bs c Nothing (readStatement l) bs (TurnRefused r)
+    → TurnMeets l bs c Nothing (readStatement l) bs (Answered (Refused r))
 unfolding readStatement
-wrong-read l w = record { agrees = λ log rd b h p. rw (w _) turn-refuses }
+wrong-read l w = record { agrees = λ log rd b h p. rw (w _) (turn-answers refuses) }
 
 -- ---- what the lines ask
 
@@ -208,6 +208,6 @@ module _ {bs : Buffers} {c d : Counts} {o o′ : Open} (m : Meets (bs .texts) (b
       }
 
 pub not-closed : {l : Line} {bs : Buffers} {c : Counts} {o : Open} {r : Refusal} (line : Reading → Block → Outcome) → Meets (bs .texts) (bs .bind) c o close (bs .texts) (bs .bind) (Refused r)
-    → TurnMeets l bs c o (λ rd b. andThen (close rd b) line) bs (TurnRefused r)
+    → TurnMeets l bs c o (λ rd b. andThen (close rd b) line) bs (Answered (Refused r))
 unfolding andThen
-not-closed line m = record { agrees = λ log rd b h p. rw (agreed-refused (met rd h p m)) turn-refuses }
+not-closed line m = record { agrees = λ log rd b h p. rw (agreed-refused (met rd h p m)) (turn-answers refuses) }

@@ -54,7 +54,7 @@ pub fn read_statement(
             let raw = raw_value(l, at);
             turned(add_var(t, start, &l[from..to], raw, texts, bind, word, c))
         }
-        FileLine::Refused(r) => LineTurn::Refused(r),
+        FileLine::Refused(r) => LineTurn::Answered(LineAnswer::Refused(r)),
     }
 }
 
@@ -89,6 +89,6 @@ pub fn read_file_line(
             word,
             d,
         ),
-        LineAnswer::Refused(r) => LineTurn::Refused(r),
+        LineAnswer::Refused(r) => LineTurn::Answered(LineAnswer::Refused(r)),
     }
 }

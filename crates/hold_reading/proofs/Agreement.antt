@@ -26,8 +26,8 @@ use Rattle.hold_reading.specs.declared.Counts.{Counts}
 use Rattle.hold_reading.specs.declared.Open.{Open}
 use Rattle.hold_reading.specs.declared.LineAnswer.{LineAnswer}
 use Rattle.hold_reading.specs.declared.LineAnswer.the-variants.{Goes, Refused}
-use Rattle.hold_reading.specs.declared.LineTurn.the-variants.{Goes as TurnGoes, Opens as TurnOpens, Refused as TurnRefused}
-use Rattle.hold_reading.specs.Held.{joined, OpensBlock, capacities, HoldsReading, Agrees, goes, refuses, turnOf, TurnAgrees, turn-goes, turn-opens, turn-refuses}
+use Rattle.hold_reading.specs.declared.LineTurn.the-variants.{Answered, Opens as TurnOpens}
+use Rattle.hold_reading.specs.Held.{joined, OpensBlock, capacities, HoldsReading, Agrees, goes, refuses, TurnAgrees, turn-opens, turn-answers}
 use Rattle.hold_reading.specs.Buffers.{Buffers}
 
 -- ---- by the answer
@@ -50,11 +50,6 @@ module _ {bs : Buffers} where
 
 -- ---- a line that may open a file
 
-pub turn-agrees : (l : Line) {bs : Buffers} {out : Outcome} {a : LineAnswer} → Agrees bs out a → TurnAgrees l bs out (turnOf a)
-unfolding turnOf
-turn-agrees l (goes h p) = turn-goes h p
-turn-agrees l refuses = turn-refuses
-
 -- the line opens a file, and what was read before it is held
 pub record OpensAt (l : Line) (bs : Buffers) (c : Counts) (sub : Bool) (from to : ℕ) (out : Outcome) : Type 0 where
   pub log : List Logged
@@ -66,15 +61,12 @@ pub record OpensAt (l : Line) (bs : Buffers) (c : Counts) (sub : Bool) (from to 
   pub sound : badDollar (part (l .text) from to) ≡ none
 
 module _ {l : Line} {bs : Buffers} where
-  pub turned-on : {out : Outcome} {c : Counts} {o : Open} → TurnAgrees l bs out (TurnGoes c o) → GoesOn bs c o out
-  turned-on (turn-goes {log = l} {rd = rd} {b = b} h p) = record { log = l; reading = rd; block = b; outcome = refl; holds = h; opens = p }
+  pub turned-answer : {out : Outcome} {a : LineAnswer} → TurnAgrees l bs out (Answered a) → Agrees bs out a
+  turned-answer (turn-answers g) = g
 
   pub turned-opens : {out : Outcome} {c : Counts} {sub : Bool} {from to : ℕ} → TurnAgrees l bs out (TurnOpens c sub from to) → OpensAt l bs c sub from to out
   turned-opens (turn-opens {log = g} {rd = rd} h a b d) =
       record { log = g; reading = rd; outcome = refl; holds = h; longer = a; within = b; sound = d }
-
-  pub turned-refused : {out : Outcome} {r : Refusal} → TurnAgrees l bs out (TurnRefused r) → out ≡ refused r
-  turned-refused turn-refuses = refl
 
 -- ---- before the first line
 

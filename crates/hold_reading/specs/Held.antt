@@ -28,7 +28,7 @@ use Rattle.hold_reading.specs.declared.Open.the-variants.{Nothing, Rule 
 use Rattle.hold_reading.specs.declared.LineAnswer.{LineAnswer}
 use Rattle.hold_reading.specs.declared.LineAnswer.the-variants.{Goes, Refused}
 use Rattle.hold_reading.specs.declared.LineTurn.{LineTurn}
-use Rattle.hold_reading.specs.declared.LineTurn.the-variants.{Goes as TurnGoes, Opens as TurnOpens, Refused as TurnRefused}
+use Rattle.hold_reading.specs.declared.LineTurn.the-variants.{Answered, Opens as TurnOpens}
 use Rattle.hold_reading.specs.Buffers.{Buffers}
 
 -- the reading with its open block closed
@@ -156,15 +156,8 @@ pub data Agrees (bs : Buffers) : Outcome → LineAnswer → Type 0 where
       → Agrees bs (goesOn rd b) (Goes c o)
   refuses : {r : Refusal} → Agrees bs (refused r) (Refused r)
 
--- an answer as that of a line that may open a file
-unfoldable pub turnOf : LineAnswer → LineTurn
-turnOf (Goes c o) = TurnGoes c o
-turnOf (Refused r) = TurnRefused r
-
 -- The same of the line `l` that may open a file.
 pub data TurnAgrees (l : Line) (bs : Buffers) : Outcome → LineTurn → Type 0 where
-  turn-goes : {log : List Logged} {rd : Reading} {b : Block} {c : Counts} {o : Open} → HoldsReading log bs c (joined rd b) → OpensBlock log b o
-      → TurnAgrees l bs (goesOn rd b) (TurnGoes c o)
+  turn-answers : {out : Outcome} {a : LineAnswer} → Agrees bs out a → TurnAgrees l bs out (Answered a)
   turn-opens : {log : List Logged} {rd : Reading} {c : Counts} {sub : Bool} {from to : ℕ} → HoldsReading log bs c rd → from < to → to ≤ length (l .text)
       → badDollar (part (l .text) from to) ≡ none → TurnAgrees l bs (opens (l .start) sub (part (l .text) from to) rd) (TurnOpens c sub from to)
-  turn-refuses : {r : Refusal} → TurnAgrees l bs (refused r) (TurnRefused r)

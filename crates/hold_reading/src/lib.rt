@@ -1,6 +1,5 @@
 // What the reader keeps beside its lent buffers: counts and the open block. `specs/Held.antt` says what the buffers hold.
 ghost use mathlib.Core.Path.{_≡_};
-ghost use Rattle.hold_reading.specs.Held.{turnOf};
 
 pub mod columns;
 
@@ -48,17 +47,13 @@ pub enum LineAnswer {
 
 // The same of a line that may open a file: in a new scope or not, by the raw path from one place of the line to another.
 pub enum LineTurn {
-    Goes(Counts, Open),
+    Answered(LineAnswer),
     Opens(Counts, bool, usize, usize),
-    Refused(Refusal),
 }
 
 // A line that opens none.
 pub fn turned(a: LineAnswer) -> LineTurn
-    ensures { λ r. ⌜ r ≡ turnOf a ⌝ }
+    ensures { λ r. ⌜ r ≡ LineTurn.Answered a ⌝ }
 {
-    match a {
-        LineAnswer::Goes(c, o) => LineTurn::Goes(c, o),
-        LineAnswer::Refused(r) => LineTurn::Refused(r),
-    }
+    LineTurn::Answered(a)
 }

@@ -9,7 +9,7 @@ use Rattle.apply_manifest.specs.Manifests.{fileOpener}
 use Rattle.apply_manifest.proofs.Texts.{laid}
 use Rattle.apply_manifest.proofs.Each.{Same, same-begin, EachFrom, each-begin, each-end, each-refused, each-pair, each-forward, each-within, each-asks, each-on}
 use Rattle.apply_manifest.proofs.Turns.{Reached, turn-begin, found-ask, turn-asks, turn-on, turn-refused, turn-sound, turn-end}
-use Rattle.apply_manifest.proofs.Files.{turn-went, turn-stopped, turn-opened, raw-ordered, raw-within, file-asks, path-asks, not-opened, all-open, enter-asks, text-asks, file-stopped, leave-asks, file-read}
+use Rattle.apply_manifest.proofs.Files.{turn-answered, turn-opened, raw-ordered, raw-within, file-asks, path-asks, not-opened, all-open, enter-asks, text-asks, file-stopped, leave-asks, file-read}
 use borrow.Author.Needs.{needs}
 use Prim.Native.Nat.{ℕ, _+_, _*_, _-_, _<_}
 use borrow.Fn.Kinds.{In}
@@ -1173,22 +1173,22 @@ read-turn-read-line-requires : (t : ℕ) → read-turn-lts.Need-read-line-requir
 read-turn-read-line-requires t c κs = c .before .before .before .before .before .before .before .before .before .before .before .before .before .before .pre .1 .line
 
 -- src/lib.rt:148:24
+read-turn-enum-known-a : (t : ℕ) → read-turn-lts.Need-enum-known-a (
+  read-line-reads.Asked,
+  read-line-reads.Learnt,
+  open-file-below t,
+  open-file.Post,
+) (read-turn-at t) read-turn.Post
+read-turn-enum-known-a t c = c .match .keys1
+
+-- src/lib.rt:149:25
 read-turn-enum-known-c : (t : ℕ) → read-turn-lts.Need-enum-known-c (
   read-line-reads.Asked,
   read-line-reads.Learnt,
   open-file-below t,
   open-file.Post,
 ) (read-turn-at t) read-turn.Post
-read-turn-enum-known-c t c = c .match .keys1
-
--- src/lib.rt:149:25
-read-turn-enum-known-c-2 : (t : ℕ) → read-turn-lts.Need-enum-known-c-2 (
-  read-line-reads.Asked,
-  read-line-reads.Learnt,
-  open-file-below t,
-  open-file.Post,
-) (read-turn-at t) read-turn.Post
-read-turn-enum-known-c-2 t c = c .match .keys2
+read-turn-enum-known-c t c = c .match .keys2
 
 -- src/lib.rt:158:17
 read-turn-sub-open-file : (t : ℕ) → read-turn-lts.Need-sub-open-file (
@@ -1197,7 +1197,7 @@ read-turn-sub-open-file : (t : ℕ) → read-turn-lts.Need-sub-open-file (
   open-file-below t,
   open-file.Post,
 ) (read-turn-at t) read-turn.Post
-read-turn-sub-open-file t c = omega (arith, raw-ordered (fileOpener (now (c .before .before .before .before .before .before .before .before .before .before .before .before .before .before .before .before .before .before .before .before .before .before .before .before .before .before .before .before .before .before .args .b)) (c .before .before .before .before .before .before .before .before .before .before .before .before .before .before .before .before .before .before .before .before .before .before .before .before .before .before .before .before .before .before .args .line .more)) (rw (c .before .c2 .given .1) at (c .before .before .before .before .before .before .before .before .before .before .before .before .before .before .before .read-line .ensures .promise)) (c .before .before .before .before .before .before .before .before .before .before .before .before .before .before .before .before .before .before .before .before .before .before .before .before .before .before .before .before .before .before .pre .1 .line .between))
+read-turn-sub-open-file t c = omega (arith, raw-ordered (fileOpener (now (c .before .before .before .before .before .before .before .before .before .before .before .before .before .before .before .before .before .before .before .before .before .before .before .before .before .before .before .before .before .before .args .b)) (c .before .before .before .before .before .before .before .before .before .before .before .before .before .before .before .before .before .before .before .before .before .before .before .before .before .before .before .before .before .before .args .line .more)) (rw (c .before .c .given .1) at (c .before .before .before .before .before .before .before .before .before .before .before .before .before .before .before .read-line .ensures .promise)) (c .before .before .before .before .before .before .before .before .before .before .before .before .before .before .before .before .before .before .before .before .before .before .before .before .before .before .before .before .before .before .pre .1 .line .between))
 
 -- src/lib.rt:158:17
 read-turn-part-open-file-start : (t : ℕ) → read-turn-lts.Need-part-open-file-start (
@@ -1206,7 +1206,7 @@ read-turn-part-open-file-start : (t : ℕ) → read-turn-lts.Need-part-open-file
   open-file-below t,
   open-file.Post,
 ) (read-turn-at t) read-turn.Post
-read-turn-part-open-file-start t c = omega (arith, raw-ordered (fileOpener (now (c .before .before .before .before .before .before .before .before .before .before .before .before .before .before .before .before .before .before .before .before .before .before .before .before .before .before .before .before .before .before .args .b)) (c .before .before .before .before .before .before .before .before .before .before .before .before .before .before .before .before .before .before .before .before .before .before .before .before .before .before .before .before .before .before .args .line .more)) (rw (c .before .c2 .given .1) at (c .before .before .before .before .before .before .before .before .before .before .before .before .before .before .before .read-line .ensures .promise)) (c .before .before .before .before .before .before .before .before .before .before .before .before .before .before .before .before .before .before .before .before .before .before .before .before .before .before .before .before .before .before .pre .1 .line .between))
+read-turn-part-open-file-start t c = omega (arith, raw-ordered (fileOpener (now (c .before .before .before .before .before .before .before .before .before .before .before .before .before .before .before .before .before .before .before .before .before .before .before .before .before .before .before .before .before .before .args .b)) (c .before .before .before .before .before .before .before .before .before .before .before .before .before .before .before .before .before .before .before .before .before .before .before .before .before .before .before .before .before .before .args .line .more)) (rw (c .before .c .given .1) at (c .before .before .before .before .before .before .before .before .before .before .before .before .before .before .before .read-line .ensures .promise)) (c .before .before .before .before .before .before .before .before .before .before .before .before .before .before .before .before .before .before .before .before .before .before .before .before .before .before .before .before .before .before .pre .1 .line .between))
 
 -- src/lib.rt:158:17
 read-turn-part-open-file-end : (t : ℕ) → read-turn-lts.Need-part-open-file-end (
@@ -1215,7 +1215,7 @@ read-turn-part-open-file-end : (t : ℕ) → read-turn-lts.Need-part-open-file-e
   open-file-below t,
   open-file.Post,
 ) (read-turn-at t) read-turn.Post
-read-turn-part-open-file-end t c = raw-within (fileOpener (now (c .before .before .before .before .before .before .before .before .before .before .before .before .before .before .before .before .before .before .before .before .before .before .before .before .before .before .before .before .before .before .args .b)) (c .before .before .before .before .before .before .before .before .before .before .before .before .before .before .before .before .before .before .before .before .before .before .before .before .before .before .before .before .before .before .args .line .more)) (rw (c .before .c2 .given .1) at (c .before .before .before .before .before .before .before .before .before .before .before .before .before .before .before .read-line .ensures .promise)) (c .before .before .before .before .before .before .before .before .before .before .before .before .before .before .before .before .before .before .before .before .before .before .before .before .before .before .before .before .before .before .pre .1 .line .between)
+read-turn-part-open-file-end t c = raw-within (fileOpener (now (c .before .before .before .before .before .before .before .before .before .before .before .before .before .before .before .before .before .before .before .before .before .before .before .before .before .before .before .before .before .before .args .b)) (c .before .before .before .before .before .before .before .before .before .before .before .before .before .before .before .before .before .before .before .before .before .before .before .before .before .before .before .before .before .before .args .line .more)) (rw (c .before .c .given .1) at (c .before .before .before .before .before .before .before .before .before .before .before .before .before .before .before .read-line .ensures .promise)) (c .before .before .before .before .before .before .before .before .before .before .before .before .before .before .before .before .before .before .before .before .before .before .before .before .before .before .before .before .before .before .pre .1 .line .between)
 
 -- src/lib.rt:155:13
 read-turn-open-file-requires : (t : ℕ) → read-turn-lts.Need-open-file-requires (
@@ -1224,16 +1224,7 @@ read-turn-open-file-requires : (t : ℕ) → read-turn-lts.Need-open-file-requir
   open-file-below t,
   open-file.Post,
 ) (read-turn-at t) read-turn.Post
-read-turn-open-file-requires t c κs = (omega (arith, c .before .before .before .before .before .before .before .before .before .before .before .before .before .before .before .before .before .before .before .before .before .before .before .before .before .before .before .before .before .before .before .before .before .before .before .before .before .pre .0), file-asks (fileOpener (now (c .before .before .before .before .before .before .before .before .before .before .before .before .before .before .before .before .before .before .before .before .before .before .before .before .before .before .before .before .before .before .before .before .before .before .before .before .before .args .b)) (c .before .before .before .before .before .before .before .before .before .before .before .before .before .before .before .before .before .before .before .before .before .before .before .before .before .before .before .before .before .before .before .before .before .before .before .before .before .args .line .more)) (rw (c .before .before .before .before .before .before .before .before .c2 .given .1) at (c .before .before .before .before .before .before .before .before .before .before .before .before .before .before .before .before .before .before .before .before .before .before .read-line .ensures .promise)) (c .before .before .before .before .before .before .before .before .before .before .before .before .before .before .before .before .before .before .before .before .before .before .before .before .before .before .before .before .before .before .before .before .before .before .before .before .before .pre .1) (c .before .before .before .before .before .before .before .before .before .before .before .before .before .before .before .before .before .before .before .before .before .before .read-line .ensures .space .0) (c .before .before .before .before .before .before .before .before .before .before .before .before .before .before .before .before .before .before .before .before .before .before .read-line .ensures .space .1 .long))
-
--- src/lib.rt:169:27
-read-turn-enum-known-r : (t : ℕ) → read-turn-lts.Need-enum-known-r (
-  read-line-reads.Asked,
-  read-line-reads.Learnt,
-  open-file-below t,
-  open-file.Post,
-) (read-turn-at t) read-turn.Post
-read-turn-enum-known-r t c = c .match .keys3
+read-turn-open-file-requires t c κs = (omega (arith, c .before .before .before .before .before .before .before .before .before .before .before .before .before .before .before .before .before .before .before .before .before .before .before .before .before .before .before .before .before .before .before .before .before .before .before .before .before .pre .0), file-asks (fileOpener (now (c .before .before .before .before .before .before .before .before .before .before .before .before .before .before .before .before .before .before .before .before .before .before .before .before .before .before .before .before .before .before .before .before .before .before .before .before .before .args .b)) (c .before .before .before .before .before .before .before .before .before .before .before .before .before .before .before .before .before .before .before .before .before .before .before .before .before .before .before .before .before .before .before .before .before .before .before .before .before .args .line .more)) (rw (c .before .before .before .before .before .before .before .before .c .given .1) at (c .before .before .before .before .before .before .before .before .before .before .before .before .before .before .before .before .before .before .before .before .before .before .read-line .ensures .promise)) (c .before .before .before .before .before .before .before .before .before .before .before .before .before .before .before .before .before .before .before .before .before .before .before .before .before .before .before .before .before .before .before .before .before .before .before .before .before .pre .1) (c .before .before .before .before .before .before .before .before .before .before .before .before .before .before .before .before .before .before .before .before .before .before .read-line .ensures .space .0) (c .before .before .before .before .before .before .before .before .before .before .before .before .before .before .before .before .before .before .before .before .before .before .read-line .ensures .space .1 .long))
 
 -- src/lib.rt:127:1
 read-turn-same-length : (t : ℕ) → read-turn-lts.Need-same-length (
@@ -1296,7 +1287,7 @@ read-turn-returns : (t : ℕ) → read-turn-lts.Need-returns (
   open-file-below t,
   open-file.Post,
 ) (read-turn-at t) read-turn.Post
-read-turn-returns t c = record { space = (record { names = record { long = read-turn-same-length t c }; index = record { long = read-turn-same-length-2 t c }; texts = record { long = read-turn-same-length-3 t c }; bind = record { long = read-turn-same-length-4 t c }; graph = record { long = read-turn-same-length-5 t c } }, record { long = read-turn-same-length-6 t c }); promise = turn-went (fileOpener (now (c .before .before .before .before .before .before .before .before .before .before .before .before .before .before .before .before .before .before .before .before .before .before .before .before .before .before .before .before .before .before .args .b)) (c .before .before .before .before .before .before .before .before .before .before .before .before .before .before .before .before .before .before .before .before .before .before .before .before .before .before .before .before .before .before .args .line .more)) (rw (c .before .c .given .1) at (c .before .before .before .before .before .before .before .before .before .before .before .before .before .before .before .read-line .ensures .promise)) }
+read-turn-returns t c = record { space = (record { names = record { long = read-turn-same-length t c }; index = record { long = read-turn-same-length-2 t c }; texts = record { long = read-turn-same-length-3 t c }; bind = record { long = read-turn-same-length-4 t c }; graph = record { long = read-turn-same-length-5 t c } }, record { long = read-turn-same-length-6 t c }); promise = turn-answered (fileOpener (now (c .before .before .before .before .before .before .before .before .before .before .before .before .before .before .before .before .before .before .before .before .before .before .before .before .before .before .before .before .before .before .args .b)) (c .before .before .before .before .before .before .before .before .before .before .before .before .before .before .before .before .before .before .before .before .before .before .before .before .before .before .before .before .before .before .args .line .more)) (rw (c .before .a .given .1) at (c .before .before .before .before .before .before .before .before .before .before .before .before .before .before .before .read-line .ensures .promise)) }
 
 -- src/lib.rt:127:1
 read-turn-same-length-7 : (t : ℕ) → read-turn-lts.Need-same-length-7 (
@@ -1359,70 +1350,7 @@ read-turn-returns-2 : (t : ℕ) → read-turn-lts.Need-returns-2 (
   open-file-below t,
   open-file.Post,
 ) (read-turn-at t) read-turn.Post
-read-turn-returns-2 t c = record { space = (record { names = record { long = read-turn-same-length-7 t c }; index = record { long = read-turn-same-length-8 t c }; texts = record { long = read-turn-same-length-9 t c }; bind = record { long = read-turn-same-length-10 t c }; graph = record { long = read-turn-same-length-11 t c } }, record { long = read-turn-same-length-12 t c }); promise = turn-opened (fileOpener (now (c .before .before .before .before .before .before .before .before .before .before .before .before .before .before .before .before .before .before .before .before .before .before .before .before .before .before .before .before .before .before .before .before .before .before .before .before .before .before .before .before .before .before .before .before .before .before .before .before .before .before .args .b)) (c .before .before .before .before .before .before .before .before .before .before .before .before .before .before .before .before .before .before .before .before .before .before .before .before .before .before .before .before .before .before .before .before .before .before .before .before .before .before .before .before .before .before .before .before .before .before .before .before .before .before .args .line .more)) (rw (c .before .before .before .before .before .before .before .before .before .before .before .before .before .before .before .before .before .before .before .before .before .c2 .given .1) at (c .before .before .before .before .before .before .before .before .before .before .before .before .before .before .before .before .before .before .before .before .before .before .before .before .before .before .before .before .before .before .before .before .before .before .before .read-line .ensures .promise)) (c .before .before .before .before .before .before .before .before .before .before .before .before .open-file .ensures .promise) }
-
--- src/lib.rt:127:1
-read-turn-same-length-13 : (t : ℕ) → read-turn-lts.Need-same-length-13 (
-  read-line-reads.Asked,
-  read-line-reads.Learnt,
-  open-file-below t,
-  open-file.Post,
-) (read-turn-at t) read-turn.Post
-read-turn-same-length-13 t c = c .before .before .before .before .before .before .before .before .before .before .before .before .before .before .before .read-line .kept .1 .1 .1 .0
-
--- src/lib.rt:127:1
-read-turn-same-length-14 : (t : ℕ) → read-turn-lts.Need-same-length-14 (
-  read-line-reads.Asked,
-  read-line-reads.Learnt,
-  open-file-below t,
-  open-file.Post,
-) (read-turn-at t) read-turn.Post
-read-turn-same-length-14 t c = c .before .before .before .before .before .before .before .before .before .before .before .before .before .before .before .read-line .kept .1 .1 .1 .1 .0
-
--- src/lib.rt:127:1
-read-turn-same-length-15 : (t : ℕ) → read-turn-lts.Need-same-length-15 (
-  read-line-reads.Asked,
-  read-line-reads.Learnt,
-  open-file-below t,
-  open-file.Post,
-) (read-turn-at t) read-turn.Post
-read-turn-same-length-15 t c = c .before .before .before .before .before .before .before .before .before .before .before .before .before .before .before .read-line .kept .1 .1 .1 .1 .1 .0
-
--- src/lib.rt:127:1
-read-turn-same-length-16 : (t : ℕ) → read-turn-lts.Need-same-length-16 (
-  read-line-reads.Asked,
-  read-line-reads.Learnt,
-  open-file-below t,
-  open-file.Post,
-) (read-turn-at t) read-turn.Post
-read-turn-same-length-16 t c = c .before .before .before .before .before .before .before .before .before .before .before .before .before .before .before .read-line .kept .1 .1 .1 .1 .1 .1 .0
-
--- src/lib.rt:127:1
-read-turn-same-length-17 : (t : ℕ) → read-turn-lts.Need-same-length-17 (
-  read-line-reads.Asked,
-  read-line-reads.Learnt,
-  open-file-below t,
-  open-file.Post,
-) (read-turn-at t) read-turn.Post
-read-turn-same-length-17 t c = c .before .before .before .before .before .before .before .before .before .before .before .before .before .before .before .read-line .kept .1 .1 .1 .1 .1 .1 .1 .0
-
--- src/lib.rt:127:1
-read-turn-same-length-18 : (t : ℕ) → read-turn-lts.Need-same-length-18 (
-  read-line-reads.Asked,
-  read-line-reads.Learnt,
-  open-file-below t,
-  open-file.Post,
-) (read-turn-at t) read-turn.Post
-read-turn-same-length-18 t c = c .before .before .before .before .before .before .before .before .before .before .before .before .before .before .before .read-line .kept .1 .1 .1 .1 .1 .1 .1 .1 .0
-
--- src/lib.rt:127:1
-read-turn-returns-3 : (t : ℕ) → read-turn-lts.Need-returns-3 (
-  read-line-reads.Asked,
-  read-line-reads.Learnt,
-  open-file-below t,
-  open-file.Post,
-) (read-turn-at t) read-turn.Post
-read-turn-returns-3 t c = record { space = (record { names = record { long = read-turn-same-length-13 t c }; index = record { long = read-turn-same-length-14 t c }; texts = record { long = read-turn-same-length-15 t c }; bind = record { long = read-turn-same-length-16 t c }; graph = record { long = read-turn-same-length-17 t c } }, record { long = read-turn-same-length-18 t c }); promise = turn-stopped (fileOpener (now (c .before .before .before .before .before .before .before .before .before .before .before .before .before .before .before .before .before .before .before .before .before .before .before .before .before .before .before .before .before .before .args .b)) (c .before .before .before .before .before .before .before .before .before .before .before .before .before .before .before .before .before .before .before .before .before .before .before .before .before .before .before .before .before .before .args .line .more)) (rw (c .before .r .given .1) at (c .before .before .before .before .before .before .before .before .before .before .before .before .before .before .before .read-line .ensures .promise)) }
+read-turn-returns-2 t c = record { space = (record { names = record { long = read-turn-same-length-7 t c }; index = record { long = read-turn-same-length-8 t c }; texts = record { long = read-turn-same-length-9 t c }; bind = record { long = read-turn-same-length-10 t c }; graph = record { long = read-turn-same-length-11 t c } }, record { long = read-turn-same-length-12 t c }); promise = turn-opened (fileOpener (now (c .before .before .before .before .before .before .before .before .before .before .before .before .before .before .before .before .before .before .before .before .before .before .before .before .before .before .before .before .before .before .before .before .before .before .before .before .before .before .before .before .before .before .before .before .before .before .before .before .before .before .args .b)) (c .before .before .before .before .before .before .before .before .before .before .before .before .before .before .before .before .before .before .before .before .before .before .before .before .before .before .before .before .before .before .before .before .before .before .before .before .before .before .before .before .before .before .before .before .before .before .before .before .before .before .args .line .more)) (rw (c .before .before .before .before .before .before .before .before .before .before .before .before .before .before .before .before .before .before .before .before .before .c .given .1) at (c .before .before .before .before .before .before .before .before .before .before .before .before .before .before .before .before .before .before .before .before .before .before .before .before .before .before .before .before .before .before .before .before .before .before .before .read-line .ensures .promise)) (c .before .before .before .before .before .before .before .before .before .before .before .before .open-file .ensures .promise) }
 
 pub +open-file+read-each+read-text+read-turn-spec : {M : Type 1} → statement M
 +open-file+read-each+read-text+read-turn-spec =
@@ -1551,13 +1479,12 @@ pub +open-file+read-each+read-text+read-turn-spec : {M : Type 1} → statement M
     (read-turn-at t)
     read-turn.Post
     (read-turn-read-line-requires t)
+    (read-turn-enum-known-a t)
     (read-turn-enum-known-c t)
-    (read-turn-enum-known-c-2 t)
     (read-turn-sub-open-file t)
     (read-turn-part-open-file-start t)
     (read-turn-part-open-file-end t)
     (read-turn-open-file-requires t)
-    (read-turn-enum-known-r t)
     (read-turn-same-length t)
     (read-turn-same-length-2 t)
     (read-turn-same-length-3 t)
@@ -1572,10 +1499,3 @@ pub +open-file+read-each+read-text+read-turn-spec : {M : Type 1} → statement M
     (read-turn-same-length-11 t)
     (read-turn-same-length-12 t)
     (read-turn-returns-2 t)
-    (read-turn-same-length-13 t)
-    (read-turn-same-length-14 t)
-    (read-turn-same-length-15 t)
-    (read-turn-same-length-16 t)
-    (read-turn-same-length-17 t)
-    (read-turn-same-length-18 t)
-    (read-turn-returns-3 t)
