@@ -36,7 +36,9 @@ fn order_at(
     order(t, &l[from..to], &l[a..b], texts, bind, c.entries)
 }
 
-// Where the path from one place to another stands in the table, by halving.
+// Where the path from one place to another stands in the table, by halving. The last entry comes first: outputs often stand in rising order, and then
+// one compare does. That `order_at` is called at two places is for speed, too: the compiler then leaves it a function of its own, and the reader's
+// function for a line, which this one is built into, stays small enough to be built into its caller.
 fn place_for(
     t: &[u8; 256],
     l: &[u8],
@@ -52,6 +54,19 @@ fn place_for(
 {
     let mut low = 0;
     let mut high = table.len();
+    if 0 < high {
+        match order_at(t, l, from, to, texts, bind, c, table, high - 1) {
+            Order::Less => {
+                high -= 1;
+            }
+            Order::Greater => {
+                return TablePlace::Free(high);
+            }
+            Order::Equal => {
+                return TablePlace::Taken;
+            }
+        }
+    }
     while low < high {
         let mid = low + (high - low) / 2;
         match order_at(t, l, from, to, texts, bind, c, table, mid) {
