@@ -22,9 +22,10 @@ use Rattle.text_batch.specs.declared.TextsAnswer.the-variants.{Written, Refused
 use Rattle.text_batch.specs.TextsAsk.{TextsOutcome, texts, noTexts, inFront, onText, hasRoom, textsFrom, endable, textsAsk, endsFrom}
 use Rattle.text_batch.specs.TextsPromise.{textsSays, Are, TextsMeets}
 use Rattle.text_batch.proofs.Asked.{onRead, each-asked, texts-leading, texts-progress}
+use Rattle.report_lines.specs.Cut.{TextsInOrder, cutTexts, linesOfTexts}
+use Rattle.report_output.specs.Output.{commandText, stopped, afterText, checkTexts, stepLine, stepLines}
 use Rattle.report.specs.declared.TextsRead.the-variants.{Held, Refused as NotHeld}
-use Rattle.report.specs.Output.{commandText, stopped, afterText, checkTexts, stepLine, stepLines}
-use Rattle.report.specs.Held.{TextsInOrder, cutTexts, AreCommands, linesOfTexts, TextsWanted, HoldsSome, AskedIs}
+use Rattle.report.specs.Held.{AreCommands, TextsWanted, HoldsSome, AskedIs}
 use Rattle.spec.proofs.Answers.{refusal-not-0}
 
 -- What is filled begins with what it is filled with, which fits.
