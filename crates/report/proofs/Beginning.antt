@@ -42,8 +42,9 @@ held-refusal out bundle list bytes ends (Refusal n) e = tt
 held-refusal out bundle list bytes ends (Steps n k) e = no-refusal e
 
 -- the opening is that of a refusal
-opens-refusing : {o : Opening} {out bundle list d f bytes ends : List ℕ} {r : Begun} → o ≡ refusing out → OpensReport (refusing out) d r f → OpensHolding o bundle list d r f bytes ends
-opens-refusing {o} {out} {bundle} {list} {d} {f} {bytes} {ends} {r} e p = record { opens = rw e p; held = held-refusal out bundle list bytes ends r (p .begun) }
+opens-refusing : (out : List ℕ) {o : Opening} {bundle list d f bytes ends : List ℕ} {r : Begun} → o ≡ refusing out → OpensReport (refusing out) d r f
+    → OpensHolding o bundle list d r f bytes ends
+opens-refusing out {o} {bundle} {list} {d} {f} {bytes} {ends} {r} e p = record { opens = rw e p; held = held-refusal out bundle list bytes ends r (p .begun) }
 
 -- ---- a list
 
@@ -72,7 +73,7 @@ list-fine bundle steps d f bytes ends n h c w =
 pub list-stopped : (bundle steps d f bytes ends : List ℕ) (x : Two) {r : Begun} → (length steps ≡ 0 → ⊥) → CheckedIs bundle steps bytes ends (Refused x)
     → OpensReport (refusing (refusalLine bundle (said x))) d r f → OpensHolding (listOpening bundle steps) bundle steps d r f bytes ends
 unfolding checkedOpening CheckedIs
-list-stopped bundle steps d f bytes ends x h c p = opens-refusing (list-some bundle steps h ∙ ap (checkedOpening bundle (length steps)) (sym c)) p
+list-stopped bundle steps d f bytes ends x h c p = opens-refusing (refusalLine bundle (said x)) (list-some bundle steps h ∙ ap (checkedOpening bundle (length steps)) (sym c)) p
 
 -- ---- by the plan's numbers
 
@@ -123,11 +124,11 @@ module _ (bundle : List ℕ) (s : Said) (list : List ℕ) where
 
   pub opens-circle : {d f bytes ends : List ℕ} {r : Begun} → s .number ≡ 14 → OpensReport (refusing (circleOutput (take (s .value) list))) d r f
       → OpensHolding (planOpening bundle s list) bundle list d r f bytes ends
-  opens-circle e p = opens-refusing (planned-circle e) p
+  opens-circle e p = opens-refusing (circleOutput (take (s .value) list)) (planned-circle e) p
 
   pub opens-refused : {d f bytes ends : List ℕ} {r : Begun} → (s .number ≡ 0 → ⊥) → (s .number ≡ 14 → ⊥) → OpensReport (refusing (refusalLine bundle s)) d r f
       → OpensHolding (planOpening bundle s list) bundle list d r f bytes ends
-  opens-refused a b p = opens-refusing (planned-refused a b) p
+  opens-refused a b p = opens-refusing (refusalLine bundle s) (planned-refused a b) p
 
 -- ---- a list and a circle fit
 
