@@ -1,7 +1,7 @@
 -- Readings for texts, one behind another: the check of all texts, and the lines of those that are held.
 use Prim.Native.Nat.{ℕ, _+_, _≤_, _<_}
 use native.Mathlib.Omega.{arith}
-use mathlib.Core.List.{List}
+use mathlib.Core.List.{List, _++_}
 use mathlib.Core.Path.{_≡_, refl, sym, _∙_, ap}
 use lib.ListN.{length, take, drop, length-drop}
 use lib.Seq.{drop-length, drop-drop, length-take-le}
@@ -9,12 +9,12 @@ use Rattle.lists.specs.Parts.{part, length-part, part-to-end}
 use Rattle.answers.specs.declared.Numbers.{Numbers as Two}
 use Rattle.printing.specs.Writes.{LeavesOutput}
 use Rattle.report_lines.specs.Cut.{TextsInOrder, cutTexts, linesOfTexts, CutWanted}
-use Rattle.report_output.specs.Output.{fine, checkTexts}
+use Rattle.report_output.specs.Output.{fine, checkTexts, stepLines}
 use Rattle.report.specs.declared.TextsRead.the-variants.{Held, Refused as NotHeld}
 use Rattle.report.specs.declared.Checked.the-variants.{All, Refused}
 use Rattle.report.specs.declared.Lines.{Lines}
 use Rattle.report.specs.Held.{AreCommands, HeldTexts, TextRooms, TextsWanted, HoldsSome, AskedIs, AllFine, CheckedIs, ToWrite, LineRooms, NextWanted, LinesWanted, MakesLines}
-use Rattle.report.proofs.Texts.{commands-pass, commands-lines}
+use Rattle.report.proofs.Texts.{front-filled, commands-pass, commands-lines, lines-apart}
 
 held-none : (bundle steps bytes ends : List ℕ) → HeldTexts bundle steps bytes ends 0
 unfolding TextsInOrder AreCommands cutTexts
@@ -101,6 +101,16 @@ module _ {bundle steps bytes ends : List ℕ} {held : ℕ} (w : NextWanted bundl
       let e = a ∙ sym (w .rest .fine) in
       absurd (let z : _≡_ {A = ℕ} 0 1 = cc in omega arith)
 
+-- What was to be written is the lines that were made, and those from the next place on.
+lines-on : (bundle steps : List ℕ) {out outExit : List ℕ} {r : ℕ} (place n : ℕ) → LeavesOutput (stepLines bundle (length steps) place (take n (drop place steps))) out r outExit
+    → stepLines bundle (length steps) place (drop place steps) ≡ take r outExit ++ stepLines bundle (length steps) (place + n) (drop (place + n) steps)
+lines-on bundle steps {out} {outExit} {r} place n l =
+    let made = stepLines bundle (length steps) place (take n (drop place steps)) in
+    let f : take r outExit ≡ made = ap (λ (k : ℕ). take k outExit) (l .count) ∙ ap (take (length made)) (l .left) ∙ front-filled made out in
+    lines-apart bundle (length steps) n place (drop place steps)
+    ∙ ap (λ (x : List ℕ). x ++ stepLines bundle (length steps) (place + n) (drop n (drop place steps))) (sym f)
+    ∙ ap (λ (x : List ℕ). take r outExit ++ stepLines bundle (length steps) (place + n) x) (drop-drop n place steps)
+
 module _ {bundle steps bytes ends out : List ℕ} {place held : ℕ} (w : LinesWanted bundle steps bytes ends out place held) where
   pub lines-next : NextWanted bundle (part steps place (length steps)) bytes ends held
   lines-next =
@@ -127,10 +137,9 @@ module _ {bundle steps bytes ends out : List ℕ} {place held : ℕ} (w : LinesW
     pub lines-made : (outExit : List ℕ) (r : ℕ) → LeavesOutput (linesOfTexts (length steps) place (cutTexts bytes₁ 0 (take n ends₁))) out r outExit
         → MakesLines bundle steps place (record { steps = n; bytes = r }) bytes₁ ends₁ out outExit
     lines-made outExit r l =
-        record {
-          holds = now-held;
-          lines = rw (commands-lines bundle (length steps) place (take n (drop place steps)) (cutTexts bytes₁ 0 (take n ends₁)) (now-held .held .commands)) at l;
-        }
+        let made : LeavesOutput (stepLines bundle (length steps) place (take n (drop place steps))) out r outExit =
+        rw (commands-lines bundle (length steps) place (take n (drop place steps)) (cutTexts bytes₁ 0 (take n ends₁)) (now-held .held .commands)) at l in
+        record { holds = now-held; lines = made; on = lines-on bundle steps place n made }
 
 -- ---- the program's rounds
 

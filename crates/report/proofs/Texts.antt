@@ -100,6 +100,21 @@ module _ (bundle : List ℕ) where
   commands-lines n k (s ∷ ss) [] c = absurd c
   commands-lines n k (s ∷ ss) (t ∷ ts) c = rw (c .0, commands-lines n (suc k) ss ts (c .1))
 
+  -- Lines of a list are those of its front, then those of what lies behind it.
+  pub lines-apart : (n m k : ℕ) (l : List ℕ) → stepLines bundle n k l ≡ stepLines bundle n k (take m l) ++ stepLines bundle n (k + m) (drop m l)
+  unfolding stepLines
+  lines-apart n zero k l =
+      let z : k ≡ k + 0 = omega arith in
+      ap (λ (i : ℕ). stepLines bundle n i l) z
+  lines-apart n (suc m) k [] = refl
+  lines-apart n (suc m) k (s ∷ l) =
+      let z : suc k + m ≡ k + suc m = omega arith in
+      let one = stepLine (suc k) n (commandText bundle s) in
+      let front = stepLines bundle n (suc k) (take m l) in
+      ap (λ (x : List ℕ). one ++ x) (lines-apart n m (suc k) l)
+      ∙ sym (append-assoc one front (stepLines bundle n (suc k + m) (drop m l)))
+      ∙ ap (λ (i : ℕ). one ++ front ++ stepLines bundle n i (drop m l)) z
+
 -- ---- a refusal
 
 no-texts : {A : Type 0} {ts : List (List ℕ)} {r : Refusal} → texts ts ≡ noTexts r → A

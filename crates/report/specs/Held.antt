@@ -1,6 +1,6 @@
 -- Texts that stand in lent buffers: end to end in one of bytes, and where each ends in one of numbers.
 use Prim.Native.Nat.{ℕ, _+_, _*_, _≤_, _<_}
-use mathlib.Core.List.{List, [], _∷_}
+use mathlib.Core.List.{List, [], _∷_, _++_}
 use mathlib.Core.Path.{_≡_}
 use lib.ListN.{length, take, drop}
 use Rattle.spec.specs.Limits.{maxText}
@@ -84,7 +84,9 @@ pub record LinesWanted (bundle steps bytes ends out : List ℕ) (place held : �
   pub more : place < length steps
   pub left : ToWrite bundle steps bytes ends out place held
 
--- The lines of one step at least, which come next; the buffers hold their texts.
+-- The lines of one step at least, which come next; the buffers hold their texts. What was to be written is these lines, and behind them what is to be written from the
+-- next place on: so rounds one behind another, from place 0 until no step is left, are all lines in list order.
 pub record MakesLines (bundle steps : List ℕ) (place : ℕ) (r : Lines) (bytes ends out outExit : List ℕ) : Type 0 where
   pub holds : HoldsSome bundle (drop place steps) bytes ends (r .steps)
   pub lines : LeavesOutput (stepLines bundle (length steps) place (take (r .steps) (drop place steps))) out (r .bytes) outExit
+  pub on : stepLines bundle (length steps) place (drop place steps) ≡ take (r .bytes) outExit ++ stepLines bundle (length steps) (place + r .steps) (drop (place + r .steps) steps)
