@@ -5,7 +5,7 @@ use mathlib.Core.List.{List}
 use mathlib.Core.Path.{_≡_}
 use lib.ListN.{length}
 use Rattle.report.specs.Begins.{AnswerRooms}
-use Rattle.report.specs.Lends.{aloneRoom}
+use Rattle.report_bundle.specs.Lends.{aloneRoom}
 
 pub roomy : {list bytes ends out : List ℕ} → length list ≡ 512 → length bytes ≡ 262144 → length ends ≡ 512 → length out ≡ 285184 → AnswerRooms list bytes ends out
 roomy l b e o =

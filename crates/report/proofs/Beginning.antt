@@ -14,25 +14,37 @@ use Rattle.answers.specs.declared.Numbers.{Numbers as Two}
 use Rattle.answers.specs.Numbers.{said}
 use Rattle.printing.specs.Lines.{noWork, circleOutput}
 use Rattle.printing.specs.Writes.{LeavesOutput}
-use Rattle.report.specs.declared.Begun.{Begun}
-use Rattle.report.specs.declared.Begun.the-variants.{Whole, Refusal, Steps}
-use Rattle.report.specs.Output.{Checks, fine, stopped, checkTexts, checkedOutput, listOutput, stepLines, Outputs}
-use Rattle.report.specs.Begins.{whole, refusal, toCome, startsAs, wholeOutput, refusing, refusalLine, checkedOpening, listOpening, planOpening, OpensReport, HeldBy, OpensHolding, writtenBy, StartWithin, Rooms, Planned, BeginsReport}
+use Rattle.report_output.specs.declared.Begun.{Begun}
+use Rattle.report_output.specs.declared.Begun.the-variants.{Whole, Refusal, Steps}
+use Rattle.report_output.specs.Output.{Checks, fine, stopped, checkTexts, checkedOutput, listOutput, stepLines, Outputs}
+use Rattle.report_output.specs.Opens.{whole, refusal, toCome, startsAs, Opening, wholeOutput, refusing, refusalLine, OpensReport}
+use Rattle.report.specs.Begins.{checkedOpening, listOpening, planOpening, HeldBy, OpensHolding, writtenBy, StartWithin, Rooms, Planned, BeginsReport}
 use Rattle.report.specs.declared.Checked.the-variants.{All, Refused}
 use Rattle.report.specs.Held.{AllFine, CheckedIs}
 use Rattle.spec.proofs.Answers.{refusal-not-0}
 use Rattle.answer_places.proofs.Siting.{sited-plan}
 use Rattle.report.proofs.Early.{not-14}
-use Rattle.report.proofs.Refusals.{SitedChecks, checks-sited, refusal-said}
+use Rattle.report_output.proofs.Refusals.{SitedChecks, checks-sited, refusal-said}
 use Rattle.report.proofs.Texts.{front-filled, fits-filled}
 
 pub opens-whole : {out d f : List ℕ} {n : ℕ} → LeavesOutput out d n f → OpensReport (wholeOutput out) d (Whole n) f
 unfolding wholeOutput
 opens-whole l = record { begun = ap whole (l .count); left = l .left }
 
-pub opens-refusal : {out d f : List ℕ} {n : ℕ} → LeavesOutput out d n f → OpensReport (refusing out) d (Refusal n) f
+no-refusal : {A : Type 0} {n m : ℕ} → toCome n ≡ refusal m → A
+no-refusal e = absurd (let z : _≡_ {A = ℕ} 0 1 = cc in omega arith)
+
+-- after a refusal no line is to come
+held-refusal : (out bundle list bytes ends : List ℕ) (r : Begun) → startsAs r ≡ refusing out .begun → HeldBy r bundle list bytes ends
 unfolding refusing
-opens-refusal l = record { begun = ap refusal (l .count); left = l .left }
+held-refusal out bundle list bytes ends (Whole n) e = tt
+held-refusal out bundle list bytes ends (Refusal n) e = tt
+held-refusal out bundle list bytes ends (Steps n k) e = no-refusal e
+
+-- the opening is that of a refusal
+opens-refusing : (out : List ℕ) {o : Opening} {bundle list d f bytes ends : List ℕ} {r : Begun} → o ≡ refusing out → OpensReport (refusing out) d r f
+    → OpensHolding o bundle list d r f bytes ends
+opens-refusing out {o} {bundle} {list} {d} {f} {bytes} {ends} {r} e p = record { opens = rw e p; held = held-refusal out bundle list bytes ends r (p .begun) }
 
 -- ---- a list
 
@@ -58,20 +70,15 @@ list-fine bundle steps d f bytes ends n h c w =
       held = rw t c;
     }
 
-pub list-stopped : (bundle steps d f bytes ends : List ℕ) (x : Two) {n : ℕ} → (length steps ≡ 0 → ⊥) → CheckedIs bundle steps bytes ends (Refused x)
-    → LeavesOutput (refusalLine bundle (said x)) d n f → OpensHolding (listOpening bundle steps) bundle steps d (Refusal n) f bytes ends
+pub list-stopped : (bundle steps d f bytes ends : List ℕ) (x : Two) {r : Begun} → (length steps ≡ 0 → ⊥) → CheckedIs bundle steps bytes ends (Refused x)
+    → OpensReport (refusing (refusalLine bundle (said x))) d r f → OpensHolding (listOpening bundle steps) bundle steps d r f bytes ends
 unfolding checkedOpening CheckedIs
-list-stopped bundle steps d f bytes ends x {n} h c l =
-    let o : listOpening bundle steps ≡ refusing (refusalLine bundle (said x)) = list-some bundle steps h ∙ ap (checkedOpening bundle (length steps)) (sym c) in
-    record { opens = rw o (opens-refusal l); held = tt }
+list-stopped bundle steps d f bytes ends x h c p = opens-refusing (refusalLine bundle (said x)) (list-some bundle steps h ∙ ap (checkedOpening bundle (length steps)) (sym c)) p
 
 -- ---- by the plan's numbers
 
 no-whole : {A : Type 0} {n m : ℕ} → toCome n ≡ whole m → A
 no-whole e = absurd (let z : _≡_ {A = ℕ} 0 1 = cc in omega arith)
-
-no-refusal : {A : Type 0} {n m : ℕ} → toCome n ≡ refusal m → A
-no-refusal e = absurd (let z : _≡_ {A = ℕ} 0 1 = cc in omega arith)
 
 same-steps : {n m : ℕ} → toCome n ≡ toCome m → n ≡ m
 same-steps e = cc
@@ -115,13 +122,13 @@ module _ (bundle : List ℕ) (s : Said) (list : List ℕ) where
       → OpensHolding (planOpening bundle s list) bundle list d r f bytes ends
   opens-list {bytes = bytes} {ends = ends} {r = r} e p = record { opens = rw (planned-list e) (p .opens); held = held-list r bytes ends (p .opens .begun) (p .held) }
 
-  pub opens-circle : {d f bytes ends : List ℕ} {n : ℕ} → s .number ≡ 14 → LeavesOutput (circleOutput (take (s .value) list)) d n f
-      → OpensHolding (planOpening bundle s list) bundle list d (Refusal n) f bytes ends
-  opens-circle e p = record { opens = rw (planned-circle e) (opens-refusal p); held = tt }
+  pub opens-circle : {d f bytes ends : List ℕ} {r : Begun} → s .number ≡ 14 → OpensReport (refusing (circleOutput (take (s .value) list))) d r f
+      → OpensHolding (planOpening bundle s list) bundle list d r f bytes ends
+  opens-circle e p = opens-refusing (circleOutput (take (s .value) list)) (planned-circle e) p
 
-  pub opens-refused : {d f bytes ends : List ℕ} {n : ℕ} → (s .number ≡ 0 → ⊥) → (s .number ≡ 14 → ⊥) → LeavesOutput (refusalLine bundle s) d n f
-      → OpensHolding (planOpening bundle s list) bundle list d (Refusal n) f bytes ends
-  opens-refused a b p = record { opens = rw (planned-refused a b) (opens-refusal p); held = tt }
+  pub opens-refused : {d f bytes ends : List ℕ} {r : Begun} → (s .number ≡ 0 → ⊥) → (s .number ≡ 14 → ⊥) → OpensReport (refusing (refusalLine bundle s)) d r f
+      → OpensHolding (planOpening bundle s list) bundle list d r f bytes ends
+  opens-refused a b p = opens-refusing (refusalLine bundle s) (planned-refused a b) p
 
 -- ---- a list and a circle fit
 

@@ -1,22 +1,20 @@
 -- Readings for texts, one behind another: the check of all texts, and the lines of those that are held.
-use Prim.Native.Nat.{ℕ, suc, _+_, _-_, _*_, _≤_, _<_}
+use Prim.Native.Nat.{ℕ, _+_, _≤_, _<_}
 use native.Mathlib.Omega.{arith}
-use mathlib.Core.List.{List, _++_, append-nil, append-assoc}
+use mathlib.Core.List.{List, _++_}
 use mathlib.Core.Path.{_≡_, refl, sym, _∙_, ap}
-use lib.ListN.{length, take, drop, getD, replicate, length-drop}
-use lib.Seq.{drop-cons, drop-length, drop-drop, length-take-le}
-use Rattle.lists.specs.Fill.{zeroed}
+use lib.ListN.{length, take, drop, length-drop}
+use lib.Seq.{drop-length, drop-drop, length-take-le}
 use Rattle.lists.specs.Parts.{part, length-part, part-to-end}
-use Rattle.spec.specs.Promises.{filled}
 use Rattle.answers.specs.declared.Numbers.{Numbers as Two}
-use Rattle.printing.specs.Lines.{stepLineOf}
-use Rattle.printing.specs.Writes.{stepRoom, PutsUpTo, LeavesOutput}
+use Rattle.printing.specs.Writes.{LeavesOutput}
+use Rattle.report_lines.specs.Cut.{TextsInOrder, cutTexts, linesOfTexts, CutWanted}
+use Rattle.report_output.specs.Output.{fine, checkTexts, stepLines}
 use Rattle.report.specs.declared.TextsRead.the-variants.{Held, Refused as NotHeld}
 use Rattle.report.specs.declared.Checked.the-variants.{All, Refused}
 use Rattle.report.specs.declared.Lines.{Lines}
-use Rattle.report.specs.Output.{fine, checkTexts}
-use Rattle.report.specs.Held.{TextsInOrder, cutTexts, AreCommands, HeldTexts, linesOfTexts, TextRooms, TextsWanted, HoldsSome, AskedIs, AllFine, CheckedIs, ToWrite, LineRooms, NextWanted, CutWanted, LinesWanted, MakesLines}
-use Rattle.report.proofs.Texts.{commands-pass, commands-lines}
+use Rattle.report.specs.Held.{AreCommands, HeldTexts, TextRooms, TextsWanted, HoldsSome, AskedIs, AllFine, CheckedIs, ToWrite, LineRooms, NextWanted, LinesWanted, MakesLines}
+use Rattle.report.proofs.Texts.{front-filled, commands-pass, commands-lines, lines-apart}
 
 held-none : (bundle steps bytes ends : List ℕ) → HeldTexts bundle steps bytes ends 0
 unfolding TextsInOrder AreCommands cutTexts
@@ -103,6 +101,16 @@ module _ {bundle steps bytes ends : List ℕ} {held : ℕ} (w : NextWanted bundl
       let e = a ∙ sym (w .rest .fine) in
       absurd (let z : _≡_ {A = ℕ} 0 1 = cc in omega arith)
 
+-- What was to be written is the lines that were made, and those from the next place on.
+lines-on : (bundle steps : List ℕ) {out outExit : List ℕ} {r : ℕ} (place n : ℕ) → LeavesOutput (stepLines bundle (length steps) place (take n (drop place steps))) out r outExit
+    → stepLines bundle (length steps) place (drop place steps) ≡ take r outExit ++ stepLines bundle (length steps) (place + n) (drop (place + n) steps)
+lines-on bundle steps {out} {outExit} {r} place n l =
+    let made = stepLines bundle (length steps) place (take n (drop place steps)) in
+    let f : take r outExit ≡ made = ap (λ (k : ℕ). take k outExit) (l .count) ∙ ap (take (length made)) (l .left) ∙ front-filled made out in
+    lines-apart bundle (length steps) n place (drop place steps)
+    ∙ ap (λ (x : List ℕ). x ++ stepLines bundle (length steps) (place + n) (drop n (drop place steps))) (sym f)
+    ∙ ap (λ (x : List ℕ). take r outExit ++ stepLines bundle (length steps) (place + n) x) (drop-drop n place steps)
+
 module _ {bundle steps bytes ends out : List ℕ} {place held : ℕ} (w : LinesWanted bundle steps bytes ends out place held) where
   pub lines-next : NextWanted bundle (part steps place (length steps)) bytes ends held
   lines-next =
@@ -129,86 +137,9 @@ module _ {bundle steps bytes ends out : List ℕ} {place held : ℕ} (w : LinesW
     pub lines-made : (outExit : List ℕ) (r : ℕ) → LeavesOutput (linesOfTexts (length steps) place (cutTexts bytes₁ 0 (take n ends₁))) out r outExit
         → MakesLines bundle steps place (record { steps = n; bytes = r }) bytes₁ ends₁ out outExit
     lines-made outExit r l =
-        record {
-          holds = now-held;
-          lines = rw (commands-lines bundle (length steps) place (take n (drop place steps)) (cutTexts bytes₁ 0 (take n ends₁)) (now-held .held .commands)) at l;
-        }
-
--- ---- lines of texts
-
--- i texts, which end at `from`, are in the lines' first bytes
-pub record Lining (place count : ℕ) (bytes ends out₀ out : List ℕ) (i from behind : ℕ) : Type 0 where
-  pub within : i ≤ length ends
-  pub kept : length out ≡ length out₀
-  pub order : TextsInOrder bytes from (drop i ends)
-  pub start : from ≤ length bytes
-  pub room : behind + (length bytes - from) + stepRoom * (length ends - i) ≤ length out₀
-  pub front : take behind out ++ linesOfTexts count (place + i) (cutTexts bytes from (drop i ends)) ≡ linesOfTexts count place (cutTexts bytes 0 ends)
-
-pub lining-start : {bytes ends out : List ℕ} {place count : ℕ} → CutWanted bytes ends out place count → Lining place count bytes ends out out 0 0 0
-lining-start {bytes} {ends} {out} {place} {count} w =
-    let z : place + 0 ≡ place = omega arith in
-    record { within = omega arith; kept = refl; order = w .order; start = omega arith; room = omega (arith, w .room); front = rw z }
-
-module _ {place count : ℕ} {bytes ends out₀ out : List ℕ} {i from behind : ℕ} (e : ℕ) (k : i < length ends) (w : e ≡ getD ends i 0)
-    (l : Lining place count bytes ends out₀ out i from behind) where
-  next-order : (from ≤ e) × (e ≤ length bytes) × TextsInOrder bytes e (drop (suc i) ends)
-  unfolding TextsInOrder
-  next-order = rw w (rw (drop-cons ends i 0 k) at (l .order))
-
-  pub lining-from : from ≤ e
-  lining-from = next-order .0
-
-  pub lining-to : e ≤ length bytes
-  lining-to = next-order .1
-
-  long : length (part bytes from e) ≡ e - from
-  long = length-part bytes from e lining-to
-
-  pub lining-room : behind + (length (part bytes from e) + stepRoom) ≤ length out
-  lining-room = omega (arith, k, long, lining-from, lining-to, l .room, l .kept)
-
-  next-front : linesOfTexts count (place + i) (cutTexts bytes from (drop i ends))
-      ≡ stepLineOf (place + i + 1) count (part bytes from e) ++ linesOfTexts count (place + (i + 1)) (cutTexts bytes e (drop (i + 1) ends))
-  unfolding linesOfTexts cutTexts
-  next-front =
-      let a : place + i + 1 ≡ suc (place + i) = omega arith in
-      let b : place + (i + 1) ≡ suc (place + i) = omega arith in
-      let d : i + 1 ≡ suc i = omega arith in
-      rw (drop-cons ends i 0 k, a, b, d, w)
-
-  pub lining-on : (out₁ : List ℕ) (r : ℕ) → length out₁ ≡ length out → PutsUpTo (length (part bytes from e) + stepRoom) (stepLineOf (place + i + 1) count (part bytes from e)) out behind out₁ r
-      → Lining place count bytes ends out₀ out₁ (i + 1) e r
-  lining-on out₁ r x p =
-      let d : i + 1 ≡ suc i = omega arith in
-      record {
-        within = omega (arith, k);
-        kept = x ∙ l .kept;
-        order = rw d (next-order .2);
-        start = lining-to;
-        room = omega (arith, k, long, lining-from, lining-to, l .room, p .short);
-        front =
-            ap (λ (s : List ℕ). s ++ linesOfTexts count (place + (i + 1)) (cutTexts bytes e (drop (i + 1) ends))) (p .puts .front)
-            ∙ append-assoc (take behind out) (stepLineOf (place + i + 1) count (part bytes from e)) (linesOfTexts count (place + (i + 1)) (cutTexts bytes e (drop (i + 1) ends)))
-            ∙ ap (λ (s : List ℕ). take behind out ++ s) (sym next-front)
-            ∙ l .front;
-      }
-
-lined : {place count : ℕ} {bytes ends out₀ out : List ℕ} {i from behind : ℕ} → length ends ≤ i → Lining place count bytes ends out₀ out i from behind
-    → take behind out ≡ linesOfTexts count place (cutTexts bytes 0 ends)
-unfolding linesOfTexts cutTexts
-lined {place} {count} {bytes} {ends} {out₀} {out} {i} {from} {behind} h l =
-    let z : i ≡ length ends = omega (arith, l .within) in
-    sym (append-nil (take behind out)) ∙ (rw (z, drop-length ends) at (l .front))
-
-pub lining-end : {place count : ℕ} {bytes ends out₀ out : List ℕ} {i from behind : ℕ} (exit : List ℕ) → length ends ≤ i → Lining place count bytes ends out₀ out i from behind
-    → exit ≡ zeroed out behind (length out) → LeavesOutput (linesOfTexts count place (cutTexts bytes 0 ends)) out₀ behind exit
-unfolding zeroed filled
-lining-end {place} {count} {bytes} {ends} {out₀} {out} {i} {from} {behind} exit h l z =
-    let f = lined h l in
-    let n : length (take behind out) ≡ behind = length-take-le behind out (omega (arith, l .room, l .kept)) in
-    rw (← f)
-    (record { count = sym n; left = z ∙ rw (drop-length out, n, l .kept) (append-nil (take behind out ++ replicate (length out₀ - behind) 0)) })
+        let made : LeavesOutput (stepLines bundle (length steps) place (take n (drop place steps))) out r outExit =
+        rw (commands-lines bundle (length steps) place (take n (drop place steps)) (cutTexts bytes₁ 0 (take n ends₁)) (now-held .held .commands)) at l in
+        record { holds = now-held; lines = made; on = lines-on bundle steps place n made }
 
 -- ---- the program's rounds
 

@@ -8,43 +8,15 @@ use Rattle.lists.specs.Tests.{ifB}
 use Rattle.spec.specs.Limits.{leastList}
 use Rattle.spec.specs.Answers.{Said}
 use Rattle.spec.specs.PlanAsk.{Inputs, planAsk}
-use Rattle.spec.specs.Promises.{filled, PlanMeets}
+use Rattle.spec.specs.Promises.{PlanMeets}
 use Rattle.answers.specs.declared.Numbers.{Numbers as Two}
-use Rattle.answer_places.specs.Places.{placedIn}
-use Rattle.printing.specs.Lines.{noWork, refusedLine, circleOutput}
+use Rattle.printing.specs.Lines.{noWork, circleOutput}
 use Rattle.printing.specs.Writes.{lineRoom}
-use Rattle.report.specs.declared.Begun.{Begun}
-use Rattle.report.specs.declared.Begun.the-variants.{Whole, Refusal, Steps}
-use Rattle.report.specs.Output.{Checks, fine, stopped, checkTexts, stepLines, Outputs}
+use Rattle.report_output.specs.declared.Begun.{Begun}
+use Rattle.report_output.specs.declared.Begun.the-variants.{Whole, Refusal, Steps}
+use Rattle.report_output.specs.Opens.{Start, whole, refusal, toCome, startsAs, Opening, wholeOutput, refusing, refusalLine, OpensReport}
+use Rattle.report_output.specs.Output.{Checks, fine, stopped, checkTexts, stepLines, Outputs}
 use Rattle.report.specs.Held.{TextRooms, LineRooms, AllFine}
-
--- how the output begins: whole, or with the lines of so many steps still to come
-pub data Start : Type 0 where
-  whole : ℕ → Start
-  refusal : ℕ → Start
-  toCome : ℕ → Start
-
-abbrev pub startsAs : Begun → Start
-startsAs (Whole n) = whole n
-startsAs (Refusal n) = refusal n
-startsAs (Steps n held) = toCome n
-
--- ... with what the lent line holds
-pub record Opening : Type 0 where
-  pub begun : Start
-  pub bytes : List ℕ
-
-unfoldable pub wholeOutput : List ℕ → Opening
-wholeOutput out = record { begun = whole (length out); bytes = out }
-
--- the same, of a refusal
-unfoldable pub refusing : List ℕ → Opening
-refusing out = record { begun = refusal (length out); bytes = out }
-
--- the line of a refusal, whose place is looked up in the bundle
-unfoldable pub refusalLine : List ℕ → Said → List ℕ
-unfolding refusedLine placedIn
-refusalLine bundle s = refusedLine (s .number) (placedIn bundle s)
 
 unfoldable pub checkedOpening : List ℕ → ℕ → Checks → Opening
 unfolding refusing refusalLine
@@ -63,10 +35,6 @@ planOpening bundle s list =
     ifB (eqb (s .number) 0) (λ _. listOpening bundle (take (s .value) list)) λ _.
     ifB (eqb (s .number) 14) (λ _. refusing (circleOutput (take (s .value) list))) λ _.
     refusing (refusalLine bundle s)
-
-pub record OpensReport (o : Opening) (lent : List ℕ) (r : Begun) (exit : List ℕ) : Type 0 where
-  pub begun : startsAs r ≡ o .begun
-  pub left : exit ≡ filled (o .bytes) lent
 
 -- Where lines are to come, all texts are checked, and the buffers hold those of the first steps; else the buffers were working space.
 abbrev pub HeldBy : Begun → List ℕ → List ℕ → List ℕ → List ℕ → Type 0

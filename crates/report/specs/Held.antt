@@ -1,30 +1,19 @@
 -- Texts that stand in lent buffers: end to end in one of bytes, and where each ends in one of numbers.
-use Prim.Native.Nat.{ℕ, suc, _+_, _*_, _≤_, _<_}
+use Prim.Native.Nat.{ℕ, _+_, _*_, _≤_, _<_}
 use mathlib.Core.List.{List, [], _∷_, _++_}
 use mathlib.Core.Path.{_≡_}
 use lib.ListN.{length, take, drop}
-use Rattle.lists.specs.Parts.{part}
 use Rattle.spec.specs.Limits.{maxText}
 use Rattle.spec.specs.TextAsk.{text}
 use Rattle.answers.specs.Numbers.{said}
-use Rattle.printing.specs.Lines.{stepLineOf}
 use Rattle.printing.specs.Writes.{stepRoom, LeavesOutput}
+use Rattle.report_lines.specs.Cut.{TextsInOrder, cutTexts}
+use Rattle.report_output.specs.Output.{fine, stopped, commandText, checkTexts, stepLines}
 use Rattle.report.specs.declared.TextsRead.{TextsRead}
 use Rattle.report.specs.declared.TextsRead.the-variants.{Held, Refused as NotHeld}
 use Rattle.report.specs.declared.Checked.{Checked}
 use Rattle.report.specs.declared.Checked.the-variants.{All, Refused}
 use Rattle.report.specs.declared.Lines.{Lines}
-use Rattle.report.specs.Output.{fine, stopped, commandText, checkTexts, stepLines}
-
--- each text begins where the one before it ends, and lies within the bytes
-unfoldable pub TextsInOrder : List ℕ → ℕ → List ℕ → Type 0
-TextsInOrder bytes at [] = Unit {0}
-TextsInOrder bytes at (e ∷ es) = (at ≤ e) × (e ≤ length bytes) × TextsInOrder bytes e es
-
--- the texts that end at these places, the first beginning at a place
-unfoldable pub cutTexts : List ℕ → ℕ → List ℕ → List (List ℕ)
-cutTexts bytes at [] = []
-cutTexts bytes at (e ∷ es) = part bytes at e ∷ cutTexts bytes e es
 
 -- these are the `command` texts of these steps
 unfoldable pub AreCommands : List ℕ → List ℕ → List (List ℕ) → Type 0
@@ -40,12 +29,6 @@ pub record HeldTexts (bundle steps bytes ends : List ℕ) (n : ℕ) : Type 0 whe
   pub placed : n ≤ length ends
   pub order : TextsInOrder bytes 0 (take n ends)
   pub commands : AreCommands bundle (take n steps) (cutTexts bytes 0 (take n ends))
-
--- the lines of these texts, k of the list's n steps having gone before
-unfoldable pub linesOfTexts : ℕ → ℕ → List (List ℕ) → List ℕ
-unfolding stepLineOf
-linesOfTexts n k [] = []
-linesOfTexts n k (t ∷ ts) = stepLineOf (suc k) n t ++ linesOfTexts n (suc k) ts
 
 -- ------------------------------------------------------------------ asking
 
@@ -97,16 +80,13 @@ pub record NextWanted (bundle steps bytes ends : List ℕ) (held : ℕ) : Type 0
   pub wanted : TextsWanted steps bytes ends
   pub rest : AllFine bundle steps bytes ends held
 
-pub record CutWanted (bytes ends out : List ℕ) (place count : ℕ) : Type 0 where
-  pub order : TextsInOrder bytes 0 ends
-  pub counted : place + length ends ≤ count
-  pub room : length bytes + stepRoom * length ends ≤ length out
-
 pub record LinesWanted (bundle steps bytes ends out : List ℕ) (place held : ℕ) : Type 0 where
   pub more : place < length steps
   pub left : ToWrite bundle steps bytes ends out place held
 
--- The lines of one step at least, which come next; the buffers hold their texts.
+-- The lines of one step at least, which come next; the buffers hold their texts. What was to be written is these lines, and behind them what is to be written from the
+-- next place on: so rounds one behind another, from place 0 until no step is left, are all lines in list order.
 pub record MakesLines (bundle steps : List ℕ) (place : ℕ) (r : Lines) (bytes ends out outExit : List ℕ) : Type 0 where
   pub holds : HoldsSome bundle (drop place steps) bytes ends (r .steps)
   pub lines : LeavesOutput (stepLines bundle (length steps) place (take (r .steps) (drop place steps))) out (r .bytes) outExit
+  pub on : stepLines bundle (length steps) place (drop place steps) ≡ take (r .bytes) outExit ++ stepLines bundle (length steps) (place + r .steps) (drop (place + r .steps) steps)

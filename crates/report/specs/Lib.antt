@@ -1,4 +1,2 @@
 pub mod Begins
 pub mod Held
-pub mod Lends
-pub mod Output

@@ -1,27 +1,20 @@
 // What the program writes: document 01's section "Gauges on the bench", from the lent bytes to lines in a lent buffer.
-ghost use Prim.Native.Nat.{_≤_};
-ghost use lib.ListN.{length};
 ghost use Rattle.spec.specs.PlanAsk.{inputsOf};
 ghost use Rattle.answers.specs.Numbers.{said};
-ghost use Rattle.printing.specs.Writes.{lineRoom, LeavesOutput};
-ghost use Rattle.report.specs.Begins.{refusalLine, listOpening, planOpening, OpensHolding, Rooms, ListRooms, Planned, BeginsReport};
-ghost use Rattle.report.specs.Held.{TextRooms, TextsWanted, AskedIs, CheckedIs, NextWanted, HoldsSome, cutTexts, linesOfTexts, CutWanted, LinesWanted, MakesLines};
-ghost use Rattle.report.specs.Lends.{aloneRoom, LendsAlone};
-use answer_places::locate;
+ghost use Rattle.report.specs.Begins.{listOpening, planOpening, OpensHolding, Rooms, ListRooms, Planned, BeginsReport};
+ghost use Rattle.report.specs.Held.{TextRooms, TextsWanted, AskedIs, CheckedIs, NextWanted, HoldsSome, LinesWanted, MakesLines};
 use answers::Numbers;
 use answers::of_plan;
 use answers::of_refusal;
 use asks::plan;
 use asks::texts;
-use printing::put_step_line;
-use printing::say_circle;
 use printing::say_no_work;
-use printing::say_refused;
-use scan_bundle::wrap;
+use report_lines::text_lines;
+use report_output::Begun;
+use report_output::refuse;
+use report_output::refuse_circle;
 use slices::bytes::zero_bytes_from;
-use slices::words::at;
 use spec::Wanted;
-use spec::limits::MANIFEST;
 use text_batch::TextsAnswer;
 
 // What a reading for texts gives: how many leading steps have their texts in the buffers, or the first refusal.
@@ -36,29 +29,10 @@ pub enum Checked {
     Refused(Numbers),
 }
 
-// How the output begins: the line holds all of it, this many bytes, which say that there is no work or that the planner refuses; or the
-// lines of this many steps are to come, and for so many of the first the buffers hold the texts.
-pub enum Begun {
-    Whole(usize),
-    Refusal(usize),
-    Steps(usize, usize),
-}
-
 // Lines that were made: of so many steps, and so many bytes long.
 pub struct Lines {
     pub steps: usize,
     pub bytes: usize,
-}
-
-// The bundle of `build.ninja` alone, in a lent buffer: its length. Of a text over the limit one byte more is lent, so that it is seen to be too long.
-pub fn lend_alone(manifest: &[u8], bundle: &mut [u8]) -> usize
-    requires { ⌜ aloneRoom ≤ length (now bundle) ⌝ }
-    ensures { λ r. ⌜ LendsAlone (now (manifest .entry)) (now (bundle .entry)) (now (bundle .exit)) r ⌝ }
-{
-    if manifest.len() <= MANIFEST {
-        return wrap(b"build.ninja", manifest, bundle);
-    }
-    wrap(b"build.ninja", &manifest[..MANIFEST + 1], bundle)
 }
 
 // One reading: the texts of as many of the steps as have room.
@@ -94,14 +68,6 @@ fn check_texts(bundle: &[u8], steps: &[u32], bytes: &mut [u8], ends: &mut [u32])
     Checked::All(0)
 }
 
-// The line of a refusal, with its place among the texts of the bundle.
-fn say_refusal(line: &mut [u8], bundle: &[u8], n: Numbers) -> usize
-    requires { ⌜ lineRoom ≤ length (now line) ⌝ }
-    ensures { λ r. ⌜ LeavesOutput (refusalLine (now (bundle .entry)) (said n)) (now (line .entry)) r (now (line .exit)) ⌝ }
-{
-    say_refused(line, locate(n, bundle))
-}
-
 // The start of the output for a list.
 fn begin_list(
     bundle: &[u8],
@@ -121,7 +87,7 @@ fn begin_list(
             zero_bytes_from(line, 0);
             Begun::Steps(steps.len(), held)
         }
-        Checked::Refused(n) => Begun::Refusal(say_refusal(line, bundle, n)),
+        Checked::Refused(n) => refuse(line, bundle, n),
     }
 }
 
@@ -142,9 +108,9 @@ fn begin_planned(
         return begin_list(bundle, &list[..count], line, bytes, ends);
     }
     if n.number == 14 {
-        return Begun::Refusal(say_circle(line, &list[..count]));
+        return refuse_circle(line, &list[..count]);
     }
-    Begun::Refusal(say_refusal(line, bundle, n))
+    refuse(line, bundle, n)
 }
 
 // Asks for the plan and checks all texts. The output is whole in the line, or the line of each listed step is to be written.
@@ -177,24 +143,6 @@ fn hold_next(bundle: &[u8], steps: &[u32], held: usize, bytes: &mut [u8], ends: 
         // never met: all texts are checked
         TextsRead::Refused(_) => 0,
     }
-}
-
-// The line of each text that ends at one of the places, the list's first `place` steps having gone before.
-fn text_lines(place: usize, count: usize, bytes: &[u8], ends: &[u32], out: &mut [u8]) -> usize
-    requires { ⌜ CutWanted (now bytes) (now ends) (now out) place count ⌝ }
-    ensures { λ r. ⌜ LeavesOutput (linesOfTexts count place (cutTexts (now (bytes .entry)) 0 (now (ends .entry)))) (now (out .entry)) r (now (out .exit)) ⌝ }
-{
-    let mut i = 0;
-    let mut from = 0;
-    let mut behind = 0;
-    while i < ends.len() {
-        let end = at(ends, i);
-        behind = put_step_line(out, behind, place + i + 1, count, &bytes[from..end]);
-        from = end;
-        i += 1;
-    }
-    zero_bytes_from(out, behind);
-    behind
 }
 
 // The lines of the steps from `place` on, as many as have their texts in the buffers, once a reading was made for them where none are held.

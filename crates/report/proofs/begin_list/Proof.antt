@@ -26,8 +26,8 @@ zero-bytes-from-requires c κs = search needs
 enum-known-n : tie.Need-enum-known-n
 enum-known-n c = search needs
 
-say-refusal-requires : tie.Need-say-refusal-requires
-say-refusal-requires c κs = search needs
+refuse-requires : tie.Need-refuse-requires
+refuse-requires c κs = search needs
 
 same-length-2 : tie.Need-same-length-2
 same-length-2 c = search needs
@@ -51,7 +51,7 @@ same-length-7 : tie.Need-same-length-7
 same-length-7 c = search needs
 
 returns-3 : tie.Need-returns-3
-returns-3 c = list-stopped (now (c .before .before .before .before .before .before .before .before .before .before .before .before .before .before .before .before .before .before .before .before .args .bundle)) (now (c .before .before .before .before .before .before .before .before .before .before .before .before .before .before .before .before .before .before .before .before .args .steps)) (now (c .before .before .before .before .before .before .before .before .before .before .before .before .before .before .before .before .before .before .before .before .args .line)) _ _ _ _ (c .before .before .before .before .before .before .before .before .before .before .before .before .before .before .if1 .left) (rw (c .before .before .before .before .before .n .given .1) at (c .before .before .before .before .before .before .before .before .before .before .before .check-texts .ensures)) (c .before .before .say-refusal .ensures)
+returns-3 c = list-stopped (now (c .before .before .before .before .before .before .before .before .before .before .before .before .before .before .before .before .before .before .before .before .args .bundle)) (now (c .before .before .before .before .before .before .before .before .before .before .before .before .before .before .before .before .before .before .before .before .args .steps)) (now (c .before .before .before .before .before .before .before .before .before .before .before .before .before .before .before .before .before .before .before .before .args .line)) _ _ _ _ (c .before .before .before .before .before .before .before .before .before .before .before .before .before .before .if1 .left) (rw (c .before .before .before .before .before .n .given .1) at (c .before .before .before .before .before .before .before .before .before .before .before .check-texts .ensures)) (c .before .before .refuse .ensures)
 
 pub begin-list-spec : {M : Type 1} → statement M
 begin-list-spec =
@@ -64,7 +64,7 @@ begin-list-spec =
     enum-known-held
     zero-bytes-from-requires
     enum-known-n
-    say-refusal-requires
+    refuse-requires
     same-length-2
     same-length-3
     same-length-4

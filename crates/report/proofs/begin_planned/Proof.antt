@@ -27,26 +27,26 @@ same-length-3 c = search needs
 returns : tie.Need-returns
 returns c = opens-list (now (c .before .before .before .before .before .before .before .before .before .before .before .before .before .before .before .before .before .before .args .bundle)) (said (c .before .before .before .before .before .before .before .before .before .before .before .before .before .before .before .before .before .before .args .n)) (now (c .before .before .before .before .before .before .before .before .before .before .before .before .before .before .before .before .before .before .args .list)) (c .before .before .before .before .before .before .before .before .before .before .before .if1 .taken) (c .before .before .before .before .before .before .begin-list .ensures)
 
-slice-aggregate-say-circle : tie.Need-slice-aggregate-say-circle
-slice-aggregate-say-circle c = sym (length-take-le (c .before .before .before .before .before .before .before .before .before .before .before .args .n .value) (now (c .before .before .before .before .before .before .before .before .before .before .before .args .list)) (c .before .before .before .before .before .before .before .before .before .before .before .pre .shown (c .before .before .if2 .taken)))
+slice-aggregate-refuse-circle : tie.Need-slice-aggregate-refuse-circle
+slice-aggregate-refuse-circle c = sym (length-take-le (c .before .before .before .before .before .before .before .before .before .before .before .args .n .value) (now (c .before .before .before .before .before .before .before .before .before .before .before .args .list)) (c .before .before .before .before .before .before .before .before .before .before .before .pre .shown (c .before .before .if2 .taken)))
 
-say-circle-requires : tie.Need-say-circle-requires
-say-circle-requires c κs = (c .before .before .before .before .before .before .before .before .before .before .before .pre .rooms .line-room, omega (arith, c .before .before .before .before .before .before .before .before .before .before .before .pre .rooms .list-room, c .before .before .before .before .before .before .before .before .before .before .before .pre .shown (c .before .before .if2 .taken), length-take-le (c .before .before .before .before .before .before .before .before .before .before .before .args .n .value) (now (c .before .before .before .before .before .before .before .before .before .before .before .args .list)) (c .before .before .before .before .before .before .before .before .before .before .before .pre .shown (c .before .before .if2 .taken))))
+refuse-circle-requires : tie.Need-refuse-circle-requires
+refuse-circle-requires c κs = (c .before .before .before .before .before .before .before .before .before .before .before .pre .rooms .line-room, omega (arith, c .before .before .before .before .before .before .before .before .before .before .before .pre .rooms .list-room, c .before .before .before .before .before .before .before .before .before .before .before .pre .shown (c .before .before .if2 .taken), length-take-le (c .before .before .before .before .before .before .before .before .before .before .before .args .n .value) (now (c .before .before .before .before .before .before .before .before .before .before .before .args .list)) (c .before .before .before .before .before .before .before .before .before .before .before .pre .shown (c .before .before .if2 .taken))))
 
 same-length-4 : tie.Need-same-length-4
 same-length-4 c = search needs
 
 returns-2 : tie.Need-returns-2
-returns-2 c = opens-circle (now (c .before .before .before .before .before .before .before .before .before .before .before .before .before .before .args .bundle)) (said (c .before .before .before .before .before .before .before .before .before .before .before .before .before .before .args .n)) (now (c .before .before .before .before .before .before .before .before .before .before .before .before .before .before .args .list)) (c .before .before .before .before .before .if2 .taken) (c .before .before .say-circle .ensures)
+returns-2 c = opens-circle (now (c .before .before .before .before .before .before .before .before .before .before .before .before .before .before .args .bundle)) (said (c .before .before .before .before .before .before .before .before .before .before .before .before .before .before .args .n)) (now (c .before .before .before .before .before .before .before .before .before .before .before .before .before .before .args .list)) (c .before .before .before .before .before .if2 .taken) (c .before .before .refuse-circle .ensures)
 
-say-refusal-requires : tie.Need-say-refusal-requires
-say-refusal-requires c κs = search needs
+refuse-requires : tie.Need-refuse-requires
+refuse-requires c κs = search needs
 
 same-length-5 : tie.Need-same-length-5
 same-length-5 c = search needs
 
 returns-3 : tie.Need-returns-3
-returns-3 c = opens-refused (now (c .before .before .before .before .before .before .before .before .before .before .before .before .before .args .bundle)) (said (c .before .before .before .before .before .before .before .before .before .before .before .before .before .args .n)) (now (c .before .before .before .before .before .before .before .before .before .before .before .before .before .args .list)) (c .before .before .before .before .before .before .if1 .left) (c .before .before .before .before .if2 .left) (c .before .before .say-refusal .ensures)
+returns-3 c = opens-refused (now (c .before .before .before .before .before .before .before .before .before .before .before .before .before .args .bundle)) (said (c .before .before .before .before .before .before .before .before .before .before .before .before .before .args .n)) (now (c .before .before .before .before .before .before .before .before .before .before .before .before .before .args .list)) (c .before .before .before .before .before .before .if1 .left) (c .before .before .before .before .if2 .left) (c .before .before .refuse .ensures)
 
 pub begin-planned-spec : {M : Type 1} → statement M
 begin-planned-spec =
@@ -58,10 +58,10 @@ begin-planned-spec =
     same-length-2
     same-length-3
     returns
-    slice-aggregate-say-circle
-    say-circle-requires
+    slice-aggregate-refuse-circle
+    refuse-circle-requires
     same-length-4
     returns-2
-    say-refusal-requires
+    refuse-requires
     same-length-5
     returns-3)

@@ -2,7 +2,7 @@
 use mathlib.Core.List.{List, [], _∷_}
 use mathlib.Core.Path.{_≡_, refl, ap}
 use Prim.Native.Nat.{ℕ}
-use Rattle.spec.specs.declared.Refusal.{Refusal}
+use Rattle.spec.specs.declared.Refusal.{Refusal as Reason}
 use Rattle.spec.specs.declared.Wanted.the-variants.{Command}
 use Rattle.spec.specs.Limits.{maxText}
 use Rattle.spec.specs.Answers.{Said}
@@ -15,14 +15,19 @@ use Rattle.answer_places.proofs.Placing.{placed-sited}
 use Rattle.answer_places.proofs.Siting.{SitedRefusal, sited-text}
 use Rattle.printing.specs.Lines.{refusedLine}
 use Rattle.printing.specs.Writes.{LeavesOutput}
-use Rattle.report.specs.Output.{saidLine, Checks, fine, stopped, commandText, afterText, checkTexts}
-use Rattle.report.specs.Begins.{refusalLine}
+use Rattle.report_output.specs.Output.{saidLine, Checks, fine, stopped, commandText, afterText, checkTexts}
+use Rattle.report_output.specs.declared.Begun.the-variants.{Refusal}
+use Rattle.report_output.specs.Opens.{refusal, refusing, refusalLine, OpensReport}
+
+pub opens-refusal : {out d f : List ℕ} {n : ℕ} → LeavesOutput out d n f → OpensReport (refusing out) d (Refusal n) f
+unfolding refusing
+opens-refusal l = record { begun = ap refusal (l .count); left = l .left }
 
 -- the line that is printed for the three numbers
-pub refusal-written-so : (bundle : List ℕ) (n : Numbers) (p : Placed) {d f : List ℕ} {r : ℕ} → PlacedIn bundle (said n) p → LeavesOutput (refusedLine (p .number) (placeTold p)) d r f
-    → LeavesOutput (refusalLine bundle (said n)) d r f
+pub refuses-so : (bundle : List ℕ) (n : Numbers) (p : Placed) {d f : List ℕ} {r : ℕ} → PlacedIn bundle (said n) p → LeavesOutput (refusedLine (p .number) (placeTold p)) d r f
+    → OpensReport (refusing (refusalLine bundle (said n))) d (Refusal r) f
 unfolding refusalLine
-refusal-written-so bundle n p x l = rw (x .number-is, x .place-is) at l
+refuses-so bundle n p x l = opens-refusal (rw (x .number-is, x .place-is) at l)
 
 pub refusal-said : (bundle : List ℕ) (s : Said) → Sited bundle s → refusalLine bundle s ≡ saidLine bundle s
 unfolding refusalLine saidLine
@@ -32,7 +37,7 @@ abbrev pub SitedChecks : List ℕ → Checks → Type 0
 SitedChecks bundle fine = Unit {0}
 SitedChecks bundle (stopped s) = Sited bundle s
 
-after-sited : (bundle : List ℕ) (o : TextOutcome) (c : Checks) → ((r : Refusal) → o ≡ noText r → SitedRefusal bundle r) → SitedChecks bundle c → SitedChecks bundle (afterText o c)
+after-sited : (bundle : List ℕ) (o : TextOutcome) (c : Checks) → ((r : Reason) → o ≡ noText r → SitedRefusal bundle r) → SitedChecks bundle c → SitedChecks bundle (afterText o c)
 unfolding afterText
 after-sited bundle (text t) c m h = h
 after-sited bundle (noText r) c m h = m r refl

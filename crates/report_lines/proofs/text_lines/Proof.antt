@@ -1,11 +1,11 @@
--- `report::text_lines` meets its contract.
+-- `report_lines::text_lines` meets its contract.
 use Prim.Native.Nat.{_-_}
 use lib.ListN.{length}
 use mathlib.Core.Path.{_∙_}
-use Rattle.report.proofs.Rounds.{Lining, lining-start, lining-from, lining-to, lining-room, lining-on, lining-end}
+use Rattle.report_lines.proofs.Lining.{Lining, lining-start, lining-from, lining-to, lining-room, lining-on, lining-end}
 use borrow.Author.Needs.{needs}
-use Rattle.report.proofs.text_lines.Statement.{statement}
-use Rattle.report.proofs.text_lines.Tie as tie
+use Rattle.report_lines.proofs.text_lines.Statement.{statement}
+use Rattle.report_lines.proofs.text_lines.Tie as tie
 
 abbrev Inv-loop : tie.InvT-loop
 Inv-loop place count bytes ends out₀ i₀ from₀ behind₀ out i from behind = Lining place count bytes ends out₀ out i from behind
