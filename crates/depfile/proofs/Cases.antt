@@ -1,17 +1,20 @@
 -- Worked cases of the definition.
 use Prim.Native.String.{String}
+use mathlib.Core.Bool.{true, false}
 use mathlib.Core.List.{List, [], _∷_, map}
 use mathlib.Core.Option.{Option, none, some}
 use mathlib.Core.Path.{_≡_, refl}
 use Rattle.lists.specs.Text.{bytes}
-use Rattle.depfile.specs.Depfile.{DepRule, depfileRule, listedFor}
+use lib.ListN.{getD}
+use Rattle.depfile.specs.Depfile.{DepRule, depRule, depfileRule, listedFor}
+use Rattle.depfile.proofs.Writer.{Gap, depfileOf}
 
 -- a text's rule, and a rule by its names
 abbrev read : String → Option DepRule
 read s = depfileRule (bytes s)
 
 abbrev rule : List String → List String → Option DepRule
-rule t p = some record { targets = map bytes t; prerequisites = map bytes p }
+rule t p = some (depRule (map bytes t) (map bytes p))
 
 -- What gcc 12.2 wrote (`-MMD -MF`): names with a space, `#`, `$`, backslashes, a tab and a colon, and a list over several lines. With `-MP` it writes
 -- more rules than one. Of the file `f\ g.h` it doubles the backslash, which stays doubled here.
@@ -78,3 +81,17 @@ first-output :
     × (listedFor (bytes "a") (read "a b c d") ≡ none)
 unfolding depfileRule listedFor
 first-output = (refl, refl, refl, refl)
+
+-- The writer: gcc's text, and a name that ends in a backslash.
+abbrev space : Gap
+space = record { first = false; more = [] }
+
+abbrev newLine : Gap
+newLine = record { first = false; more = true ∷ false ∷ [] }
+
+writes :
+    (depfileOf (λ i. space) (λ i. getD (space ∷ space ∷ newLine ∷ []) i space) (depRule (bytes "o ut.o" ∷ []) (bytes "main.c" ∷ bytes "c#.h" ∷ bytes "d$.h" ∷ []))
+    ≡ bytes "o\\ ut.o: main.c c\\#.h \\\n d$$.h\n")
+    × (depfileOf (λ i. space) (λ i. space) (depRule (bytes "a\\" ∷ bytes "b" ∷ []) (bytes "c\\ \\" ∷ bytes "d:" ∷ [])) ≡ bytes "a\\\\\n b: c\\\\ \\\\\n d:\n")
+unfolding depfileOf
+writes = (refl, refl)

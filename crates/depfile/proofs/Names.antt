@@ -8,7 +8,7 @@ use borrow.Author.Tests.{ne-eqb}
 use lib.Dec.{eqb}
 use Rattle.lists.specs.Members.{_∈_, _∉_, here, there}
 use Rattle.lists.specs.Tests.{ifB}
-use Rattle.depfile.specs.Depfile.{colonByte, Mark, byte, gap, line, lone, DepRule, nameThen, blankLines, prerequisitesFrom, ruleFrom}
+use Rattle.depfile.specs.Depfile.{colonByte, Mark, byte, gap, line, lone, DepRule, depRule, nameThen, targetThen, blankLines, prerequisitesFrom, ruleFrom}
 
 -- a mark that ends a name, or nothing at all
 unfoldable pub ends : List Mark → Bool
@@ -44,3 +44,40 @@ prerequisites-end w (line ∷ s) h = byRest (blankLines s)
     byRest true = refl
     byRest false = refl
 prerequisites-end w (lone ∷ s) h = refl
+
+-- ---- targets
+
+-- a mark that ends a target, or nothing at all
+unfoldable pub endsTarget : List Mark → Bool
+endsTarget [] = true
+endsTarget (byte b ∷ s) = eqb b colonByte
+endsTarget (gap ∷ s) = true
+endsTarget (line ∷ s) = true
+endsTarget (lone ∷ s) = true
+
+pub targets-bytes : (w n : List ℕ) (s : List Mark) → colonByte ∉ n → ruleFrom w (map byte n ++ s) ≡ ruleFrom (w ++ n) s
+unfolding ruleFrom
+targets-bytes w [] s h = rw (append-nil w)
+targets-bytes w (b ∷ n) s h =
+    rw (ne-eqb b colonByte (λ e. h (here (sym e))))
+    (targets-bytes (w ++ (b ∷ [])) n s (λ k. h (there k)) ∙ rw (append-assoc w (b ∷ []) n))
+
+pub targets-gap : (s : List Mark) → ruleFrom [] (gap ∷ s) ≡ ruleFrom [] s
+unfolding ruleFrom targetThen nameThen
+targets-gap s = map-none (targetThen []) (λ r. refl) (ruleFrom [] s)
+
+pub targets-colon : (w : List ℕ) (s : List Mark) → ruleFrom w (byte colonByte ∷ s) ≡ Option·map (depRule (nameThen w [])) (prerequisitesFrom [] s)
+unfolding ruleFrom
+targets-colon w s = refl
+
+pub targets-end : (w : List ℕ) (s : List Mark) → endsTarget s ≡ true → ruleFrom w s ≡ Option·map (targetThen w) (ruleFrom [] s)
+unfolding endsTarget ruleFrom targetThen nameThen
+targets-end w [] h = refl
+targets-end w (byte b ∷ s) h = rw h (colon (prerequisitesFrom [] s))
+  where
+    colon : (o : Option (List (List ℕ))) → Option·map (depRule (nameThen w [])) o ≡ Option·map (targetThen w) (Option·map (depRule (nameThen [] [])) o)
+    colon none = refl
+    colon (some l) = refl
+targets-end w (gap ∷ s) h = ap (Option·map (targetThen w)) (sym (targets-gap s))
+targets-end w (line ∷ s) h = refl
+targets-end w (lone ∷ s) h = refl

@@ -58,6 +58,9 @@ pub record DepRule : Type 0 where
   pub targets : List (List ℕ)
   pub prerequisites : List (List ℕ)
 
+abbrev pub depRule : List (List ℕ) → List (List ℕ) → DepRule
+depRule t p = record { targets = t; prerequisites = p }
+
 -- A name w ends before the names l. No name is empty: where no byte was read, none ends.
 unfoldable pub nameThen : List ℕ → List (List ℕ) → List (List ℕ)
 nameThen [] l = l
@@ -81,15 +84,20 @@ prerequisitesFrom w (gap ∷ s) = Option·map (nameThen w) (prerequisitesFrom []
 prerequisitesFrom w (line ∷ s) = ifB (blankLines s) (λ _. some (nameThen w [])) (λ _. none)
 prerequisitesFrom w (lone ∷ s) = none
 
+-- a target w ends before those of a rule
+unfoldable pub targetThen : List ℕ → DepRule → DepRule
+unfolding nameThen
+targetThen w r = depRule (nameThen w (r .targets)) (r .prerequisites)
+
 -- "targets up to the first colon, names between spaces", where w is read of the first; a line that ends without a colon is malformed. There may be no target.
 unfoldable pub ruleFrom : List ℕ → List Mark → Option DepRule
-unfolding nameThen prerequisitesFrom
+unfolding nameThen targetThen prerequisitesFrom
 ruleFrom w [] = none
 ruleFrom w (byte b ∷ s) =
     ifB (eqb b colonByte)
-    (λ _. Option·map (λ (l : List (List ℕ)). record { targets = nameThen w []; prerequisites = l }) (prerequisitesFrom [] s))
+    (λ _. Option·map (depRule (nameThen w [])) (prerequisitesFrom [] s))
     (λ _. ruleFrom (w ++ (b ∷ [])) s)
-ruleFrom w (gap ∷ s) = Option·map (λ (r : DepRule). record { targets = nameThen w (r .targets); prerequisites = r .prerequisites }) (ruleFrom [] s)
+ruleFrom w (gap ∷ s) = Option·map (targetThen w) (ruleFrom [] s)
 ruleFrom w (line ∷ s) = none
 ruleFrom w (lone ∷ s) = none
 
