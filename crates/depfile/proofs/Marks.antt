@@ -1,9 +1,13 @@
 -- The marks of a text, from its first byte or its first two.
 use Prim.Native.Nat.{ℕ}
+use mathlib.Core.Bool.{true, false, _&&_, _||_}
 use mathlib.Core.List.{List, [], _∷_}
 use mathlib.Core.Path.{_≡_, refl}
+use native.Mathlib.Omega.{arith}
 use borrow.Author.Tests.{ne-eqb}
-use Rattle.depfile.specs.Depfile.{newlineByte, spaceByte, hashByte, dollarByte, backslashByte, byte, gap, line, lone, markOf, marksOf}
+use lib.Dec.{eqb}
+use Rattle.lists.specs.Tests.{split}
+use Rattle.depfile.specs.Depfile.{newlineByte, spaceByte, hashByte, dollarByte, backslashByte, Mark, byte, gap, line, lone, markOf, marksOf}
 
 -- ---- alone
 
@@ -68,3 +72,22 @@ marks-last-backslash = refl
 pub marks-last-dollar : marksOf (dollarByte ∷ []) ≡ lone ∷ []
 unfolding marksOf
 marks-last-dollar = refl
+
+-- ---- any text
+
+none-cons : (m : Mark) (l : List Mark) → m ∷ l ≡ [] → ⊥
+none-cons m l e = let z : _≡_ {A = ℕ} 0 1 = cc in omega arith
+
+pub marks-some : (b : ℕ) (s : List ℕ) → marksOf (b ∷ s) ≡ [] → ⊥
+unfolding marksOf
+marks-some b [] e = none-cons (markOf b) [] e
+marks-some b (c ∷ s) e =
+    let joins = eqb b backslashByte && eqb c newlineByte in
+    let escapes = eqb b backslashByte && (eqb c spaceByte || eqb c hashByte) in
+    let dollars = eqb b dollarByte && eqb c dollarByte in
+    split joins (λ (j : joins ≡ true). none-cons _ _ (rw j at e))
+    (λ (j : joins ≡ false).
+    split escapes (λ (k : escapes ≡ true). none-cons _ _ (rw (j, k) at e))
+    (λ (k : escapes ≡ false).
+    split dollars (λ (d : dollars ≡ true). none-cons _ _ (rw (j, k, d) at e))
+    (λ (d : dollars ≡ false). none-cons _ _ (rw (j, k, d) at e))))

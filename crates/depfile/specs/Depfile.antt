@@ -116,13 +116,13 @@ depfileRule s = ruleFrom [] (behindBlank (marksOf s))
 
 -- ------------------------------------------------------------------ for a step
 
-unfoldable pub startsWith : List ℕ → List (List ℕ) → Bool
+unfoldable pub firstIs : List ℕ → List (List ℕ) → Bool
 unfolding eqBytes
-startsWith out [] = false
-startsWith out (t ∷ l) = eqBytes t out
+firstIs out [] = false
+firstIs out (t ∷ l) = eqBytes t out
 
 -- "A malformed text, one whose first target isn't the step's first output, .. is refusal 20": none; else the names that the text lists for the step.
 unfoldable pub listedFor : List ℕ → Option DepRule → Option (List (List ℕ))
-unfolding startsWith
+unfolding firstIs
 listedFor out none = none
-listedFor out (some r) = ifB (startsWith out (r .targets)) (λ _. some (r .prerequisites)) (λ _. none)
+listedFor out (some r) = ifB (firstIs out (r .targets)) (λ _. some (r .prerequisites)) (λ _. none)

@@ -1,0 +1,5 @@
+pub mod Places
+pub mod Told
+pub mod Walking
+pub mod Naming
+pub mod Listing
