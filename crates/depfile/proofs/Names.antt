@@ -6,9 +6,9 @@ use mathlib.Core.Option.{Option, none, some, Option·map}
 use mathlib.Core.Path.{_≡_, refl, sym, _∙_, ap}
 use borrow.Author.Tests.{ne-eqb}
 use lib.Dec.{eqb}
-use Rattle.lists.specs.Members.{_∈_, _∉_, here, there}
+use Rattle.lists.specs.Members.{_∉_, here, there}
 use Rattle.lists.specs.Tests.{ifB}
-use Rattle.depfile.specs.Depfile.{colonByte, Mark, byte, gap, line, lone, DepRule, depRule, nameThen, targetThen, blankLines, prerequisitesFrom, ruleFrom}
+use Rattle.depfile.specs.Depfile.{colonByte, Mark, byte, gap, line, lone, depRule, nameThen, targetThen, blankLines, prerequisitesFrom, ruleFrom}
 
 -- a mark that ends a name, or nothing at all
 unfoldable pub ends : List Mark → Bool

@@ -5,12 +5,12 @@ use mathlib.Core.List.{List, [], _∷_, _++_, map, append-nil, append-assoc}
 use mathlib.Core.Option.{Option, none, some, Option·map}
 use mathlib.Core.Path.{_≡_, refl, sym, _∙_, ap}
 use native.Mathlib.Omega.{arith}
-use borrow.Author.Tests.{ne-eqb, eqb-true, eqb-false}
+use borrow.Author.Tests.{eqb-true, eqb-false}
 use lib.Dec.{eqb}
 use Rattle.lists.specs.Members.{_∉_, here, there}
-use Rattle.lists.specs.Tests.{ifB, split, or-true, or-left, or-right}
-use Rattle.depfile.specs.Depfile.{newlineByte, spaceByte, hashByte, dollarByte, colonByte, backslashByte, Mark, byte, gap, line, DepRule, depRule, marksOf, nameThen, targetThen, blankLines, prerequisitesFrom, ruleFrom, behindBlank, depfileRule}
-use Rattle.depfile.proofs.Marks.{marks-byte, marks-space, marks-newline, marks-joined, marks-escaped-space, marks-escaped-hash, marks-dollars, marks-backslash}
+use Rattle.lists.specs.Tests.{ifB, split, or-left, or-right}
+use Rattle.depfile.specs.Depfile.{newlineByte, spaceByte, hashByte, dollarByte, colonByte, backslashByte, Mark, byte, gap, DepRule, depRule, marksOf, nameThen, targetThen, prerequisitesFrom, ruleFrom, behindBlank, depfileRule}
+use Rattle.depfile.proofs.Marks.{marks-byte, marks-space, marks-joined, marks-escaped-space, marks-escaped-hash, marks-dollars, marks-backslash}
 use Rattle.depfile.proofs.Names.{ends, endsTarget, prerequisites-bytes, prerequisites-gap, prerequisites-end, targets-bytes, targets-gap, targets-colon, targets-end}
 use Rattle.depfile.proofs.Writer.{escaped, spelled, Spellable, SpellableTarget, AllNames, SpellableRule, gapText, Gap, gapped, joined, depfileOf}
 

@@ -1,25 +1,24 @@
 -- What a text lists: its first target up to the colon, then one name after another up to the rule's end.
-use Prim.Native.Nat.{ℕ, _+_, _≤_, _<_}
+use Prim.Native.Nat.{ℕ, _+_, _≤_}
 use mathlib.Core.Bool.{Bool, true, false}
 use mathlib.Core.List.{List, [], _∷_, _++_, append-nil, append-assoc}
 use mathlib.Core.Option.{Option, none, some, Option·map}
 use mathlib.Core.Path.{_≡_, refl, sym, _∙_, ap}
-use native.Mathlib.Numerals.{add-one}
 use native.Mathlib.Omega.{arith}
 use borrow.Author.Tests.{ltb-true, ltb-false, eqb-true, eqb-false}
 use lib.Dec.{eqb, ltb}
 use lib.ListN.{length, drop}
 use Rattle.lists.specs.Bytes.{eqBytes, eq-eqBytes, ne-eqBytes}
 use Rattle.lists.specs.Tests.{ifB, split}
-use Rattle.depfile.specs.Depfile.{colonByte, Mark, byte, gap, line, lone, marksOf, DepRule, depRule, nameThen, targetThen, blankLines, prerequisitesFrom, ruleFrom, behindBlank, depfileRule, firstIs, listedFor}
+use Rattle.depfile.specs.Depfile.{colonByte, Mark, byte, gap, line, lone, marksOf, DepRule, depRule, nameThen, targetThen, blankLines, prerequisitesFrom, ruleFrom, behindBlank, depfileRule, listedFor}
 use Rattle.depfile.proofs.Names.{ends, endsTarget, prerequisites-gap, prerequisites-end, targets-end}
-use Rattle.scan_depfile.specs.Walk.{behindGaps, inName, nameAt, behindName, behindColon, ruleEnds, writtenOver}
-use Rattle.scan_depfile.specs.Answers.{NextMark, ReadsMarks, PassesName, ColonBefore, ColonAt, TargetHere, listedAt, ListedFrom, StartsList, NameListed, ListOver}
+use Rattle.scan_depfile.specs.Walk.{behindGaps, nameHere, behindName, behindColon, ruleEnds, writtenOver}
+use Rattle.scan_depfile.specs.Answers.{NextMark, ReadsMarks, PassesName, ColonAt, TargetHere, listedAt, StartsList, NameListed, ListOver}
 use Rattle.scan_depfile.specs.declared.NameEnd.{NameEnd}
 use Rattle.scan_depfile.specs.declared.DepfileStart.{DepfileStart}
 use Rattle.scan_depfile.specs.declared.DepfileStart.the-variants.{Names, Refused}
 use Rattle.scan_depfile.proofs.Places.{no-marks, some-mark}
-use Rattle.scan_depfile.proofs.Naming.{behind-none}
+use Rattle.scan_depfile.proofs.Naming.{behind-none, take-written}
 
 empty-list : (l : List ℕ) → length l ≡ 0 → l ≡ []
 empty-list [] h = refl
@@ -27,13 +26,13 @@ empty-list (b ∷ l) h = absurd (omega arith)
 
 -- ---- the first target
 
-target-run : (w : List ℕ) (m : List Mark) → ruleFrom w m ≡ ruleFrom (w ++ nameAt true m) (behindName true m)
-unfolding ruleFrom nameAt behindName
+target-run : (w : List ℕ) (m : List Mark) → ruleFrom w m ≡ ruleFrom (w ++ nameHere true m) (behindName true m)
+unfolding ruleFrom nameHere behindName
 target-run w [] = refl
 target-run w (byte b ∷ m) =
     split (eqb b colonByte)
     (λ (e : eqb b colonByte ≡ true). rw (e, append-nil w) (rw e))
-    (λ (e : eqb b colonByte ≡ false). rw e (target-run (w ++ (b ∷ [])) m ∙ rw (append-assoc w (b ∷ []) (nameAt true m))))
+    (λ (e : eqb b colonByte ≡ false). rw e (target-run (w ++ (b ∷ [])) m ∙ rw (append-assoc w (b ∷ []) (nameHere true m))))
 target-run w (gap ∷ m) = rw (append-nil w)
 target-run w (line ∷ m) = refl
 target-run w (lone ∷ m) = refl
@@ -49,8 +48,8 @@ target-ends (gap ∷ m) = refl
 target-ends (line ∷ m) = refl
 target-ends (lone ∷ m) = refl
 
-first-target : (m : List Mark) → ruleFrom [] m ≡ Option·map (targetThen (nameAt true m)) (ruleFrom [] (behindName true m))
-first-target m = target-run [] m ∙ targets-end (nameAt true m) (behindName true m) (target-ends m)
+first-target : (m : List Mark) → ruleFrom [] m ≡ Option·map (targetThen (nameHere true m)) (ruleFrom [] (behindName true m))
+first-target m = target-run [] m ∙ targets-end (nameHere true m) (behindName true m) (target-ends m)
 
 -- a rule whose first target is t, for a step with the first output `out`
 listed-by : (t out : List ℕ) (b : Bool) → eqBytes t out ≡ b → (t ≡ [] → ⊥) → (o : Option DepRule)
@@ -63,13 +62,13 @@ listed-by (x ∷ t) out true e h (some r) = rw e
 listed-by (x ∷ t) out false e h (some r) = rw e
 
 -- a rule without a target
-no-target : (out : List ℕ) (m : List Mark) → nameAt true (behindBlank m) ≡ [] → listedFor out (ruleFrom [] (behindBlank m)) ≡ none
-unfolding behindBlank ruleFrom listedFor nameAt
+no-target : (out : List ℕ) (m : List Mark) → nameHere true (behindBlank m) ≡ [] → listedFor out (ruleFrom [] (behindBlank m)) ≡ none
+unfolding behindBlank ruleFrom listedFor nameHere
 no-target out [] h = refl
 no-target out (byte b ∷ m) h =
     split (eqb b colonByte)
     (λ (e : eqb b colonByte ≡ true). rw e (nothing (prerequisitesFrom [] m)))
-    (λ (e : eqb b colonByte ≡ false). let z : b ∷ nameAt true m ≡ [] = rw e at h in cc)
+    (λ (e : eqb b colonByte ≡ false). let z : b ∷ nameHere true m ≡ [] = rw e at h in cc)
   where
     nothing : (o : Option (List (List ℕ))) → listedFor out (Option·map (depRule (nameThen [] [])) o) ≡ none
     nothing none = refl
@@ -78,10 +77,10 @@ no-target out (gap ∷ m) h = no-target out m h
 no-target out (line ∷ m) h = no-target out m h
 no-target out (lone ∷ m) h = refl
 
-unlisted : (out : List ℕ) (m : List Mark) → ((b : ℕ) (t : List ℕ) → nameAt true (behindBlank m) ≡ b ∷ t → b ∷ t ≡ out → ⊥) → listedFor out (ruleFrom [] (behindBlank m)) ≡ none
-unlisted out m h = byTarget (nameAt true (behindBlank m)) refl
+unlisted : (out : List ℕ) (m : List Mark) → ((b : ℕ) (t : List ℕ) → nameHere true (behindBlank m) ≡ b ∷ t → b ∷ t ≡ out → ⊥) → listedFor out (ruleFrom [] (behindBlank m)) ≡ none
+unlisted out m h = byTarget (nameHere true (behindBlank m)) refl
   where
-    byTarget : (t : List ℕ) → nameAt true (behindBlank m) ≡ t → listedFor out (ruleFrom [] (behindBlank m)) ≡ none
+    byTarget : (t : List ℕ) → nameHere true (behindBlank m) ≡ t → listedFor out (ruleFrom [] (behindBlank m)) ≡ none
     byTarget [] e = no-target out m e
     byTarget (b ∷ t) e =
         ap (listedFor out) (first-target (behindBlank m) ∙ rw e)
@@ -119,7 +118,7 @@ unfolding depfileRule
 start-empty s out h = unlisted out (marksOf s) (λ b t e z. omega (arith, ap length z))
 
 module _ {s : List ℕ} {i : ℕ} (out : List ℕ) (a : ReadsMarks behindBlank s 0 i) where
-  pub start-other : (nameAt true (marksOf (drop i s)) ≡ out → ⊥) → listedFor out (depfileRule s) ≡ none
+  pub start-other : (nameHere true (marksOf (drop i s)) ≡ out → ⊥) → listedFor out (depfileRule s) ≡ none
   unfolding depfileRule
   start-other h = unlisted out (marksOf s) (λ b t e z. h (rw (a .rest) (e ∙ z)))
 
@@ -127,7 +126,7 @@ module _ {s : List ℕ} {i : ℕ} (out : List ℕ) (a : ReadsMarks behindBlank s
   unfolding depfileRule
   start-found {j} h n =
       let m = behindBlank (marksOf s) in
-      let e : nameAt true m ≡ out = rw (← (a .rest)) (h .target) in
+      let e : nameHere true m ≡ out = rw (← (a .rest)) (h .target) in
       let r : behindName true m ≡ marksOf (drop j s) = rw (← (a .rest)) (sym (h .reads .rest)) in
       ap (listedFor out) (first-target m ∙ rw (e, r))
       ∙ listed-by out out true (eq-eqBytes refl) (λ (z : out ≡ []). n (ap length z)) (ruleFrom [] (marksOf (drop j s)))
@@ -148,10 +147,10 @@ prerequisites-behind (gap ∷ m) = prerequisites-gap m ∙ prerequisites-behind 
 prerequisites-behind (line ∷ m) = refl
 prerequisites-behind (lone ∷ m) = refl
 
-name-run : (w : List ℕ) (m : List Mark) → prerequisitesFrom w m ≡ prerequisitesFrom (w ++ nameAt false m) (behindName false m)
-unfolding prerequisitesFrom nameAt behindName
+name-run : (w : List ℕ) (m : List Mark) → prerequisitesFrom w m ≡ prerequisitesFrom (w ++ nameHere false m) (behindName false m)
+unfolding prerequisitesFrom nameHere behindName
 name-run w [] = rw (append-nil w)
-name-run w (byte b ∷ m) = name-run (w ++ (b ∷ [])) m ∙ rw (append-assoc w (b ∷ []) (nameAt false m))
+name-run w (byte b ∷ m) = name-run (w ++ (b ∷ [])) m ∙ rw (append-assoc w (b ∷ []) (nameHere false m))
 name-run w (gap ∷ m) = rw (append-nil w)
 name-run w (line ∷ m) = rw (append-nil w)
 name-run w (lone ∷ m) = refl
@@ -164,16 +163,16 @@ name-ends (gap ∷ m) = refl
 name-ends (line ∷ m) = refl
 name-ends (lone ∷ m) = refl
 
-name-length : (m : List Mark) → length m ≡ length (nameAt false m) + length (behindName false m)
-unfolding nameAt behindName
+name-length : (m : List Mark) → length m ≡ length (nameHere false m) + length (behindName false m)
+unfolding nameHere behindName
 name-length [] = omega arith
 name-length (byte b ∷ m) = omega (arith, name-length m)
 name-length (gap ∷ m) = omega arith
 name-length (line ∷ m) = omega arith
 name-length (lone ∷ m) = omega arith
 
-first-name : (m : List Mark) → prerequisitesFrom [] m ≡ Option·map (nameThen (nameAt false m)) (prerequisitesFrom [] (behindName false m))
-first-name m = name-run [] m ∙ prerequisites-end (nameAt false m) (behindName false m) (name-ends m)
+first-name : (m : List Mark) → prerequisitesFrom [] m ≡ Option·map (nameThen (nameHere false m)) (prerequisitesFrom [] (behindName false m))
+first-name m = name-run [] m ∙ prerequisites-end (nameHere false m) (behindName false m) (name-ends m)
 
 map-name : (n : List ℕ) → (length n ≡ 0 → ⊥) → (o : Option (List (List ℕ))) → Option·map (nameThen n) o ≡ Option·map (λ l. n ∷ l) o
 unfolding nameThen
@@ -181,10 +180,10 @@ map-name [] h o = absurd (h refl)
 map-name (b ∷ n) h none = refl
 map-name (b ∷ n) h (some l) = refl
 
-no-name : (m : List Mark) → nameAt false (behindGaps m) ≡ [] → prerequisitesFrom [] (behindGaps m) ≡ ifB (ruleEnds (behindGaps m)) (λ _. some []) (λ _. none)
-unfolding behindGaps nameAt prerequisitesFrom ruleEnds nameThen
+no-name : (m : List Mark) → nameHere false (behindGaps m) ≡ [] → prerequisitesFrom [] (behindGaps m) ≡ ifB (ruleEnds (behindGaps m)) (λ _. some []) (λ _. none)
+unfolding behindGaps nameHere prerequisitesFrom ruleEnds nameThen
 no-name [] h = refl
-no-name (byte b ∷ m) h = let z : b ∷ nameAt false m ≡ [] = h in cc
+no-name (byte b ∷ m) h = let z : b ∷ nameHere false m ≡ [] = h in cc
 no-name (gap ∷ m) h = no-name m h
 no-name (line ∷ m) h = refl
 no-name (lone ∷ m) h = refl
@@ -195,7 +194,7 @@ module _ {s before after : List ℕ} {from i : ℕ} (a : ReadsMarks behindGaps s
 
   pub next-name : (r .length ≡ 0 → ⊥) → NameListed s from (r .next) (r .length) before after
   next-name h =
-      let name = nameAt false (marksOf (drop i s)) in
+      let name = nameHere false (marksOf (drop i s)) in
       let full : length name ≡ 0 → ⊥ = λ (z : length name ≡ 0). h (p .counts ∙ z) in
       let moved : r .next ≡ i → ⊥ =
       λ (e : r .next ≡ i).
@@ -215,11 +214,12 @@ module _ {s before after : List ℕ} {from i : ℕ} (a : ReadsMarks behindGaps s
             ∙ map-name name full (prerequisitesFrom [] (behindName false (marksOf (drop i s))))
             ∙ ap (λ (m : List Mark). Option·map (λ l. name ∷ l) (prerequisitesFrom [] m)) (sym (p .reads .rest));
         word = p .word;
+        whole = λ k. rw (p .counts, p .word) (take-written name before (rw (p .counts) at k));
       }
 
   module _ (h : r .length ≡ 0) where
-    none-here : nameAt false (marksOf (drop i s)) ≡ []
-    none-here = empty-list (nameAt false (marksOf (drop i s))) (sym (p .counts) ∙ h)
+    none-here : nameHere false (marksOf (drop i s)) ≡ []
+    none-here = empty-list (nameHere false (marksOf (drop i s))) (sym (p .counts) ∙ h)
 
     same-word : after ≡ before
     unfolding writtenOver

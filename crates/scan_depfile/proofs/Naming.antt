@@ -1,18 +1,18 @@
 -- Names at places: a name's bytes one after another, written over the buffer or compared with an output.
 use Prim.Native.Nat.{ℕ, zero, suc, _+_, _≤_, _<_}
-use mathlib.Core.Bool.{Bool, true, false, not}
+use mathlib.Core.Bool.{Bool, true, false}
 use mathlib.Core.List.{List, [], _∷_, _++_, append-nil, append-assoc}
 use mathlib.Core.Path.{_≡_, refl, sym, _∙_, ap}
 use native.Mathlib.Nat.{le-refl, not-suc-le-zero, le-of-suc-le-suc}
 use native.Mathlib.Numerals.{add-one}
 use native.Mathlib.Omega.{arith}
-use borrow.Author.Tests.{eq-eqb, ne-eqb}
+use borrow.Author.Tests.{ne-eqb}
 use lib.ListN.{length, take, drop, getD, set, length-append}
 use lib.Seq.{take-suc, take-all, length-take-le, getD-append-seam}
-use Rattle.lists.specs.Tests.{split, differ}
+use Rattle.lists.specs.Tests.{split}
 use Rattle.depfile.specs.Depfile.{colonByte, Mark, byte, gap, line, lone, marksOf}
-use Rattle.scan_depfile.specs.Walk.{inName, nameAt, behindName, writtenOver}
-use Rattle.scan_depfile.specs.Answers.{NextMark, InName, ReadsMarks, PassesName, TargetHere}
+use Rattle.scan_depfile.specs.Walk.{inName, nameHere, behindName, writtenOver}
+use Rattle.scan_depfile.specs.Answers.{NextMark, InName, PassesName, TargetHere}
 use Rattle.scan_depfile.specs.declared.NameEnd.{NameEnd}
 use Rattle.scan_depfile.proofs.Places.{no-marks}
 
@@ -29,42 +29,42 @@ other-in true b h = rw (ne-eqb b colonByte h)
 other-in false b h = refl
 
 module _ (t : Bool) {s : List ℕ} {i : ℕ} where
-  pub over-colon : {b n : ℕ} → NextMark s i (byte b) n → t ≡ true → b ≡ colonByte → nameAt t (marksOf (drop i s)) ≡ []
-  unfolding nameAt inName
+  pub over-colon : {b n : ℕ} → NextMark s i (byte b) n → t ≡ true → b ≡ colonByte → nameHere t (marksOf (drop i s)) ≡ []
+  unfolding nameHere inName
   over-colon h e k = rw (h .marks, e, k)
 
-  pub over-gap : {n : ℕ} → NextMark s i gap n → nameAt t (marksOf (drop i s)) ≡ []
-  unfolding nameAt
+  pub over-gap : {n : ℕ} → NextMark s i gap n → nameHere t (marksOf (drop i s)) ≡ []
+  unfolding nameHere
   over-gap h = rw (h .marks)
 
-  pub over-line : {n : ℕ} → NextMark s i line n → nameAt t (marksOf (drop i s)) ≡ []
-  unfolding nameAt
+  pub over-line : {n : ℕ} → NextMark s i line n → nameHere t (marksOf (drop i s)) ≡ []
+  unfolding nameHere
   over-line h = rw (h .marks)
 
-  pub over-lone : {n : ℕ} → NextMark s i lone n → nameAt t (marksOf (drop i s)) ≡ []
-  unfolding nameAt
+  pub over-lone : {n : ℕ} → NextMark s i lone n → nameHere t (marksOf (drop i s)) ≡ []
+  unfolding nameHere
   over-lone h = rw (h .marks)
 
-pub over-end : (t : Bool) (s : List ℕ) (i : ℕ) → length s ≤ i → nameAt t (marksOf (drop i s)) ≡ []
-unfolding nameAt
+pub over-end : (t : Bool) (s : List ℕ) (i : ℕ) → length s ≤ i → nameHere t (marksOf (drop i s)) ≡ []
+unfolding nameHere
 over-end t s i h = rw (no-marks s i h)
 
 -- ---- a name and what follows it
 
-name-cons : {t : Bool} {s : List ℕ} {i b n : ℕ} → InName t s i b n → nameAt t (marksOf (drop i s)) ≡ b ∷ nameAt t (marksOf (drop n s))
-unfolding nameAt
+name-cons : {t : Bool} {s : List ℕ} {i b n : ℕ} → InName t s i b n → nameHere t (marksOf (drop i s)) ≡ b ∷ nameHere t (marksOf (drop n s))
+unfolding nameHere
 name-cons h = rw (h .mark .marks, h .is-in)
 
 behind-cons : {t : Bool} {s : List ℕ} {i b n : ℕ} → InName t s i b n → behindName t (marksOf (drop i s)) ≡ behindName t (marksOf (drop n s))
 unfolding behindName
 behind-cons h = rw (h .mark .marks, h .is-in)
 
-pub behind-none : (t : Bool) (m : List Mark) → nameAt t m ≡ [] → behindName t m ≡ m
-unfolding nameAt behindName
+pub behind-none : (t : Bool) (m : List Mark) → nameHere t m ≡ [] → behindName t m ≡ m
+unfolding nameHere behindName
 behind-none t [] h = refl
 behind-none t (byte b ∷ m) h =
     split (inName t b)
-    (λ (e : inName t b ≡ true). let z : b ∷ nameAt t m ≡ [] = rw e at h in cc)
+    (λ (e : inName t b ≡ true). let z : b ∷ nameHere t m ≡ [] = rw e at h in cc)
     (λ (e : inName t b ≡ false). rw e)
 behind-none t (gap ∷ m) h = refl
 behind-none t (line ∷ m) h = refl
@@ -90,6 +90,12 @@ length-written [] word = refl
 length-written (a ∷ n) [] = refl
 length-written (a ∷ n) (x ∷ word) = ap suc (length-written n word)
 
+pub take-written : (n word : List ℕ) → length n ≤ length word → take (length n) (writtenOver n word) ≡ n
+unfolding writtenOver
+take-written [] word h = refl
+take-written (a ∷ n) [] h = absurd (not-suc-le-zero h)
+take-written (a ∷ n) (x ∷ word) h = ap (λ (r : List ℕ). a ∷ r) (take-written n word (le-of-suc-le-suc h))
+
 -- A loop that reads the name at `from` is at place i, with n bytes read.
 pub record Naming (s : List ℕ) (from : ℕ) (before word : List ℕ) (i n : ℕ) : Type 0 where
   pub forward : from ≤ i
@@ -98,7 +104,7 @@ pub record Naming (s : List ℕ) (from : ℕ) (before word : List ℕ) (i n : �
   pub read : List ℕ
   pub counts : n ≡ length read
   pub holds : word ≡ writtenOver read before
-  pub name : nameAt false (marksOf (drop from s)) ≡ read ++ nameAt false (marksOf (drop i s))
+  pub name : nameHere false (marksOf (drop from s)) ≡ read ++ nameHere false (marksOf (drop i s))
   pub rest : behindName false (marksOf (drop from s)) ≡ behindName false (marksOf (drop i s))
 
 pub naming-begin : {s : List ℕ} {from : ℕ} (word : List ℕ) → from ≤ length s → Naming s from word word from 0
@@ -116,16 +122,16 @@ module _ {s before word : List ℕ} {from i n : ℕ} (a : Naming s from before w
         read = a .read ++ (b ∷ []);
         counts = simp length-append (omega (arith, a .counts));
         holds = e ∙ rw (a .holds, a .counts) (written-more (a .read) before b);
-        name = a .name ∙ rw (name-cons h, append-assoc (a .read) (b ∷ []) (nameAt false (marksOf (drop next s))));
+        name = a .name ∙ rw (name-cons h, append-assoc (a .read) (b ∷ []) (nameHere false (marksOf (drop next s))));
         rest = a .rest ∙ behind-cons h;
       }
 
   pub naming-long : length word ≡ length before
   naming-long = ap length (a .holds) ∙ length-written (a .read) before
 
-  pub naming-end : {r : NameEnd} → nameAt false (marksOf (drop i s)) ≡ [] → r .next ≡ i → r .length ≡ n → PassesName s from before word r
+  pub naming-end : {r : NameEnd} → nameHere false (marksOf (drop i s)) ≡ [] → r .next ≡ i → r .length ≡ n → PassesName s from before word r
   naming-end {r} h p q =
-      let whole : nameAt false (marksOf (drop from s)) ≡ a .read = a .name ∙ rw h (append-nil (a .read)) in
+      let whole : nameHere false (marksOf (drop from s)) ≡ a .read = a .name ∙ rw h (append-nil (a .read)) in
       record {
         reads = record { forward = rw p (a .forward); within = rw p (a .within); rest = rw p (sym (a .rest ∙ behind-none false (marksOf (drop i s)) h)) };
         counts = q ∙ a .counts ∙ ap length (sym whole);
@@ -138,7 +144,7 @@ pub record Matching (s : List ℕ) (from : ℕ) (out : List ℕ) (i k : ℕ) : T
   pub forward : from ≤ i
   pub within : i ≤ length s
   pub low : k ≤ length out
-  pub name : nameAt true (marksOf (drop from s)) ≡ take k out ++ nameAt true (marksOf (drop i s))
+  pub name : nameHere true (marksOf (drop from s)) ≡ take k out ++ nameHere true (marksOf (drop i s))
   pub rest : behindName true (marksOf (drop from s)) ≡ behindName true (marksOf (drop i s))
 
 pub matching-begin : {s : List ℕ} {from : ℕ} (out : List ℕ) → from ≤ length s → Matching s from out from 0
@@ -154,30 +160,30 @@ module _ {s out : List ℕ} {from i k : ℕ} (a : Matching s from out i k) where
           low = omega arith;
           name =
               a .name
-              ∙ rw (name-cons h, add-one k, take-suc out k 0 l, append-assoc (take k out) (getD out k 0 ∷ []) (nameAt true (marksOf (drop next s))), e);
+              ∙ rw (name-cons h, add-one k, take-suc out k 0 l, append-assoc (take k out) (getD out k 0 ∷ []) (nameHere true (marksOf (drop next s))), e);
           rest = a .rest ∙ behind-cons h;
         }
 
-    pub matching-other : {b next : ℕ} → InName true s i b next → (b ≡ getD out k 0 → ⊥) → nameAt true (marksOf (drop from s)) ≡ out → ⊥
+    pub matching-other : {b next : ℕ} → InName true s i b next → (b ≡ getD out k 0 → ⊥) → nameHere true (marksOf (drop from s)) ≡ out → ⊥
     matching-other {b} {next} h e z =
-        let t = nameAt true (marksOf (drop next s)) in
+        let t = nameHere true (marksOf (drop next s)) in
         let w : take k out ++ (b ∷ t) ≡ out = rw (← (name-cons h)) (sym (a .name) ∙ z) in
         e (sym (getD-append-seam (take k out) b t 0) ∙ rw (length-take-le k out (a .low), w))
 
-    pub matching-short : nameAt true (marksOf (drop i s)) ≡ [] → nameAt true (marksOf (drop from s)) ≡ out → ⊥
+    pub matching-short : nameHere true (marksOf (drop i s)) ≡ [] → nameHere true (marksOf (drop from s)) ≡ out → ⊥
     matching-short h z =
         let w : take k out ≡ out = sym (append-nil (take k out)) ∙ rw (← h) (sym (a .name) ∙ z) in
         omega (arith, length-take-le k out (a .low), ap length w)
 
   module _ (l : length out ≤ k) where
-    pub matching-long : {b next : ℕ} → InName true s i b next → nameAt true (marksOf (drop from s)) ≡ out → ⊥
+    pub matching-long : {b next : ℕ} → InName true s i b next → nameHere true (marksOf (drop from s)) ≡ out → ⊥
     matching-long {b} {next} h z =
-        let t = nameAt true (marksOf (drop next s)) in
+        let t = nameHere true (marksOf (drop next s)) in
         let w : take k out ++ (b ∷ t) ≡ out = rw (← (name-cons h)) (sym (a .name) ∙ z) in
         let n : length (take k out) + suc (length t) ≡ length out = sym (length-append (take k out) (b ∷ t)) ∙ ap length w in
         omega (arith, length-take-le k out (a .low), a .low)
 
-    pub matching-end : nameAt true (marksOf (drop i s)) ≡ [] → TargetHere s from out i
+    pub matching-end : nameHere true (marksOf (drop i s)) ≡ [] → TargetHere s from out i
     matching-end h =
         record {
           target = a .name ∙ rw h (append-nil (take k out) ∙ take-all k out l);

@@ -5,7 +5,7 @@ use mathlib.Core.List.{List, []}
 use mathlib.Core.Path.{_≡_}
 use lib.ListN.{drop}
 use Rattle.depfile.specs.Depfile.{byte, gap, line, lone, marksOf}
-use Rattle.scan_depfile.specs.Walk.{nameAt}
+use Rattle.scan_depfile.specs.Walk.{nameHere}
 use Rattle.scan_depfile.specs.Answers.{NextMark, MarkAt, InName, NameByteAt, TargetHere, TargetIs}
 use Rattle.scan_depfile.specs.declared.FoundMark.{FoundMark}
 use Rattle.scan_depfile.specs.declared.FoundMark.the-variants.{Byte, Gap, Line, Lone}
@@ -36,7 +36,7 @@ module _ (t : Bool) (s : List ℕ) (i : ℕ) (r : NameByte) (m : NameByteAt t s 
   unfolding NameByteAt
   name-in e = rw e at m
 
-  pub name-over : r ≡ NameOver → nameAt t (marksOf (drop i s)) ≡ []
+  pub name-over : r ≡ NameOver → nameHere t (marksOf (drop i s)) ≡ []
   unfolding NameByteAt
   name-over e = rw e at m
 
@@ -45,6 +45,6 @@ module _ (s : List ℕ) (i : ℕ) (out : List ℕ) (r : DepfileStart) (m : Targe
   unfolding TargetIs
   target-here e = rw e at m
 
-  pub target-other : r ≡ Refused → nameAt true (marksOf (drop i s)) ≡ out → ⊥
+  pub target-other : r ≡ Refused → nameHere true (marksOf (drop i s)) ≡ out → ⊥
   unfolding TargetIs
   target-other e = rw e at m

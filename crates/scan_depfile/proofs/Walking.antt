@@ -1,15 +1,14 @@
 -- Loops over the marks of a text: gaps, blank lines, targets up to the colon.
-use Prim.Native.Nat.{ℕ, suc, _≤_, _<_}
-use mathlib.Core.Bool.{Bool, true, false}
+use Prim.Native.Nat.{ℕ, _≤_}
 use mathlib.Core.List.{List, [], _∷_}
-use mathlib.Core.Option.{Option, none, some}
+use mathlib.Core.Option.{none}
 use mathlib.Core.Path.{_≡_, refl, sym, _∙_, ap}
 use native.Mathlib.Nat.{le-refl}
 use native.Mathlib.Omega.{arith}
 use borrow.Author.Tests.{ne-eqb}
 use lib.ListN.{length, drop}
-use Rattle.depfile.specs.Depfile.{colonByte, Mark, byte, gap, line, lone, marksOf, blankLines, behindBlank}
-use Rattle.scan_depfile.specs.Walk.{behindGaps, behindColon, ruleEnds}
+use Rattle.depfile.specs.Depfile.{colonByte, Mark, byte, marksOf}
+use Rattle.scan_depfile.specs.Walk.{behindColon}
 use Rattle.scan_depfile.specs.Answers.{NextMark, ReadsMarks, ColonBefore}
 use Rattle.scan_depfile.proofs.Places.{no-marks}
 

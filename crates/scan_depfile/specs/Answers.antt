@@ -4,9 +4,9 @@ use mathlib.Core.Bool.{Bool, true, false}
 use mathlib.Core.List.{List, [], _∷_}
 use mathlib.Core.Option.{Option, none, some, Option·map}
 use mathlib.Core.Path.{_≡_}
-use lib.ListN.{length, drop}
+use lib.ListN.{length, take, drop}
 use Rattle.depfile.specs.Depfile.{Mark, byte, gap, line, lone, marksOf, prerequisitesFrom, depfileRule, listedFor}
-use Rattle.scan_depfile.specs.Walk.{behindGaps, inName, nameAt, behindName, behindColon, writtenOver}
+use Rattle.scan_depfile.specs.Walk.{inName, nameHere, behindName, behindColon, writtenOver}
 use Rattle.scan_depfile.specs.declared.FoundMark.{FoundMark}
 use Rattle.scan_depfile.specs.declared.FoundMark.the-variants.{Byte, Gap, Line, Lone}
 use Rattle.scan_depfile.specs.declared.NameByte.{NameByte}
@@ -38,7 +38,7 @@ pub record InName (t : Bool) (s : List ℕ) (i b next : ℕ) : Type 0 where
 
 unfoldable pub NameByteAt : Bool → List ℕ → ℕ → NameByte → Type 0
 NameByteAt t s i (In b next) = InName t s i b next
-NameByteAt t s i NameOver = nameAt t (marksOf (drop i s)) ≡ []
+NameByteAt t s i NameOver = nameHere t (marksOf (drop i s)) ≡ []
 
 -- A reader goes from place i to place r, where the marks that are left are f of those that were.
 pub record ReadsMarks (f : List Mark → List Mark) (s : List ℕ) (i r : ℕ) : Type 0 where
@@ -49,8 +49,8 @@ pub record ReadsMarks (f : List Mark → List Mark) (s : List ℕ) (i r : ℕ) :
 -- the name at place i is passed, counted, and written over the buffer
 pub record PassesName (s : List ℕ) (i : ℕ) (before after : List ℕ) (r : NameEnd) : Type 0 where
   pub reads : ReadsMarks (behindName false) s i (r .next)
-  pub counts : r .length ≡ length (nameAt false (marksOf (drop i s)))
-  pub word : after ≡ writtenOver (nameAt false (marksOf (drop i s))) before
+  pub counts : r .length ≡ length (nameHere false (marksOf (drop i s)))
+  pub word : after ≡ writtenOver (nameHere false (marksOf (drop i s))) before
 
 -- the marks behind the colon of the line in which place i stands
 pub record ColonBefore (s : List ℕ) (i r : ℕ) : Type 0 where
@@ -63,12 +63,12 @@ ColonAt s i Refused = behindColon (marksOf (drop i s)) ≡ none
 
 -- the target at place i is this one
 pub record TargetHere (s : List ℕ) (i : ℕ) (out : List ℕ) (r : ℕ) : Type 0 where
-  pub target : nameAt true (marksOf (drop i s)) ≡ out
+  pub target : nameHere true (marksOf (drop i s)) ≡ out
   pub reads : ReadsMarks (behindName true) s i r
 
 unfoldable pub TargetIs : List ℕ → ℕ → List ℕ → DepfileStart → Type 0
 TargetIs s i out (Names r) = TargetHere s i out r
-TargetIs s i out Refused = nameAt true (marksOf (drop i s)) ≡ out → ⊥
+TargetIs s i out Refused = nameHere true (marksOf (drop i s)) ≡ out → ⊥
 
 -- ------------------------------------------------------------------ for callers
 
@@ -85,7 +85,8 @@ unfoldable pub StartsList : List ℕ → List ℕ → DepfileStart → Type 0
 StartsList s out (Names r) = ListedFrom s out r
 StartsList s out Refused = listedFor out (depfileRule s) ≡ none
 
--- From place i on the next name is listed, of so many bytes, and then those from place `next` on. As much of it as there is room for is in the buffer.
+-- From place i on the next name is listed, of so many bytes, and then those from place `next` on. As much of it as there is room for is in the buffer: all of it,
+-- if it is no longer than the buffer.
 pub record NameListed (s : List ℕ) (i next count : ℕ) (before after : List ℕ) : Type 0 where
   pub name : List ℕ
   pub counts : count ≡ length name
@@ -94,13 +95,14 @@ pub record NameListed (s : List ℕ) (i next count : ℕ) (before after : List �
   pub within : next ≤ length s
   pub names : listedAt s i ≡ Option·map (λ l. name ∷ l) (listedAt s next)
   pub word : after ≡ writtenOver name before
+  pub whole : count ≤ length before → take count after ≡ name
 
 -- no more names are listed, or the text is malformed
 pub record ListOver (s : List ℕ) (i : ℕ) (l : Option (List (List ℕ))) (before after : List ℕ) : Type 0 where
   pub names : listedAt s i ≡ l
   pub word : after ≡ before
 
-unfoldable pub NextListed : List ℕ → ℕ → List ℕ → List ℕ → DepfileName → Type 0
-NextListed s i before after (Name next count) = NameListed s i next count before after
-NextListed s i before after End = ListOver s i (some []) before after
-NextListed s i before after Malformed = ListOver s i none before after
+unfoldable pub NextPrerequisite : List ℕ → ℕ → List ℕ → List ℕ → DepfileName → Type 0
+NextPrerequisite s i before after (Name next count) = NameListed s i next count before after
+NextPrerequisite s i before after End = ListOver s i (some []) before after
+NextPrerequisite s i before after Malformed = ListOver s i none before after

@@ -21,13 +21,13 @@ inName true b = not (eqb b colonByte)
 inName false b = true
 
 -- the bytes of a name, of a target's or not
-unfoldable pub nameAt : Bool → List Mark → List ℕ
+unfoldable pub nameHere : Bool → List Mark → List ℕ
 unfolding inName
-nameAt t [] = []
-nameAt t (byte b ∷ s) = ifB (inName t b) (λ _. b ∷ nameAt t s) (λ _. [])
-nameAt t (gap ∷ s) = []
-nameAt t (line ∷ s) = []
-nameAt t (lone ∷ s) = []
+nameHere t [] = []
+nameHere t (byte b ∷ s) = ifB (inName t b) (λ _. b ∷ nameHere t s) (λ _. [])
+nameHere t (gap ∷ s) = []
+nameHere t (line ∷ s) = []
+nameHere t (lone ∷ s) = []
 
 unfoldable pub behindName : Bool → List Mark → List Mark
 unfolding inName

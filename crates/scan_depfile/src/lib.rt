@@ -1,11 +1,10 @@
 // Make-style texts: the names that a text lists, one after another. A byte is gone over once.
-ghost use mathlib.Core.Bool.{Bool, true, false};
 ghost use mathlib.Core.Path.{_≡_};
 ghost use Prim.Native.Nat.{_≤_, _<_};
 ghost use lib.ListN.{length, drop, getD, set};
 ghost use Rattle.depfile.specs.Depfile.{dollarByte, backslashByte, marksOf, blankLines, behindBlank};
 ghost use Rattle.scan_depfile.specs.Walk.{behindGaps, ruleEnds};
-ghost use Rattle.scan_depfile.specs.Answers.{MarkAt, NameByteAt, ReadsMarks, PassesName, ColonAt, TargetIs, StartsList, NextListed};
+ghost use Rattle.scan_depfile.specs.Answers.{MarkAt, NameByteAt, ReadsMarks, PassesName, ColonAt, TargetIs, StartsList, NextPrerequisite};
 
 // The mark at a place, and where the next one starts.
 pub enum FoundMark {
@@ -296,7 +295,7 @@ fn rule_ends(s: &[u8], i: usize) -> bool
 // The next name from a place behind the colon on, in `word` as far as there is room.
 pub fn next_prerequisite(s: &[u8], from: usize, word: &mut [u8]) -> DepfileName
     requires { ⌜ from ≤ length (now s) ⌝ }
-    ensures { λ r. ⌜ NextListed (now (s .entry)) from (now (word .entry)) (now (word .exit)) r ⌝ }
+    ensures { λ r. ⌜ NextPrerequisite (now (s .entry)) from (now (word .entry)) (now (word .exit)) r ⌝ }
 {
     let name = pass_name(s, skip_gaps(s, from), word);
     let next = name.next;

@@ -1,3 +1,4 @@
+-- `scan_depfile::behind_colon` meets its contract.
 use Prim.Native.Nat.{_-_}
 use mathlib.Core.Path.{refl}
 use native.Mathlib.Omega.{arith}
@@ -9,9 +10,6 @@ use Rattle.scan_depfile.proofs.Walking.{Walking, walk-begin, walk-on, c
 use borrow.Author.Needs.{needs}
 use Rattle.scan_depfile.proofs.behind_colon.Statement.{statement}
 use Rattle.scan_depfile.proofs.behind_colon.Tie as tie
-use Rattle.scan_depfile.proofs.behind_colon.Reads as reads
-use Rattle.scan_depfile.proofs.behind_colon.Lts as lts
-use Rattle.scan_depfile.proofs.mark_at.Reads as mark-at-reads
 
 abbrev Inv-loop : tie.InvT-loop
 Inv-loop s from i₀ i = Walking behindColon s from i
@@ -19,67 +17,53 @@ Inv-loop s from i₀ i = Walking behindColon s from i
 abbrev μ-loop : tie.MeasureT-loop
 μ-loop s from i₀ i = length s - i
 
--- src/lib.rt:239:5
 loop-holds : tie.Need-loop-holds Inv-loop μ-loop
 loop-holds c = walk-begin (c .before .pre)
 
--- src/lib.rt:240:15
 mark-at-requires : tie.Need-mark-at-requires Inv-loop μ-loop
 mark-at-requires c κs = search needs
 
--- src/lib.rt:241:29
 enum-known-b : tie.Need-enum-known-b Inv-loop μ-loop
 enum-known-b c = search needs
 
--- src/lib.rt:243:21
 returns : tie.Need-returns Inv-loop μ-loop
 unfolding ColonAt
 returns c = colon-found (c .before .before .before .before .before .before .loop .inv) (mark-byte _ (c .before .before .before .before .mark-at .ensures) (c .before .before .b .given .1)) (c .if1 .taken)
 
--- src/lib.rt:239:5
 loop-less : tie.Need-loop-less Inv-loop μ-loop
 loop-less c =
     let m : NextMark _ _ _ _ = mark-byte _ (c .before .before .before .before .mark-at .ensures) (c .before .before .b .given .1) in
     omega (arith, m .forward, m .within)
 
--- src/lib.rt:239:5
 loop-again : tie.Need-loop-again Inv-loop μ-loop
 loop-again c = colon-on (c .before .before .before .before .before .before .loop .inv) (mark-byte _ (c .before .before .before .before .mark-at .ensures) (c .before .before .b .given .1)) (c .if1 .left)
 
--- src/lib.rt:247:28
 enum-known-next : tie.Need-enum-known-next Inv-loop μ-loop
 enum-known-next c = search needs
 
--- src/lib.rt:239:5
 loop-less-2 : tie.Need-loop-less-2 Inv-loop μ-loop
 loop-less-2 c =
     let m : NextMark _ _ _ _ = mark-gap _ (c .before .before .before .mark-at .ensures) (c .before .next .given .1) in
     omega (arith, m .forward, m .within)
 
--- src/lib.rt:239:5
 loop-again-2 : tie.Need-loop-again-2 Inv-loop μ-loop
 unfolding behindColon
 loop-again-2 c = walk-on (c .before .before .before .before .before .loop .inv) (mark-gap _ (c .before .before .before .mark-at .ensures) (c .before .next .given .1)) (λ t. refl)
 
--- src/lib.rt:251:17
 enum-told : tie.Need-enum-told Inv-loop μ-loop
 enum-told c = search needs
 
--- src/lib.rt:251:17
 returns-2 : tie.Need-returns-2 Inv-loop μ-loop
 unfolding ColonAt behindColon
 returns-2 c = colon-none (c .before .before .before .before .loop .inv) (mark-line _ (c .before .before .mark-at .ensures) (c .enum-told .given .1)) (λ t. refl)
 
--- src/lib.rt:254:17
 enum-told-2 : tie.Need-enum-told-2 Inv-loop μ-loop
 enum-told-2 c = search needs
 
--- src/lib.rt:254:17
 returns-3 : tie.Need-returns-3 Inv-loop μ-loop
 unfolding ColonAt behindColon
 returns-3 c = colon-none (c .before .before .before .before .loop .inv) (mark-lone _ (c .before .before .mark-at .ensures) (c .enum-told2 .given .1)) (λ t. refl)
 
--- src/lib.rt:234:1
 returns-4 : tie.Need-returns-4 Inv-loop μ-loop
 unfolding ColonAt
 returns-4 c = colon-end (c .before .loop .inv) (c .loop-test .left)

@@ -1,3 +1,4 @@
+-- `scan_depfile::depfile_start` meets its contract.
 use denote.Ref.{now}
 use Rattle.scan_depfile.specs.Answers.{TargetHere, StartsList}
 use Rattle.scan_depfile.proofs.Told.{target-here, target-other}
@@ -5,44 +6,31 @@ use Rattle.scan_depfile.proofs.Listing.{start-empty, start-other, start
 use borrow.Author.Needs.{needs}
 use Rattle.scan_depfile.proofs.depfile_start.Statement.{statement}
 use Rattle.scan_depfile.proofs.depfile_start.Tie as tie
-use Rattle.scan_depfile.proofs.depfile_start.Reads as reads
-use Rattle.scan_depfile.proofs.depfile_start.Lts as lts
-use Rattle.scan_depfile.proofs.behind_colon.Reads as behind-colon-reads
-use Rattle.scan_depfile.proofs.skip_blank.Reads as skip-blank-reads
-use Rattle.scan_depfile.proofs.target_is.Reads as target-is-reads
 
--- src/lib.rt:266:9
 returns : tie.Need-returns
 unfolding StartsList
 returns c = start-empty (now (c .before .before .before .args .s)) (now (c .before .before .before .args .out)) (c .if1 .taken)
 
--- src/lib.rt:268:24
 skip-blank-requires : tie.Need-skip-blank-requires
 skip-blank-requires c κs = search needs
 
--- src/lib.rt:268:11
 target-is-requires : tie.Need-target-is-requires
 target-is-requires c κs = search needs
 
--- src/lib.rt:269:29
 enum-known-i : tie.Need-enum-known-i
 enum-known-i c = search needs
 
--- src/lib.rt:269:35
 behind-colon-requires : tie.Need-behind-colon-requires
 behind-colon-requires c κs =
     let t : TargetHere _ _ _ _ = target-here _ _ _ _ (c .before .before .before .target-is .ensures) (c .before .i .given .1) in
     t .reads .within
 
--- src/lib.rt:270:34
 enum-told : tie.Need-enum-told
 enum-told c = search needs
 
--- src/lib.rt:262:1
 returns-2 : tie.Need-returns-2
 returns-2 c = start-on (now (c .before .before .before .before .before .before .before .before .before .args .out)) (c .before .before .before .before .before .skip-blank .ensures) (c .behind-colon .result) (target-here _ _ _ _ (c .before .before .before .before .target-is .ensures) (c .before .before .i .given .1)) (c .before .before .before .before .before .before .if1 .left) (c .behind-colon .ensures)
 
--- src/lib.rt:262:1
 returns-3 : tie.Need-returns-3
 unfolding StartsList
 returns-3 c = start-other (now (c .before .before .before .before .before .before .before .args .out)) (c .before .before .before .skip-blank .ensures) (target-other _ _ _ _ (c .before .before .target-is .ensures) (c .enum-told .given .1))

@@ -1,35 +1,28 @@
+-- `scan_depfile::dollar_at` meets its contract.
 use denote.Ref.{now}
 use Rattle.scan_depfile.specs.Answers.{MarkAt}
 use Rattle.scan_depfile.proofs.Places.{last-dollar, dollars-here, lone-here}
 use borrow.Author.Needs.{needs}
 use Rattle.scan_depfile.proofs.dollar_at.Statement.{statement}
 use Rattle.scan_depfile.proofs.dollar_at.Tie as tie
-use Rattle.scan_depfile.proofs.dollar_at.Reads as reads
-use Rattle.scan_depfile.proofs.dollar_at.Lts as lts
 
--- src/lib.rt:71:16
 add-next : tie.Need-add-next
 add-next c = search needs
 
--- src/lib.rt:73:9
 returns : tie.Need-returns
 unfolding MarkAt
 returns c = last-dollar (now (c .before .args .s)) (c .before .args .i) (c .before .pre .0) (c .if1 .taken) (c .before .pre .1)
 
--- src/lib.rt:75:13
 shared-slice-read-c : tie.Need-shared-slice-read-c
 shared-slice-read-c c = search needs
 
--- src/lib.rt:77:19
 add-end : tie.Need-add-end
 add-end c = search needs
 
--- src/lib.rt:78:9
 returns-2 : tie.Need-returns-2
 unfolding MarkAt
 returns-2 c = dollars-here (now (c .before .before .before .args .s)) (c .before .before .before .args .i) (c .before .before .before .pre .0) (c .before .before .if1 .left) (c .before .before .before .pre .1) (c .if2 .taken)
 
--- src/lib.rt:67:1
 returns-3 : tie.Need-returns-3
 unfolding MarkAt
 returns-3 c = lone-here (now (c .before .before .before .args .s)) (c .before .before .before .args .i) (c .before .before .before .pre .0) (c .before .before .if1 .left) (c .before .before .before .pre .1) (c .if2 .left)

@@ -1,25 +1,20 @@
+-- `scan_depfile::keep_byte` meets its contract.
 use denote.Ref.{now}
 use mathlib.Core.Path.{sym}
 use Rattle.scan_depfile.proofs.Naming.{set-past}
 use borrow.Author.Needs.{needs}
 use Rattle.scan_depfile.proofs.keep_byte.Statement.{statement}
 use Rattle.scan_depfile.proofs.keep_byte.Tie as tie
-use Rattle.scan_depfile.proofs.keep_byte.Reads as reads
-use Rattle.scan_depfile.proofs.keep_byte.Lts as lts
 
--- src/lib.rt:181:9
 slice-write-word : tie.Need-slice-write-word
 slice-write-word c = search needs
 
--- src/lib.rt:177:1
 same-length : tie.Need-same-length
 same-length c = search needs
 
--- src/lib.rt:177:1
 returns : tie.Need-returns
 returns c = search needs
 
--- src/lib.rt:177:1
 returns-2 : tie.Need-returns-2
 returns-2 c = sym (set-past (now (c .before .args .word)) (c .before .args .n) (c .before .args .b) (c .if1 .left))
 

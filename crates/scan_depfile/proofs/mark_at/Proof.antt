@@ -1,49 +1,37 @@
+-- `scan_depfile::mark_at` meets its contract.
 use denote.Ref.{now}
 use Rattle.scan_depfile.specs.Answers.{MarkAt}
 use Rattle.scan_depfile.proofs.Places.{space-here, newline-here, byte-here}
 use borrow.Author.Needs.{needs}
 use Rattle.scan_depfile.proofs.mark_at.Statement.{statement}
 use Rattle.scan_depfile.proofs.mark_at.Tie as tie
-use Rattle.scan_depfile.proofs.mark_at.Reads as reads
-use Rattle.scan_depfile.proofs.mark_at.Lts as lts
-use Rattle.scan_depfile.proofs.backslash_at.Reads as backslash-at-reads
-use Rattle.scan_depfile.proofs.dollar_at.Reads as dollar-at-reads
 
--- src/lib.rt:87:13
 shared-slice-read-b : tie.Need-shared-slice-read-b
 shared-slice-read-b c = search needs
 
--- src/lib.rt:89:9
 backslash-at-requires : tie.Need-backslash-at-requires
 backslash-at-requires c κs = search needs
 
--- src/lib.rt:89:9
 returns : tie.Need-returns
 returns c = search needs
 
--- src/lib.rt:92:9
 dollar-at-requires : tie.Need-dollar-at-requires
 dollar-at-requires c κs = search needs
 
--- src/lib.rt:92:9
 returns-2 : tie.Need-returns-2
 returns-2 c = search needs
 
--- src/lib.rt:94:16
 add-next : tie.Need-add-next
 add-next c = search needs
 
--- src/lib.rt:96:9
 returns-3 : tie.Need-returns-3
 unfolding MarkAt
 returns-3 c = space-here (now (c .before .before .before .before .before .args .s)) (c .before .before .before .before .before .args .i) (c .before .before .before .before .before .pre) (c .if3 .taken)
 
--- src/lib.rt:99:9
 returns-4 : tie.Need-returns-4
 unfolding MarkAt
 returns-4 c = newline-here (now (c .before .before .before .before .before .before .args .s)) (c .before .before .before .before .before .before .args .i) (c .before .before .before .before .before .before .pre) (c .if4 .taken)
 
--- src/lib.rt:83:1
 returns-5 : tie.Need-returns-5
 unfolding MarkAt
 returns-5 c = byte-here (now (c .before .before .before .before .before .before .args .s)) (c .before .before .before .before .before .before .args .i) (c .before .before .before .before .before .before .pre) (c .before .before .before .if1 .left) (c .before .before .if2 .left) (c .before .if3 .left) (c .if4 .left)

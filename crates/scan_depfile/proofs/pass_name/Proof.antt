@@ -1,3 +1,4 @@
+-- `scan_depfile::pass_name` meets its contract.
 use Rattle.scan_depfile.proofs.Naming.{naming-long}
 use Prim.Native.Nat.{_-_}
 use mathlib.Core.Bool.{false}
@@ -11,10 +12,6 @@ use Rattle.scan_depfile.proofs.Naming.{Naming, naming-begin, naming-on,
 use borrow.Author.Needs.{needs}
 use Rattle.scan_depfile.proofs.pass_name.Statement.{statement}
 use Rattle.scan_depfile.proofs.pass_name.Tie as tie
-use Rattle.scan_depfile.proofs.pass_name.Reads as reads
-use Rattle.scan_depfile.proofs.pass_name.Lts as lts
-use Rattle.scan_depfile.proofs.keep_byte.Reads as keep-byte-reads
-use Rattle.scan_depfile.proofs.name_byte.Reads as name-byte-reads
 
 abbrev Inv-loop : tie.InvT-loop
 Inv-loop s from word₀ i₀ n₀ word i n = Naming s from word₀ word i n
@@ -22,45 +19,35 @@ Inv-loop s from word₀ i₀ n₀ word i n = Naming s from word₀ word i n
 abbrev μ-loop : tie.MeasureT-loop
 μ-loop s from word₀ i₀ n₀ word i n = length s - i
 
--- src/lib.rt:192:5
 loop-holds : tie.Need-loop-holds Inv-loop μ-loop
 loop-holds c = naming-begin (now (c .before .before .args .word)) (c .before .before .pre)
 
--- src/lib.rt:193:15
 name-byte-requires : tie.Need-name-byte-requires Inv-loop μ-loop
 name-byte-requires c κs = search needs
 
--- src/lib.rt:194:26
 enum-known-b : tie.Need-enum-known-b Inv-loop μ-loop
 enum-known-b c = search needs
 
--- src/lib.rt:195:17
 keep-byte-requires : tie.Need-keep-byte-requires Inv-loop μ-loop
 keep-byte-requires c κs = search needs
 
--- src/lib.rt:196:17
 add-n : tie.Need-add-n Inv-loop μ-loop
 add-n c = search needs
 
--- src/lib.rt:192:5
 loop-less : tie.Need-loop-less Inv-loop μ-loop
 loop-less c =
     let m : InName false _ _ _ _ = name-in false _ _ _ (c .before .before .before .before .before .before .before .name-byte .ensures) (c .before .before .before .before .before .b .given .1) in
     omega (arith, m .mark .forward, m .mark .within)
 
--- src/lib.rt:192:5
 loop-again : tie.Need-loop-again Inv-loop μ-loop
 loop-again c = naming-on (c .before .before .before .before .before .before .before .before .loop .inv) (name-in false _ _ _ (c .before .before .before .before .before .before .before .name-byte .ensures) (c .before .before .before .before .before .b .given .1)) (c .before .before .keep-byte .ensures)
 
--- src/lib.rt:200:17
 enum-told : tie.Need-enum-told Inv-loop μ-loop
 enum-told c = search needs
 
--- src/lib.rt:200:17
 same-length : tie.Need-same-length Inv-loop μ-loop
 same-length c = naming-long (c .before .before .before .loop .inv)
 
--- src/lib.rt:200:17
 returns : tie.Need-returns Inv-loop μ-loop
 returns c = naming-end (c .before .before .before .loop .inv) (name-over false _ _ _ (c .before .before .name-byte .ensures) (c .enum-told .given .1)) refl refl
 
