@@ -3,3 +3,4 @@ pub mod Told
 pub mod Walking
 pub mod Naming
 pub mod Listing
+pub mod Laws
