@@ -1,0 +1,1 @@
+// Header lists from the compiler: definitions and laws alone.
