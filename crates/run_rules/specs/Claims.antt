@@ -1,0 +1,103 @@
+-- What document 02 says of the runner, in words: what may start, what is started, and what holds along any sequence of moves.
+use Prim.Native.Nat.{ℕ, _+_, _*_, _≤_, _<_}
+use mathlib.Core.Bool.{Bool, true}
+use mathlib.Core.List.{List, [], _∷_, map}
+use mathlib.Core.Logic.{_⊎_}
+use mathlib.Core.Option.{some}
+use mathlib.Core.Path.{_≡_}
+use lib.ListN.{length}
+use lib.Ieee.{Float, nan, lt}
+use Rattle.lists.specs.Members.{_∈_, Once}
+use Rattle.orders.specs.Order.{IsOrder}
+use Rattle.orders.specs.Greedy.{By}
+use Rattle.run_rules.specs.declared.Job.{Job}
+use Rattle.run_rules.specs.declared.Gate.{Gate}
+use Rattle.run_rules.specs.declared.Gate.the-variants.{Off, At}
+use Rattle.run_rules.specs.declared.FinishAnswer.the-variants.{Noted}
+use Rattle.run_rules.specs.Runner.{Given, runningJobs, runningIn, startOf, afterStart, afterFinish, finishOf}
+
+-- a record of the table
+infix 50 _among_
+pub data _among_ (j : Job) : List Job → Type 0 where
+  first : {k : Job} {t : List Job} → j ≡ k → j among k ∷ t
+  later : {k : Job} {t : List Job} → j among t → j among k ∷ t
+
+abbrev pub stepsOf : List Job → List ℕ
+stepsOf t = map (λ (j : Job). j .step) t
+
+-- "a reading is above it or no number"
+abbrev pub Heavy : Gate → Float → Type 0
+Heavy Off load = ⊥
+Heavy (At highest) load = (load ≡ nan) ⊎ (lt highest load ≡ true)
+
+-- every listed step upstream of step s is done
+abbrev pub UpstreamDone : Given → List Job → ℕ → Type 0
+UpstreamDone g t s = (u : Job) → u among t → u .step ∈ g .upstream s → u .state ≡ 2
+
+-- "After a failed step nothing starts"
+abbrev pub NoFailure : List Job → Type 0
+NoFailure t = (u : Job) → u among t → u .state ≡ 3 → ⊥
+
+-- "A step not yet started may start exactly when every listed step upstream is done, its pool has room (.. the empty pool no limit), the job limit allows it
+-- and neither load nor a failure forbids it"
+pub record MayStart (g : Given) (load : Float) (t : List Job) (j : Job) : Type 0 where
+  pub new : j .state ≡ 0
+  pub after : UpstreamDone g t (j .step)
+  pub room : (j .pool ≡ 0) ⊎ (runningIn (j .pool) t < g .depth (j .pool))
+  pub jobs : runningJobs t < g .limit
+  pub calm : Heavy (g .gate) load → runningJobs t ≡ 0
+  pub good : NoFailure t
+
+-- "the lowest such step": by its number, wherever it stands in the table
+pub record StartsLowest (g : Given) (load : Float) (t : List Job) (s : ℕ) : Type 0 where
+  pub job : Job
+  pub listed : job among t
+  pub named : job .step ≡ s
+  pub may : MayStart g load t job
+  pub least : (u : Job) → u among t → MayStart g load t u → s ≤ u .step
+
+-- ---- moves
+-- what happens to a step: it starts; it finishes, well or not
+pub data Event : Type 0 where
+  began : ℕ → Event
+  ended : ℕ → Bool → Event
+
+-- a start at any load reading, or a finish that is not refused
+pub data Moves (g : Given) (t u : List Job) : Event → Type 0 where
+  starts : {s : ℕ} (load : Float) → startOf g load t ≡ some s → u ≡ afterStart t s → Moves g t u (began s)
+  finishes : {s : ℕ} (good : Bool) → finishOf t s ≡ Noted → u ≡ afterFinish t s good → Moves g t u (ended s good)
+
+-- the tables reached from a, with what happened, the newest first
+pub data Reached (g : Given) (a : List Job) : List Event → List Job → Type 0 where
+  fresh-table : {t : List Job} → t ≡ a → Reached g a [] t
+  further-on : {es : List Event} {e : Event} {t u : List Job} → Reached g a es t → Moves g t u e → Reached g a (e ∷ es) u
+
+unfoldable pub startsIn : List Event → List ℕ
+startsIn [] = []
+startsIn (began s ∷ es) = s ∷ startsIn es
+startsIn (ended s good ∷ es) = startsIn es
+
+unfoldable pub finishesIn : List Event → List ℕ
+finishesIn [] = []
+finishesIn (began s ∷ es) = finishesIn es
+finishesIn (ended s good ∷ es) = s ∷ finishesIn es
+
+-- A fresh table: no step has started; the list has each once and after those upstream, whichever steps are wanted.
+pub record FreshTable (Want : ℕ → Type 0) (g : Given) (a : List Job) : Type 0 where
+  pub waiting : (j : Job) → j among a → j .state ≡ 0
+  pub order : IsOrder Want (By (g .upstream)) (stepsOf a)
+
+-- What holds of every table that is reached, whatever the load readings and whatever failed.
+pub record SoundTable (g : Given) (es : List Event) (t : List Job) : Type 0 where
+  pub pools : (p : ℕ) → 0 < p → runningIn p t ≤ g .depth p
+  pub jobs : runningJobs t ≤ g .limit
+  pub after : (j : Job) → j among t → (j .state ≡ 0 → ⊥) → UpstreamDone g t (j .step)
+  pub states : (j : Job) → j among t → j .state ≤ 3
+  pub starts-once : Once (startsIn es)
+  pub finishes-once : Once (finishesIn es)
+  pub short : length es ≤ 2 * length t
+
+-- Allowed starts and finishes can go on: a step runs, and its finish is allowed; or none runs, and a step starts at every load reading.
+pub data CanGoOn (g : Given) (t : List Job) : Type 0 where
+  by-finish : (s : ℕ) → finishOf t s ≡ Noted → CanGoOn g t
+  by-start : ((load : Float) → (s : ℕ) × (startOf g load t ≡ some s)) → CanGoOn g t
