@@ -1,2 +1,3 @@
 pub mod Runner
+pub mod Places
 pub mod Claims

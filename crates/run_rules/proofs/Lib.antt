@@ -1,0 +1,3 @@
+pub mod Tables
+pub mod Moved
+pub mod Starts
