@@ -5,7 +5,7 @@ use mathlib.Core.List.{List, [], _∷_, _++_, map}
 use mathlib.Core.Path.{_≡_, refl, sym, ap, _∙_}
 use borrow.Author.Tests.{eqb-true}
 use lib.Dec.{eqb}
-use lib.ListN.{length}
+use lib.ListN.{length, length-map}
 use Rattle.lists.specs.Members.{any}
 use Rattle.lists.specs.Tests.{split, differ, and-left, and-right, or-left, or-right, or-false}
 use Rattle.run_rules.specs.declared.Job.{Job}
@@ -76,3 +76,7 @@ same-steps t u e = sym (steps-done t) ∙ ap stepsOf e ∙ steps-done u
     steps-done : (t : List Job) → stepsOf (allDone t) ≡ stepsOf t
     steps-done [] = refl
     steps-done (k ∷ t) = ap (λ (r : List ℕ). k .step ∷ r) (steps-done t)
+
+pub same-length : (t u : List Job) → allDone t ≡ allDone u → length t ≡ length u
+unfolding allDone
+same-length t u e = sym (length-map t (turned 2)) ∙ ap length e ∙ length-map u (turned 2)

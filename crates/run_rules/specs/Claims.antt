@@ -1,10 +1,11 @@
 -- What document 02 says of the runner, in words: what may start, what is started, and what holds along any sequence of moves.
 use Prim.Native.Nat.{ℕ, _+_, _*_, _≤_, _<_}
-use mathlib.Core.Bool.{Bool, true}
+use mathlib.Core.Bool.{Bool, true, _&&_}
 use mathlib.Core.List.{List, [], _∷_, map}
-use mathlib.Core.Logic.{_⊎_}
+use mathlib.Core.Logic.{_⊎_, _↔_}
 use mathlib.Core.Option.{some}
 use mathlib.Core.Path.{_≡_}
+use lib.Dec.{ltb}
 use lib.ListN.{length}
 use lib.Ieee.{Float, nan, lt}
 use Rattle.lists.specs.Members.{_∈_, Once}
@@ -14,7 +15,7 @@ use Rattle.run_rules.specs.declared.Job.{Job}
 use Rattle.run_rules.specs.declared.Gate.{Gate}
 use Rattle.run_rules.specs.declared.Gate.the-variants.{Off, At}
 use Rattle.run_rules.specs.declared.FinishAnswer.the-variants.{Noted}
-use Rattle.run_rules.specs.Runner.{Given, runningJobs, runningIn, startOf, afterStart, afterFinish, finishOf}
+use Rattle.run_rules.specs.Runner.{Given, countJobs, runningJobs, runningIn, startOf, afterStart, afterFinish, finishOf, allDone}
 
 -- a record of the table
 infix 50 _among_
@@ -82,20 +83,39 @@ finishesIn [] = []
 finishesIn (began s ∷ es) = finishesIn es
 finishesIn (ended s good ∷ es) = s ∷ finishesIn es
 
+-- no finish was a failed one
+unfoldable pub noneFailed : List Event → Bool
+noneFailed [] = true
+noneFailed (began s ∷ es) = noneFailed es
+noneFailed (ended s good ∷ es) = good && noneFailed es
+
 -- A fresh table: no step has started; the list has each once and after those upstream, whichever steps are wanted.
 pub record FreshTable (Want : ℕ → Type 0) (g : Given) (a : List Job) : Type 0 where
   pub waiting : (j : Job) → j among a → j .state ≡ 0
   pub order : IsOrder Want (By (g .upstream)) (stepsOf a)
 
--- What holds of every table that is reached, whatever the load readings and whatever failed.
-pub record SoundTable (g : Given) (es : List Event) (t : List Job) : Type 0 where
+-- each step's pool is the empty one, or has a depth of at least 1
+abbrev pub DeepPools : Given → List Job → Type 0
+DeepPools g a = (j : Job) → j among a → (j .pool ≡ 0) ⊎ (1 ≤ g .depth (j .pool))
+
+-- the records that are done or failed
+unfoldable pub endedJobs : List Job → ℕ
+unfolding countJobs
+endedJobs t = countJobs (λ j. ltb 1 (j .state)) t
+
+-- What holds of every table t that is reached from a, whatever the load readings and whatever failed. Steps and pools stay as they are; a step that is not
+-- among the starts waits, and each move counts 1.
+pub record SoundTable (g : Given) (a : List Job) (es : List Event) (t : List Job) : Type 0 where
+  pub same : allDone t ≡ allDone a
   pub pools : (p : ℕ) → 0 < p → runningIn p t ≤ g .depth p
   pub jobs : runningJobs t ≤ g .limit
   pub after : (j : Job) → j among t → (j .state ≡ 0 → ⊥) → UpstreamDone g t (j .step)
   pub states : (j : Job) → j among t → j .state ≤ 3
+  pub started : (j : Job) → j among t → (j .step ∈ startsIn es) ↔ (j .state ≡ 0 → ⊥)
+  pub finished : (j : Job) → j among t → (j .step ∈ finishesIn es) ↔ (2 ≤ j .state)
   pub starts-once : Once (startsIn es)
   pub finishes-once : Once (finishesIn es)
-  pub short : length es ≤ 2 * length t
+  pub counted : length es ≡ runningJobs t + 2 * endedJobs t
 
 -- Allowed starts and finishes can go on: a step runs, and its finish is allowed; or none runs, and a step starts at every load reading.
 pub data CanGoOn (g : Given) (t : List Job) : Type 0 where
