@@ -1,5 +1,5 @@
 -- With a job limit of at least 1 and no failure, starts and finishes go on until all steps are done, each once, and the end is the same table.
-use Prim.Native.Nat.{ℕ, _+_, _*_, _≤_, _<_}
+use Prim.Native.Nat.{ℕ, zero, suc, _+_, _*_, _≤_, _<_}
 use mathlib.Core.Bool.{Bool, true, false, not, _&&_}
 use mathlib.Core.List.{List, [], _∷_, _++_, map}
 use mathlib.Core.Logic.{_⊎_, inl, inr}
@@ -17,12 +17,13 @@ use Rattle.orders.specs.Greedy.{By}
 use Rattle.run_rules.specs.declared.Job.{Job}
 use Rattle.run_rules.specs.declared.FinishAnswer.the-variants.{Noted}
 use Rattle.run_rules.specs.Runner.{Given, jobRuns, jobDone, turned, runningJobs, runningIn, startOf, jobIs, afterStart, afterFinish, finishOf, allDone}
-use Rattle.run_rules.specs.Claims.{_among_, first, later, stepsOf, UpstreamDone, NoFailure, MayStart, Event, began, ended, Moves, starts, finishes, Reached}
-use Rattle.run_rules.specs.Claims.{startsIn, finishesIn, noneFailed, FreshTable, DeepPools, SoundTable, CanGoOn, by-finish, by-start}
+use Rattle.run_rules.specs.Claims.{_among_, first, later, stepsOf, UpstreamDone, NoFailure, MayStart, Event, began, ended, Moves, starts, finishes, Reached, further-on}
+use Rattle.run_rules.specs.Claims.{startsIn, finishesIn, noneFailed, FreshTable, DeepPools, SoundTable, CanGoOn, by-finish, by-start, RunsOut}
 use Rattle.run_rules.proofs.Tables.{among-left, among-right, among-step, step-among, one-record, any-jobs, no-jobs, jobs-any, none-count}
 use Rattle.run_rules.proofs.Moved.{same-steps}
-use Rattle.run_rules.proofs.Starts.{some-start}
-use Rattle.run_rules.proofs.Reaching.{once-now, reached-sound, reached-good}
+use Rattle.run_rules.proofs.Starts.{some-start, start-lowest}
+use Rattle.run_rules.proofs.Reaching.{finish-turns, once-now, reached-sound, reached-good, run-short}
+use Rattle.run_rules.proofs.Turning.{job-among}
 
 -- ---- the first record that is not done
 pub record FirstUndone (t : List Job) : Type 0 where
@@ -76,7 +77,7 @@ same-pools t a e h = let (k, m, q) = back a (rw e at (forth h)) in (k, m, ap (λ
     back (k ∷ t) (later h) = let (m, a, e) = back t h in (m, later a, e)
 
 -- ---- going on
-running-finishes : (t : List Job) {j : Job} → j among t → j .state ≡ 1 → finishOf t (j .step) ≡ Noted
+pub running-finishes : (t : List Job) {j : Job} → j among t → j .state ≡ 1 → finishOf t (j .step) ≡ Noted
 unfolding finishOf
 running-finishes t {j} h e =
     rw (jobs-any (jobIs (j .step) 1) t h (and-true (eqb (j .step) (j .step)) (eqb (j .state) 1) (eq-eqb (j .step) (j .step) refl) (eq-eqb (j .state) 1 e)))
@@ -149,3 +150,66 @@ module _ {Want : ℕ → Type 0} {g : Given} {a : List Job} (f : FreshTable Want
     | inr (by-finish s q) ↦ absurd (stuck (ended s true) (afterFinish t s true) (finishes true q refl))
     | inr (by-start h) ↦ (let (s, q) = h nan in absurd (stuck (began s) (afterStart t s) (starts nan q refl)))
   ]
+
+-- ---- the end
+done-among : (a : List Job) {j : Job} → j among allDone a → j .state ≡ 2
+unfolding allDone
+done-among [] h = elim h [ ]
+done-among (k ∷ a) (first e) = ap (λ (j : Job). j .state) e
+done-among (k ∷ a) (later h) = done-among a h
+
+done-steps : (a : List Job) {s : ℕ} → s ∈ stepsOf a → (j : Job) × (j among allDone a) × (j .step ≡ s)
+unfolding allDone
+done-steps a h = let (j, m, e) = step-among a h in (turned 2 j, go m, e)
+  where
+    go : {j : Job} {t : List Job} → j among t → turned 2 j among map (turned 2) t
+    go (first q) = first (ap (turned 2) q)
+    go (later h) = later (go h)
+
+done-still : {g : Given} (a : List Job) (e : Event) (u : List Job) → Moves g (allDone a) u e → ⊥
+done-still {g} a e u (starts load q d) =
+    let l = start-lowest g load (allDone a) q in
+    let x = l .may .new in
+    let y = done-among a (l .listed) in
+    omega arith
+done-still a e u (finishes good q d) =
+    let h = finish-turns good q in
+    let x = h .state in
+    let y = done-among a (job-among h) in
+    omega arith
+
+module _ {Want : ℕ → Type 0} {g : Given} {a : List Job} (f : FreshTable Want g a) (deep : DeepPools g a) (jobs : 1 ≤ g .limit) where
+  done-each : {es : List Event} → Reached g a es (allDone a) → (s : ℕ) → s ∈ stepsOf a → (s ∈ startsIn es) × (s ∈ finishesIn es)
+  done-each {es} r s h =
+      let (j, m, e) = done-steps a h in
+      let k = reached-sound f r in
+      let d : j .state ≡ 2 = done-among a m in
+      (rw e at (k .started j m .1 (λ z. omega arith)), rw e at (k .finished j m .1 (omega arith)))
+
+  one-more : {es : List Event} {t : List Job} → Reached g a es t → noneFailed es ≡ true → CanGoOn g t
+      → (e : Event) × (u : List Job) × Reached g a (e ∷ es) u × (noneFailed (e ∷ es) ≡ true)
+  unfolding noneFailed
+  one-more {t = t} r q (by-finish s e) = (ended s true, afterFinish t s true, further-on r (finishes true e refl), q)
+  one-more {t = t} r q (by-start h) = let (s, e) = h nan in (began s, afterStart t s, further-on r (starts nan e refl), q)
+
+  -- as many more moves as the number says, or fewer
+  to-the-end : (n : ℕ) {es : List Event} {t : List Job} → 2 * length a ≤ length es + n → Reached g a es t → noneFailed es ≡ true
+      → (more : List Event) × Reached g a more (allDone a) × (noneFailed more ≡ true)
+  to-the-end zero {es} {t} b r q = elim (goes-on f deep jobs (reached-sound f r) (reached-good f r q)) [
+    | inl e ↦ (es, subst (λ (t : List Job). Reached g a es t) e r, q)
+    | inr c ↦ (let (e, u, m, _) = one-more r q c in let w = run-short f m in absurd (omega arith))
+  ]
+  to-the-end (suc n) {es} {t} b r q = elim (goes-on f deep jobs (reached-sound f r) (reached-good f r q)) [
+    | inl e ↦ (es, subst (λ (t : List Job). Reached g a es t) e r, q)
+    | inr c ↦ (let (e, u, m, p) = one-more r q c in to-the-end n (omega arith) m p)
+  ]
+
+  pub runs-out : RunsOut g a
+  runs-out = record {
+    goes-on = λ r q. goes-on f deep jobs (reached-sound f r) (reached-good f r q);
+    finite = λ r. run-short f r;
+    same-end = λ r q. same-end f deep jobs (reached-sound f r) (reached-good f r q);
+    nothing-after = done-still a;
+    each = done-each;
+    ends = λ r q. to-the-end (2 * length a) (omega arith) r q;
+  }

@@ -121,3 +121,13 @@ pub record SoundTable (g : Given) (a : List Job) (es : List Event) (t : List Job
 pub data CanGoOn (g : Given) (t : List Job) : Type 0 where
   by-finish : (s : ℕ) → finishOf t s ≡ Noted → CanGoOn g t
   by-start : ((load : Float) → (s : ℕ) × (startOf g load t ≡ some s)) → CanGoOn g t
+
+-- "From a fresh table, with a job limit of at least 1 and no failure, whatever the load readings, allowed starts and finishes can always go on until all steps
+-- are done, each once, and the end is the same table": every run is finite, and so is one that goes on as long as it can.
+pub record RunsOut (g : Given) (a : List Job) : Type 0 where
+  pub goes-on : {es : List Event} {t : List Job} → Reached g a es t → noneFailed es ≡ true → (t ≡ allDone a) ⊎ CanGoOn g t
+  pub finite : {es : List Event} {t : List Job} → Reached g a es t → length es ≤ 2 * length a
+  pub same-end : {es : List Event} {t : List Job} → Reached g a es t → noneFailed es ≡ true → ((e : Event) (u : List Job) → Moves g t u e → ⊥) → t ≡ allDone a
+  pub nothing-after : (e : Event) (u : List Job) → Moves g (allDone a) u e → ⊥
+  pub each : {es : List Event} → Reached g a es (allDone a) → (s : ℕ) → s ∈ stepsOf a → (s ∈ startsIn es) × (s ∈ finishesIn es)
+  pub ends : {es : List Event} {t : List Job} → Reached g a es t → noneFailed es ≡ true → (more : List Event) × Reached g a more (allDone a) × (noneFailed more ≡ true)
