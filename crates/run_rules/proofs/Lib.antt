@@ -4,3 +4,6 @@ pub mod Starts
 pub mod Turning
 pub mod Reaching
 pub mod Progress
+pub mod Failures
+pub mod Gates
+pub mod Cases

@@ -45,6 +45,13 @@ module _ {s a b : ℕ} {t u : List Job} (h : Turns s a b t u) where
   pub other-step : Once (stepsOf t) → {x : Job} → x among others → x .step ≡ s → ⊥
   other-step o m e = apart (h .front) (h .back) (h .job) (rw (h .was) at o) m (e ∙ sym (h .step))
 
+  -- a record in another state stays
+  pub stays-turned : {x : Job} → x among t → (x .state ≡ a → ⊥) → x among u
+  stays-turned {x} m n = elim (middle (h .front) (h .back) (rw (h .was) at m)) [
+    | inl e ↦ absurd (n (ap (λ (j : Job). j .state) e ∙ h .state))
+    | inr o ↦ rw (h .is) (around (h .front) (h .back) (turned b (h .job)) o)
+  ]
+
   -- counts
   pub count-turned : (p : Job → Bool) → countJobs p u + one (p (h .job)) ≡ countJobs p t + one (p (turned b (h .job)))
   count-turned p =
