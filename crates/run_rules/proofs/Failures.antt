@@ -13,8 +13,8 @@ use Rattle.lists.specs.Members.{any}
 use Rattle.lists.specs.Tests.{split, and-left, and-right}
 use Rattle.run_rules.specs.declared.Job.{Job}
 use Rattle.run_rules.specs.declared.FinishAnswer.the-variants.{Noted, NotRunning}
-use Rattle.run_rules.specs.Runner.{Given, jobRuns, turned, runningJobs, runningIn, startOf, jobIs, moved, afterStart, afterFinish, finishOf, finishSays}
-use Rattle.run_rules.specs.Claims.{_among_, first, later, MayStart, Event, Moves, starts, finishes}
+use Rattle.run_rules.specs.Runner.{Given, jobRuns, turned, runningJobs, runningIn, nextStart, jobIs, moved, afterStart, afterFinish, finishOf, finishSays}
+use Rattle.run_rules.specs.Claims.{_among_, first, later, MayStart, RunEvent, Moves, starts, finishes}
 use Rattle.run_rules.proofs.Tables.{any-jobs, jobs-none, one}
 use Rattle.run_rules.proofs.Moved.{Turns, moved-none}
 use Rattle.run_rules.proofs.Starts.{start-lowest, no-start}
@@ -23,7 +23,7 @@ use Rattle.run_rules.proofs.Reaching.{start-turns, finish-turns, noted-
 use Rattle.run_rules.proofs.Progress.{running-finishes}
 
 -- "After a failed step nothing starts"
-pub failed-stops : (g : Given) (load : Float) (t : List Job) {u : Job} → u among t → u .state ≡ 3 → startOf g load t ≡ none
+pub failed-stops : (g : Given) (load : Float) (t : List Job) {u : Job} → u among t → u .state ≡ 3 → nextStart g load t ≡ none
 failed-stops g load t {u} h e = no-start g load t (λ j m s. s .good u h e)
 
 -- "running ones may finish", whatever failed
@@ -49,7 +49,7 @@ turned-frees {b = b} {t = t} {u = u} h lo =
     let p : ℕ = h .job .pool in
     let r : runningJobs u + 1 ≡ runningJobs t + 0 = rw (h .state, ne-eqb b 1 (λ e. omega arith)) at (count-turned h jobRuns) in
     let c : runningIn p u + one (eqb p p) ≡ runningIn p t + 0
-      = rw (h .state, ne-eqb b 1 (λ e. omega arith)) at (count-turned h (λ j. jobRuns j && eqb (j .pool) p)) in
+    = rw (h .state, ne-eqb b 1 (λ e. omega arith)) at (count-turned h (λ j. jobRuns j && eqb (j .pool) p)) in
     record { jobs = omega arith; pool = omega (arith, rw (eq-eqb p p refl) at c) }
 
 pub finish-frees : {t : List Job} {s : ℕ} (good : Bool) → finishOf t s ≡ Noted
@@ -58,7 +58,7 @@ finish-frees true e = let h = finish-turns true e in (h .job, job-among h, h .st
 finish-frees false e = let h = finish-turns false e in (h .job, job-among h, h .step, h .state, turned-frees h (omega arith))
 
 -- What has ended stays as it ended: a failed step is never done.
-pub ended-stays : {g : Given} {t u : List Job} {e : Event} → Moves g t u e → {j : Job} → j among t → 2 ≤ j .state → j among u
+pub ended-stays : {g : Given} {t u : List Job} {e : RunEvent} → Moves g t u e → {j : Job} → j among t → 2 ≤ j .state → j among u
 ended-stays {g} {t} (starts load q d) {j} h b = rw d (stays-turned (start-turns (start-lowest g load t q)) h (λ z. omega arith))
 ended-stays (finishes good q d) h b = rw d (stays-turned (finish-turns good q) h (λ z. omega arith))
 

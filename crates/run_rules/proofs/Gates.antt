@@ -10,16 +10,16 @@ use borrow.Author.Tests.{le-ltb}
 use lib.Ieee.{Float, nan, inf, fin, isNan, lt, up, down}
 use Rattle.run_rules.specs.declared.Job.{Job}
 use Rattle.run_rules.specs.declared.Gate.the-variants.{Off, At}
-use Rattle.run_rules.specs.Runner.{Given, runningJobs, heavyLoad, startOf}
+use Rattle.run_rules.specs.Runner.{Given, runningJobs, heavyLoad, nextStart}
 use Rattle.run_rules.specs.Claims.{_among_, Heavy, MayStart}
 use Rattle.run_rules.proofs.Starts.{no-start}
 
 -- "while a reading is above it or no number, a step starts only when none runs"
-pub heavy-stops : (g : Given) (load : Float) (t : List Job) → Heavy (g .gate) load → 0 < runningJobs t → startOf g load t ≡ none
+pub heavy-stops : (g : Given) (load : Float) (t : List Job) → Heavy (g .gate) load → 0 < runningJobs t → nextStart g load t ≡ none
 heavy-stops g load t h r = no-start g load t (λ j m s. let e = s .calm h in omega arith)
 
 -- a reading that is no number lets no second step start
-pub nan-stops : (g : Given) (t : List Job) {highest : Float} → g .gate ≡ At highest → 0 < runningJobs t → startOf g nan t ≡ none
+pub nan-stops : (g : Given) (t : List Job) {highest : Float} → g .gate ≡ At highest → 0 < runningJobs t → nextStart g nan t ≡ none
 nan-stops g t e r = heavy-stops g nan t (rw e (inl refl)) r
 
 -- "with the gate off readings do nothing"
@@ -44,7 +44,7 @@ gate-equal (fin true m e) h = le-ltb (m * up e * down e) (m * up e * down e) (om
 gate-equal (fin false m e) h = le-ltb (m * up e * down e) (m * up e * down e) (omega arith)
 
 -- "A job limit of 0 starts nothing."
-pub limit-nought : (g : Given) (load : Float) (t : List Job) → g .limit ≡ 0 → startOf g load t ≡ none
+pub limit-nought : (g : Given) (load : Float) (t : List Job) → g .limit ≡ 0 → nextStart g load t ≡ none
 limit-nought g load t e = no-start g load t (λ j m s. let l = s .jobs in omega arith)
 
 -- in a pool of depth 0 no step could start

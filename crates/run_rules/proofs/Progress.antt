@@ -16,8 +16,8 @@ use Rattle.orders.specs.Order.{ComesAfter}
 use Rattle.orders.specs.Greedy.{By}
 use Rattle.run_rules.specs.declared.Job.{Job}
 use Rattle.run_rules.specs.declared.FinishAnswer.the-variants.{Noted}
-use Rattle.run_rules.specs.Runner.{Given, jobRuns, jobDone, turned, runningJobs, runningIn, startOf, jobIs, afterStart, afterFinish, finishOf, allDone}
-use Rattle.run_rules.specs.Claims.{_among_, first, later, stepsOf, UpstreamDone, NoFailure, MayStart, Event, began, ended, Moves, starts, finishes, Reached, further-on}
+use Rattle.run_rules.specs.Runner.{Given, jobRuns, jobDone, turned, runningJobs, runningIn, nextStart, jobIs, afterStart, afterFinish, finishOf, allDone}
+use Rattle.run_rules.specs.Claims.{_among_, first, later, stepsOf, UpstreamDone, NoFailure, MayStart, RunEvent, began, ended, Moves, starts, finishes, TableReached, further-on}
 use Rattle.run_rules.specs.Claims.{startsIn, finishesIn, noneFailed, FreshTable, DeepPools, SoundTable, CanGoOn, by-finish, by-start, RunsOut}
 use Rattle.run_rules.proofs.Tables.{among-left, among-right, among-step, step-among, one-record, any-jobs, no-jobs, jobs-any, none-count}
 use Rattle.run_rules.proofs.Moved.{same-steps}
@@ -41,13 +41,13 @@ first-undone (k ∷ t) =
     (λ (e : jobDone k ≡ true). elim (first-undone t) [
       | inl f ↦ inl (more (eqb-true (k .state) 2 e) f)
       | inr r ↦ inr (record {
-          front = k ∷ r .front;
-          job = r .job;
-          back = r .back;
-          is = ap (λ (l : List Job). k ∷ l) (r .is);
-          done = more (eqb-true (k .state) 2 e) (r .done);
-          undone = r .undone;
-        })
+        front = k ∷ r .front;
+        job = r .job;
+        back = r .back;
+        is = ap (λ (l : List Job). k ∷ l) (r .is);
+        done = more (eqb-true (k .state) 2 e) (r .done);
+        undone = r .undone;
+      })
     ])
     (λ (e : jobDone k ≡ false).
     inr (record { front = []; job = k; back = t; is = refl; done = λ u h. elim h [ ]; undone = eqb-false (k .state) 2 e }))
@@ -83,7 +83,7 @@ running-finishes t {j} h e =
     rw (jobs-any (jobIs (j .step) 1) t h (and-true (eqb (j .step) (j .step)) (eqb (j .state) 1) (eq-eqb (j .step) (j .step) refl) (eq-eqb (j .state) 1 e)))
 
 module _ {Want : ℕ → Type 0} {g : Given} {a : List Job} (f : FreshTable Want g a) (deep : DeepPools g a) (jobs : 1 ≤ g .limit)
-    {es : List Event} {t : List Job} (k : SoundTable g a es t) (good : NoFailure t) where
+    {es : List RunEvent} {t : List Job} (k : SoundTable g a es t) (good : NoFailure t) where
   -- what is upstream of the first undone record stands in front of it
   front-done : (n : FirstUndone t) → UpstreamDone g t (n .job .step)
   front-done n u m w =
@@ -122,7 +122,7 @@ module _ {Want : ℕ → Type 0} {g : Given} {a : List Job} (f : FreshTable Want
               let c : runningIn (n .job .pool) t ≡ 0 = none-count (λ j. jobRuns j && eqb (j .pool) (n .job .pool)) t (λ u v. rw (still u v)) in
               let y : 1 ≤ g .depth (n .job .pool) = rw e at z in
               omega arith
-            )
+              )
         ];
         jobs = omega arith;
         calm = λ _. r;
@@ -144,7 +144,7 @@ module _ {Want : ℕ → Type 0} {g : Given} {a : List Job} (f : FreshTable Want
       ])
 
   -- a table from which nothing moves is the same one always
-  pub same-end : ((e : Event) (u : List Job) → Moves g t u e → ⊥) → t ≡ allDone a
+  pub same-end : ((e : RunEvent) (u : List Job) → Moves g t u e → ⊥) → t ≡ allDone a
   same-end stuck = elim goes-on [
     | inl e ↦ e
     | inr (by-finish s q) ↦ absurd (stuck (ended s true) (afterFinish t s true) (finishes true q refl))
@@ -166,7 +166,7 @@ done-steps a h = let (j, m, e) = step-among a h in (turned 2 j, go m, e)
     go (first q) = first (ap (turned 2) q)
     go (later h) = later (go h)
 
-done-still : {g : Given} (a : List Job) (e : Event) (u : List Job) → Moves g (allDone a) u e → ⊥
+done-still : {g : Given} (a : List Job) (e : RunEvent) (u : List Job) → Moves g (allDone a) u e → ⊥
 done-still {g} a e u (starts load q d) =
     let l = start-lowest g load (allDone a) q in
     let x = l .may .new in
@@ -179,28 +179,28 @@ done-still a e u (finishes good q d) =
     omega arith
 
 module _ {Want : ℕ → Type 0} {g : Given} {a : List Job} (f : FreshTable Want g a) (deep : DeepPools g a) (jobs : 1 ≤ g .limit) where
-  done-each : {es : List Event} → Reached g a es (allDone a) → (s : ℕ) → s ∈ stepsOf a → (s ∈ startsIn es) × (s ∈ finishesIn es)
+  done-each : {es : List RunEvent} → TableReached g a es (allDone a) → (s : ℕ) → s ∈ stepsOf a → (s ∈ startsIn es) × (s ∈ finishesIn es)
   done-each {es} r s h =
       let (j, m, e) = done-steps a h in
       let k = reached-sound f r in
       let d : j .state ≡ 2 = done-among a m in
       (rw e at (k .started j m .1 (λ z. omega arith)), rw e at (k .finished j m .1 (omega arith)))
 
-  one-more : {es : List Event} {t : List Job} → Reached g a es t → noneFailed es ≡ true → CanGoOn g t
-      → (e : Event) × (u : List Job) × Reached g a (e ∷ es) u × (noneFailed (e ∷ es) ≡ true)
+  one-more : {es : List RunEvent} {t : List Job} → TableReached g a es t → noneFailed es ≡ true → CanGoOn g t
+      → (e : RunEvent) × (u : List Job) × TableReached g a (e ∷ es) u × (noneFailed (e ∷ es) ≡ true)
   unfolding noneFailed
   one-more {t = t} r q (by-finish s e) = (ended s true, afterFinish t s true, further-on r (finishes true e refl), q)
   one-more {t = t} r q (by-start h) = let (s, e) = h nan in (began s, afterStart t s, further-on r (starts nan e refl), q)
 
   -- as many more moves as the number says, or fewer
-  to-the-end : (n : ℕ) {es : List Event} {t : List Job} → 2 * length a ≤ length es + n → Reached g a es t → noneFailed es ≡ true
-      → (more : List Event) × Reached g a more (allDone a) × (noneFailed more ≡ true)
+  to-the-end : (n : ℕ) {es : List RunEvent} {t : List Job} → 2 * length a ≤ length es + n → TableReached g a es t → noneFailed es ≡ true
+      → (more : List RunEvent) × TableReached g a more (allDone a) × (noneFailed more ≡ true)
   to-the-end zero {es} {t} b r q = elim (goes-on f deep jobs (reached-sound f r) (reached-good f r q)) [
-    | inl e ↦ (es, subst (λ (t : List Job). Reached g a es t) e r, q)
+    | inl e ↦ (es, subst (λ (t : List Job). TableReached g a es t) e r, q)
     | inr c ↦ (let (e, u, m, _) = one-more r q c in let w = run-short f m in absurd (omega arith))
   ]
   to-the-end (suc n) {es} {t} b r q = elim (goes-on f deep jobs (reached-sound f r) (reached-good f r q)) [
-    | inl e ↦ (es, subst (λ (t : List Job). Reached g a es t) e r, q)
+    | inl e ↦ (es, subst (λ (t : List Job). TableReached g a es t) e r, q)
     | inr c ↦ (let (e, u, m, p) = one-more r q c in to-the-end n (omega arith) m p)
   ]
 

@@ -15,8 +15,8 @@ use Rattle.lists.specs.Tests.{split, differ, and-true}
 use Rattle.run_rules.specs.declared.Job.{Job}
 use Rattle.run_rules.specs.declared.FinishAnswer.{FinishAnswer}
 use Rattle.run_rules.specs.declared.FinishAnswer.the-variants.{Noted, NotRunning}
-use Rattle.run_rules.specs.Runner.{Given, jobRuns, turned, countJobs, runningJobs, runningIn, startOf, jobIs, afterStart, afterFinish, finishOf, allDone}
-use Rattle.run_rules.specs.Claims.{_among_, first, later, stepsOf, UpstreamDone, MayStart, StartsLowest, Event, began, ended, Moves, starts, finishes, Reached, fresh-table, further-on}
+use Rattle.run_rules.specs.Runner.{Given, jobRuns, turned, countJobs, runningJobs, runningIn, nextStart, jobIs, afterStart, afterFinish, finishOf, allDone}
+use Rattle.run_rules.specs.Claims.{_among_, first, later, stepsOf, UpstreamDone, MayStart, StartsLowest, RunEvent, began, ended, Moves, starts, finishes, TableReached, fresh-table, further-on}
 use Rattle.run_rules.specs.Claims.{NoFailure, startsIn, finishesIn, noneFailed, endedJobs, FreshTable, SoundTable}
 use Rattle.run_rules.proofs.Tables.{one-record, any-jobs, jobs-any, one, none-count, count-cons, count-nil}
 use Rattle.run_rules.proofs.Moved.{Turns, moved-turns, moved-none, turns-same, same-steps, same-length}
@@ -78,7 +78,7 @@ module _ {Want : ℕ → Type 0} {g : Given} {a : List Job} (f : FreshTable Want
       }
 
 -- ---- the next table
-module _ {Want : ℕ → Type 0} {g : Given} {a : List Job} (f : FreshTable Want g a) {es : List Event} {t : List Job} (k : SoundTable g a es t) where
+module _ {Want : ℕ → Type 0} {g : Given} {a : List Job} (f : FreshTable Want g a) {es : List RunEvent} {t : List Job} (k : SoundTable g a es t) where
   pub once-now : Once (stepsOf t)
   once-now = rw (same-steps t a (k .same)) (f .order .lists .once)
 
@@ -139,7 +139,7 @@ module _ {Want : ℕ → Type 0} {g : Given} {a : List Job} (f : FreshTable Want
       pools : (p : ℕ) → 0 < p → runningIn p u ≤ g .depth p
       pools p z =
           let c : runningIn p u + one (eqb (h .job .pool) p) ≡ runningIn p t + 0
-            = rw (h .state, ne-eqb b 1 (λ e. omega arith)) at (count-turned h (λ j. jobRuns j && eqb (j .pool) p)) in
+          = rw (h .state, ne-eqb b 1 (λ e. omega arith)) at (count-turned h (λ j. jobRuns j && eqb (j .pool) p)) in
           let v = k .pools p z in
           omega arith
 
@@ -149,7 +149,7 @@ module _ {Want : ℕ → Type 0} {g : Given} {a : List Job} (f : FreshTable Want
         | inr o ↦ k .after j (other-among h o) n
       ]
 
-  pub move-sound : {e : Event} {u : List Job} → Moves g t u e → SoundTable g a (e ∷ es) u
+  pub move-sound : {e : RunEvent} {u : List Job} → Moves g t u e → SoundTable g a (e ∷ es) u
   move-sound (starts {s = s} load q e) =
       let l : StartsLowest g load t s = start-lowest g load t q in
       let h : Turns s 0 1 t (afterStart t s) = start-turns l in
@@ -159,12 +159,12 @@ module _ {Want : ℕ → Type 0} {g : Given} {a : List Job} (f : FreshTable Want
 
 -- ---- all tables that are reached
 module _ {Want : ℕ → Type 0} {g : Given} {a : List Job} (f : FreshTable Want g a) where
-  pub reached-sound : {es : List Event} {t : List Job} → Reached g a es t → SoundTable g a es t
+  pub reached-sound : {es : List RunEvent} {t : List Job} → TableReached g a es t → SoundTable g a es t
   reached-sound (fresh-table e) = rw e (sound-fresh f)
   reached-sound (further-on r m) = move-sound f (reached-sound r) m
 
   -- where no finish was a failed one, no record is
-  pub reached-good : {es : List Event} {t : List Job} → Reached g a es t → noneFailed es ≡ true → NoFailure t
+  pub reached-good : {es : List RunEvent} {t : List Job} → TableReached g a es t → noneFailed es ≡ true → NoFailure t
   unfolding noneFailed
   reached-good (fresh-table e) n = λ u m q. let w : u .state ≡ 0 = f .waiting u (rw e at m) in omega arith
   reached-good (further-on {t = t} r (starts {s = s} load q e)) n =
@@ -174,7 +174,7 @@ module _ {Want : ℕ → Type 0} {g : Given} {a : List Job} (f : FreshTable Want
   reached-good (further-on r (finishes false q e)) n = differ n refl
 
   -- every run is finite
-  pub run-short : {es : List Event} {t : List Job} → Reached g a es t → length es ≤ 2 * length a
+  pub run-short : {es : List RunEvent} {t : List Job} → TableReached g a es t → length es ≤ 2 * length a
   unfolding runningJobs endedJobs
   run-short {t = t} r =
       let k = reached-sound r in

@@ -17,7 +17,7 @@ use Rattle.run_rules.specs.declared.Job.{Job}
 use Rattle.run_rules.specs.declared.Gate.{Gate}
 use Rattle.run_rules.specs.declared.Gate.the-variants.{Off, At}
 use Rattle.run_rules.specs.Runner.{Given, jobDone, jobFailed, runningJobs, runningIn, notStarted, upstreamDone, poolHasRoom, limitAllows}
-use Rattle.run_rules.specs.Runner.{heavyLoad, loadForbids, failureForbids, nothingForbids, mayStart, lowerOf, lowestStep, startOf}
+use Rattle.run_rules.specs.Runner.{heavyLoad, loadForbids, failureForbids, nothingForbids, mayStart, lowerOf, lowestStep, nextStart}
 use Rattle.run_rules.specs.Claims.{_among_, first, later, Heavy, UpstreamDone, NoFailure, MayStart, StartsLowest}
 use Rattle.run_rules.proofs.Tables.{not-among-nil, all-jobs, jobs-all, no-jobs, jobs-none}
 
@@ -78,8 +78,8 @@ module _ (g : Given) (load : Float) (t : List Job) where
   is-allowed f n =
       let b : failureForbids t ≡ false = jobs-none jobFailed t (λ u h. ne-eqb (u .state) 3 (n u h)) in
       let a : loadForbids g load t ≡ false = split (heavyLoad (g .gate) load)
-        (λ (e : heavyLoad (g .gate) load ≡ true). rw (e, f (heavy-is (g .gate) load e)))
-        (λ (e : heavyLoad (g .gate) load ≡ false). rw e) in
+      (λ (e : heavyLoad (g .gate) load ≡ true). rw (e, f (heavy-is (g .gate) load e)))
+      (λ (e : heavyLoad (g .gate) load ≡ false). rw e) in
       ap not (or-false (loadForbids g load t) (failureForbids t) a b)
 
   -- "A step not yet started may start exactly when .."
@@ -182,8 +182,8 @@ low p (k ∷ t) =
 -- ---- the start
 module _ (g : Given) (load : Float) (t : List Job) where
   -- "the runner starts and names the lowest such step"
-  pub start-lowest : {s : ℕ} → startOf g load t ≡ some s → StartsLowest g load t s
-  unfolding startOf
+  pub start-lowest : {s : ℕ} → nextStart g load t ≡ some s → StartsLowest g load t s
+  unfolding nextStart
   start-lowest {s} e =
       let l : LowIn (mayStart g load t) t s = subst (Low (mayStart g load t) t) e (low (mayStart g load t) t) in
       record {
@@ -195,22 +195,22 @@ module _ (g : Given) (load : Float) (t : List Job) where
       }
 
   -- "none only if there is none"
-  pub start-none : startOf g load t ≡ none → (u : Job) → u among t → MayStart g load t u → ⊥
-  unfolding startOf
+  pub start-none : nextStart g load t ≡ none → (u : Job) → u among t → MayStart g load t u → ⊥
+  unfolding nextStart
   start-none e u h m =
       let f : Low (mayStart g load t) t none = subst (Low (mayStart g load t) t) e (low (mayStart g load t) t) in
       differ (start-may g load t u m) (f u h)
 
-  pub some-start : (u : Job) → u among t → MayStart g load t u → (s : ℕ) × (startOf g load t ≡ some s)
-  some-start u h m = go (startOf g load t) refl
+  pub some-start : (u : Job) → u among t → MayStart g load t u → (s : ℕ) × (nextStart g load t ≡ some s)
+  some-start u h m = go (nextStart g load t) refl
     where
-      go : (o : Option ℕ) → startOf g load t ≡ o → (s : ℕ) × (startOf g load t ≡ some s)
+      go : (o : Option ℕ) → nextStart g load t ≡ o → (s : ℕ) × (nextStart g load t ≡ some s)
       go none e = absurd (start-none e u h m)
       go (some s) e = (s, e)
 
-  pub no-start : ((u : Job) → u among t → MayStart g load t u → ⊥) → startOf g load t ≡ none
-  no-start f = go (startOf g load t) refl
+  pub no-start : ((u : Job) → u among t → MayStart g load t u → ⊥) → nextStart g load t ≡ none
+  no-start f = go (nextStart g load t) refl
     where
-      go : (o : Option ℕ) → startOf g load t ≡ o → startOf g load t ≡ none
+      go : (o : Option ℕ) → nextStart g load t ≡ o → nextStart g load t ≡ none
       go none e = e
       go (some s) e = let l = start-lowest e in absurd (f (l .job) (l .listed) (l .may))

@@ -83,8 +83,8 @@ module _ {s a b : ℕ} {t u : List Job} (h : Turns s a b t u) where
     pub told-same : (P a → P b) → (P b → P a) → (j : Job) → j among u → (j .step ∈ l) ↔ P (j .state)
     told-same f g j m = elim (among-turned m) [
       | inl e ↦ (
-          λ w. subst P (sym (ap (λ (j : Job). j .state) e)) (f (subst P (h .state) (told (h .job) job-among .0 (rw (ap (λ (j : Job). j .step) e) at w)))),
-          λ q. rw (ap (λ (j : Job). j .step) e) (told (h .job) job-among .1 (subst P (sym (h .state)) (g (subst P (ap (λ (j : Job). j .state) e) q))))
-        )
+        λ w. subst P (sym (ap (λ (j : Job). j .state) e)) (f (subst P (h .state) (told (h .job) job-among .0 (rw (ap (λ (j : Job). j .step) e) at w)))),
+        λ q. rw (ap (λ (j : Job). j .step) e) (told (h .job) job-among .1 (subst P (sym (h .state)) (g (subst P (ap (λ (j : Job). j .state) e) q)))),
+      )
       | inr c ↦ told j (other-among c)
     ]

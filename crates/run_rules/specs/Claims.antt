@@ -15,7 +15,7 @@ use Rattle.run_rules.specs.declared.Job.{Job}
 use Rattle.run_rules.specs.declared.Gate.{Gate}
 use Rattle.run_rules.specs.declared.Gate.the-variants.{Off, At}
 use Rattle.run_rules.specs.declared.FinishAnswer.the-variants.{Noted}
-use Rattle.run_rules.specs.Runner.{Given, countJobs, runningJobs, runningIn, startOf, afterStart, afterFinish, finishOf, allDone}
+use Rattle.run_rules.specs.Runner.{Given, countJobs, runningJobs, runningIn, nextStart, afterStart, afterFinish, finishOf, allDone}
 
 -- a record of the table
 infix 50 _among_
@@ -59,32 +59,32 @@ pub record StartsLowest (g : Given) (load : Float) (t : List Job) (s : ℕ) : Ty
 
 -- ---- moves
 -- what happens to a step: it starts; it finishes, well or not
-pub data Event : Type 0 where
-  began : ℕ → Event
-  ended : ℕ → Bool → Event
+pub data RunEvent : Type 0 where
+  began : ℕ → RunEvent
+  ended : ℕ → Bool → RunEvent
 
 -- a start at any load reading, or a finish that is not refused
-pub data Moves (g : Given) (t u : List Job) : Event → Type 0 where
-  starts : {s : ℕ} (load : Float) → startOf g load t ≡ some s → u ≡ afterStart t s → Moves g t u (began s)
+pub data Moves (g : Given) (t u : List Job) : RunEvent → Type 0 where
+  starts : {s : ℕ} (load : Float) → nextStart g load t ≡ some s → u ≡ afterStart t s → Moves g t u (began s)
   finishes : {s : ℕ} (good : Bool) → finishOf t s ≡ Noted → u ≡ afterFinish t s good → Moves g t u (ended s good)
 
 -- the tables reached from a, with what happened, the newest first
-pub data Reached (g : Given) (a : List Job) : List Event → List Job → Type 0 where
-  fresh-table : {t : List Job} → t ≡ a → Reached g a [] t
-  further-on : {es : List Event} {e : Event} {t u : List Job} → Reached g a es t → Moves g t u e → Reached g a (e ∷ es) u
+pub data TableReached (g : Given) (a : List Job) : List RunEvent → List Job → Type 0 where
+  fresh-table : {t : List Job} → t ≡ a → TableReached g a [] t
+  further-on : {es : List RunEvent} {e : RunEvent} {t u : List Job} → TableReached g a es t → Moves g t u e → TableReached g a (e ∷ es) u
 
-unfoldable pub startsIn : List Event → List ℕ
+unfoldable pub startsIn : List RunEvent → List ℕ
 startsIn [] = []
 startsIn (began s ∷ es) = s ∷ startsIn es
 startsIn (ended s good ∷ es) = startsIn es
 
-unfoldable pub finishesIn : List Event → List ℕ
+unfoldable pub finishesIn : List RunEvent → List ℕ
 finishesIn [] = []
 finishesIn (began s ∷ es) = finishesIn es
 finishesIn (ended s good ∷ es) = s ∷ finishesIn es
 
 -- no finish was a failed one
-unfoldable pub noneFailed : List Event → Bool
+unfoldable pub noneFailed : List RunEvent → Bool
 noneFailed [] = true
 noneFailed (began s ∷ es) = noneFailed es
 noneFailed (ended s good ∷ es) = good && noneFailed es
@@ -105,7 +105,7 @@ endedJobs t = countJobs (λ j. ltb 1 (j .state)) t
 
 -- What holds of every table t that is reached from a, whatever the load readings and whatever failed. Steps and pools stay as they are; a step that is not
 -- among the starts waits, and each move counts 1.
-pub record SoundTable (g : Given) (a : List Job) (es : List Event) (t : List Job) : Type 0 where
+pub record SoundTable (g : Given) (a : List Job) (es : List RunEvent) (t : List Job) : Type 0 where
   pub same : allDone t ≡ allDone a
   pub pools : (p : ℕ) → 0 < p → runningIn p t ≤ g .depth p
   pub jobs : runningJobs t ≤ g .limit
@@ -120,14 +120,14 @@ pub record SoundTable (g : Given) (a : List Job) (es : List Event) (t : List Job
 -- Allowed starts and finishes can go on: a step runs, and its finish is allowed; or none runs, and a step starts at every load reading.
 pub data CanGoOn (g : Given) (t : List Job) : Type 0 where
   by-finish : (s : ℕ) → finishOf t s ≡ Noted → CanGoOn g t
-  by-start : ((load : Float) → (s : ℕ) × (startOf g load t ≡ some s)) → CanGoOn g t
+  by-start : ((load : Float) → (s : ℕ) × (nextStart g load t ≡ some s)) → CanGoOn g t
 
 -- "From a fresh table, with a job limit of at least 1 and no failure, whatever the load readings, allowed starts and finishes can always go on until all steps
 -- are done, each once, and the end is the same table": every run is finite, and so is one that goes on as long as it can.
 pub record RunsOut (g : Given) (a : List Job) : Type 0 where
-  pub goes-on : {es : List Event} {t : List Job} → Reached g a es t → noneFailed es ≡ true → (t ≡ allDone a) ⊎ CanGoOn g t
-  pub finite : {es : List Event} {t : List Job} → Reached g a es t → length es ≤ 2 * length a
-  pub same-end : {es : List Event} {t : List Job} → Reached g a es t → noneFailed es ≡ true → ((e : Event) (u : List Job) → Moves g t u e → ⊥) → t ≡ allDone a
-  pub nothing-after : (e : Event) (u : List Job) → Moves g (allDone a) u e → ⊥
-  pub each : {es : List Event} → Reached g a es (allDone a) → (s : ℕ) → s ∈ stepsOf a → (s ∈ startsIn es) × (s ∈ finishesIn es)
-  pub ends : {es : List Event} {t : List Job} → Reached g a es t → noneFailed es ≡ true → (more : List Event) × Reached g a more (allDone a) × (noneFailed more ≡ true)
+  pub goes-on : {es : List RunEvent} {t : List Job} → TableReached g a es t → noneFailed es ≡ true → (t ≡ allDone a) ⊎ CanGoOn g t
+  pub finite : {es : List RunEvent} {t : List Job} → TableReached g a es t → length es ≤ 2 * length a
+  pub same-end : {es : List RunEvent} {t : List Job} → TableReached g a es t → noneFailed es ≡ true → ((e : RunEvent) (u : List Job) → Moves g t u e → ⊥) → t ≡ allDone a
+  pub nothing-after : (e : RunEvent) (u : List Job) → Moves g (allDone a) u e → ⊥
+  pub each : {es : List RunEvent} → TableReached g a es (allDone a) → (s : ℕ) → s ∈ stepsOf a → (s ∈ startsIn es) × (s ∈ finishesIn es)
+  pub ends : {es : List RunEvent} {t : List Job} → TableReached g a es t → noneFailed es ≡ true → (more : List RunEvent) × TableReached g a more (allDone a) × (noneFailed more ≡ true)

@@ -9,15 +9,15 @@ use Rattle.run_rules.specs.declared.Job.{Job}
 use Rattle.run_rules.specs.Runner.{turned, jobIs, moved}
 
 -- the place of the first record of step s that is in state a, or the table's length
-unfoldable pub placeOf : ℕ → ℕ → List Job → ℕ
-placeOf s a [] = 0
-placeOf s a (j ∷ t) = let r = placeOf s a t in cond (jobIs s a j) 0 (suc r)
+unfoldable pub jobPlace : ℕ → ℕ → List Job → ℕ
+jobPlace s a [] = 0
+jobPlace s a (j ∷ t) = let r = jobPlace s a t in cond (jobIs s a j) 0 (suc r)
 
 -- One record is stored; past the end `set` stores none.
-pub moved-set : (s a b : ℕ) (t : List Job) (d : Job) → moved s a b t ≡ set t (placeOf s a t) (turned b (getD t (placeOf s a t) d))
-unfolding moved placeOf
+pub moved-set : (s a b : ℕ) (t : List Job) (d : Job) → moved s a b t ≡ set t (jobPlace s a t) (turned b (getD t (jobPlace s a t) d))
+unfolding moved jobPlace
 moved-set s a b [] d = refl
 moved-set s a b (j ∷ t) d =
     split (jobIs s a j)
-    (λ (e : jobIs s a j ≡ true). rw (e, placeOf, moved))
-    (λ (e : jobIs s a j ≡ false). rw (e, placeOf, moved) (ap (λ (r : List Job). j ∷ r) (moved-set s a b t d)))
+    (λ (e : jobIs s a j ≡ true). rw (e, jobPlace, moved))
+    (λ (e : jobIs s a j ≡ false). rw (e, jobPlace, moved) (ap (λ (r : List Job). j ∷ r) (moved-set s a b t d)))

@@ -99,9 +99,9 @@ lowestStep p [] = none
 lowestStep p (j ∷ t) = let r = lowestStep p t in cond (p j) (lowerOf (j .step) r) r
 
 -- "the runner starts and names the lowest such step, none only if there is none"
-unfoldable pub startOf : Given → Float → List Job → Option ℕ
+unfoldable pub nextStart : Given → Float → List Job → Option ℕ
 unfolding lowestStep mayStart
-startOf g load t = lowestStep (mayStart g load t) t
+nextStart g load t = lowestStep (mayStart g load t) t
 
 -- ---- what a start and a finish make of the table
 -- step s, in state a
