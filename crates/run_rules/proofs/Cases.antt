@@ -1,8 +1,7 @@
 -- Small tables, computed: what a wrong runner would start.
-use Prim.Native.Nat.{ℕ}
-use mathlib.Core.Bool.{Bool, true, false, not, cond}
-use mathlib.Core.List.{List, [], _∷_}
-use mathlib.Core.Option.{Option, none, some}
+use mathlib.Core.Bool.{true, false, not, cond}
+use mathlib.Core.List.{[], _∷_}
+use mathlib.Core.Option.{none, some}
 use mathlib.Core.Path.{_≡_, refl}
 use lib.Dec.{eqb}
 use lib.IntN.{pos}
@@ -10,7 +9,7 @@ use lib.Ieee.{Float, nan, inf, fin, le}
 use Rattle.run_rules.specs.declared.Job.{Job}
 use Rattle.run_rules.specs.declared.Gate.{Gate}
 use Rattle.run_rules.specs.declared.Gate.the-variants.{Off, At}
-use Rattle.run_rules.specs.Runner.{Given, turned, heavyLoad, nextStart, afterStart, afterFinish, waitingJob}
+use Rattle.run_rules.specs.Runner.{Given, turned, nextStart, afterStart, afterFinish, waitingJob}
 
 -- four jobs at most, pool 1 with a depth of 1, and step 3 upstream of step 5
 abbrev given : Gate → Given

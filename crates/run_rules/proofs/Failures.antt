@@ -1,10 +1,10 @@
 -- What a finish frees, what a failure stops, and what a refused finish leaves.
-use Prim.Native.Nat.{ℕ, _+_, _≤_, _<_}
+use Prim.Native.Nat.{ℕ, _+_, _≤_}
 use mathlib.Core.Bool.{Bool, true, false, cond, _&&_}
 use mathlib.Core.List.{List}
 use mathlib.Core.Logic.{_↔_}
 use mathlib.Core.Option.{none}
-use mathlib.Core.Path.{_≡_, refl, sym, ap, _∙_}
+use mathlib.Core.Path.{_≡_, refl}
 use native.Mathlib.Omega.{arith}
 use borrow.Author.Tests.{eqb-true, eq-eqb, ne-eqb}
 use lib.Dec.{eqb}
@@ -12,9 +12,9 @@ use lib.Ieee.{Float}
 use Rattle.lists.specs.Members.{any}
 use Rattle.lists.specs.Tests.{split, and-left, and-right}
 use Rattle.run_rules.specs.declared.Job.{Job}
-use Rattle.run_rules.specs.declared.FinishAnswer.the-variants.{Noted, NotRunning}
-use Rattle.run_rules.specs.Runner.{Given, jobRuns, turned, runningJobs, runningIn, nextStart, jobIs, moved, afterStart, afterFinish, finishOf, finishSays}
-use Rattle.run_rules.specs.Claims.{_among_, first, later, MayStart, RunEvent, Moves, starts, finishes}
+use Rattle.run_rules.specs.declared.FinishAnswer.the-variants.{Noted}
+use Rattle.run_rules.specs.Runner.{Given, jobRuns, runningJobs, runningIn, nextStart, jobIs, afterFinish, finishOf, finishSays}
+use Rattle.run_rules.specs.Claims.{_among_, RunEvent, Moves, starts, finishes}
 use Rattle.run_rules.proofs.Tables.{any-jobs, jobs-none, one}
 use Rattle.run_rules.proofs.Moved.{Turns, moved-none}
 use Rattle.run_rules.proofs.Starts.{start-lowest, no-start}

@@ -1,17 +1,17 @@
 -- The load gate, the job limit and the depth of a pool at their edges.
-use Prim.Native.Nat.{ℕ, _*_, _≤_, _<_}
-use mathlib.Core.Bool.{Bool, true, false, not, _&&_}
+use Prim.Native.Nat.{_*_, _<_}
+use mathlib.Core.Bool.{true, false}
 use mathlib.Core.List.{List}
 use mathlib.Core.Logic.{inl, inr}
 use mathlib.Core.Option.{none}
-use mathlib.Core.Path.{_≡_, refl, sym, _∙_}
+use mathlib.Core.Path.{_≡_, refl}
 use native.Mathlib.Omega.{arith}
 use borrow.Author.Tests.{le-ltb}
 use lib.Ieee.{Float, nan, inf, fin, isNan, lt, up, down}
 use Rattle.run_rules.specs.declared.Job.{Job}
 use Rattle.run_rules.specs.declared.Gate.the-variants.{Off, At}
 use Rattle.run_rules.specs.Runner.{Given, runningJobs, heavyLoad, nextStart}
-use Rattle.run_rules.specs.Claims.{_among_, Heavy, MayStart}
+use Rattle.run_rules.specs.Claims.{Heavy, MayStart}
 use Rattle.run_rules.proofs.Starts.{no-start}
 
 -- "while a reading is above it or no number, a step starts only when none runs"

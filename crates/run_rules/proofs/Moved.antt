@@ -1,13 +1,13 @@
 -- One record of a table in another state: what the table is made of before and after.
 use Prim.Native.Nat.{ℕ}
-use mathlib.Core.Bool.{Bool, true, false}
-use mathlib.Core.List.{List, [], _∷_, _++_, map}
+use mathlib.Core.Bool.{true, false}
+use mathlib.Core.List.{List, [], _∷_, _++_}
 use mathlib.Core.Path.{_≡_, refl, sym, ap, _∙_}
 use borrow.Author.Tests.{eqb-true}
 use lib.Dec.{eqb}
 use lib.ListN.{length, length-map}
 use Rattle.lists.specs.Members.{any}
-use Rattle.lists.specs.Tests.{split, differ, and-left, and-right, or-left, or-right, or-false}
+use Rattle.lists.specs.Tests.{split, differ, and-left, and-right, or-left, or-right}
 use Rattle.run_rules.specs.declared.Job.{Job}
 use Rattle.run_rules.specs.Runner.{turned, jobIs, moved, allDone}
 use Rattle.run_rules.specs.Claims.{stepsOf}

@@ -1,22 +1,21 @@
 -- With a job limit of at least 1 and no failure, starts and finishes go on until all steps are done, each once, and the end is the same table.
-use Prim.Native.Nat.{ℕ, zero, suc, _+_, _*_, _≤_, _<_}
-use mathlib.Core.Bool.{Bool, true, false, not, _&&_}
+use Prim.Native.Nat.{ℕ, zero, suc, _+_, _*_, _≤_}
+use mathlib.Core.Bool.{true, false, _&&_}
 use mathlib.Core.List.{List, [], _∷_, _++_, map}
 use mathlib.Core.Logic.{_⊎_, inl, inr}
-use mathlib.Core.Option.{some}
 use mathlib.Core.Path.{_≡_, refl, sym, ap, _∙_, subst}
 use native.Mathlib.Omega.{arith}
-use borrow.Author.Tests.{eqb-true, eqb-false, eq-eqb, ne-eqb}
+use borrow.Author.Tests.{eqb-true, eqb-false, eq-eqb}
 use lib.Dec.{eqb}
 use lib.Ieee.{Float, nan}
 use lib.ListN.{length}
-use Rattle.lists.specs.Members.{_∈_, _⊆_, any, each-last}
+use Rattle.lists.specs.Members.{_∈_, any, each-last}
 use Rattle.lists.specs.Tests.{split, and-true}
 use Rattle.orders.specs.Order.{ComesAfter}
 use Rattle.orders.specs.Greedy.{By}
 use Rattle.run_rules.specs.declared.Job.{Job}
 use Rattle.run_rules.specs.declared.FinishAnswer.the-variants.{Noted}
-use Rattle.run_rules.specs.Runner.{Given, jobRuns, jobDone, turned, runningJobs, runningIn, nextStart, jobIs, afterStart, afterFinish, finishOf, allDone}
+use Rattle.run_rules.specs.Runner.{Given, jobRuns, jobDone, turned, runningJobs, runningIn, jobIs, afterStart, afterFinish, finishOf, allDone}
 use Rattle.run_rules.specs.Claims.{_among_, first, later, stepsOf, UpstreamDone, NoFailure, MayStart, RunEvent, began, ended, Moves, starts, finishes, TableReached, further-on}
 use Rattle.run_rules.specs.Claims.{startsIn, finishesIn, noneFailed, FreshTable, DeepPools, SoundTable, CanGoOn, by-finish, by-start, RunsOut}
 use Rattle.run_rules.proofs.Tables.{among-left, among-right, among-step, step-among, one-record, any-jobs, no-jobs, jobs-any, none-count}

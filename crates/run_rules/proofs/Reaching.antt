@@ -2,24 +2,22 @@
 use Prim.Native.Nat.{ℕ, _+_, _*_, _≤_, _<_}
 use mathlib.Core.Bool.{Bool, true, false, cond, _&&_}
 use mathlib.Core.List.{List, [], _∷_}
-use mathlib.Core.Logic.{_⊎_, inl, inr, _↔_}
-use mathlib.Core.Option.{some}
+use mathlib.Core.Logic.{inl, inr}
 use mathlib.Core.Path.{_≡_, refl, sym, ap, _∙_, subst}
 use native.Mathlib.Omega.{arith}
 use borrow.Author.Tests.{eqb-true, eq-eqb, ne-eqb, lt-ltb, le-ltb}
 use lib.Dec.{eqb, ltb}
 use lib.Ieee.{Float}
 use lib.ListN.{length}
-use Rattle.lists.specs.Members.{_∈_, _∉_, Once, any, each-nil, once-cons, not-in-nil}
+use Rattle.lists.specs.Members.{_∉_, Once, any, each-nil, once-cons, not-in-nil}
 use Rattle.lists.specs.Tests.{split, differ, and-true}
 use Rattle.run_rules.specs.declared.Job.{Job}
-use Rattle.run_rules.specs.declared.FinishAnswer.{FinishAnswer}
 use Rattle.run_rules.specs.declared.FinishAnswer.the-variants.{Noted, NotRunning}
-use Rattle.run_rules.specs.Runner.{Given, jobRuns, turned, countJobs, runningJobs, runningIn, nextStart, jobIs, afterStart, afterFinish, finishOf, allDone}
-use Rattle.run_rules.specs.Claims.{_among_, first, later, stepsOf, UpstreamDone, MayStart, StartsLowest, RunEvent, began, ended, Moves, starts, finishes, TableReached, fresh-table, further-on}
+use Rattle.run_rules.specs.Runner.{Given, jobRuns, countJobs, runningJobs, runningIn, jobIs, afterStart, afterFinish, finishOf}
+use Rattle.run_rules.specs.Claims.{_among_, stepsOf, UpstreamDone, MayStart, StartsLowest, RunEvent, began, ended, Moves, starts, finishes, TableReached, fresh-table, further-on}
 use Rattle.run_rules.specs.Claims.{NoFailure, startsIn, finishesIn, noneFailed, endedJobs, FreshTable, SoundTable}
-use Rattle.run_rules.proofs.Tables.{one-record, any-jobs, jobs-any, one, none-count, count-cons, count-nil}
-use Rattle.run_rules.proofs.Moved.{Turns, moved-turns, moved-none, turns-same, same-steps, same-length}
+use Rattle.run_rules.proofs.Tables.{one-record, jobs-any, one, none-count, count-cons, count-nil}
+use Rattle.run_rules.proofs.Moved.{Turns, moved-turns, turns-same, same-steps, same-length}
 use Rattle.run_rules.proofs.Starts.{start-lowest}
 use Rattle.run_rules.proofs.Turning.{job-among, among-turned, other-among, count-turned, done-turned, states-turned, told-more, told-same}
 

@@ -1,17 +1,17 @@
 -- A step may start exactly when the five conditions hold; the runner starts the lowest such step, and none only if there is none.
-use Prim.Native.Nat.{ℕ, _≤_, _<_, min}
-use native.Mathlib.Nat.{le-trans, min-le-left, min-le-right}
+use Prim.Native.Nat.{ℕ, _≤_, min}
+use native.Mathlib.Nat.{le-trans}
 use native.Mathlib.Decide.{decLe}
 use native.Mathlib.Omega.{arith}
-use mathlib.Core.Bool.{Bool, true, false, not, cond, _&&_, _||_, false≢true}
+use mathlib.Core.Bool.{Bool, true, false, not, _&&_, _||_, false≢true}
 use mathlib.Core.List.{List, [], _∷_}
-use mathlib.Core.Logic.{_⊎_, inl, inr, ⊎-elim}
-use mathlib.Core.Option.{Option, none, some, Option·none-ne-some, Option·some-injective}
-use mathlib.Core.Path.{_≡_, refl, sym, ap, _∙_, subst}
+use mathlib.Core.Logic.{inl, inr}
+use mathlib.Core.Option.{Option, none, some}
+use mathlib.Core.Path.{_≡_, refl, ap, subst}
 use borrow.Author.Tests.{eqb-true, eqb-false, eq-eqb, ne-eqb, ltb-true, lt-ltb, not-true, not-false}
 use lib.Dec.{eqb, ltb}
 use lib.Ieee.{Float, nan, inf, fin, isNan, lt}
-use Rattle.lists.specs.Members.{_∈_, has, in-has, not-in-has, decIn}
+use Rattle.lists.specs.Members.{has, in-has, not-in-has, decIn}
 use Rattle.lists.specs.Tests.{split, differ, and-true, and-left, and-right, and-false, or-left, or-right, or-true, or-false}
 use Rattle.run_rules.specs.declared.Job.{Job}
 use Rattle.run_rules.specs.declared.Gate.{Gate}

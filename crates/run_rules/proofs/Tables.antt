@@ -1,12 +1,11 @@
 -- Records of a table, its tests and its counts.
-use Prim.Native.Nat.{ℕ, zero, suc, _+_, _≤_, _<_}
-use mathlib.Core.Bool.{Bool, true, false, cond, _&&_, _||_, true≢false, false≢true}
-use mathlib.Core.List.{List, [], _∷_, _++_, map}
+use Prim.Native.Nat.{ℕ, _+_}
+use mathlib.Core.Bool.{Bool, true, false, cond, false≢true}
+use mathlib.Core.List.{List, [], _∷_, _++_}
 use mathlib.Core.Logic.{_⊎_, inl, inr}
 use mathlib.Core.Path.{_≡_, refl, sym, ap, _∙_}
 use native.Mathlib.Omega.{arith}
-use lib.ListN.{length}
-use Rattle.lists.specs.Members.{_∈_, here, there, Once, all, any, in-cons, not-in-nil, once-head, once-tail}
+use Rattle.lists.specs.Members.{_∈_, here, there, Once, all, any, not-in-nil, once-head, once-tail}
 use Rattle.lists.specs.Tests.{split, differ, and-true, and-left, and-right, or-left, or-right, or-true}
 use Rattle.run_rules.specs.declared.Job.{Job}
 use Rattle.run_rules.specs.Runner.{countJobs}
@@ -92,24 +91,9 @@ count-at p (m ∷ l) r k =
     let c = count-at p l r k in
     omega arith
 
-pub count-none : (p : Job → Bool) (t : List Job) → countJobs p t ≡ 0 → {j : Job} → j among t → p j ≡ false
-count-none p t e {j} h = go t e h
-  where
-    go : (t : List Job) → countJobs p t ≡ 0 → {j : Job} → j among t → p j ≡ false
-    go (k ∷ t) e (first q) =
-        rw q (split (p k) (λ (a : p k ≡ true). let c = count-cons p k t in absurd (omega (arith, rw a at c))) (λ (b : p k ≡ false). b))
-    go (k ∷ t) e (later h) = let c = count-cons p k t in go t (omega arith) h
-
 pub none-count : (p : Job → Bool) (t : List Job) → ((j : Job) → j among t → p j ≡ false) → countJobs p t ≡ 0
 none-count p [] f = count-nil p
 none-count p (k ∷ t) f =
     let c = count-cons p k t in
     let h = none-count p t (λ j h. f j (later h)) in
     omega (arith, rw (f k (first refl)) at c)
-
-pub count-length : (p : Job → Bool) (t : List Job) → countJobs p t ≤ length t
-count-length p [] = omega (arith, count-nil p)
-count-length p (k ∷ t) =
-    let c = count-cons p k t in
-    let h = count-length p t in
-    split (p k) (λ (e : p k ≡ true). omega (arith, rw e at c)) (λ (e : p k ≡ false). omega (arith, rw e at c))
