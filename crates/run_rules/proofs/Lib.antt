@@ -1,0 +1,9 @@
+pub mod Tables
+pub mod Moved
+pub mod Starts
+pub mod Turning
+pub mod Reaching
+pub mod Progress
+pub mod Failures
+pub mod Gates
+pub mod Cases

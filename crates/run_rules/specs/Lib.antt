@@ -1,0 +1,3 @@
+pub mod Runner
+pub mod Places
+pub mod Claims
