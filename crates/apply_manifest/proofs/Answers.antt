@@ -30,11 +30,13 @@ use Rattle.hold_reading.specs.Held.{joined, nothing, HoldsReading}
 use Rattle.hold_reading.specs.Buffers.{Buffers, buffers}
 use Rattle.hold_reading.proofs.Agreement.{noCounts, start-held, agreed-on, agreed-refused}
 use Rattle.apply_statements.specs.Asks.{LineMeets}
-use Rattle.apply_manifest.specs.Manifests.{Roomy, ShortBundle, LinesAsk, fileOpener, TextReadAsk, LinesRead, Held, IsRead}
+use Rattle.scan_texts.specs.Checks.{ShortBundle}
+use Rattle.scan_texts.proofs.Texts.{some-text}
+use Rattle.apply_texts.specs.Texts.{fileOpener, TextReadAsk}
+use Rattle.apply_texts.proofs.Files.{lines-closed}
+use Rattle.apply_manifest.specs.Manifests.{Roomy, LinesAsk, LinesRead, Held, IsRead}
 use Rattle.apply_manifest.specs.declared.ReadAnswer.{ReadAnswer}
 use Rattle.apply_manifest.specs.declared.ReadAnswer.the-variants.{Accepted, Refused as NotRead}
-use Rattle.apply_manifest.proofs.Texts.{some-text}
-use Rattle.apply_manifest.proofs.Files.{lines-closed}
 
 -- ---- 19, 2 and 3
 

@@ -82,7 +82,7 @@ first-output :
 unfolding depfileRule listedFor
 first-output = (refl, refl, refl, refl)
 
--- The writer: gcc's text, and a name that ends in a backslash.
+-- The writer: gcc's text; and one with a name that ends in a backslash, blank lines around it, no last newline.
 abbrev space : Gap
 space = record { first = false; more = [] }
 
@@ -90,8 +90,10 @@ abbrev newLine : Gap
 newLine = record { first = false; more = true ∷ false ∷ [] }
 
 writes :
-    (depfileOf (λ i. space) (λ i. getD (space ∷ space ∷ newLine ∷ []) i space) (depRule (bytes "o ut.o" ∷ []) (bytes "main.c" ∷ bytes "c#.h" ∷ bytes "d$.h" ∷ []))
+    (depfileOf record { before = []; targets = λ i. space; prerequisites = λ i. getD (space ∷ space ∷ newLine ∷ []) i space; end = some [] } (depRule (bytes "o ut.o" ∷ []) (bytes "main.c" ∷ bytes "c#.h" ∷ bytes "d$.h" ∷ []))
     ≡ bytes "o\\ ut.o: main.c c\\#.h \\\n d$$.h\n")
-    × (depfileOf (λ i. space) (λ i. space) (depRule (bytes "a\\" ∷ bytes "b" ∷ []) (bytes "c\\ \\" ∷ bytes "d:" ∷ [])) ≡ bytes "a\\\\\n b: c\\\\ \\\\\n d:\n")
+    × (depfileOf record { before = [] ∷ (false ∷ true ∷ []) ∷ []; targets = λ i. space; prerequisites = λ i. space; end = none } (depRule (bytes "a\\" ∷ bytes "b" ∷ []) (bytes "c\\ \\" ∷ bytes "d:" ∷ []))
+    ≡ bytes "\n \\\n\na\\\\\n b: c\\\\ \\\\\n d:")
+    × (depfileOf record { before = []; targets = λ i. space; prerequisites = λ i. space; end = some ((false ∷ []) ∷ []) } (depRule (bytes "a" ∷ []) []) ≡ bytes "a:\n \n")
 unfolding depfileOf
-writes = (refl, refl)
+writes = (refl, refl, refl)

@@ -3,7 +3,7 @@ use Prim.Native.Nat.{ℕ}
 use mathlib.Core.Bool.{true, false, _&&_, _||_}
 use mathlib.Core.List.{List, [], _∷_, _++_}
 use mathlib.Core.Logic.{_↔_, ⊎-elim}
-use mathlib.Core.Option.{some, Option·none-ne-some, Option·some-injective, map-eq-some-iff}
+use mathlib.Core.Option.{none, some, Option·none-ne-some, Option·some-injective, map-eq-some-iff}
 use mathlib.Core.Path.{_≡_, sym}
 use native.Mathlib.Omega.{arith}
 use borrow.Author.Tests.{eqb-true, eqb-false}
@@ -11,7 +11,7 @@ use lib.Dec.{eqb}
 use Rattle.lists.specs.Members.{_∉_, not-in-nil, in-snoc}
 use Rattle.lists.specs.Tests.{split, and-right, or-true}
 use Rattle.depfile.specs.Depfile.{newlineByte, spaceByte, hashByte, dollarByte, colonByte, backslashByte, Mark, byte, gap, line, lone, DepRule, depRule, markOf, marksOf, nameThen, targetThen, blankLines, prerequisitesFrom, ruleFrom, behindBlank, depfileRule}
-use Rattle.depfile.proofs.Writer.{Spellable, SpellableTarget, AllNames, SpellableRule, Gap, depfileOf}
+use Rattle.depfile.proofs.Writer.{Spellable, SpellableTarget, AllNames, SpellableRule, Gap, Layout, depfileOf}
 use Rattle.depfile.proofs.Writing.{written-read}
 
 -- ---- marks: no byte of a name is a newline
@@ -120,4 +120,5 @@ read-spellable s r e = rule-spellable [] (behindBlank (marksOf s)) not-in-nil no
 pub some-text : (r : DepRule) → SpellableRule r ↔ ((s : List ℕ) × (depfileRule s ≡ some r))
 some-text r =
     let one : Gap = record { first = false; more = [] } in
-    (λ h. (depfileOf (λ i. one) (λ i. one) r, written-read (λ i. one) (λ i. one) r h), λ t. read-spellable (t .0) r (t .1))
+    let plain : Layout = record { before = []; targets = λ i. one; prerequisites = λ i. one; end = none } in
+    (λ h. (depfileOf plain r, written-read plain r h), λ t. read-spellable (t .0) r (t .1))

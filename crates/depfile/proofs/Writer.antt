@@ -1,7 +1,8 @@
--- A writer of make-style texts, with any spaces and continuations between names; and which names have a spelling.
+-- A writer of make-style texts, with any spaces and continuations between names and any blank lines around; and which names have a spelling.
 use Prim.Native.Nat.{ℕ, suc}
 use mathlib.Core.Bool.{Bool, true, false, _||_}
 use mathlib.Core.List.{List, [], _∷_, _++_}
+use mathlib.Core.Option.{Option, none, some}
 use mathlib.Core.Path.{_≡_}
 use lib.Dec.{eqb}
 use Rattle.lists.specs.Members.{_∉_}
@@ -64,6 +65,25 @@ unfolding gapped
 joined g [] t = t
 joined g (n ∷ l) t = spelled n ++ gapped g l t
 
-unfoldable pub depfileOf : (ℕ → Gap) → (ℕ → Gap) → DepRule → List ℕ
-unfolding joined gapped
-depfileOf g h r = joined g (r .targets) (colonByte ∷ gapped h (r .prerequisites) (newlineByte ∷ []))
+-- blank lines, each of a gap or of nothing
+unfoldable pub blankText : List (List Bool) → List ℕ
+unfolding gapText
+blankText [] = []
+blankText (g ∷ l) = gapText g ++ (newlineByte ∷ blankText l)
+
+-- the end of the rule's line and the blank lines behind it; or no last newline
+unfoldable pub endText : Option (List (List Bool)) → List ℕ
+unfolding blankText
+endText none = []
+endText (some l) = newlineByte ∷ blankText l
+
+-- How a text is to be laid out: the blank lines before the rule, the gaps between names, and its end.
+pub record Layout : Type 0 where
+  pub before : List (List Bool)
+  pub targets : ℕ → Gap
+  pub prerequisites : ℕ → Gap
+  pub end : Option (List (List Bool))
+
+unfoldable pub depfileOf : Layout → DepRule → List ℕ
+unfolding joined gapped blankText endText
+depfileOf y r = blankText (y .before) ++ joined (y .targets) (r .targets) (colonByte ∷ gapped (y .prerequisites) (r .prerequisites) (endText (y .end)))

@@ -1,4 +1,4 @@
--- What is written is read again: `depfileRule` of `depfileOf` is the rule that was written, whatever the gaps.
+-- What is written is read again: `depfileRule` of `depfileOf` is the rule that was written, however it is laid out.
 use Prim.Native.Nat.{ℕ, suc}
 use mathlib.Core.Bool.{Bool, true, false, _||_}
 use mathlib.Core.List.{List, [], _∷_, _++_, map, append-nil, append-assoc}
@@ -9,10 +9,10 @@ use borrow.Author.Tests.{eqb-true, eqb-false}
 use lib.Dec.{eqb}
 use Rattle.lists.specs.Members.{_∉_, here, there}
 use Rattle.lists.specs.Tests.{ifB, split, or-left, or-right}
-use Rattle.depfile.specs.Depfile.{newlineByte, spaceByte, hashByte, dollarByte, colonByte, backslashByte, Mark, byte, gap, DepRule, depRule, marksOf, nameThen, targetThen, prerequisitesFrom, ruleFrom, behindBlank, depfileRule}
-use Rattle.depfile.proofs.Marks.{marks-byte, marks-space, marks-joined, marks-escaped-space, marks-escaped-hash, marks-dollars, marks-backslash}
+use Rattle.depfile.specs.Depfile.{newlineByte, spaceByte, hashByte, dollarByte, colonByte, backslashByte, Mark, byte, gap, line, DepRule, depRule, marksOf, nameThen, targetThen, blankLines, prerequisitesFrom, ruleFrom, behindBlank, depfileRule}
+use Rattle.depfile.proofs.Marks.{marks-byte, marks-space, marks-newline, marks-joined, marks-escaped-space, marks-escaped-hash, marks-dollars, marks-backslash, marks-end}
 use Rattle.depfile.proofs.Names.{ends, endsTarget, prerequisites-bytes, prerequisites-gap, prerequisites-end, targets-bytes, targets-gap, targets-colon, targets-end}
-use Rattle.depfile.proofs.Writer.{escaped, spelled, Spellable, SpellableTarget, AllNames, SpellableRule, gapText, Gap, gapped, joined, depfileOf}
+use Rattle.depfile.proofs.Writer.{escaped, spelled, Spellable, SpellableTarget, AllNames, SpellableRule, gapText, Gap, gapped, joined, blankText, endText, Layout, depfileOf}
 
 -- ---- a name
 
@@ -139,22 +139,46 @@ unfolding nameThen
 name-then [] l h = absurd (h refl)
 name-then (b ∷ n) l h = refl
 
-gapped-ends : (g : ℕ → Gap) (l : List (List ℕ)) → ends (marksOf (gapped g l (newlineByte ∷ []))) ≡ true
-unfolding gapped ends gaps marksOf
-gapped-ends g [] = refl
-gapped-ends g (n ∷ l) = rw (gap-marks (g 0 .first ∷ g 0 .more) (spelled n ++ gapped (λ k. g (suc k)) l (newlineByte ∷ [])))
+blank-gaps : (g : List Bool) (s : List Mark) → blankLines (gaps g ++ s) ≡ blankLines s
+unfolding gaps blankLines
+blank-gaps [] s = refl
+blank-gaps (c ∷ g) s = blank-gaps g s
 
-prerequisites-written : (g : ℕ → Gap) (l : List (List ℕ)) → AllNames Spellable l → prerequisitesFrom [] (marksOf (gapped g l (newlineByte ∷ []))) ≡ some l
-unfolding gapped prerequisitesFrom marksOf
-prerequisites-written g [] h = refl
-prerequisites-written g (n ∷ l) (h, k) =
+blank-written : (l : List (List Bool)) → blankLines (marksOf (blankText l)) ≡ true
+unfolding blankText blankLines marksOf
+blank-written [] = refl
+blank-written (g ∷ l) =
+    ap blankLines (gap-marks g (newlineByte ∷ blankText l))
+    ∙ blank-gaps g (marksOf (newlineByte ∷ blankText l))
+    ∙ ap blankLines (marks-newline (blankText l))
+    ∙ blank-written l
+
+end-ends : (e : Option (List (List Bool))) → ends (marksOf (endText e)) ≡ true
+unfolding endText ends
+end-ends none = rw marks-end
+end-ends (some l) = rw (marks-newline (blankText l))
+
+end-read : (e : Option (List (List Bool))) → prerequisitesFrom [] (marksOf (endText e)) ≡ some []
+unfolding endText prerequisitesFrom nameThen
+end-read none = rw marks-end
+end-read (some l) = rw (marks-newline (blankText l), blank-written l)
+
+gapped-ends : (g : ℕ → Gap) (l : List (List ℕ)) (e : Option (List (List Bool))) → ends (marksOf (gapped g l (endText e))) ≡ true
+unfolding gapped ends gaps
+gapped-ends g [] e = end-ends e
+gapped-ends g (n ∷ l) e = rw (gap-marks (g 0 .first ∷ g 0 .more) (spelled n ++ gapped (λ k. g (suc k)) l (endText e)))
+
+prerequisites-written : (g : ℕ → Gap) (l : List (List ℕ)) (e : Option (List (List Bool))) → AllNames Spellable l → prerequisitesFrom [] (marksOf (gapped g l (endText e))) ≡ some l
+unfolding gapped
+prerequisites-written g [] e h = end-read e
+prerequisites-written g (n ∷ l) e (h, k) =
     let next : ℕ → Gap = λ i. g (suc i) in
-    let t = gapped next l (newlineByte ∷ []) in
+    let t = gapped next l (endText e) in
     ap (prerequisitesFrom []) (gap-marks (g 0 .first ∷ g 0 .more) (spelled n ++ t))
     ∙ prerequisites-gaps (g 0 .first ∷ g 0 .more) (marksOf (spelled n ++ t))
     ∙ ap (prerequisitesFrom []) (name-marks n t (h .no-newline))
-    ∙ prerequisites-name n (marksOf t) (gapped-ends next l)
-    ∙ ap (Option·map (nameThen n)) (prerequisites-written next l k)
+    ∙ prerequisites-name n (marksOf t) (gapped-ends next l e)
+    ∙ ap (Option·map (nameThen n)) (prerequisites-written next l e k)
     ∙ ap some (name-then n l (h .some-byte))
 
 -- ---- targets
@@ -222,8 +246,30 @@ unfolding joined nameThen
 joined-written g [] u h = rw (colon-marks u) (ap (ruleFrom []) (not-blank colonByte (marksOf u)) ∙ targets-colon [] (marksOf u))
 joined-written g (n ∷ l) u (h, k) = ap (ruleFrom []) (name-not-blank n (gapped g l (colonByte ∷ u)) (h .name)) ∙ target-written u g n l h (targets-written u g l k)
 
-pub written-read : (g h : ℕ → Gap) (r : DepRule) → SpellableRule r → depfileRule (depfileOf g h r) ≡ some r
+behind-gaps : (g : List Bool) (s : List Mark) → behindBlank (gaps g ++ s) ≡ behindBlank s
+unfolding gaps behindBlank
+behind-gaps [] s = refl
+behind-gaps (c ∷ g) s = behind-gaps g s
+
+behind-line : (s : List Mark) → behindBlank (line ∷ s) ≡ behindBlank s
+unfolding behindBlank
+behind-line s = refl
+
+before-written : (l : List (List Bool)) (t : List ℕ) → behindBlank (marksOf (blankText l ++ t)) ≡ behindBlank (marksOf t)
+unfolding blankText
+before-written [] t = refl
+before-written (g ∷ l) t =
+    ap (λ (x : List ℕ). behindBlank (marksOf x)) (append-assoc (gapText g) (newlineByte ∷ blankText l) t)
+    ∙ ap behindBlank (gap-marks g (newlineByte ∷ (blankText l ++ t)))
+    ∙ behind-gaps g (marksOf (newlineByte ∷ (blankText l ++ t)))
+    ∙ ap behindBlank (marks-newline (blankText l ++ t))
+    ∙ behind-line (marksOf (blankText l ++ t))
+    ∙ before-written l t
+
+pub written-read : (y : Layout) (r : DepRule) → SpellableRule r → depfileRule (depfileOf y r) ≡ some r
 unfolding depfileRule depfileOf
-written-read g h r a =
-    joined-written g (r .targets) (gapped h (r .prerequisites) (newlineByte ∷ [])) (a .targets)
-    ∙ ap (Option·map (depRule (r .targets))) (prerequisites-written h (r .prerequisites) (a .prerequisites))
+written-read y r a =
+    let u = gapped (y .prerequisites) (r .prerequisites) (endText (y .end)) in
+    ap (ruleFrom []) (before-written (y .before) (joined (y .targets) (r .targets) (colonByte ∷ u)))
+    ∙ joined-written (y .targets) (r .targets) u (a .targets)
+    ∙ ap (Option·map (depRule (r .targets))) (prerequisites-written (y .prerequisites) (r .prerequisites) (y .end) (a .prerequisites))
