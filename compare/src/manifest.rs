@@ -200,6 +200,7 @@ impl Buffers {
                 implicit: part(ends[2]),
                 order_only: part(ends[3]),
                 phony: phony == 1,
+                ..Step::default()
             });
         }
         accepted.graph.files = numbers.files;

@@ -28,7 +28,7 @@ use Rattle.ask_target_files.specs.declared.NumberedTargets.the-variants.{All, B
 use Rattle.ask_target_files.specs.Numbered.{targetNumbersOf, TargetsNumbered, Says, NumbersTargets}
 use Rattle.hold_reading.specs.declared.Counts.{Counts}
 use Rattle.hold_reading.specs.Held.{HoldsReading}
-use Rattle.ask_plan_reading.proofs.Laws.{CardTimes, card-time}
+use Rattle.ask_headed_times.proofs.CardTimes.{CardTimes, card-time}
 use Rattle.ask_plan_columns.specs.Columns.{Tabled, ColumnsAsked, PlansColumns}
 use Rattle.ask_plan_reading.specs.Asked.{ReadAsked, PlansTargets, PlansRead}
 use Rattle.hold_reading.specs.Buffers.{Buffers, buffers}

@@ -1,4 +1,3 @@
-pub mod Numbers
 pub mod Buckets
 pub mod Entering
 pub mod Lies

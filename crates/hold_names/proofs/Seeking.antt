@@ -17,7 +17,7 @@ use Rattle.spec.specs.Reading.{numberOf}
 use Rattle.hold_names.specs.declared.Matched.{Matched}
 use Rattle.hold_names.specs.declared.Sought.{Sought}
 use Rattle.hold_names.specs.Table.{headsFrom, bucketOf, pairBase, pairAt, firstIn, secondIn, sparesIn, sparesOf, nameAt, StandsIn, Placed, HoldsNames, SoundNames, NamesFile, onOrder, halvings, comparesFrom, comparesOf, maxCompares, Between, MatchesName, Halves, SeeksSecond, SeeksName}
-use Rattle.hold_names.proofs.Numbers.{number-missing}
+use Rattle.spec.proofs.Numbers.{number-missing}
 use Rattle.hold_names.proofs.Buckets.{bucket-small, first-stands, among-nowhere}
 use Rattle.hold_names.proofs.Halving.{reach-all, halvings-few}
 

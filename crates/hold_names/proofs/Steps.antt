@@ -17,7 +17,7 @@ use Rattle.hold_names.specs.declared.FoundName.the-variants.{At, Missing
 use Rattle.hold_names.specs.declared.Added.the-variants.{Old, New, Full}
 use Rattle.hold_names.specs.declared.Lookup.{Lookup}
 use Rattle.hold_names.specs.Table.{bucketOf, pairBase, pairAt, secondIn, sparesIn, sparesOf, Searched, HoldsNames, found, fits, added, filesAfter, countAfter, FindsName, AddsName, nameStart, Between, SeeksName, Entered}
-use Rattle.hold_names.proofs.Numbers.{number-below, number-missing}
+use Rattle.spec.proofs.Numbers.{number-below, number-missing}
 use Rattle.hold_names.proofs.Entering.{column-now, searched-first, searched-second, searched-spare, column-spare}
 use Rattle.hold_names.proofs.Lies.{holds-more, used-held}
 use Rattle.hold_names.proofs.Halving.{clash}

@@ -10,7 +10,7 @@ use Rattle.spec.specs.declared.PlanAnswer.the-variants.{Listed, Refused 
 use Rattle.spec.specs.declared.TextAnswer.{TextAnswer}
 use Rattle.spec.specs.declared.TextAnswer.the-variants.{Written, Refused as TextRefused}
 use Rattle.spec.specs.declared.Refusal.{Refusal}
-use Rattle.spec.specs.declared.Refusal.the-variants.{ShortBuffer, LongManifest, BadByte, BadLine, BadDollar, NotYet, BadRule, BadPath, OverLimit, BadVersion, BadCard, BadTarget, NoRoot, Circle, MissingSource, EndlessText, LongText, NoCommand, BadBundle, BadOpen}
+use Rattle.spec.specs.declared.Refusal.the-variants.{ShortBuffer, LongManifest, BadByte, BadLine, BadDollar, NotYet, BadRule, BadPath, OverLimit, BadVersion, BadCard, BadTarget, NoRoot, Circle, MissingSource, EndlessText, LongText, NoCommand, BadBundle, BadOpen, BadHeaders}
 
 -- what an answer says: a refusal's number with its place, and whether that stands in a text; or 0 with the count that a plan or a text gives
 pub record Said : Type 0 where
@@ -48,6 +48,7 @@ refusalSays (LongText s) = says 17 s
 refusalSays (NoCommand s) = says 18 s
 refusalSays BadBundle = says 19 0
 refusalSays (BadOpen p) = saysAt 19 p
+refusalSays (BadHeaders s) = says 20 s
 
 unfoldable pub numberOfRefusal : Refusal → ℕ
 unfolding refusalSays

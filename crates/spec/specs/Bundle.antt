@@ -108,3 +108,7 @@ bundled rs =
 unfoldable pub alone : List ℕ → List ℕ
 unfolding bundled
 alone text = bundled (record { name = bytes "build.ninja"; bytes = text } ∷ [])
+
+-- "(the program lends none)": the bundle of no header list
+abbrev pub noLists : List ℕ
+noLists = bundled []

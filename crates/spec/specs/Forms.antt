@@ -58,12 +58,13 @@ unfoldable pub laterKeyword : List ℕ → Bool
 unfolding eqBytes
 laterKeyword w = eqBytes w (bytes "pool")
 
--- "the names `depfile deps dyndep msvc_deps_prefix pool restat rspfile rspfile_content` on the left of any `=`"
+-- "the names `depfile deps dyndep msvc_deps_prefix pool restat rspfile rspfile_content` on the left of any `=`", where document 02 says "Accept
+-- `depfile`"
 unfoldable pub laterKey : List ℕ → Bool
 unfolding among
 laterKey w =
     among w
-    (bytes "depfile" ∷ bytes "deps" ∷ bytes "dyndep" ∷ bytes "msvc_deps_prefix" ∷ bytes "pool" ∷ bytes "restat" ∷ bytes "rspfile" ∷ bytes "rspfile_content" ∷ [])
+    (bytes "deps" ∷ bytes "dyndep" ∷ bytes "msvc_deps_prefix" ∷ bytes "pool" ∷ bytes "restat" ∷ bytes "rspfile" ∷ bytes "rspfile_content" ∷ [])
 
 -- a word where a rule is named; it is not empty and no keyword
 unfoldable pub ruleWord : List ℕ → Cut (List ℕ)

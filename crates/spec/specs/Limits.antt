@@ -45,6 +45,10 @@ maxOpen = 8
 abbrev pub maxOpened : ℕ
 maxOpened = 64
 
+-- "read the make-style texts .., lent in such a bundle, 0 to 512 by path" (document 02)
+abbrev pub maxHeaders : ℕ
+maxHeaders = 512
+
 -- the highest place in texts of so many bytes together, 64 of them at most, laid end to end with one place between two
 abbrev pub maxPlace : ℕ
 maxPlace = maxManifest + 63

@@ -50,10 +50,10 @@ startRule start n rd =
     ifB (longerThan maxName n || leb maxRules (length (rd .rules))) (λ _. refused (OverLimit start)) λ _.
     goesOn rd (ruleBlock start (record { name = n; keys = [] }))
 
--- "indented `key = value` lines: `command` (needed), `description`, `generator`, each at most once"
+-- "indented `key = value` lines: `command` (needed), `description`, `generator`, each at most once"; "Accept `depfile`" (document 02)
 unfoldable pub ruleKey : List ℕ → Bool
 unfolding among
-ruleKey n = among n (bytes "command" ∷ bytes "description" ∷ bytes "generator" ∷ [])
+ruleKey n = among n (bytes "command" ∷ bytes "description" ∷ bytes "generator" ∷ bytes "depfile" ∷ [])
 
 -- a binding line more, with so many bytes
 unfoldable pub countBinding : ℕ → Reading → Reading

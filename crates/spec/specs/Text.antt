@@ -101,7 +101,7 @@ lookupBy spell rd s n =
     orElse (boundTo n (s .block)) asIs λ _.
     orElse (boundTo n (keysOf (s .rule) (rd .rules))) ofRule λ _. asIs (varFrom (rd .vars .scopes) (s .scope) n)
 
--- names hold their quotes in every text that is looked up for a step (reading 02.10)
+-- names hold their quotes in every text that is looked up for a step but a depfile's name (reading 02.10)
 abbrev pub lookup : Reading → Step → List ℕ → Found
 lookup = lookupBy quoted
 
@@ -132,13 +132,23 @@ textBy spell rd s (suc k) n = onFound (lookupBy spell rd s n) (λ v. v) (λ raw.
 abbrev pub textOf : Reading → Step → ℕ → List ℕ → List ℕ
 textOf = textBy quoted
 
+-- plain or quoted
+abbrev pub spelledBy : Bool → Spelling
+spelledBy true n = n
+spelledBy false n = quoted n
+
+-- "its depfile name (unquoted ..)": a path, that no shell reads
+unfoldable pub spellingFor : List ℕ → Spelling
+unfolding eqBytes keyName quoted
+spellingFor n = spelledBy (eqBytes n (keyName Depfile))
+
 -- the text of a name, for a step by its number
 abbrev pub nameText : Reading → ℕ → List ℕ → List ℕ
-nameText rd s n = textOf rd (stepAt (rd .steps) s) deep n
+nameText rd s n = textBy (spellingFor n) rd (stepAt (rd .steps) s) deep n
 
 -- "16, 17 for a text": what the text of a name is refused with
 unfoldable pub nameRefusal : Reading → ℕ → List ℕ → Option Refusal
-unfolding leadsBack textBy
+unfolding leadsBack textBy spellingFor
 nameRefusal rd s n =
     ifB (leadsBack rd (stepAt (rd .steps) s) deep [] n) (λ _. some (EndlessText s)) λ _.
     ifB (ltb maxText (length (nameText rd s n))) (λ _. some (LongText s)) λ _. none

@@ -1,0 +1,6 @@
+pub mod Copying
+pub mod Ending
+pub mod Finding
+pub mod Telling
+pub mod Placing
+pub mod Heading
