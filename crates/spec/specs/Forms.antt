@@ -140,6 +140,7 @@ pub data Form : Type 0 where
   buildForm : BuildLine → Form
   defaultForm : List (List ℕ) → Form
   -- `subninja PATH` or else `include PATH`, the path raw
+  -- [1] in a new scope or not, and the raw path
   openForm : Bool → List ℕ → Form
   -- `NAME = value` at file level or in a block, the value raw
   bindingForm : List ℕ → List ℕ → Form
@@ -189,7 +190,7 @@ unfolding then paths
 cutDefault s =
     then (paths s) λ p. ifB (isEmpty (p .raw) || not (isEmpty (p .rest))) (λ _. fails noForm) (λ _. fits (defaultForm (p .raw)))
 
--- "`include PATH` and `subninja PATH`": one path and nothing behind it (reading 02.3)
+-- [1] "`include PATH` and `subninja PATH`": one path and nothing behind it (reading 02.3)
 unfoldable pub cutOpen : Bool → List ℕ → Cut Form
 unfolding gap pathBegins checked badIn pathStop rawPath
 cutOpen sub s =

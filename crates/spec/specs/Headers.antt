@@ -1,4 +1,4 @@
--- Header lists from the compiler (document 02, [4]): what is found of each step's depfile, the reading with the listed inputs added, and the steps that
+-- [4] Header lists from the compiler: what is found of each step's depfile, the reading with the listed inputs added, and the steps that
 -- a missing depfile or a missing listed file makes stale. What stands in quotes is document 02's.
 use Prim.Native.Nat.{ℕ, suc}
 use mathlib.Core.List.{List, [], _∷_, _++_}

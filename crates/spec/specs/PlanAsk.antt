@@ -25,6 +25,7 @@ pub record Inputs : Type 0 where
   pub manifest : List ℕ
   pub card : List ℕ
   pub targets : List ℕ
+  -- [4]
   pub headers : List ℕ
 
 abbrev pub inputsOf : List ℕ → List ℕ → List ℕ → List ℕ → Inputs
@@ -57,7 +58,7 @@ missingSource card written rd rs =
 abbrev pub rootsOf : Inputs → Reading → List ℕ
 rootsOf i rd = roots rd (targetFiles (i .targets) rd)
 
--- the times of files by which the steps are judged
+-- [4] the times of files by which the steps are judged
 abbrev pub judgedTime : Inputs → HeaderGraph → ℕ → ℕ
 judgedTime i h = judged (h .reading .steps) (cardTime (i .card) (h .reading)) (h .lists)
 
@@ -79,7 +80,7 @@ unfolding hasOrder roots targetFiles planSources
 planOrdered i rd h =
     ifB (hasOrder (h .reading .steps) (rootsOf i rd)) (λ _. planSources i rd h) (λ _. circular (h .reading .steps) (rootsOf i rd))
 
--- the header lists: 16, 17 and 20 "after 13 and before 14"
+-- [4] the header lists: 16, 17 and 20 "after 13 and before 14"
 unfoldable pub planHeaders : Inputs → Reading → PlanOutcome
 unfolding onHeaded withHeaders planOrdered
 planHeaders i rd = onHeaded (withHeaders (i .headers) rd) noPlan (planOrdered i rd)
@@ -106,7 +107,7 @@ unfolding planRead
 planManifest i (refusedWith r) = noPlan r
 planManifest i (accepted rd) = planRead i rd
 
--- "a malformed bundle is 20 at 0, after such a 19 and before 2": where the manifest's bundle is malformed, its reading says 19
+-- [4] "a malformed bundle is 20 at 0, after such a 19 and before 2": where the manifest's bundle is malformed, its reading says 19
 unfoldable pub badHeaders : Inputs → Bool
 unfolding soundBundle soundHeaders
 badHeaders i = soundBundle 1 maxBundle (i .manifest) && not (soundHeaders (i .headers))
