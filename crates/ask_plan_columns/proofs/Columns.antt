@@ -29,7 +29,7 @@ use Rattle.ask_plan_roots.specs.declared.Roots.{Roots}
 use Rattle.ask_plan_roots.specs.declared.Roots.the-variants.{From, None}
 use Rattle.ask_plan_roots.specs.Roots.{Chosen, ChoiceAsked, RootsFrom, RootsNone, RootsFound}
 use Rattle.ask_plan_headers.specs.Headers.{HeadersPlanAsked, PlansHeaders}
-use Rattle.ask_plan_columns.specs.Columns.{Tabled, mentionsIn, endsIn, phonyIn, madeIn, defaultsIn, FoundIn, ChoiceAskedIn, MarksAsked, ColumnsAsked, RootsSpaceAsked, PlansColumns}
+use Rattle.ask_plan_columns.specs.Columns.{Tabled, mentionsIn, endsIn, phonyIn, madeIn, defaultsIn, FoundIn, ChoiceAskedIn, MarksAsked, RootsSpaceAsked, PlansColumns}
 
 module _ (graph : List ℕ) (c : Counts) where
   -- the columns are these parts

@@ -18,7 +18,6 @@ use Rattle.spec.specs.Answers.{numberOfRefusal, planSays}
 use Rattle.spec.specs.PlanAsk.{inputsOf, targetFiles, planTargets, planRead}
 use Rattle.spec.specs.Promises.{leftBy, PlanMeets}
 use Rattle.spec.proofs.Promises.{cleared}
-use Rattle.hold_names.specs.Table.{SoundNames}
 use Rattle.hold_bindings.specs.Log.{Logged}
 use Rattle.hold_reading.specs.declared.Counts.{Counts}
 use Rattle.hold_reading.specs.Held.{HoldsReading}
@@ -27,7 +26,7 @@ use Rattle.ask_target_files.specs.declared.NumberedTargets.{NumberedTargets}
 use Rattle.ask_target_files.specs.declared.NumberedTargets.the-variants.{All, Bad}
 use Rattle.ask_target_files.specs.Numbered.{targetNumbersOf, NumberingAsked, TargetsNumbered, Says, NumbersTargets}
 use Rattle.ask_plan_columns.specs.Columns.{ColumnsAsked, PlansColumns}
-use Rattle.ask_plan_reading.specs.Asked.{ReadAsked, NumbersSpaceAsked, PlansTargets, PlansRead}
+use Rattle.ask_plan_reading.specs.Asked.{NumbersSpaceAsked, PlansTargets, PlansRead}
 
 module _ {headers card targets : List ℕ} {bs : Buffers} {c : Counts} {list exit : List ℕ} where
   -- ---- 11
