@@ -1,39 +1,37 @@
--- The columns of the graph as parts of the arena.
+-- The columns of the graph as parts of the arena, and what is planned from the roots that they give.
 use Prim.Native.Nat.{ℕ, _+_, _*_, _≤_, _<_}
 use mathlib.Core.List.{List, [], _∷_}
-use mathlib.Core.Path.{_≡_, refl, sym, _∙_, ap}
+use mathlib.Core.Path.{_≡_, refl, sym, _∙_, ap, subst}
 use native.Mathlib.Omega.{arith}
 use lib.ListN.{length, take, getD}
+use Rattle.lists.specs.Fill.{zeros, zeroed}
 use Rattle.lists.specs.Parts.{part, part-from-start}
+use Rattle.spec.specs.declared.Refusal.the-variants.{NoRoot}
 use Rattle.spec.specs.declared.PlanAnswer.{PlanAnswer}
+use Rattle.spec.specs.declared.PlanAnswer.the-variants.{Refused}
 use Rattle.spec.specs.Limits.{maxSteps, maxFiles, maxMentions}
 use Rattle.spec.specs.Reading.{Reading}
+use Rattle.spec.specs.Answers.{numberOfRefusal, planSays}
+use Rattle.spec.specs.PlanAsk.{Inputs, targetFiles, planRooted}
+use Rattle.spec.specs.Promises.{leftBy, PlanMeets}
+use Rattle.spec.proofs.Promises.{cleared}
 use Rattle.arena.specs.Columns.{Lies, startOf, column}
 use Rattle.arena.proofs.Laws.{Column, lies-column, lies-part}
+use Rattle.hold_bindings.specs.Log.{Logged}
 use Rattle.hold_columns.specs.Columns.{perStep, HoldsColumns}
+use Rattle.hold_columns.proofs.Blank.{take-blank}
 use Rattle.hold_columns.proofs.Places.{length-ends}
 use Rattle.hold_columns.proofs.Held.{held-steps, held-sound}
 use Rattle.hold_reading.specs.declared.Counts.{Counts}
-use Rattle.hold_reading.specs.Held.{capacities, endsStart, phonyStart, madeStart, defaultsStart, columnsEnd}
-use Rattle.ask_plan_roots.specs.Roots.{RootedAsked, PlansRooted}
-use Rattle.ask_plan_columns.specs.Columns.{Tabled, ColumnsAsked, PlansColumns}
+use Rattle.hold_reading.specs.Held.{capacities, endsStart, phonyStart, madeStart, defaultsStart, columnsEnd, HoldsReading}
+use Rattle.hold_reading.specs.Buffers.{Buffers}
+use Rattle.ask_plan_roots.specs.declared.Roots.{Roots}
+use Rattle.ask_plan_roots.specs.declared.Roots.the-variants.{From, None}
+use Rattle.ask_plan_roots.specs.Roots.{Chosen, ChoiceAsked, RootsFrom, RootsNone, RootsFound}
+use Rattle.ask_plan_headers.specs.Headers.{HeadersPlanAsked, PlansHeaders}
+use Rattle.ask_plan_columns.specs.Columns.{Tabled, mentionsIn, endsIn, phonyIn, madeIn, defaultsIn, FoundIn, ChoiceAskedIn, MarksAsked, RootsSpaceAsked, PlansColumns}
 
 module _ (graph : List ℕ) (c : Counts) where
-  abbrev pub mentionsIn : List ℕ
-  mentionsIn = take (c .paths) graph
-
-  abbrev pub endsIn : List ℕ
-  endsIn = part graph endsStart (endsStart + perStep * c .steps)
-
-  abbrev pub phonyIn : List ℕ
-  phonyIn = part graph phonyStart (phonyStart + c .steps)
-
-  abbrev pub madeIn : List ℕ
-  madeIn = part graph madeStart (madeStart + c .files)
-
-  abbrev pub defaultsIn : List ℕ
-  defaultsIn = part graph defaultsStart (defaultsStart + c .defaults)
-
   -- the columns are these parts
   pub record Spread (rd : Reading) : Type 0 where
     pub long : columnsEnd ≤ length graph
@@ -41,9 +39,11 @@ module _ (graph : List ℕ) (c : Counts) where
     pub few-steps : c .steps ≤ maxSteps
     pub few-files : c .files ≤ maxFiles
     pub few-defaults : c .defaults ≤ maxMentions
-    pub counted : length madeIn ≡ c .files
-    pub tables : HoldsColumns (rd .steps) (length (rd .files)) mentionsIn endsIn phonyIn madeIn
-    pub defaults : defaultsIn ≡ rd .defaults
+    pub mentioned : length (mentionsIn graph c) ≡ c .paths
+    pub counted : length (madeIn graph c) ≡ c .files
+    pub defaulted : length (defaultsIn graph c) ≡ c .defaults
+    pub tables : HoldsColumns (rd .steps) (length (rd .files)) (mentionsIn graph c) (endsIn graph c) (phonyIn graph c) (madeIn graph c)
+    pub defaults : defaultsIn graph c ≡ rd .defaults
     pub defaults-low : (i : ℕ) → i < length (rd .defaults) → getD (rd .defaults) i 0 < c .files
 
 module _ {graph : List ℕ} {c : Counts} {rd : Reading} (h : Tabled graph c rd) where
@@ -79,28 +79,98 @@ module _ {graph : List ℕ} {c : Counts} {rd : Reading} (h : Tabled graph c rd) 
         few-steps = omega (arith, h .steps-counted, t .few-steps);
         few-files = omega (arith, h .files-counted, t .few-files);
         few-defaults = omega (arith, g .few-mentions, g .mentions-low);
+        mentioned = ap length m ∙ sym (g .paths-counted);
+        defaulted = ap length v ∙ sym (g .defaults-counted);
         counted = ap length w ∙ t .counted ∙ sym (h .files-counted);
         tables = rw (m, d, p, w) t;
         defaults = v;
         defaults-low = rw (h .files-counted) (g .defaults-low);
       }
 
-module _ {graph : List ℕ} {c : Counts} {times targets list : List ℕ} where
-  pub askable : (a : ColumnsAsked graph c times targets list) → RootedAsked (mentionsIn graph c) (endsIn graph c) (phonyIn graph c) (madeIn graph c) times (defaultsIn graph c) targets list
-  askable a =
-      let s = spread (a .tabled) in
-      let z : length (madeIn graph c) ≡ c .files = s .counted in
+-- ---- what is asked of the choice
+
+module _ {graph : List ℕ} {c : Counts} {targets out : List ℕ} (a : ChoiceAskedIn graph c targets out) where
+  pub few-files : c .files ≤ maxFiles
+  few-files = spread (a .tabled) .few-files
+
+  -- the marks are the first of those for all files that there may be
+  pub marked : MarksAsked graph c targets (take (c .files) (zeros maxFiles)) out
+  marked = record { asked = a; blank = take-blank (c .files) maxFiles few-files }
+
+pub choosable : {graph : List ℕ} {c : Counts} {targets marks out : List ℕ} → MarksAsked graph c targets marks out
+    → ChoiceAsked (mentionsIn graph c) (endsIn graph c) (phonyIn graph c) (madeIn graph c) (defaultsIn graph c) targets marks out
+choosable {graph} {c} {targets} {marks} {out} m =
+    let a = m .asked in
+    let s = spread (a .tabled) in
+    let z : length (madeIn graph c) ≡ c .files = s .counted in
+    record {
+      sound = rw (held-steps (s .tables)) (held-sound (s .tables));
+      defaults-low = rw (s .defaults, z) (s .defaults-low);
+      targets-low = rw z (a .low);
+      blank = rw z (m .blank);
+      mentions-room = omega (arith, s .mentioned, s .few-paths, a .room);
+      defaults-room = omega (arith, s .defaulted, s .few-defaults, a .room);
+      targets-room = omega (arith, a .few, a .room);
+    }
+
+-- ---- 13, then the header lists
+
+pub tabled : {log : List Logged} {bs : Buffers} {c : Counts} {rd : Reading} → HoldsReading log bs c rd → Tabled (bs .graph) c rd
+tabled {log = log} h = record { log = log; graphed = h .graphed; files-counted = h .named .counted; steps-counted = h .bound .steps-counted }
+
+module _ {t headers card : List ℕ} {bs : Buffers} {c : Counts} {targets out list : List ℕ} (a : RootsSpaceAsked t headers card bs c targets out list) where
+  pub choice : ChoiceAskedIn (bs .graph) c targets out
+  choice =
+      let h = a .asked .asked in
+      record { reading = h .reading; tabled = tabled (h .holds); low = h .roots-low; few = a .asked .few; room = a .room }
+
+chosen : {bs : Buffers} {c : Counts} {targets : List ℕ} (i : Inputs) {log : List Logged} (rd : Reading) → HoldsReading log bs c rd → targets ≡ targetFiles (i .targets) rd
+    → Chosen i rd (mentionsIn (bs .graph) c) (endsIn (bs .graph) c) (phonyIn (bs .graph) c) (madeIn (bs .graph) c) (defaultsIn (bs .graph) c) targets
+chosen i rd h e = let s = spread (tabled h) in record { held = s .tables; defaulted = s .defaults; targeted = e }
+
+module _ {graph : List ℕ} {c : Counts} {targets out : List ℕ} {x : Roots} (f : FoundIn graph c targets out x) where
+  none : x ≡ None → RootsNone (mentionsIn graph c) (endsIn graph c) (phonyIn graph c) (madeIn graph c) (defaultsIn graph c) targets
+  unfolding RootsFound
+  none e = subst (RootsFound (mentionsIn graph c) (endsIn graph c) (phonyIn graph c) (madeIn graph c) (defaultsIn graph c) targets out) e (f .found)
+
+  some : {k : ℕ} → x ≡ From k → RootsFrom (mentionsIn graph c) (endsIn graph c) (phonyIn graph c) (madeIn graph c) (defaultsIn graph c) targets out k
+  unfolding RootsFound
+  some e = subst (RootsFound (mentionsIn graph c) (endsIn graph c) (phonyIn graph c) (madeIn graph c) (defaultsIn graph c) targets out) e (f .found)
+
+  pub roots-within : {k : ℕ} → x ≡ From k → k ≤ length out
+  roots-within e = some e .put .within
+
+module _ {headers card : List ℕ} {bs : Buffers} {c : Counts} {targets out : List ℕ} {x : Roots} (f : FoundIn (bs .graph) c targets out x) where
+  -- 13
+  pub rootless : {list exit : List ℕ} → x ≡ None → exit ≡ zeroed list 0 (length list) → PlansColumns headers card bs c targets list (Refused NoRoot) exit
+  unfolding planRooted PlanMeets planSays leftBy numberOfRefusal
+  rootless {list} e z =
+      record { plans = λ i log rd p q r h w. rw (none f e .rootless i rd (chosen i rd h w)) (record { says = refl; leaves = z ∙ cleared list }) }
+
+  -- past 13
+  pub from-roots : {t list before : List ℕ} {k : ℕ} → x ≡ From k → RootsSpaceAsked t headers card bs c targets before list → HeadersPlanAsked t headers card bs c (take k out) list
+  from-roots e a =
+      let h = a .asked .asked in
       record {
-        asked = record { sound = rw (held-steps (s .tables)) (held-sound (s .tables)); timed = a .timed ∙ sym z; room = a .room };
-        defaults-low = rw (s .defaults, z) (s .defaults-low);
-        targets-low = rw z (a .low);
+        table = h .table;
+        lists-sound = h .lists-sound;
+        card-sound = h .card-sound;
+        names-long = h .names-long;
+        manifest = h .manifest;
+        log = h .log;
+        reading = h .reading;
+        is = h .is;
+        holds = h .holds;
+        roots-low = rw (← spread (tabled (h .holds)) .counted) (some f e .put .low);
+        room = h .room;
       }
 
-  pub planned : {r : PlanAnswer} {exit : List ℕ} → PlansRooted (mentionsIn graph c) (endsIn graph c) (phonyIn graph c) (madeIn graph c) times (defaultsIn graph c) targets list r exit
-      → PlansColumns graph c times targets list r exit
-  planned p =
+  pub rooted : {list exit : List ℕ} {r : PlanAnswer} {k : ℕ} → x ≡ From k → PlansHeaders headers card bs c (take k out) list r exit → PlansColumns headers card bs c targets list r exit
+  unfolding planRooted
+  rooted e p =
       record {
-        plans = λ i rd h t e.
-            let s = spread h in
-            p .plans i rd (record { held = s .tables; timed = t }) (s .defaults) e;
+        plans = λ i log rd g q r h w.
+            let m = some f e in
+            let o = chosen i rd h w in
+            rw (m .rooted i rd o) (p .plans i log rd g q r h (m .put .are i rd o));
       }
