@@ -1,56 +1,46 @@
+-- `ask_header_graph::split_lists` meets its contract.
+use Rattle.ask_header_graph.proofs.Splitting.{Splitting, split-begin, split-more, split-end}
+use native.Mathlib.Omega.{arith}
+use Prim.Native.Nat.{_-_}
 use borrow.Author.Needs.{needs}
 use Rattle.ask_header_graph.proofs.split_lists.Statement.{statement}
 use Rattle.ask_header_graph.proofs.split_lists.Tie as tie
-use Rattle.ask_header_graph.proofs.split_lists.Reads as reads
-use Rattle.ask_header_graph.proofs.split_lists.Lts as lts
-use Rattle.arena.proofs.put.Reads as put-reads
-use Rattle.hold_headers.proofs.listed_number.Reads as listed-number-reads
 
 abbrev Inv-loop : tie.InvT-loop
-Inv-loop second steps missing₀ listed₀ s₀ missing listed s = ?
+Inv-loop second steps missing₀ listed₀ s₀ missing listed s = Splitting second steps missing listed s
 
 abbrev μ-loop : tie.MeasureT-loop
-μ-loop second steps missing₀ listed₀ s₀ missing listed s = ?
+μ-loop second steps missing₀ listed₀ s₀ missing listed s = steps - s
 
--- src/lib.rt:18:5
 loop-holds : tie.Need-loop-holds Inv-loop μ-loop
-loop-holds c = ?
+loop-holds c = split-begin (c .before .before .before .pre)
 
--- src/lib.rt:19:13
 listed-number-requires : tie.Need-listed-number-requires Inv-loop μ-loop
-listed-number-requires c κs = ?
+listed-number-requires c κs = omega (arith, c .before .loop .inv .asks .long, c .before .loop .inv .asks .few, c .loop-test .taken)
 
--- src/lib.rt:20:9
 put-requires : tie.Need-put-requires Inv-loop μ-loop
-put-requires c κs = ?
+put-requires c κs = search needs
 
--- src/lib.rt:21:9
 put-requires-2 : tie.Need-put-requires-2 Inv-loop μ-loop
-put-requires-2 c κs = ?
+put-requires-2 c κs = let z = c .before .before .before .before .before .before .before .loop .inv .asks .small (c .before .before .before .before .before .before .before .loop .s) (c .before .before .before .before .before .before .loop-test .taken) in omega (arith, z, c .before .before .before .before .before .listed-number .ensures, c .before .before .before .before .before .before .before .loop .inv .asks .listed-long, c .before .before .before .before .before .before .loop-test .taken)
 
--- src/lib.rt:22:9
 add-s : tie.Need-add-s Inv-loop μ-loop
-add-s c = ?
+add-s c = search needs
 
--- src/lib.rt:18:5
 loop-less : tie.Need-loop-less Inv-loop μ-loop
-loop-less c = ?
+loop-less c = search needs
 
--- src/lib.rt:18:5
 loop-again : tie.Need-loop-again Inv-loop μ-loop
-loop-again c = ?
+loop-again c = split-more (c .before .before .before .before .before .before .before .before .before .before .loop .inv) (c .before .before .before .before .before .before .before .before .before .loop-test .taken) (c .before .before .before .before .before .before .before .before .listed-number .ensures) (c .before .before .before .before .before .before .put .ensures) (c .before .before .put2 .ensures)
 
--- src/lib.rt:13:1
 same-length : tie.Need-same-length Inv-loop μ-loop
-same-length c = ?
+same-length c = search needs
 
--- src/lib.rt:13:1
 same-length-2 : tie.Need-same-length-2 Inv-loop μ-loop
-same-length-2 c = ?
+same-length-2 c = search needs
 
--- src/lib.rt:13:1
 returns : tie.Need-returns Inv-loop μ-loop
-returns c = ?
+returns c = split-end (c .before .loop .inv) (c .loop-test .left)
 
 pub split-lists-spec : {M : Type 1} → statement M
 split-lists-spec =
