@@ -62,3 +62,17 @@ module _ {graph : List ℕ} {c : Counts} {rd : Reading} (h : Tabled graph c rd) 
 
   pub made-counted : length (madeIn graph c) ≡ c .files
   made-counted = tables .counted ∙ sym (h .files-counted)
+
+-- these columns are the parts
+pub record Cut (graph : List ℕ) (c : Counts) (mentions ends phony made : List ℕ) : Type 0 where
+  pub mentions-cut : mentions ≡ mentionsIn graph c
+  pub ends-cut : ends ≡ endsIn graph c
+  pub phony-cut : phony ≡ phonyIn graph c
+  pub made-cut : made ≡ madeIn graph c
+
+module _ {graph : List ℕ} {c : Counts} {mentions ends phony made : List ℕ} (e : Cut graph c mentions ends phony made) {rd : Reading} (h : Tabled graph c rd) where
+  pub cut-tables : HoldsColumns (rd .steps) (length (rd .files)) mentions ends phony made
+  cut-tables = rw (e .mentions-cut, e .ends-cut, e .phony-cut, e .made-cut) (tables h)
+
+  pub cut-counted : length made ≡ c .files
+  cut-counted = rw (e .made-cut) (made-counted h)
