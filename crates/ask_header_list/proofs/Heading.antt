@@ -2,12 +2,14 @@
 use Prim.Native.Nat.{ℕ, suc, _+_, _-_, _*_, _≤_, _<_}
 use mathlib.Core.Bool.{Bool, true, false, _||_}
 use mathlib.Core.List.{List, [], _∷_, _++_, map, append-assoc, append-nil}
+use mathlib.Core.Logic.{_⊎_, inl, inr}
 use mathlib.Core.Path.{_≡_, refl, sym, _∙_, ap, subst}
 use native.Mathlib.Omega.{arith}
 use lib.ListN.{length, drop, getD, length-append, length-map}
 use lib.Seq.{drop-cons}
 use Rattle.lists.specs.Tests.{ifB}
 use Rattle.lists.specs.Parts.{part}
+use Rattle.lists.specs.Members.{_∈_, place, in-left, in-right, in-append}
 use Rattle.spec.specs.Basics.{concat}
 use Rattle.spec.specs.Limits.{maxMentions}
 use Rattle.spec.specs.Reading.{Step, Reading, numbersOf, mention}
@@ -15,17 +17,19 @@ use Rattle.spec.specs.Statements.{mentioned, overPaths, overCounts}
 use Rattle.spec.specs.Manifest.{withStep}
 use Rattle.spec.specs.Graph.{inputs, noStep, stepAt}
 use Rattle.spec.specs.Headers.{Listed, HeaderGraph, withListed, headStep}
+use Rattle.spec.proofs.Numbers.{mention-grows, mention-longer}
 use Rattle.hold_bindings.specs.Log.{Logged}
-use Rattle.hold_columns.specs.Columns.{bit, mentionsOf, outsEnd, endPlace, stepEndsFrom}
+use Rattle.hold_columns.specs.Columns.{bit, mentionsOf, madeBy, outsEnd, orderOnlyEnd, endPlace, endAt, stepStart, outsIn, inputsIn, stepEndsFrom}
+use Rattle.hold_columns.proofs.Held.{in-part, held-outs, held-inputs}
 use Rattle.hold_columns.proofs.Places.{length-ends}
 use Rattle.hold_columns.proofs.Growing.{mentions-more, length-mentions, ends-more}
 use Rattle.hold_reading.specs.declared.Counts.{Counts}
-use Rattle.hold_reading.specs.Held.{HoldsBound}
+use Rattle.hold_reading.specs.Held.{HoldsBound, Graphed}
 use Rattle.hold_reading.specs.Buffers.{Buffers, buffers, withGraph}
 use Rattle.apply_files.specs.Lines.{LineHeld, Columns, Writing, withPaths, overLine}
 use Rattle.apply_files.proofs.Columns.{graph-long}
 use Rattle.hold_names.specs.Table.{HoldsNames}
-use Rattle.apply_files.proofs.Closed.{paths-reading, paths-mentions, paths-log, paths-ends, paths-phony, paths-ruled, length-numbers}
+use Rattle.apply_files.proofs.Closed.{paths-reading, paths-mentions, paths-log, paths-ends, paths-phony, paths-ruled, paths-made, among-all, numbers-low, length-numbers}
 use Rattle.hold_headers.specs.Headed.{listedNumber, readingWith, headLine, mentionsLeft, HoldsHeaders}
 use Rattle.ask_header_list.specs.declared.StepPlaces.{StepPlaces}
 use Rattle.ask_header_list.specs.Copies.{countedCopies, CopyAsks, Copies, endsOf, movedEnds, Closes}
@@ -89,10 +93,10 @@ line-copied {bs} {c} {d} {h} w {graph} {second} {from} {to} k fs q n room =
 
 module _ {log : List Logged} {graph ns index texts bind second : List ℕ} {s : ℕ} {c : Counts} {rd : Reading} {h : HeaderGraph}
     (w : StepHeld log graph ns index texts bind second s c rd h) where
-  abbrev x : Step
+  abbrev pub x : Step
   x = stepAt (rd .steps) s
 
-  abbrev later : List ℕ
+  abbrev pub later : List ℕ
   later = concat (map mentionsOf (drop (suc s) (rd .steps)))
 
   left-is : mentionsLeft rd h ≡ mentionsOf x ++ later
@@ -100,7 +104,7 @@ module _ {log : List Logged} {graph ns index texts bind second : List ℕ} {s : 
   left-is =
       ap (λ (n : ℕ). concat (map mentionsOf (drop n (rd .steps)))) (w .done) ∙ ap (λ (l : List Step). concat (map mentionsOf l)) (drop-cons (rd .steps) s noStep (w .next))
 
-  left-room : c .paths + (length (x .outs) + length (x .ins) + length (x .implicit) + length (x .orderOnly)) + length later + c .defaults ≤ c .mentions
+  pub left-room : c .paths + (length (x .outs) + length (x .ins) + length (x .implicit) + length (x .orderOnly)) + length later + c .defaults ≤ c .mentions
   left-room = omega (arith, w .holds .room, ap length left-is, length-append (mentionsOf x) later, length-mentions x)
 
   pub stands-here : StepStands graph (placesIn graph s) x
@@ -119,6 +123,15 @@ module _ {log : List Logged} {graph ns index texts bind second : List ℕ} {s : 
 
 -- ---- a step more
 
+-- the files that a step mentions are those of the reading
+pub written-low : {log : List Logged} {graph : List ℕ} {c : Counts} {rd : Reading} → Graphed log graph c rd → (s f : ℕ) → f ∈ mentionsOf (stepAt (rd .steps) s) → f < length (rd .files)
+unfolding mentionsOf outsIn inputsIn
+written-low {rd = rd} g s f i =
+    elim (in-append (stepAt (rd .steps) s .outs) i) [
+      | inl a ↦ g .tables .low f (in-part (g .mentions) (stepStart (g .ends) s) (endAt (g .ends) s outsEnd) (subst (λ (l : List ℕ). f ∈ l) (sym (held-outs (g .tables) s)) a))
+      | inr b ↦ g .tables .low f (in-part (g .mentions) (endAt (g .ends) s outsEnd) (endAt (g .ends) s orderOnlyEnd) (subst (λ (l : List ℕ). f ∈ l) (sym (held-inputs (g .tables) s)) b))
+    ]
+
 regrouped : (m o i p n r : List ℕ) → ((m ++ (o ++ (i ++ p))) ++ n) ++ r ≡ m ++ (o ++ (i ++ ((p ++ n) ++ r)))
 regrouped m o i p n r =
     rw (append-assoc (m ++ (o ++ (i ++ p))) n r, append-assoc m (o ++ (i ++ p)) (n ++ r), append-assoc o (i ++ p) (n ++ r), append-assoc i p (n ++ r), append-assoc p n r)
@@ -134,6 +147,21 @@ map-last f (y ∷ l) x = ap (λ (r : List ℕ). f y ∷ r) (map-last f l x)
 listed-mentions : (x : Step) (fs : List ℕ) → mentionsOf (withListed fs x) ≡ x .outs ++ (x .ins ++ ((x .implicit ++ fs) ++ x .orderOnly))
 unfolding mentionsOf inputs withListed
 listed-mentions x fs = refl
+
+-- what it mentions then was written or is listed
+listed-among : (x : Step) (fs : List ℕ) {f : ℕ} → f ∈ mentionsOf (withListed fs x) → (f ∈ mentionsOf x) ⊎ (f ∈ fs)
+unfolding mentionsOf inputs
+listed-among x fs {f} i =
+    elim (in-append (x .outs) (subst (λ (l : List ℕ). f ∈ l) (listed-mentions x fs) i)) [
+      | inl a ↦ inl (in-left (x .ins ++ (x .implicit ++ x .orderOnly)) a)
+      | inr b ↦ elim (in-append (x .ins) b) [
+        | inl a ↦ inl (in-right (x .outs) (in-left (x .implicit ++ x .orderOnly) a))
+        | inr d ↦ elim (in-append (x .implicit ++ fs) d) [
+          | inl e ↦ elim (in-append (x .implicit) e) [ inl a ↦ inl (in-right (x .outs) (in-right (x .ins) (in-left (x .orderOnly) a))) | inr l ↦ inr l ]
+          | inr o ↦ inl (in-right (x .outs) (in-right (x .ins) (in-right (x .implicit) o)))
+        ]
+      ]
+    ]
 
 listed-ends : (x : Step) (fs : List ℕ) (k a b c d : ℕ) → a ≡ k + length (x .outs) → b ≡ k + length (x .outs) + length (x .ins)
     → c ≡ k + length (x .outs) + length (x .ins) + length (x .implicit) + length fs → d ≡ c + length (x .orderOnly) → (a ∷ b ∷ c ∷ d ∷ []) ≡ stepEndsFrom k (withListed fs x ∷ [])
@@ -221,13 +249,21 @@ module _ {log : List Logged} {graph ns index texts bind second : List ℕ} {s : 
         (stands-here w .back)
         (q .closed (line .mentions) (line .ends) (line .phony) made (line .ruleOf) (line .reading .defaults) (k .columns) (k .paths-counted) length-ended length-ruled)
 
+    mentions-grown : e .mentions ≡ c .mentions + length names
+    unfolding mentioned
+    mentions-grown = omega (arith, k .mentions-counted, ap (λ (v : Reading). v .mentions) (paths-reading names front), was .writing .mentions-counted)
+
+    defaults-same : e .defaults ≡ c .defaults
+    unfolding mentioned
+    defaults-same = k .defaults-counted ∙ ap (λ (v : Reading). length (v .defaults)) (paths-reading names front) ∙ sym (was .writing .defaults-counted)
+
     -- the line as the second columns hold it
     writing-after : Writing (buffers ns′ index′ texts bind second₃) (countedCopies (length (step .orderOnly)) e) (headLine log rd after made)
     unfolding headStep withStep mentioned
     writing-after =
         let t = left-room w in
-        let m : e .mentions ≡ c .mentions + length names = omega (arith, k .mentions-counted, ap (λ (v : Reading). v .mentions) (paths-reading names front), was .writing .mentions-counted) in
-        let d : e .defaults ≡ c .defaults = k .defaults-counted ∙ ap (λ (v : Reading). length (v .defaults)) (paths-reading names front) ∙ sym (was .writing .defaults-counted) in
+        let m = mentions-grown in
+        let d = defaults-same in
         record {
           named = named-after;
           bound = bound-after;
@@ -242,4 +278,51 @@ module _ {log : List Logged} {graph ns index texts bind second : List ℕ} {s : 
           mentions-counted = m ∙ ap (λ (i : ℕ). i + length names) (was .writing .mentions-counted);
           few-mentions = omega (arith, paths-are, t, m, d);
           mentions-low = k .mentions-low;
+        }
+
+    -- ---- all that is held then
+
+    left-after : length (mentionsLeft rd after) ≡ length (later w)
+    unfolding headStep withStep mentioned
+    left-after =
+        let z : length (h .reading .steps ++ (withListed (listed .files) step ∷ [])) ≡ suc s = omega (arith, length-append (h .reading .steps) (withListed (listed .files) step ∷ []), w .done) in
+        ap (λ (i : ℕ). length (concat (map mentionsOf (drop i (rd .steps))))) z
+
+    low-listed : (f : ℕ) → f ∈ listed .files → f < length (mention (h .reading .files) names)
+    low-listed f i =
+        let (j, b, e) = place i in
+        let l = numbers-low (mention (h .reading .files) names) names (among-all (h .reading .files) names) j (omega (arith, length-numbers (mention (h .reading .files) names) names)) in
+        omega (arith, ap (λ (v : ℕ). v) e)
+
+    low-written : (f : ℕ) → f ∈ mentionsOf step → f < length (mention (h .reading .files) names)
+    low-written f i =
+        omega (arith, written-low (w .written) s f i, mention-longer (h .reading .files) names, ap length (was .grown), length-append (rd .files) (was .more))
+
+    low-after : (f : ℕ) → f ∈ concat (map mentionsOf (h .reading .steps ++ (withListed (listed .files) step ∷ []))) → f < length (mention (h .reading .files) names)
+    low-after f i =
+        elim (in-append (concat (map mentionsOf (h .reading .steps))) (subst (λ (l : List ℕ). f ∈ l) (mentions-more (h .reading .steps) (withListed (listed .files) step)) i)) [
+          | inl a ↦ omega (arith, was .low f a, mention-longer (h .reading .files) names)
+          | inr b ↦ elim (listed-among step (listed .files) b) [ inl y ↦ low-written f y | inr z ↦ low-listed f z ]
+        ]
+
+    grown-after : (more : List (List ℕ)) × (mention (h .reading .files) names ≡ rd .files ++ more)
+    grown-after =
+        let (more, e) = mention-grows (h .reading .files) names in
+        (was .more ++ more, e ∙ ap (λ (l : List (List ℕ)). l ++ more) (was .grown) ∙ append-assoc (rd .files) (was .more) more)
+
+    pub step-held : HoldsHeaders log (buffers ns′ index′ texts bind second₃) r rd after
+    unfolding headStep withStep mentioned
+    step-held =
+        rw counted
+        record {
+          made = made;
+          writing = writing-after;
+          makes = λ f. was .makes f ∙ ap madeBy (sym (paths-made names front f));
+          low = low-after;
+          more = grown-after .0;
+          grown = grown-after .1;
+          bindings = was .bindings;
+          listed = omega (arith, length-append (h .lists) (listed ∷ []), length-append (h .reading .steps) (withListed (listed .files) step ∷ []), was .listed);
+          room = omega (arith, left-room w, left-after, paths-are, mentions-grown, defaults-same);
+          outputs = was .outputs;
         }

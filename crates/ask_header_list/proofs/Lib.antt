@@ -4,3 +4,5 @@ pub mod Finding
 pub mod Telling
 pub mod Placing
 pub mod Heading
+pub mod Adding
+pub mod Chain

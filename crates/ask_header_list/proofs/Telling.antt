@@ -27,7 +27,7 @@ use Rattle.ask_header_list.specs.declared.DepfileTold.the-variants.{Told
 use Rattle.ask_header_list.specs.Finds.{textIn, ListsFrom, DepfileFor, PlacedIn, ToldAsks, ToldFor, unnamed, absent, lists, passed, bad, TellsDepfile}
 
 -- the mentions are as many as the names
-paths-more : {bs : Buffers} {c : Counts} {h : LineHeld} {bs′ : Buffers} {d : Counts} (ns : List (List ℕ)) → Writing bs c h → Writing bs′ d (withPaths ns h) → d .paths ≡ c .paths + length ns
+pub paths-more : {bs : Buffers} {c : Counts} {h : LineHeld} {bs′ : Buffers} {d : Counts} (ns : List (List ℕ)) → Writing bs c h → Writing bs′ d (withPaths ns h) → d .paths ≡ c .paths + length ns
 paths-more {h = h} ns w x =
     omega
     (arith, w .paths-counted, x .paths-counted, ap length (paths-mentions ns h), length-append (h .mentions) (numbersOf (mention (h .reading .files) ns) ns), length-numbers (mention (h .reading .files) ns) ns)
