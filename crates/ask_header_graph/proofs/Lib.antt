@@ -1,1 +1,3 @@
 pub mod Ready
+pub mod Splitting
+pub mod Tails

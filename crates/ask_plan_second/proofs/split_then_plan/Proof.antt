@@ -1,5 +1,4 @@
 -- `ask_plan_second::split_then_plan` meets its contract.
-use mathlib.Core.Path.{_∙_}
 use Rattle.hold_parts.proofs.Parts.{parted}
 use Rattle.ask_plan_second.proofs.Planned.{second-parted, ask-split, ask-headed, planned}
 use Rattle.ask_plan_second.proofs.split_then_plan.Statement.{statement}
@@ -27,7 +26,7 @@ made-part-requires : tie.Need-made-part-requires
 made-part-requires c κs = second-parted (c .before .before .before .before .before .before .before .before .before .before .before .before .before .before .before .before .before .before .before .before .before .pre .asked .headed)
 
 plan-headed-requires : tie.Need-plan-headed-requires
-plan-headed-requires c κs = ask-headed (record { wmentions-cut = c .before .before .before .before .before .before .before .before .mentions-part .ensures; wends-cut = c .before .before .before .before .before .before .before .ends-part .ensures; mentions-cut = c .before .before .before .before .before .before .mentions-part2 .ensures; ends-cut = c .before .before .before .before .before .ends-part2 .ensures; phony-cut = c .before .before .before .before .phony-part .ensures; made-cut = c .before .before .before .made-part .ensures }) (c .before .before .before .before .before .before .before .before .before .before .before .before .before .split-lists .ensures) (c .before .before .before .before .before .before .before .before .before .before .before .before .before .before .before .before .before .before .before .before .before .before .before .before .before .pre .asked) (c .before .before .before .before .before .before .before .before .before .before .before .before .before .split-lists .kept .1 .1 .0 ∙ c .before .before .before .before .before .before .before .before .before .before .before .before .before .before .before .before .before .before .before .before .before .before .before .before .before .pre .missing-long) (c .before .before .before .before .before .before .before .before .before .before .before .before .before .split-lists .kept .1 .1 .1 .0 ∙ c .before .before .before .before .before .before .before .before .before .before .before .before .before .before .before .before .before .before .before .before .before .before .before .before .before .pre .listed-long)
+plan-headed-requires c κs = ask-headed (record { wmentions-cut = c .before .before .before .before .before .before .before .before .mentions-part .ensures; wends-cut = c .before .before .before .before .before .before .before .ends-part .ensures; mentions-cut = c .before .before .before .before .before .before .mentions-part2 .ensures; ends-cut = c .before .before .before .before .before .ends-part2 .ensures; phony-cut = c .before .before .before .before .phony-part .ensures; made-cut = c .before .before .before .made-part .ensures }) (c .before .before .before .before .before .before .before .before .before .before .before .before .before .split-lists .ensures) (c .before .before .before .before .before .before .before .before .before .before .before .before .before .before .before .before .before .before .before .before .before .before .before .before .before .pre .asked)
 
 same-length : tie.Need-same-length
 same-length c = c .before .before .before .before .before .before .before .before .before .before .before .before .before .before .before .before .split-lists .kept .1 .1 .0
