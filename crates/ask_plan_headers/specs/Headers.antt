@@ -5,7 +5,7 @@ use mathlib.Core.List.{List}
 use mathlib.Core.Path.{_≡_}
 use lib.ListN.{length, getD}
 use Rattle.spec.specs.declared.PlanAnswer.{PlanAnswer}
-use Rattle.spec.specs.Limits.{leastList, maxWritten}
+use Rattle.spec.specs.Limits.{leastList, maxWritten, maxHeaders}
 use Rattle.spec.specs.Reading.{Reading}
 use Rattle.spec.specs.Manifest.{readManifest, accepted}
 use Rattle.spec.specs.Card.{soundCard}
@@ -18,6 +18,11 @@ use Rattle.hold_bindings.specs.Log.{Logged}
 use Rattle.hold_reading.specs.declared.Counts.{Counts}
 use Rattle.hold_reading.specs.Held.{HoldsReading}
 use Rattle.hold_reading.specs.Buffers.{Buffers}
+
+-- a sound bundle of header lists, and room for the numbers of all that there may be
+pub record ListsAsked (headers order : List ℕ) : Type 0 where
+  pub sound : soundHeaders headers ≡ true
+  pub room : maxHeaders ≤ length order
 
 -- past 13: some manifest's reading is held, the lent bundle of header lists and the card are sound
 pub record HeadersPlanAsked (t headers card : List ℕ) (bs : Buffers) (c : Counts) (roots list : List ℕ) : Type 0 where
