@@ -1,16 +1,13 @@
 -- The blocks of sorted names: with the same numbers, with a name more, and with one block parted.
-use Prim.Native.Nat.{ℕ, zero, suc, _+_, _*_, _-_, _/_, _≤_, _<_}
-use mathlib.Core.Bool.{true}
+use Prim.Native.Nat.{ℕ, zero, suc, _+_, _*_, _-_, _≤_, _<_}
 use mathlib.Core.List.{List, [], _∷_, _++_}
 use mathlib.Core.Logic.{_⊎_, inl, inr, ⊎-elim}
-use mathlib.Core.Path.{_≡_, refl, sym, _∙_, ap}
+use mathlib.Core.Path.{_≡_, refl, _∙_}
 use native.Mathlib.Decide.{decLt}
-use native.Mathlib.Nat.{not-suc-le-zero}
 use native.Mathlib.Omega.{arith}
 use lib.ListN.{length, getD, length-append}
-use Rattle.lists.specs.Bytes.{lessBytes}
 use Rattle.spec.specs.Limits.{maxFiles}
-use Rattle.hold_names.specs.Table.{lastAt, blocksFrom, maxBlocks, maxNumbers, lastBlock, entry, sizeOf, Stands, heldTo, Shape, nameAt, Sorted, StandsIn, Fits, PutIn, Parted, Spared}
+use Rattle.hold_names.specs.Table.{lastAt, blocksFrom, maxBlocks, maxNumbers, lastBlock, entry, sizeOf, StandsAt, heldTo, Shape, nameAt, Sorted, StandsIn, Fits, PutIn, Parted, Spared}
 use Rattle.hold_names.proofs.Buckets.{name-old, name-new}
 
 -- ---- the same numbers
@@ -25,7 +22,7 @@ module _ {index index′ : List ℕ} (g : Agrees index index′) where
   pub entry-kept : (j i : ℕ) → entry index′ j i ≡ entry index j i
   entry-kept j i = g .same (blocksFrom + j * 128 + i) (omega arith)
 
-  back-kept : (j i : ℕ) → Stands index′ j i → Stands index j i
+  back-kept : (j i : ℕ) → StandsAt index′ j i → StandsAt index j i
   back-kept j i s = (omega (arith, last-kept, s .0), omega (arith, entry-kept j 127, s .1))
 
   held-kept : (j : ℕ) → heldTo index′ j ≡ heldTo index j
@@ -86,7 +83,7 @@ way-rises a b s c d t e f g h n p m q v w l =
 record Came (index index′ : List ℕ) (a b s c d t k l : ℕ) : Type 0 where
   block : ℕ
   place : ℕ
-  stands : Stands index block place
+  stands : StandsAt index block place
   same : entry index′ k l ≡ entry index block place
   way : Way a b s c d t (k * 128 + l) (block * 128 + place)
 
@@ -107,7 +104,7 @@ module _ {index : List ℕ} {n j i : ℕ} {index′ : List ℕ} (x : PutIn index
   abbrev New : ℕ → ℕ → Type 0
   New k l = (k * 128 + l ≡ j * 128 + i) × (entry index′ k l ≡ n)
 
-  was-other : (k l : ℕ) → (k ≡ j → ⊥) → Stands index′ k l → Was k l
+  was-other : (k l : ℕ) → (k ≡ j → ⊥) → StandsAt index′ k l → Was k l
   was-other k l h s =
       let small : l < sizeOf index k = omega (arith, s .1, size-other k h) in
       let low : k ≤ lastBlock index = omega (arith, s .0, put-last) in
@@ -142,7 +139,7 @@ module _ {index : List ℕ} {n j i : ℕ} {index′ : List ℕ} (x : PutIn index
         ]
       ]
 
-  was : (k l : ℕ) → Stands index′ k l → New k l ⊎ Was k l
+  was : (k l : ℕ) → StandsAt index′ k l → New k l ⊎ Was k l
   was k l s =
       elim (decLt k j) [
         | yes d ↦ inr (was-other k l (λ (q : k ≡ j). omega (arith, q)) s)
@@ -258,7 +255,7 @@ module _ {index : List ℕ} {j : ℕ} {index′ : List ℕ} (x : Parted index j 
   size-after : (k : ℕ) → j < k → k ≤ lastBlock index → sizeOf index′ (k + 1) ≡ sizeOf index k
   size-after k a c = x .after k 127 a c (omega arith)
 
-  stood-before : (k l : ℕ) → k < j → Stands index′ k l → Stood k l
+  stood-before : (k l : ℕ) → k < j → StandsAt index′ k l → Stood k l
   stood-before k l a s =
       let y : l < sizeOf index k = omega (arith, s .1, size-before k a) in
       let f : sizeOf index k ≤ 126 = few k (omega arith) (λ (q : k ≡ j). omega (arith, q)) in
@@ -290,7 +287,7 @@ module _ {index : List ℕ} {j : ℕ} {index′ : List ℕ} (x : Parted index j 
       let f : sizeOf index k ≤ 126 = few k c (λ (q : k ≡ j). omega (arith, q)) in
       record { block = k; place = l; stands = (c, y); same = x .after k l a c (omega arith); way = inr (inr (omega arith, omega arith)) }
 
-  stood : (k l : ℕ) → Stands index′ k l → Stood k l
+  stood : (k l : ℕ) → StandsAt index′ k l → Stood k l
   stood k l s =
       elim (decLt k j) [
         | yes d ↦ stood-before k l d s

@@ -15,7 +15,7 @@ use Rattle.lists.specs.declared.Order.{Order}
 use Rattle.lists.specs.declared.Order.the-variants.{Less, Equal, Greater}
 use Rattle.hold_names.specs.declared.Compared.{Compared}
 use Rattle.hold_names.specs.declared.Compared.the-variants.{Before, Same, Behind}
-use Rattle.hold_names.specs.Table.{nameAt, picked, Between, comparedOf, onOrder, halvings, HoldsNames, SoundNames, NamesFile, ComparesName, Picks, Halves}
+use Rattle.hold_names.specs.Table.{nameAt, picked, Between, comparedOf, onOrder, halvings, HoldsNames, SoundNames, NamesFile, ComparesName, PicksNames, Halves}
 use Rattle.hold_names.proofs.Lies.{holds-one}
 
 -- Two answers that differ are never equal.
@@ -139,7 +139,7 @@ seven files pick path more b many h m =
 pub record Halving (names index : List ℕ) (count from by many : ℕ) (path : List ℕ) (n made low high : ℕ) : Type 0 where
   pub files : List (List ℕ)
   pub holds : HoldsNames names index count files
-  pub picks : Picks names index count from by many
+  pub picks : PicksNames names index count from by many
   pub ordered : low ≤ high
   pub within : high ≤ many
   pub between : Between files (picked index from by) many path low high
@@ -147,7 +147,7 @@ pub record Halving (names index : List ℕ) (count from by many : ℕ) (path : L
   pub enough : high - low ≤ fuel
   pub counted : (more : ℕ → ℕ) → made + halvings fuel files (picked index from by) path more low high ≡ n + halvings many files (picked index from by) path more 0 many
 
-pub half-begin : {names index : List ℕ} {count from by many : ℕ} {path : List ℕ} {n : ℕ} → SoundNames names index count → Picks names index count from by many
+pub half-begin : {names index : List ℕ} {count from by many : ℕ} {path : List ℕ} {n : ℕ} → SoundNames names index count → PicksNames names index count from by many
     → Halving names index count from by many path n n 0 many
 half-begin {many = many} s p =
     record {

@@ -1,12 +1,12 @@
 -- Numbers moved up: a loop that moves them one by one, room made in a block, and a block parted.
 use Prim.Native.Nat.{ℕ, _+_, _*_, _-_, _≤_, _<_}
 use mathlib.Core.List.{List}
-use mathlib.Core.Path.{_≡_, refl, sym, _∙_, ap}
+use mathlib.Core.Path.{_≡_, refl, _∙_, ap}
 use native.Mathlib.Decide.{decLt}
 use native.Mathlib.Omega.{arith}
 use lib.ListN.{length, getD, set, length-set}
 use lib.Seq.{getD-set-same, getD-set-other}
-use Rattle.hold_names.specs.Table.{lastAt, blocksFrom, maxBlocks, maxNumbers, lastBlock, entry, sizeOf, Lifted, PutIn, Parted}
+use Rattle.hold_names.specs.Table.{lastAt, blocksFrom, maxBlocks, maxNumbers, lastBlock, sizeOf, Lifted, PutIn, Parted}
 
 -- ---- the loop
 

@@ -17,7 +17,7 @@ use Rattle.spec.specs.Reading.{numberOf}
 use Rattle.hold_names.specs.declared.Halved.{Halved}
 use Rattle.hold_names.specs.declared.Matched.{Matched}
 use Rattle.hold_names.specs.declared.Sought.{Sought}
-use Rattle.hold_names.specs.Table.{headsFrom, maxNumbers, bucketOf, pairBase, pairAt, firstIn, secondIn, blocksFrom, lastBlock, entry, sizeOf, Stands, nameAt, StandsIn, Placed, HoldsNames, SoundNames, NamesFile, onOrder, halvings, picked, comparesIn, comparesSorted, comparesFrom, comparesOf, maxCompares, Between, Fits, MatchesName, Picks, Is, Halves, SeeksSorted, SeeksSecond, SeeksName}
+use Rattle.hold_names.specs.Table.{headsFrom, maxNumbers, bucketOf, pairBase, pairAt, firstIn, secondIn, blocksFrom, lastBlock, entry, sizeOf, StandsAt, nameAt, StandsIn, Placed, HoldsNames, SoundNames, NamesFile, onOrder, halvings, picked, comparesIn, comparesSorted, comparesFrom, comparesOf, maxCompares, Between, Fits, MatchesName, PicksNames, Is, Halves, SeeksSorted, SeeksSecond, SeeksName}
 use Rattle.spec.proofs.Numbers.{number-missing}
 use Rattle.hold_names.proofs.Buckets.{bucket-small, first-stands, among-nowhere}
 use Rattle.hold_names.proofs.Halving.{seven}
@@ -119,10 +119,10 @@ module _ (index : List ℕ) where
   entry-is j i = ap (λ (y : ℕ). getD index y 0) (omega arith)
 
 module _ {names index : List ℕ} {count : ℕ} (s : SoundNames names index count) where
-  lead-stands : {files : List (List ℕ)} → HoldsNames names index count files → (j : ℕ) → j < lastBlock index → Stands index (j + 1) 0
+  lead-stands : {files : List (List ℕ)} → HoldsNames names index count files → (j : ℕ) → j < lastBlock index → StandsAt index (j + 1) 0
   lead-stands h j a = (omega arith, omega (arith, h .search .shape .some (j + 1) (omega arith) (omega arith)))
 
-  pub leads-picks : {last : ℕ} → last ≡ lastBlock index → Picks names index count (blocksFrom + 128) 128 last
+  pub leads-picks : {last : ℕ} → last ≡ lastBlock index → PicksNames names index count (blocksFrom + 128) 128 last
   leads-picks {last} e =
       let h = s .holds in
       record {
@@ -134,7 +134,7 @@ module _ {names index : List ℕ} {count : ℕ} (s : SoundNames names index coun
             (g .search .sorted .rising (i + 1) 0 (j + 1) 0 (lead-stands g i (omega (arith, e))) (lead-stands g j (omega (arith, e))) (omega arith));
       }
 
-  pub block-picks : {j n : ℕ} → j ≤ lastBlock index → n ≡ sizeOf index j → Picks names index count (blocksFrom + j * 128) 1 n
+  pub block-picks : {j n : ℕ} → j ≤ lastBlock index → n ≡ sizeOf index j → PicksNames names index count (blocksFrom + j * 128) 1 n
   block-picks {j} {n} l e =
       let h = s .holds in
       record {
@@ -162,7 +162,7 @@ module _ {names index : List ℕ} {count : ℕ} (s : SoundNames names index coun
     lead-above : (k : ℕ) → j < k → k ≤ lastBlock index → lessBytes path (name k 0) ≡ true
     lead-above k a c = let z : k - 1 + 1 ≡ k = omega arith in rw z at (rw (lead-is index (k - 1)) at (x .after (k - 1) (omega arith) (omega arith)))
 
-    first-stands-in : (k : ℕ) → 0 < k → k ≤ lastBlock index → Stands index k 0
+    first-stands-in : (k : ℕ) → 0 < k → k ≤ lastBlock index → StandsAt index k 0
     first-stands-in k a c = let z : k - 1 + 1 ≡ k = omega arith in rw z at (lead-stands h (k - 1) (omega arith))
 
     before-here : (l : ℕ) → l < i → lessBytes (name j l) path ≡ true

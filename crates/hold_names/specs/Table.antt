@@ -91,8 +91,8 @@ abbrev pub sizeOf : List ℕ → ℕ → ℕ
 sizeOf index j = entry index j 127
 
 -- a name stands in block j at place i
-abbrev pub Stands : List ℕ → ℕ → ℕ → Type 0
-Stands index j i = (j ≤ lastBlock index) × (i < sizeOf index j)
+abbrev pub StandsAt : List ℕ → ℕ → ℕ → Type 0
+StandsAt index j i = (j ≤ lastBlock index) × (i < sizeOf index j)
 
 -- the names in all blocks up to this one
 unfoldable pub heldTo : List ℕ → ℕ → ℕ
@@ -111,12 +111,12 @@ nameAt files k = getD files k []
 
 -- the names of all blocks, one block after another
 pub record Sorted (files : List (List ℕ)) (index : List ℕ) : Type 0 where
-  pub below : (j i : ℕ) → Stands index j i → entry index j i < length files
-  pub rising : (j i k l : ℕ) → Stands index j i → Stands index k l → j * 128 + i < k * 128 + l
+  pub below : (j i : ℕ) → StandsAt index j i → entry index j i < length files
+  pub rising : (j i k l : ℕ) → StandsAt index j i → StandsAt index k l → j * 128 + i < k * 128 + l
       → lessBytes (nameAt files (entry index j i)) (nameAt files (entry index k l)) ≡ true
 
 abbrev pub StandsIn : ℕ → List ℕ → Type 0
-StandsIn n index = (j : ℕ) × (i : ℕ) × Stands index j i × (entry index j i ≡ n)
+StandsIn n index = (j : ℕ) × (i : ℕ) × StandsAt index j i × (entry index j i ≡ n)
 
 -- name k is one of the two of bucket b, or that one is full and k is sorted among the others
 abbrev pub Placed : List ℕ → ℕ → ℕ → Type 0
@@ -253,8 +253,8 @@ pub record Between (files : List (List ℕ)) (pick : ℕ → ℕ) (many : ℕ) (
 
 -- the same of all blocks: a new path belongs to block j, at place i
 pub record Fits (files : List (List ℕ)) (index path : List ℕ) (j i : ℕ) : Type 0 where
-  pub before : (k l : ℕ) → Stands index k l → k * 128 + l < j * 128 + i → lessBytes (nameAt files (entry index k l)) path ≡ true
-  pub after : (k l : ℕ) → Stands index k l → j * 128 + i ≤ k * 128 + l → lessBytes path (nameAt files (entry index k l)) ≡ true
+  pub before : (k l : ℕ) → StandsAt index k l → k * 128 + l < j * 128 + i → lessBytes (nameAt files (entry index k l)) path ≡ true
+  pub after : (k l : ℕ) → StandsAt index k l → j * 128 + i ≤ k * 128 + l → lessBytes path (nameAt files (entry index k l)) ≡ true
 
 -- one compare of the path with name k, after n others
 pub record ComparesName (names index : List ℕ) (count k : ℕ) (path : List ℕ) (n : ℕ) (r : Compared) : Type 0 where
@@ -266,7 +266,7 @@ pub record MatchesName (names index : List ℕ) (count k : ℕ) (path : List ℕ
   pub answer : (files : List (List ℕ)) → HoldsNames names index count files → r .same ≡ eqBytes path (nameAt files k)
 
 -- What halving looks at: numbers of names, sorted.
-pub record Picks (names index : List ℕ) (count from by many : ℕ) : Type 0 where
+pub record PicksNames (names index : List ℕ) (count from by many : ℕ) : Type 0 where
   pub few : many ≤ 127
   pub inside : (i : ℕ) → i < many → from + i * by < length index
   pub below : (i : ℕ) → i < many → picked index from by i < count

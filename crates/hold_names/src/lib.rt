@@ -5,7 +5,7 @@ ghost use Prim.Native.Nat.{_+_, _-_, _^_, _≤_, _<_};
 ghost use lib.ListN.{length, drop};
 ghost use Rattle.lists.specs.Fill.{zeroed};
 ghost use Rattle.spec.specs.Limits.{maxFiles};
-ghost use Rattle.hold_names.specs.Table.{buckets, bucketFrom, Summed, bucketOf, headsFrom, maxNumbers, maxBlocks, lastBlock, sizeOf, Shape, SoundNames, FindsName, AddsName, NamesFile, nameStart, comparedOf, ComparesName, MatchesName, Picks, Halves, SeeksSorted, SeeksSecond, SeeksName, Lifted, PutIn, Parted, Spared, Entered};
+ghost use Rattle.hold_names.specs.Table.{buckets, bucketFrom, Summed, bucketOf, headsFrom, maxNumbers, maxBlocks, lastBlock, sizeOf, Shape, SoundNames, FindsName, AddsName, NamesFile, nameStart, comparedOf, ComparesName, MatchesName, PicksNames, Halves, SeeksSorted, SeeksSecond, SeeksName, Lifted, PutIn, Parted, Spared, Entered};
 use arena::put;
 use byteorder::compare;
 use byteorder::equal;
@@ -212,7 +212,7 @@ fn halve(
     n: usize,
 ) -> Halved
     requires { ⌜ SoundNames (now names) (now index) count ⌝ }
-    requires { ⌜ Picks (now names) (now index) count from by many ⌝ }
+    requires { ⌜ PicksNames (now names) (now index) count from by many ⌝ }
     requires { ⌜ n ≤ 9 ⌝ }
     ensures { λ r. ⌜ Halves (now (names .entry)) (now (index .entry)) count from by many (now (path .entry)) n r ⌝ }
 {
