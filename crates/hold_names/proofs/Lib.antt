@@ -1,4 +1,6 @@
 pub mod Buckets
+pub mod Blocks
+pub mod Lifting
 pub mod Entering
 pub mod Lies
 pub mod Halving
