@@ -14,7 +14,7 @@ use Rattle.hold_columns.proofs.Held.{held-steps, held-sound}
 use Rattle.hold_reading.specs.declared.Counts.{Counts}
 use Rattle.hold_reading.specs.Held.{ruleStart}
 use Rattle.hold_headers.specs.Headed.{listedNumber, listedIn}
-use Rattle.ask_judged_times.specs.Lists.{listedIn as listedPart}
+use Rattle.ask_judged_times.specs.Lists.{listedPart}
 use Rattle.ask_headed_times.specs.Times.{HoldsHeaded}
 use Rattle.ask_header_graph.specs.Graph.{mentionsIn, endsIn, phonyIn, madeIn, ListedLast, HeadedGraph}
 use Rattle.ask_header_graph.specs.Split.{SplitAsked, SplitsLists}

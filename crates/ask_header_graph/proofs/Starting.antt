@@ -33,7 +33,7 @@ use Rattle.hold_headers.specs.declared.AddedHeaders.the-variants.{Headed, Refus
 use Rattle.hold_headers.specs.Headed.{listedNumber, phonyBits, headLine, HoldsHeaders, AgreesHeaders, heads as headsTold, refuses}
 use Rattle.ask_header_graph.specs.Graph.{mentionsIn, endsIn, phonyIn, madeIn, toldIn, ListedLast, HeadedGraph, HeadStepsAsked, AgreesSteps, all-headed, one-refused, HeadsSteps}
 use Rattle.ask_header_graph.specs.Begins.{BeginAsked, Begins}
-use Rattle.ask_header_graph.specs.Turns.{noPaths, noSteps, StartHeld, WalkAsked, Walks}
+use Rattle.ask_header_graph.specs.Turns.{noPaths, noSteps, StartHeld, WalkAsked, HeadsAll}
 use Rattle.ask_header_graph.proofs.Tails.{listed-last}
 
 -- ---- before the first step
@@ -251,7 +251,7 @@ agrees-steps : (headers : List ℕ) {log : List Logged} {bs : Buffers} {c : Coun
 agrees-steps headers w x e (headsTold k) = all-headed (headed-graph headers w e k)
 agrees-steps headers w x e refuses = one-refused
 
-pub all-heads : {headers : List ℕ} {bs : Buffers} {c : Counts} {second₁ ns index second : List ℕ} {r : AddedHeaders} → Begins (bs .graph) c second₁ → Walks headers bs c second₁ ns index second r
+pub all-heads : {headers : List ℕ} {bs : Buffers} {c : Counts} {second₁ ns index second : List ℕ} {r : AddedHeaders} → Begins (bs .graph) c second₁ → HeadsAll headers bs c second₁ ns index second r
     → HeadsSteps headers bs c ns index second r
 all-heads {headers} b x =
     record {

@@ -20,7 +20,7 @@ use Rattle.hold_reading.specs.Buffers.{Buffers, buffers, withFiles}
 use Rattle.hold_headers.specs.declared.AddedHeaders.{AddedHeaders}
 use Rattle.hold_headers.specs.declared.AddedHeaders.the-variants.{Headed, Refused}
 use Rattle.hold_headers.specs.Headed.{HoldsHeaders, AgreesHeaders, heads, refuses}
-use Rattle.ask_header_graph.specs.Turns.{ListsReady, TurnHeld, TurnAsked, Turns, noPaths, noSteps, StartHeld, WalkAsked, Walks}
+use Rattle.ask_header_graph.specs.Turns.{ListsReady, TurnHeld, TurnAsked, Turns, noPaths, noSteps, StartHeld, WalkAsked, HeadsAll}
 
 -- ---- a step more
 
@@ -153,7 +153,7 @@ module _ {t headers : List ℕ} {count : ℕ} {order : List ℕ} {bs : Buffers} 
                 (subst (λ (y : AddedHeaders). AgreesHeaders log (buffers names₂ index₂ (bs .texts) (bs .bind) second₂) rd (added g) y) q (t₁ .agrees log rd (g .graph) (g .held)));
           }
 
-      pub walk-refused : {y : Refusal} → r ≡ Refused y → Walks headers bs c second names₂ index₂ second₂ (Refused y)
+      pub walk-refused : {y : Refusal} → r ≡ Refused y → HeadsAll headers bs c second names₂ index₂ second₂ (Refused y)
       walk-refused {y} q =
           record {
             agrees = λ log rd w.
@@ -164,7 +164,7 @@ module _ {t headers : List ℕ} {count : ℕ} {order : List ℕ} {bs : Buffers} 
                 subst (λ (z : Heading). AgreesHeaders log (withFiles bs names₂ index₂ second₂) rd z (Refused y)) (sym e) refuses;
           }
 
-    pub walk-end : c .steps ≤ s → Walks headers bs c second names₁ index₁ second₁ (Headed d)
+    pub walk-end : c .steps ≤ s → HeadsAll headers bs c second names₁ index₁ second₁ (Headed d)
     walk-end b =
         record {
           agrees = λ log rd w.

@@ -80,5 +80,5 @@ pub record WalkAsked (t headers : List ℕ) (count : ℕ) (order : List ℕ) (bs
   pub sound : SoundRules reading
   pub held : StartHeld log bs c second reading
 
-pub record Walks (headers : List ℕ) (bs : Buffers) (c : Counts) (second names index second′ : List ℕ) (r : AddedHeaders) : Type 0 where
+pub record HeadsAll (headers : List ℕ) (bs : Buffers) (c : Counts) (second names index second′ : List ℕ) (r : AddedHeaders) : Type 0 where
   pub agrees : (log : List Logged) (rd : Reading) → StartHeld log bs c second rd → AgreesHeaders log (withFiles bs names index second′) rd (withHeaders headers rd) r

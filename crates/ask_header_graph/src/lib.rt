@@ -6,7 +6,7 @@ ghost use Rattle.hold_reading.specs.Buffers.{buffers};
 ghost use Rattle.ask_header_graph.specs.Graph.{HeadStepsAsked, HeadsSteps};
 ghost use Rattle.ask_header_graph.specs.Split.{SplitAsked, SplitsLists};
 ghost use Rattle.ask_header_graph.specs.Begins.{Fills, BeginAsked, Begins};
-ghost use Rattle.ask_header_graph.specs.Turns.{TurnAsked, Turns, WalkAsked, Walks};
+ghost use Rattle.ask_header_graph.specs.Turns.{TurnAsked, Turns, WalkAsked, HeadsAll};
 use arena::put;
 use ask_depfile_names::StepDepfile;
 use ask_depfile_names::depfile_name;
@@ -126,7 +126,7 @@ fn walk_steps(
     word: &mut [u8],
 ) -> AddedHeaders
     requires { ⌜ WalkAsked (now t) (now headers) count (now order) (buffers (now names) (now index) (now texts) (now bind) (now graph)) c (now second) (now name) (now word) ⌝ }
-    ensures { λ r. ⌜ Leaves ((Spare (now (names .entry)) (now (names .exit))) × (Spare (now (index .entry)) (now (index .exit))) × (Spare (now (second .entry)) (now (second .exit))) × (Spare (now (name .entry)) (now (name .exit))) × (Spare (now (word .entry)) (now (word .exit)))) (Walks (now (headers .entry)) (buffers (now (names .entry)) (now (index .entry)) (now (texts .entry)) (now (bind .entry)) (now (graph .entry))) c (now (second .entry)) (now (names .exit)) (now (index .exit)) (now (second .exit)) r) ⌝ }
+    ensures { λ r. ⌜ Leaves ((Spare (now (names .entry)) (now (names .exit))) × (Spare (now (index .entry)) (now (index .exit))) × (Spare (now (second .entry)) (now (second .exit))) × (Spare (now (name .entry)) (now (name .exit))) × (Spare (now (word .entry)) (now (word .exit)))) (HeadsAll (now (headers .entry)) (buffers (now (names .entry)) (now (index .entry)) (now (texts .entry)) (now (bind .entry)) (now (graph .entry))) c (now (second .entry)) (now (names .exit)) (now (index .exit)) (now (second .exit)) r) ⌝ }
 {
     let mut s = 0;
     let mut d = Counts { paths: 0, ..c };

@@ -30,7 +30,7 @@ use Rattle.ask_header_list.specs.declared.DepfileTold.{DepfileTold}
 use Rattle.ask_header_list.specs.declared.DepfileTold.the-variants.{Told, Refused as RefusedList}
 use Rattle.ask_header_list.specs.Places.{placesIn, PlacesAsk}
 use Rattle.ask_header_list.specs.Copies.{CopyAsks, Copies, CloseAsks, Closes}
-use Rattle.ask_header_list.specs.Finds.{DepfileFor, FindAsks, FindsDepfile, PlacedIn, ToldAsks, ToldFor, unnamed, absent, lists, TellsDepfile}
+use Rattle.ask_header_list.specs.Finds.{DepfileFor, FindAsks, FindsDepfile, StepPlaced, ToldAsks, ToldFor, unnamed, absent, lists, MentionsListed}
 use Rattle.ask_header_list.specs.Adds.{StepHeld, AddHeadersAsks, AddsHeaders}
 use Rattle.ask_header_list.proofs.Placing.{places-ask}
 use Rattle.ask_header_list.proofs.Telling.{paths-more}
@@ -38,8 +38,8 @@ use Rattle.ask_header_list.proofs.Heading.{line-copied, left-room, stan
 use Rattle.ask_header_list.proofs.Adding.{step, front, told-agrees, refused-agrees}
 
 -- where a depfile's names were found, they stand in the bundle
-placed-for : (headers : List ℕ) (rd : Reading) (s : ℕ) (name : List ℕ) (r : DepfilePlace) → DepfileFor headers rd s name r → PlacedIn headers r
-unfolding DepfileFor PlacedIn
+placed-for : (headers : List ℕ) (rd : Reading) (s : ℕ) (name : List ℕ) (r : DepfilePlace) → DepfileFor headers rd s name r → StepPlaced headers r
+unfolding DepfileFor StepPlaced
 placed-for headers rd s name Unnamed f = tt
 placed-for headers rd s name Absent f = tt
 placed-for headers rd s name (Lists k from) f = (f .low, f .within)
@@ -145,7 +145,7 @@ module _ {log : List Logged} {graph ns index texts bind second : List ℕ} {s : 
                 asks = record { names-long = m; word-long = l; texts = texts; bind = bind; line = front w; writing = front-held };
               }
 
-          module _ {ns′ index′ second₂ : List ℕ} {r : DepfileTold} (t : TellsDepfile headers place ns index second₁ d ns′ index′ second₂ r) where
+          module _ {ns′ index′ second₂ : List ℕ} {r : DepfileTold} (t : MentionsListed headers place ns index second₁ d ns′ index′ second₂ r) where
             told : ToldFor s (buffers ns′ index′ texts bind second₂) (front w) (depfileNamed headers rd s name) r
             told = t .tells rd s name found-for texts bind (front w) front-held
 

@@ -23,7 +23,7 @@ use Rattle.scan_bundle.proofs.Lying.{length-names}
 use Rattle.scan_depfile.specs.Answers.{ListedFrom}
 use Rattle.ask_header_list.specs.declared.DepfilePlace.{DepfilePlace}
 use Rattle.ask_header_list.specs.declared.DepfilePlace.the-variants.{Unnamed, Absent, Lists, Malformed}
-use Rattle.ask_header_list.specs.Finds.{StartsAt, textIn, DepfileFor, FindAsks, FindsDepfile}
+use Rattle.ask_header_list.specs.Finds.{StartsAt, listTextIn, DepfileFor, FindAsks, FindsDepfile}
 
 empty-is : (n : List ℕ) → length n ≡ 0 → isEmpty n ≡ true
 empty-is [] h = refl
@@ -57,12 +57,12 @@ module _ (headers : List ℕ) (rd : Reading) (s : ℕ) (name : List ℕ) where
     for-absent a = rw (full-is name full, a)
 
     by-text : among name (bundleNames headers) ≡ true
-        → depfileNamed headers rd s name ≡ orElse (listedFor (firstOutput rd s) (depfileRule (textIn headers (numberOf name (bundleNames headers))))) depfileLists (λ _. badDepfile (BadHeaders s))
+        → depfileNamed headers rd s name ≡ orElse (listedFor (firstOutput rd s) (depfileRule (listTextIn headers (numberOf name (bundleNames headers))))) depfileLists (λ _. badDepfile (BadHeaders s))
     unfolding depfileNamed
     by-text a = rw (full-is name full, a)
 
     for-text : {k : ℕ} (r : DepfilePlace) → among name (bundleNames headers) ≡ true → k ≡ numberOf name (bundleNames headers) → {out : List ℕ} → firstOutput rd s ≡ out
-        → StartsAt (textIn headers k) out k r → DepfileFor headers rd s name r
+        → StartsAt (listTextIn headers k) out k r → DepfileFor headers rd s name r
     unfolding DepfileFor StartsAt
     for-text Unnamed a q o x = absurd x
     for-text Absent a q o x = absurd x
@@ -72,7 +72,7 @@ module _ (headers : List ℕ) (rd : Reading) (s : ℕ) (name : List ℕ) where
         let n = number-below name (bundleNames headers) a in
         record {
           low = omega (arith, n, length-names headers);
-          within = subst (λ (i : ℕ). from ≤ length (textIn headers i)) (sym z) (l .within);
+          within = subst (λ (i : ℕ). from ≤ length (listTextIn headers i)) (sym z) (l .within);
           found = by-text a ∙ rw (← q, o, l .names, z);
         }
     for-text {k} Malformed a q o x = by-text a ∙ rw (← q, o, x)
@@ -90,7 +90,7 @@ module _ {headers name names index : List ℕ} {files out : ℕ} where
     pub find-absent : r ≡ Missing → FindsDepfile headers name names index files out Absent
     find-absent e = record { finds = λ paths w rd s o. for-absent headers rd s name full (found-none name (bundleNames headers) x e) }
 
-    pub find-text : {k : ℕ} {text path : List ℕ} {p : DepfilePlace} → r ≡ At k → text ≡ textIn headers k → NamesFile names index files out path → StartsAt text path k p
+    pub find-text : {k : ℕ} {text path : List ℕ} {p : DepfilePlace} → r ≡ At k → text ≡ listTextIn headers k → NamesFile names index files out path → StartsAt text path k p
         → FindsDepfile headers name names index files out p
     find-text {k} {text} {path} {p} e t n l =
         let (a, q) = found-at name (bundleNames headers) x e in

@@ -24,7 +24,7 @@ use Rattle.ask_header_list.specs.declared.DepfilePlace.{DepfilePlace}
 use Rattle.ask_header_list.specs.declared.DepfilePlace.the-variants.{Unnamed, Absent, Lists, Malformed}
 use Rattle.ask_header_list.specs.declared.DepfileTold.{DepfileTold}
 use Rattle.ask_header_list.specs.declared.DepfileTold.the-variants.{Told, Refused}
-use Rattle.ask_header_list.specs.Finds.{textIn, ListsFrom, DepfileFor, PlacedIn, ToldAsks, ToldFor, unnamed, absent, lists, passed, bad, TellsDepfile}
+use Rattle.ask_header_list.specs.Finds.{listTextIn, ListsFrom, DepfileFor, StepPlaced, ToldAsks, ToldFor, unnamed, absent, lists, passed, bad, MentionsListed}
 
 -- the mentions are as many as the names
 pub paths-more : {bs : Buffers} {c : Counts} {h : LineHeld} {bs′ : Buffers} {d : Counts} (ns : List (List ℕ)) → Writing bs c h → Writing bs′ d (withPaths ns h) → d .paths ≡ c .paths + length ns
@@ -48,23 +48,23 @@ told-list s {h = h} w (names {ns = ns} (over f)) =
 told-list s w malformed = bad
 
 module _ {headers ns index second : List ℕ} {c : Counts} where
-  pub tells-unnamed : TellsDepfile headers Unnamed ns index second c ns index second (Told c 0)
+  pub tells-unnamed : MentionsListed headers Unnamed ns index second c ns index second (Told c 0)
   unfolding DepfileFor
   tells-unnamed =
       record { tells = λ rd s name f texts bind h w. subst (λ (d : FoundDepfile). ToldFor s (buffers ns index texts bind second) h d (Told c 0)) (sym f) (unnamed w) }
 
-  pub tells-absent : TellsDepfile headers Absent ns index second c ns index second (Told c 1)
+  pub tells-absent : MentionsListed headers Absent ns index second c ns index second (Told c 1)
   unfolding DepfileFor
   tells-absent =
       record { tells = λ rd s name f texts bind h w. subst (λ (d : FoundDepfile). ToldFor s (buffers ns index texts bind second) h d (Told c 1)) (sym f) (absent w) }
 
-  pub tells-malformed : TellsDepfile headers Malformed ns index second c ns index second Refused
+  pub tells-malformed : MentionsListed headers Malformed ns index second c ns index second Refused
   unfolding DepfileFor
   tells-malformed =
       record { tells = λ rd s name f texts bind h w. subst (λ (d : FoundDepfile). ToldFor s (buffers ns index texts bind second) h d Refused) (sym f) bad }
 
-  module _ {k from : ℕ} {text ns′ index′ second′ : List ℕ} (t : text ≡ textIn headers k) where
-    tells-list : {r : Mentioned} → AddsHeaderList text from ns index second c ns′ index′ second′ r → TellsDepfile headers (Lists k from) ns index second c ns′ index′ second′ (toldOf c r)
+  module _ {k from : ℕ} {text ns′ index′ second′ : List ℕ} (t : text ≡ listTextIn headers k) where
+    tells-list : {r : Mentioned} → AddsHeaderList text from ns index second c ns′ index′ second′ r → MentionsListed headers (Lists k from) ns index second c ns′ index′ second′ (toldOf c r)
     unfolding DepfileFor
     tells-list {r} m =
         record {
@@ -75,17 +75,17 @@ module _ {headers ns index second : List ℕ} {c : Counts} where
         }
 
     pub tells-on : {r : Mentioned} {d : Counts} → r ≡ On d → AddsHeaderList text from ns index second c ns′ index′ second′ r
-        → TellsDepfile headers (Lists k from) ns index second c ns′ index′ second′ (Told d (2 * (d .paths - c .paths)))
+        → MentionsListed headers (Lists k from) ns index second c ns′ index′ second′ (Told d (2 * (d .paths - c .paths)))
     tells-on e m = tells-list (rw e at m)
 
-    pub tells-over : {r : Mentioned} → r ≡ Over → AddsHeaderList text from ns index second c ns′ index′ second′ r → TellsDepfile headers (Lists k from) ns index second c ns′ index′ second′ Refused
+    pub tells-over : {r : Mentioned} → r ≡ Over → AddsHeaderList text from ns index second c ns′ index′ second′ r → MentionsListed headers (Lists k from) ns index second c ns′ index′ second′ Refused
     tells-over e m = tells-list (rw e at m)
 
 -- the place is known by an equation
 pub tells-as : {headers : List ℕ} {p q : DepfilePlace} {ns index second : List ℕ} {c : Counts} {ns′ index′ second′ : List ℕ} {r : DepfileTold} → p ≡ q
-    → TellsDepfile headers q ns index second c ns′ index′ second′ r → TellsDepfile headers p ns index second c ns′ index′ second′ r
+    → MentionsListed headers q ns index second c ns′ index′ second′ r → MentionsListed headers p ns index second c ns′ index′ second′ r
 tells-as {headers} {ns = ns} {index} {second} {c} {ns′} {index′} {second′} {r} e t =
-    subst (λ (x : DepfilePlace). TellsDepfile headers x ns index second c ns′ index′ second′ r) (sym e) t
+    subst (λ (x : DepfilePlace). MentionsListed headers x ns index second c ns′ index′ second′ r) (sym e) t
 
 told-count : {bs bs′ : Buffers} {h : LineHeld} {o : Option (List (List ℕ))} {c d : Counts} → Writing bs c h → AddedList bs′ h o (On d) → (c .paths ≤ d .paths) × (d .paths ≤ maxMentions)
 told-count w (names {ns = ns} (on x q)) = (omega (arith, paths-more ns w x), omega (arith, x .few-mentions, x .mentions-low))
@@ -93,15 +93,15 @@ told-count w (names {ns = ns} (on x q)) = (omega (arith, paths-more ns w x), ome
 -- what the list asks, and how many it mentions
 module _ {headers : List ℕ} {place : DepfilePlace} {ns index second word : List ℕ} {c : Counts} (a : ToldAsks headers place ns index second word c) where
   module _ {k from : ℕ} (e : place ≡ Lists k from) where
-    placed : PlacedIn headers (Lists k from)
-    placed = subst (λ (p : DepfilePlace). PlacedIn headers p) e (a .placed)
+    placed : StepPlaced headers (Lists k from)
+    placed = subst (λ (p : DepfilePlace). StepPlaced headers p) e (a .placed)
 
     pub told-low : k < numberAt 0 4 headers
-    unfolding PlacedIn
+    unfolding StepPlaced
     told-low = placed .0
 
-    pub told-asks : {text : List ℕ} → text ≡ textIn headers k → HeaderListAsks text from ns index second word c
-    unfolding PlacedIn
+    pub told-asks : {text : List ℕ} → text ≡ listTextIn headers k → HeaderListAsks text from ns index second word c
+    unfolding StepPlaced
     told-asks t = record { within = subst (λ (b : List ℕ). from ≤ length b) (sym t) (placed .1); asks = a .asks }
 
   pub told-more : {text : List ℕ} {from : ℕ} {ns′ index′ second′ : List ℕ} {r : Mentioned} {d : Counts} → r ≡ On d → AddsHeaderList text from ns index second c ns′ index′ second′ r

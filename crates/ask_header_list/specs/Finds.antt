@@ -32,14 +32,14 @@ StartsAt text out k Absent = ⊥
 StartsAt text out k (Lists j from) = (j ≡ k) × ListedFrom text out from
 StartsAt text out k Malformed = listedFor out (depfileRule text) ≡ none
 
-abbrev pub textIn : List ℕ → ℕ → List ℕ
-textIn headers k = getD (bundleTexts headers) k []
+abbrev pub listTextIn : List ℕ → ℕ → List ℕ
+listTextIn headers k = getD (bundleTexts headers) k []
 
 -- the names of text k start at `from`
 pub record ListsFrom (headers : List ℕ) (rd : Reading) (s : ℕ) (name : List ℕ) (k from : ℕ) : Type 0 where
   pub low : k < numberAt 0 4 headers
-  pub within : from ≤ length (textIn headers k)
-  pub found : depfileNamed headers rd s name ≡ orElse (listedAt (textIn headers k) from) depfileLists (λ _. badDepfile (BadHeaders s))
+  pub within : from ≤ length (listTextIn headers k)
+  pub found : depfileNamed headers rd s name ≡ orElse (listedAt (listTextIn headers k) from) depfileLists (λ _. badDepfile (BadHeaders s))
 
 -- what is found of the depfile, for step s of a reading
 unfoldable pub DepfileFor : List ℕ → Reading → ℕ → List ℕ → DepfilePlace → Type 0
@@ -61,15 +61,15 @@ pub record FindsDepfile (headers name names index : List ℕ) (files out : ℕ) 
 -- ------------------------------------------------------------------ its names mentioned
 
 -- a list that was found stands in the bundle
-unfoldable pub PlacedIn : List ℕ → DepfilePlace → Type 0
-PlacedIn headers Unnamed = Unit {0}
-PlacedIn headers Absent = Unit {0}
-PlacedIn headers (Lists k from) = (k < numberAt 0 4 headers) × (from ≤ length (textIn headers k))
-PlacedIn headers Malformed = Unit {0}
+unfoldable pub StepPlaced : List ℕ → DepfilePlace → Type 0
+StepPlaced headers Unnamed = Unit {0}
+StepPlaced headers Absent = Unit {0}
+StepPlaced headers (Lists k from) = (k < numberAt 0 4 headers) × (from ≤ length (listTextIn headers k))
+StepPlaced headers Malformed = Unit {0}
 
 pub record ToldAsks (headers : List ℕ) (place : DepfilePlace) (names index second word : List ℕ) (c : Counts) : Type 0 where
   pub laid : LaidBundle headers
-  pub placed : PlacedIn headers place
+  pub placed : StepPlaced headers place
   pub asks : HeaderAsks word names index second c
 
 -- The names are mentioned, or the step is refused; the number is that of what is told.
@@ -80,6 +80,6 @@ pub data ToldFor (s : ℕ) (bs : Buffers) (h : LineHeld) : FoundDepfile → Depf
   passed : {ns : List (List ℕ)} → overLine ns (h .reading) ≡ true → ToldFor s bs h (depfileLists ns) Refused
   bad : ToldFor s bs h (badDepfile (BadHeaders s)) Refused
 
-pub record TellsDepfile (headers : List ℕ) (place : DepfilePlace) (names index second : List ℕ) (c : Counts) (names′ index′ second′ : List ℕ) (r : DepfileTold) : Type 0 where
+pub record MentionsListed (headers : List ℕ) (place : DepfilePlace) (names index second : List ℕ) (c : Counts) (names′ index′ second′ : List ℕ) (r : DepfileTold) : Type 0 where
   pub tells : (rd : Reading) (s : ℕ) (name : List ℕ) → DepfileFor headers rd s name place → (texts bind : List ℕ) (h : LineHeld) → Writing (buffers names index texts bind second) c h
       → ToldFor s (buffers names′ index′ texts bind second′) h (depfileNamed headers rd s name) r

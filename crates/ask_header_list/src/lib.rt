@@ -4,7 +4,7 @@ ghost use mathlib.Core.Path.{_≡_};
 ghost use Rattle.lists.specs.Lent.{Spare, Leaves};
 ghost use Rattle.ask_header_list.specs.Places.{startIn, placesIn, PlacesAsk};
 ghost use Rattle.ask_header_list.specs.Copies.{CopyAsks, Copies, endedIn, EndAsks, CloseAsks, Closes};
-ghost use Rattle.ask_header_list.specs.Finds.{StartsAt, FindAsks, FindsDepfile, ToldAsks, TellsDepfile};
+ghost use Rattle.ask_header_list.specs.Finds.{StartsAt, FindAsks, FindsDepfile, ToldAsks, MentionsListed};
 ghost use Rattle.ask_header_list.specs.Adds.{AddHeadersAsks, AddsHeaders};
 use apply_files::Mentioned;
 use arena::put;
@@ -164,7 +164,7 @@ fn mention_listed(
     c: Counts,
 ) -> DepfileTold
     requires { ⌜ ToldAsks (now headers) place (now names) (now index) (now second) (now word) c ⌝ }
-    ensures { λ r. ⌜ Leaves ((Spare (now (names .entry)) (now (names .exit))) × (Spare (now (index .entry)) (now (index .exit))) × (Spare (now (second .entry)) (now (second .exit))) × (Spare (now (word .entry)) (now (word .exit)))) (TellsDepfile (now (headers .entry)) place (now (names .entry)) (now (index .entry)) (now (second .entry)) c (now (names .exit)) (now (index .exit)) (now (second .exit)) r) ⌝ }
+    ensures { λ r. ⌜ Leaves ((Spare (now (names .entry)) (now (names .exit))) × (Spare (now (index .entry)) (now (index .exit))) × (Spare (now (second .entry)) (now (second .exit))) × (Spare (now (word .entry)) (now (word .exit)))) (MentionsListed (now (headers .entry)) place (now (names .entry)) (now (index .entry)) (now (second .entry)) c (now (names .exit)) (now (index .exit)) (now (second .exit)) r) ⌝ }
 {
     match place {
         DepfilePlace::Unnamed => DepfileTold::Told(c, 0),

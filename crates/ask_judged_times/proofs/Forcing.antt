@@ -12,7 +12,7 @@ use Rattle.lists.specs.Members.{any}
 use Rattle.hold_columns.specs.Columns.{bit, implicitEnd, endAt, madeBy, makerIn}
 use Rattle.hold_columns.proofs.Held.{part-low}
 use Rattle.graph_stale.specs.Judge.{timeAt}
-use Rattle.ask_judged_times.specs.Lists.{listedIn, someAbsent, forcedIn, AbsentAsked, ListedAsked, JudgedAsked, MarksAsked, ForcedMarked}
+use Rattle.ask_judged_times.specs.Lists.{listedPart, someAbsent, forcedIn, AbsentAsked, ListedAsked, JudgedAsked, MarksAsked, ForcedMarked}
 
 -- ---- the files of a list
 
@@ -41,7 +41,7 @@ module _ (mentions ends made missing listed times : List ℕ) (s : ℕ) {v : ℕ
   unfolding forcedIn
   by-missing z = rw (← e, eq-eqb v 1 z)
 
-  pub by-listed : (v ≡ 1 → ⊥) → {fs : List ℕ} → fs ≡ listedIn mentions ends listed s → {r : Bool} → r ≡ someAbsent made times fs → r ≡ forcedIn mentions ends made missing listed times s
+  pub by-listed : (v ≡ 1 → ⊥) → {fs : List ℕ} → fs ≡ listedPart mentions ends listed s → {r : Bool} → r ≡ someAbsent made times fs → r ≡ forcedIn mentions ends made missing listed times s
   unfolding forcedIn
   by-listed d q p = p ∙ rw (← e, ne-eqb v 1 d, q)
 
@@ -49,8 +49,8 @@ module _ {mentions ends made missing listed times : List ℕ} (a : JudgedAsked m
   pub ask-listed : ListedAsked mentions ends listed s
   ask-listed = record { placed = a .sound .placed s b; step = omega (arith, a .listed-long, b); few = a .few s b }
 
-  pub ask-absent : {fs : List ℕ} → fs ≡ listedIn mentions ends listed s → AbsentAsked fs made times
-  unfolding listedIn
+  pub ask-absent : {fs : List ℕ} → fs ≡ listedPart mentions ends listed s → AbsentAsked fs made times
+  unfolding listedPart
   ask-absent q = record { low = rw q (part-low (a .sound .low) (endAt ends s implicitEnd - getD listed s 0) (endAt ends s implicitEnd)); timed = a .timed }
 
 -- ---- all steps: those below s are marked

@@ -16,13 +16,13 @@ use Rattle.hold_columns.specs.Columns.{bit, implicitEnd, endAt, makerIn, HoldsC
 use Rattle.graph_stale.specs.Judge.{timeAt}
 
 -- the files that a step's depfile lists
-unfoldable pub listedIn : List ℕ → List ℕ → List ℕ → ℕ → List ℕ
-listedIn mentions ends listed s = part mentions (endAt ends s implicitEnd - getD listed s 0) (endAt ends s implicitEnd)
+unfoldable pub listedPart : List ℕ → List ℕ → List ℕ → ℕ → List ℕ
+listedPart mentions ends listed s = part mentions (endAt ends s implicitEnd - getD listed s 0) (endAt ends s implicitEnd)
 
 -- the columns hold what the depfiles tell
 pub record HoldsLists (lists : List Listed) (mentions ends missing listed : List ℕ) : Type 0 where
   pub misses : missing ≡ map (λ (l : Listed). bit (l .missing)) lists
-  pub files : (s : ℕ) → s < length lists → listedIn mentions ends listed s ≡ listedOf lists s .files
+  pub files : (s : ℕ) → s < length lists → listedPart mentions ends listed s ≡ listedOf lists s .files
 
 -- ------------------------------------------------------------------ what is read from them
 
@@ -33,8 +33,8 @@ someAbsent made times fs = any (λ f. isEmpty (makerIn made f) && eqb (timeAt ti
 
 -- "A missing depfile makes its step stale; so does a missing listed file without a maker"
 unfoldable pub forcedIn : List ℕ → List ℕ → List ℕ → List ℕ → List ℕ → List ℕ → ℕ → Bool
-unfolding someAbsent listedIn
-forcedIn mentions ends made missing listed times s = eqb (getD missing s 0) 1 || someAbsent made times (listedIn mentions ends listed s)
+unfolding someAbsent listedPart
+forcedIn mentions ends made missing listed times s = eqb (getD missing s 0) 1 || someAbsent made times (listedPart mentions ends listed s)
 
 -- is the maker of this file marked
 unfoldable pub markedMaker : List ℕ → List ℕ → ℕ → Bool

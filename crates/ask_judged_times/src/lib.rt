@@ -3,7 +3,7 @@ ghost use mathlib.Core.Path.{_≡_};
 ghost use lib.ListN.{length};
 ghost use Prim.Native.Nat.{_<_};
 ghost use Rattle.lists.specs.Lent.{Spare, Leaves};
-ghost use Rattle.ask_judged_times.specs.Lists.{listedIn, someAbsent, forcedIn, markedMaker, AbsentAsked, ListedAsked, JudgedAsked, MarksAsked, MarkedAsked, ClearAsked, ForcedMarked, TimesCleared, TimesJudged};
+ghost use Rattle.ask_judged_times.specs.Lists.{listedPart, someAbsent, forcedIn, markedMaker, AbsentAsked, ListedAsked, JudgedAsked, MarksAsked, MarkedAsked, ClearAsked, ForcedMarked, TimesCleared, TimesJudged};
 use hold_columns::IMPLICIT_END;
 use hold_columns::end_at;
 use hold_columns::time;
@@ -38,7 +38,7 @@ fn listed_files<'a, 'b, 'c>(
     s: usize,
 ) -> &'a [u32]
     requires { ⌜ ListedAsked (now mentions) (now ends) (now listed) s ⌝ }
-    ensures { λ r. ⌜ now r ≡ listedIn (now (mentions .entry)) (now (ends .entry)) (now (listed .entry)) s ⌝ }
+    ensures { λ r. ⌜ now r ≡ listedPart (now (mentions .entry)) (now (ends .entry)) (now (listed .entry)) s ⌝ }
 {
     let to = end_at(ends, s, IMPLICIT_END);
     let from = to - at(listed, s);

@@ -32,7 +32,7 @@ use Rattle.hold_reading.specs.Buffers.{Buffers}
 use Rattle.apply_manifest.specs.Manifests.{Held}
 use Rattle.apply_manifest.proofs.Answers.{not-sound}
 use Rattle.ask_plan_reading.specs.Asked.{ReadAsked, PlansRead}
-use Rattle.ask_plan.specs.Lists.{ListsAsked}
+use Rattle.ask_plan.specs.Lists.{LentLists}
 
 module _ (manifest card targets headers list : List ℕ) where
   long : leastList ≤ length list → ltb (length list) leastList ≡ false
@@ -47,7 +47,7 @@ module _ (manifest card targets headers list : List ℕ) where
       let n = ne-eqb (numberOfRefusal r) 1 (λ (q : numberOfRefusal r ≡ 1). omega (arith, q, p)) in
       rw (long room, b, e, n) (record { says = refl; leaves = z ∙ cleared list })
 
-  module _ (a : ListsAsked headers list) where
+  module _ (a : LentLists headers list) where
     pub unread : {r : Refusal} {exit : List ℕ} → readManifest manifest ≡ refusedWith r → exit ≡ zeroed list 0 (length list)
         → PlanPromise (inputsOf manifest card targets headers) list (Refused r) exit
     unread e z = read-refuses (a .room) (no-bad-headers (inputsOf manifest card targets headers) (a .sound)) e z
@@ -72,7 +72,7 @@ module _ (manifest card targets headers list : List ℕ) where
     unfolding badHeaders
     bad-both s = read-refuses room (rw s) (not-sound manifest s) z
 
-pub askable : {manifest t headers : List ℕ} {bs : Buffers} {c : Counts} {list : List ℕ} → ListsAsked headers list → t ≡ classes → length (bs .names) ≡ maxWritten → Held manifest bs c
+pub askable : {manifest t headers : List ℕ} {bs : Buffers} {c : Counts} {list : List ℕ} → LentLists headers list → t ≡ classes → length (bs .names) ≡ maxWritten → Held manifest bs c
     → ReadAsked t headers bs c list
 askable {manifest} a e n h =
     record {

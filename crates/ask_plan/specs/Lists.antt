@@ -8,6 +8,6 @@ use Rattle.spec.specs.Limits.{leastList}
 use Rattle.spec.specs.Headers.{soundHeaders}
 
 -- past 20 at 0; the list has the room that 1 asks for
-pub record ListsAsked (headers list : List ℕ) : Type 0 where
+pub record LentLists (headers list : List ℕ) : Type 0 where
   pub sound : soundHeaders headers ≡ true
   pub room : leastList ≤ length list

@@ -6,7 +6,7 @@ ghost use Rattle.spec.specs.Limits.{leastList};
 ghost use Rattle.spec.specs.Headers.{soundHeaders};
 ghost use Rattle.spec.specs.PlanAsk.{inputsOf};
 ghost use Rattle.spec.specs.Promises.{PlanPromise};
-ghost use Rattle.ask_plan.specs.Lists.{ListsAsked};
+ghost use Rattle.ask_plan.specs.Lists.{LentLists};
 use apply_manifest::ReadAnswer;
 use apply_manifest::read_manifest;
 use ask_plan_reading::plan_read;
@@ -44,7 +44,7 @@ fn plan_with_lists(
     targets: &[u8],
     list: &mut [u32],
 ) -> PlanAnswer
-    requires { ⌜ ListsAsked (now headers) (now list) ⌝ }
+    requires { ⌜ LentLists (now headers) (now list) ⌝ }
     ensures { λ r. ⌜ PlanPromise (inputsOf (now (manifest .entry)) (now (card .entry)) (now (targets .entry)) (now (headers .entry))) (now (list .entry)) r (now (list .exit)) ⌝ }
 {
     let t = table();

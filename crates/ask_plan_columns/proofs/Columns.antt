@@ -1,11 +1,10 @@
 -- The columns of the graph as parts of the arena, and what is planned from the roots that they give.
-use Prim.Native.Nat.{ℕ, _+_, _*_, _≤_, _<_}
-use mathlib.Core.List.{List, [], _∷_}
+use Prim.Native.Nat.{ℕ, _≤_, _<_}
+use mathlib.Core.List.{List}
 use mathlib.Core.Path.{_≡_, refl, sym, _∙_, ap, subst}
 use native.Mathlib.Omega.{arith}
 use lib.ListN.{length, take, getD}
 use Rattle.lists.specs.Fill.{zeros, zeroed}
-use Rattle.lists.specs.Parts.{part, part-from-start}
 use Rattle.spec.specs.declared.Refusal.the-variants.{NoRoot}
 use Rattle.spec.specs.declared.PlanAnswer.{PlanAnswer}
 use Rattle.spec.specs.declared.PlanAnswer.the-variants.{Refused}
@@ -15,21 +14,20 @@ use Rattle.spec.specs.Answers.{numberOfRefusal, planSays}
 use Rattle.spec.specs.PlanAsk.{Inputs, targetFiles, planRooted}
 use Rattle.spec.specs.Promises.{leftBy, PlanMeets}
 use Rattle.spec.proofs.Promises.{cleared}
-use Rattle.arena.specs.Columns.{Lies, startOf, column}
-use Rattle.arena.proofs.Laws.{Column, lies-column, lies-part}
 use Rattle.hold_bindings.specs.Log.{Logged}
-use Rattle.hold_columns.specs.Columns.{perStep, HoldsColumns}
+use Rattle.hold_columns.specs.Columns.{HoldsColumns}
 use Rattle.hold_columns.proofs.Blank.{take-blank}
-use Rattle.hold_columns.proofs.Places.{length-ends}
 use Rattle.hold_columns.proofs.Held.{held-steps, held-sound}
 use Rattle.hold_reading.specs.declared.Counts.{Counts}
-use Rattle.hold_reading.specs.Held.{capacities, endsStart, phonyStart, madeStart, defaultsStart, columnsEnd, HoldsReading}
+use Rattle.hold_reading.specs.Held.{columnsEnd, HoldsReading}
 use Rattle.hold_reading.specs.Buffers.{Buffers}
+use Rattle.hold_parts.specs.Parts.{mentionsIn, endsIn, phonyIn, madeIn, defaultsIn, Tabled}
+use Rattle.hold_parts.proofs.Parts.{tabled, parted, mentions-counted, defaults-are, tables, made-counted}
 use Rattle.ask_plan_roots.specs.declared.Roots.{Roots}
 use Rattle.ask_plan_roots.specs.declared.Roots.the-variants.{From, None}
 use Rattle.ask_plan_roots.specs.Roots.{Chosen, ChoiceAsked, RootsFrom, RootsNone, RootsFound}
 use Rattle.ask_plan_headers.specs.Headers.{HeadersPlanAsked, PlansHeaders}
-use Rattle.ask_plan_columns.specs.Columns.{Tabled, mentionsIn, endsIn, phonyIn, madeIn, defaultsIn, FoundIn, ChoiceAskedIn, MarksAsked, RootsSpaceAsked, PlansColumns}
+use Rattle.ask_plan_columns.specs.Columns.{FoundIn, ChoiceAskedIn, ChoiceSpace, RootsSpaceAsked, PlansColumns}
 
 module _ (graph : List ℕ) (c : Counts) where
   -- the columns are these parts
@@ -46,46 +44,23 @@ module _ (graph : List ℕ) (c : Counts) where
     pub defaults : defaultsIn graph c ≡ rd .defaults
     pub defaults-low : (i : ℕ) → i < length (rd .defaults) → getD (rd .defaults) i 0 < c .files
 
-module _ {graph : List ℕ} {c : Counts} {rd : Reading} (h : Tabled graph c rd) where
-  cols : List (List ℕ)
-  cols = h .graphed .mentions ∷ h .graphed .ends ∷ h .graphed .phony ∷ h .graphed .made ∷ h .graphed .ruleOf ∷ rd .defaults ∷ []
-
-  lies : Lies capacities graph cols
-  unfolding cols
-  lies = h .graphed .lies
-
-  at : (k : ℕ) → k < 6 → Column capacities graph cols k
-  unfolding cols
-  at k b = lies-column capacities graph cols k lies b
-
-  is : (k n s : ℕ) → k < 6 → startOf capacities k ≡ s → length (column cols k) ≡ n → part graph s (s + n) ≡ column cols k
-  unfolding cols
-  is k n s b p q = rw (sym p, sym q) (lies-part capacities graph cols k lies b)
-
-  pub spread : Spread graph c rd
-  unfolding cols
-  spread =
-      let g = h .graphed in
-      let t = g .tables in
-      let e : length (g .ends) ≡ perStep * c .steps = ap length (t .ended) ∙ length-ends 0 (rd .steps) ∙ ap (λ (n : ℕ). perStep * n) (sym (h .steps-counted)) in
-      let m : mentionsIn graph c ≡ g .mentions = let z : 0 + c .paths ≡ c .paths = omega arith in sym (part-from-start graph (c .paths)) ∙ (rw z at (is 0 (c .paths) 0 (omega arith) refl (sym (g .paths-counted)))) in
-      let d : endsIn graph c ≡ g .ends = is 1 (perStep * c .steps) endsStart (omega arith) refl e in
-      let p : phonyIn graph c ≡ g .phony = is 2 (c .steps) phonyStart (omega arith) refl (held-steps t ∙ sym (h .steps-counted)) in
-      let w : madeIn graph c ≡ g .made = is 3 (c .files) madeStart (omega arith) refl (t .counted ∙ sym (h .files-counted)) in
-      let v : defaultsIn graph c ≡ rd .defaults = is 5 (c .defaults) defaultsStart (omega arith) refl (sym (g .defaults-counted)) in
-      record {
-        long = at 5 (omega arith) .within;
-        few-paths = omega (arith, g .few-mentions, g .mentions-low);
-        few-steps = omega (arith, h .steps-counted, t .few-steps);
-        few-files = omega (arith, h .files-counted, t .few-files);
-        few-defaults = omega (arith, g .few-mentions, g .mentions-low);
-        mentioned = ap length m ∙ sym (g .paths-counted);
-        defaulted = ap length v ∙ sym (g .defaults-counted);
-        counted = ap length w ∙ t .counted ∙ sym (h .files-counted);
-        tables = rw (m, d, p, w) t;
-        defaults = v;
-        defaults-low = rw (h .files-counted) (g .defaults-low);
-      }
+pub spread : {graph : List ℕ} {c : Counts} {rd : Reading} → Tabled graph c rd → Spread graph c rd
+spread h =
+    let g = h .graphed in
+    let p = parted h in
+    record {
+      long = p .long;
+      few-paths = p .few-paths;
+      few-steps = p .few-steps;
+      few-files = p .few-files;
+      few-defaults = omega (arith, g .few-mentions, g .mentions-low);
+      mentioned = mentions-counted h;
+      defaulted = ap length (defaults-are h) ∙ sym (g .defaults-counted);
+      counted = made-counted h;
+      tables = tables h;
+      defaults = defaults-are h;
+      defaults-low = rw (h .files-counted) (g .defaults-low);
+    }
 
 -- ---- what is asked of the choice
 
@@ -94,10 +69,10 @@ module _ {graph : List ℕ} {c : Counts} {targets out : List ℕ} (a : ChoiceAsk
   few-files = spread (a .tabled) .few-files
 
   -- the marks are the first of those for all files that there may be
-  pub marked : MarksAsked graph c targets (take (c .files) (zeros maxFiles)) out
+  pub marked : ChoiceSpace graph c targets (take (c .files) (zeros maxFiles)) out
   marked = record { asked = a; blank = take-blank (c .files) maxFiles few-files }
 
-pub choosable : {graph : List ℕ} {c : Counts} {targets marks out : List ℕ} → MarksAsked graph c targets marks out
+pub choosable : {graph : List ℕ} {c : Counts} {targets marks out : List ℕ} → ChoiceSpace graph c targets marks out
     → ChoiceAsked (mentionsIn graph c) (endsIn graph c) (phonyIn graph c) (madeIn graph c) (defaultsIn graph c) targets marks out
 choosable {graph} {c} {targets} {marks} {out} m =
     let a = m .asked in
@@ -114,9 +89,6 @@ choosable {graph} {c} {targets} {marks} {out} m =
     }
 
 -- ---- 13, then the header lists
-
-pub tabled : {log : List Logged} {bs : Buffers} {c : Counts} {rd : Reading} → HoldsReading log bs c rd → Tabled (bs .graph) c rd
-tabled {log = log} h = record { log = log; graphed = h .graphed; files-counted = h .named .counted; steps-counted = h .bound .steps-counted }
 
 module _ {t headers card : List ℕ} {bs : Buffers} {c : Counts} {targets out list : List ℕ} (a : RootsSpaceAsked t headers card bs c targets out list) where
   pub choice : ChoiceAskedIn (bs .graph) c targets out

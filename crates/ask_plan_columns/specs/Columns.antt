@@ -1,10 +1,9 @@
 -- What the plan from the graph's columns asks and promises.
-use Prim.Native.Nat.{ℕ, _+_, _*_, _≤_, _<_}
+use Prim.Native.Nat.{ℕ, _≤_, _<_}
 use mathlib.Core.List.{List}
 use mathlib.Core.Path.{_≡_}
-use lib.ListN.{length, getD, take}
+use lib.ListN.{length, getD}
 use Rattle.lists.specs.Fill.{zeros}
-use Rattle.lists.specs.Parts.{part}
 use Rattle.spec.specs.declared.PlanAnswer.{PlanAnswer}
 use Rattle.spec.specs.Limits.{maxMentions}
 use Rattle.spec.specs.Reading.{Reading}
@@ -13,44 +12,19 @@ use Rattle.spec.specs.Answers.{planSays}
 use Rattle.spec.specs.PlanAsk.{Inputs, targetFiles, planRooted}
 use Rattle.spec.specs.Promises.{PlanMeets}
 use Rattle.hold_bindings.specs.Log.{Logged}
-use Rattle.hold_columns.specs.Columns.{perStep}
 use Rattle.hold_reading.specs.declared.Counts.{Counts}
-use Rattle.hold_reading.specs.Held.{Graphed, HoldsReading, endsStart, phonyStart, madeStart, defaultsStart}
+use Rattle.hold_reading.specs.Held.{HoldsReading}
 use Rattle.hold_reading.specs.Buffers.{Buffers}
+use Rattle.hold_parts.specs.Parts.{mentionsIn, endsIn, phonyIn, madeIn, defaultsIn, Tabled}
 use Rattle.ask_plan_roots.specs.declared.Roots.{Roots}
 use Rattle.ask_plan_roots.specs.Roots.{RootsFound}
 use Rattle.ask_plan_headers.specs.Headers.{HeadersPlanAsked}
 
--- the columns of the graph hold this reading's steps, files and defaults
-pub record Tabled (graph : List ℕ) (c : Counts) (rd : Reading) : Type 0 where
-  pub log : List Logged
-  pub graphed : Graphed log graph c rd
-  pub files-counted : c .files ≡ length (rd .files)
-  pub steps-counted : c .steps ≡ length (rd .steps)
-
--- ---- the columns as parts of the graph
-
-module _ (graph : List ℕ) (c : Counts) where
-  abbrev pub mentionsIn : List ℕ
-  mentionsIn = take (c .paths) graph
-
-  abbrev pub endsIn : List ℕ
-  endsIn = part graph endsStart (endsStart + perStep * c .steps)
-
-  abbrev pub phonyIn : List ℕ
-  phonyIn = part graph phonyStart (phonyStart + c .steps)
-
-  abbrev pub madeIn : List ℕ
-  madeIn = part graph madeStart (madeStart + c .files)
-
-  abbrev pub defaultsIn : List ℕ
-  defaultsIn = part graph defaultsStart (defaultsStart + c .defaults)
-
-  -- what is found of the roots by these columns
-  pub record FoundIn (targets out : List ℕ) (r : Roots) : Type 0 where
-    pub found : RootsFound mentionsIn endsIn phonyIn madeIn defaultsIn targets out r
-
 -- ---- the choice of the roots
+
+-- what is found of the roots by these columns
+pub record FoundIn (graph : List ℕ) (c : Counts) (targets out : List ℕ) (r : Roots) : Type 0 where
+  pub found : RootsFound (mentionsIn graph c) (endsIn graph c) (phonyIn graph c) (madeIn graph c) (defaultsIn graph c) targets out r
 
 -- the columns of some reading, targets that are files, and room for the roots
 pub record ChoiceAskedIn (graph : List ℕ) (c : Counts) (targets out : List ℕ) : Type 0 where
@@ -61,7 +35,7 @@ pub record ChoiceAskedIn (graph : List ℕ) (c : Counts) (targets out : List ℕ
   pub room : maxMentions ≤ length out
 
 -- with a mark for each file
-pub record MarksAsked (graph : List ℕ) (c : Counts) (targets marks out : List ℕ) : Type 0 where
+pub record ChoiceSpace (graph : List ℕ) (c : Counts) (targets marks out : List ℕ) : Type 0 where
   pub asked : ChoiceAskedIn graph c targets out
   pub blank : marks ≡ zeros (c .files)
 

@@ -1,7 +1,7 @@
 // A stage of the plan ask: the graph's columns as the reader leaves them are cut once for the choice of the roots; 13, then the header lists.
 ghost use Rattle.lists.specs.Lent.{Spare, Leaves};
 ghost use Rattle.hold_reading.specs.Buffers.{buffers};
-ghost use Rattle.ask_plan_columns.specs.Columns.{ChoiceAskedIn, MarksAsked, FoundIn, ColumnsAsked, RootsSpaceAsked, PlansColumns};
+ghost use Rattle.ask_plan_columns.specs.Columns.{ChoiceAskedIn, ChoiceSpace, FoundIn, ColumnsAsked, RootsSpaceAsked, PlansColumns};
 use ask_plan_headers::plan_headers;
 use ask_plan_roots::Roots;
 use ask_plan_roots::find_roots;
@@ -19,7 +19,7 @@ use spec::limits::MENTIONS;
 
 // The roots by the columns, where the targets' numbers are known; `marks` is working space.
 fn find_in(graph: &[u32], c: Counts, targets: &[u32], marks: &mut [u32], out: &mut [u32]) -> Roots
-    requires { ⌜ MarksAsked (now graph) c (now targets) (now marks) (now out) ⌝ }
+    requires { ⌜ ChoiceSpace (now graph) c (now targets) (now marks) (now out) ⌝ }
     ensures { λ r. ⌜ Leaves (Spare (now (marks .entry)) (now (marks .exit))) (FoundIn (now (graph .entry)) c (now (targets .entry)) (now (out .exit)) r) ⌝ }
 {
     let steps = c.steps;

@@ -9,7 +9,7 @@ use Rattle.spec.specs.Reading.{Reading}
 use Rattle.spec.specs.Headers.{HeaderGraph}
 use Rattle.hold_columns.proofs.Held.{held-inputs, held-sound}
 use Rattle.hold_reading.specs.declared.Counts.{Counts}
-use Rattle.hold_parts.specs.Parts.{mentionsIn, endsIn, phonyIn, madeIn, Parted, Tabled}
+use Rattle.hold_parts.specs.Parts.{mentionsIn, endsIn, phonyIn, madeIn, ColumnsCut, Tabled}
 use Rattle.hold_parts.proofs.Parts.{tables, made-counted}
 use Rattle.ask_header_graph.specs.Graph.{HeadedGraph}
 use Rattle.ask_header_graph.specs.Split.{SplitAsked, SplitsLists}
@@ -19,7 +19,7 @@ use Rattle.ask_plan_headed.specs.Headed.{HeadedPlanAsked, PlansHeaded}
 use Rattle.ask_plan_second.specs.Second.{SecondAsked, SecondSpaceAsked, PlansSecond}
 
 module _ {names index second : List ℕ} {c d : Counts} {h : HeaderGraph} (g : HeadedGraph names index second c d h) where
-  pub second-parted : Parted second d
+  pub second-parted : ColumnsCut second d
   second-parted = record { long = g .long; few-paths = g .few-paths; few-steps = g .few-steps; few-files = g .few-files }
 
   -- the written columns, where the second ones have the makers

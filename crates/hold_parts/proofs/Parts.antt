@@ -13,9 +13,9 @@ use Rattle.hold_columns.proofs.Places.{length-ends}
 use Rattle.hold_columns.proofs.Held.{held-steps}
 use Rattle.hold_bindings.specs.Log.{Logged}
 use Rattle.hold_reading.specs.declared.Counts.{Counts}
-use Rattle.hold_reading.specs.Held.{capacities, endsStart, phonyStart, madeStart, columnsEnd, HoldsReading}
+use Rattle.hold_reading.specs.Held.{capacities, endsStart, phonyStart, madeStart, defaultsStart, columnsEnd, HoldsReading}
 use Rattle.hold_reading.specs.Buffers.{Buffers}
-use Rattle.hold_parts.specs.Parts.{mentionsIn, endsIn, phonyIn, madeIn, Parted, Tabled}
+use Rattle.hold_parts.specs.Parts.{mentionsIn, endsIn, phonyIn, madeIn, defaultsIn, ColumnsCut, Tabled}
 
 -- a reading that is held has its columns there
 pub tabled : {log : List Logged} {bs : Buffers} {c : Counts} {rd : Reading} → HoldsReading log bs c rd → Tabled (bs .graph) c rd
@@ -37,7 +37,7 @@ module _ {graph : List ℕ} {c : Counts} {rd : Reading} (h : Tabled graph c rd) 
   unfolding cols
   is k n s b p q = rw (sym p, sym q) (lies-part capacities graph cols k lies b)
 
-  pub parted : Parted graph c
+  pub parted : ColumnsCut graph c
   unfolding cols
   parted =
       let g = h .graphed in
@@ -48,17 +48,29 @@ module _ {graph : List ℕ} {c : Counts} {rd : Reading} (h : Tabled graph c rd) 
         few-files = omega (arith, h .files-counted, g .tables .few-files);
       }
 
+  mentions-are : mentionsIn graph c ≡ h .graphed .mentions
+  unfolding cols
+  mentions-are =
+      let z : 0 + c .paths ≡ c .paths = omega arith in
+      sym (part-from-start graph (c .paths)) ∙ (rw z at (is 0 (c .paths) 0 (omega arith) refl (sym (h .graphed .paths-counted))))
+
+  pub mentions-counted : length (mentionsIn graph c) ≡ c .paths
+  mentions-counted = ap length mentions-are ∙ sym (h .graphed .paths-counted)
+
+  pub defaults-are : defaultsIn graph c ≡ rd .defaults
+  unfolding cols
+  defaults-are = is 5 (c .defaults) defaultsStart (omega arith) refl (sym (h .graphed .defaults-counted))
+
   pub tables : HoldsColumns (rd .steps) (length (rd .files)) (mentionsIn graph c) (endsIn graph c) (phonyIn graph c) (madeIn graph c)
   unfolding cols
   tables =
       let g = h .graphed in
       let t = g .tables in
       let e : length (g .ends) ≡ perStep * c .steps = ap length (t .ended) ∙ length-ends 0 (rd .steps) ∙ ap (λ (n : ℕ). perStep * n) (sym (h .steps-counted)) in
-      let m : mentionsIn graph c ≡ g .mentions = let z : 0 + c .paths ≡ c .paths = omega arith in sym (part-from-start graph (c .paths)) ∙ (rw z at (is 0 (c .paths) 0 (omega arith) refl (sym (g .paths-counted)))) in
       let d : endsIn graph c ≡ g .ends = is 1 (perStep * c .steps) endsStart (omega arith) refl e in
       let p : phonyIn graph c ≡ g .phony = is 2 (c .steps) phonyStart (omega arith) refl (held-steps t ∙ sym (h .steps-counted)) in
       let w : madeIn graph c ≡ g .made = is 3 (c .files) madeStart (omega arith) refl (t .counted ∙ sym (h .files-counted)) in
-      rw (m, d, p, w) t
+      rw (mentions-are, d, p, w) t
 
   pub made-counted : length (madeIn graph c) ≡ c .files
   made-counted = tables .counted ∙ sym (h .files-counted)

@@ -9,7 +9,7 @@ use Rattle.spec.specs.Reading.{Reading}
 use Rattle.hold_bindings.specs.Log.{Logged}
 use Rattle.hold_columns.specs.Columns.{perStep}
 use Rattle.hold_reading.specs.declared.Counts.{Counts}
-use Rattle.hold_reading.specs.Held.{endsStart, phonyStart, madeStart, columnsEnd, Graphed}
+use Rattle.hold_reading.specs.Held.{endsStart, phonyStart, madeStart, defaultsStart, columnsEnd, Graphed}
 
 module _ (graph : List ℕ) (c : Counts) where
   abbrev pub mentionsIn : List ℕ
@@ -24,14 +24,17 @@ module _ (graph : List ℕ) (c : Counts) where
   abbrev pub madeIn : List ℕ
   madeIn = part graph madeStart (madeStart + c .files)
 
+  abbrev pub defaultsIn : List ℕ
+  defaultsIn = part graph defaultsStart (defaultsStart + c .defaults)
+
 -- so much is in each column that they do not reach into one another
-pub record Parted (graph : List ℕ) (c : Counts) : Type 0 where
+pub record ColumnsCut (graph : List ℕ) (c : Counts) : Type 0 where
   pub long : columnsEnd ≤ length graph
   pub few-paths : c .paths ≤ maxMentions
   pub few-steps : c .steps ≤ maxSteps
   pub few-files : c .files ≤ maxFiles
 
--- the columns hold this reading's steps and files
+-- the columns hold this reading's steps, files and defaults
 pub record Tabled (graph : List ℕ) (c : Counts) (rd : Reading) : Type 0 where
   pub log : List Logged
   pub graphed : Graphed log graph c rd

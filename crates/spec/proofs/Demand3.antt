@@ -16,13 +16,13 @@ use Rattle.spec.specs.Words.{Needed, Stale}
 use Rattle.spec.specs.Headers.{HeaderGraph}
 use Rattle.spec.specs.PlanAsk.{Inputs, rootsOf}
 use Rattle.spec.proofs.Demands.{header-number}
-use Rattle.spec.specs.Demands.{PastChecks, refused-ahead, refused-opening, refused-headers, passed, stepsOf, Listing, Ordered, MissingIn, Demand3}
+use Rattle.spec.specs.Demands.{PastChecks, refused-ahead, refused-opening, refused-headers, passed, headedSteps, Listing, Ordered, MissingIn, Demand3}
 
 module _ {i : Inputs} {rd : Reading} {x : HeaderGraph} {l r : List ℕ} (g : Listing i rd x l) (h : Listing i rd x r) where
-  same-verdict : (s : ℕ) → Needed (stepsOf x) (rootsOf i rd) s → h .verdicts s .stale ≡ g .verdicts s .stale
+  same-verdict : (s : ℕ) → Needed (headedSteps x) (rootsOf i rd) s → h .verdicts s .stale ≡ g .verdicts s .stale
   same-verdict s n = ap (λ (v : Verdict). v .stale) (g .fixed (h .verdicts) (h .sentences) s n)
 
-  same-stale : (s : ℕ) → Stale (stepsOf x) (rootsOf i rd) (h .verdicts) s ↔ Stale (stepsOf x) (rootsOf i rd) (g .verdicts) s
+  same-stale : (s : ℕ) → Stale (headedSteps x) (rootsOf i rd) (h .verdicts) s ↔ Stale (headedSteps x) (rootsOf i rd) (g .verdicts) s
   same-stale s = (
     λ w. record { needed = w .needed; command = w .command; stale = sym (same-verdict s (w .needed)) ∙ w .stale },
     λ w. record { needed = w .needed; command = w .command; stale = same-verdict s (w .needed) ∙ w .stale },
@@ -63,7 +63,7 @@ module _ {i : Inputs} {lent : List ℕ} {said : Said} {exit : List ℕ} (d : Dem
     no-list-over-missing {f} w e = d .past rd x p .list .0 e .1 f w
 
     -- 15 at a file that is neither a target nor an input that the manifest has: "which by itself is no needed source"
-    pub no-listed-source : (¬ (said .value ∈ rootsOf i rd)) → ((s : ℕ) → Needed (stepsOf x) (rootsOf i rd) s → ¬ (said .value ∈ inputs (stepAt (rd .steps) s)))
+    pub no-listed-source : (¬ (said .value ∈ rootsOf i rd)) → ((s : ℕ) → Needed (headedSteps x) (rootsOf i rd) s → ¬ (said .value ∈ inputs (stepAt (rd .steps) s)))
         → said .number ≡ 15 → ⊥
     no-listed-source n m e = elim (d .past rd x p .lowest e .0 .source .needed) [
       | inl t ↦ n t

@@ -38,7 +38,7 @@ use Rattle.spec.proofs.Headers.{OfHeaders, of-bad, headers-off, headed-
 use Rattle.spec.proofs.Judged.{SoundSteps}
 use Rattle.spec.proofs.Outcomes.{Not14, TextWithin, text-within}
 use Rattle.spec.proofs.GraphWords.{order-right, no-order, toldOf, verdicts-right, verdicts-unique, list-right}
-use Rattle.spec.specs.Demands.{PastChecks, ChecksAhead, refused-ahead, refused-opening, refused-headers, passed, stepsOf, Demand1, answers, shows, short, refuses, CircleRead, NoCircle, Listing, Ordered, PlansPast, Demand3, PlanDemands, TextDemands}
+use Rattle.spec.specs.Demands.{PastChecks, ChecksAhead, refused-ahead, refused-opening, refused-headers, passed, headedSteps, Demand1, answers, shows, short, refuses, CircleRead, NoCircle, Listing, Ordered, PlansPast, Demand3, PlanDemands, TextDemands}
 
 -- the number that is said
 number : {said right : Said} {exit left : List ℕ} → AnswerIs said exit right left → said .number ≡ right .number
@@ -151,31 +151,31 @@ refusal-left r n p =
 
 -- ------------------------------------------------------------------ demand 3
 
-module _ (i : Inputs) (rd : Reading) (h : HeaderGraph) (w : SoundSteps (stepsOf h) (h .lists)) where
+module _ (i : Inputs) (rd : Reading) (h : HeaderGraph) (w : SoundSteps (headedSteps h) (h .lists)) where
   abbrev has : Bool
-  has = hasOrder (stepsOf h) (rootsOf i rd)
+  has = hasOrder (headedSteps h) (rootsOf i rd)
 
   abbrev lost : Option ℕ
   lost = missingSource (i .card) (rd .steps) (h .reading) (rootsOf i rd)
 
   -- the list that is computed
   abbrev steps : List ℕ
-  steps = listOf (stepsOf h) (judgedTime i h) (rootsOf i rd)
+  steps = listOf (headedSteps h) (judgedTime i h) (rootsOf i rd)
 
   is-ordered : has ≡ true → Ordered i rd h
-  is-ordered t = (_, order-right (stepsOf h) (rootsOf i rd) t)
+  is-ordered t = (_, order-right (headedSteps h) (rootsOf i rd) t)
 
   listing : has ≡ true → Listing i rd h steps
   listing t =
       let rs = rootsOf i rd in
       let card = cardTime (i .card) (h .reading) in
-      let o = order-right (stepsOf h) rs t in
-      let right = verdicts-right (stepsOf h) rs card (h .lists) o in
-      let least = list-right (stepsOf h) rs card (h .lists) w o (toldOf (stepsOf h) rs card (h .lists)) right in
+      let o = order-right (headedSteps h) rs t in
+      let right = verdicts-right (headedSteps h) rs card (h .lists) o in
+      let least = list-right (headedSteps h) rs card (h .lists) w o (toldOf (headedSteps h) rs card (h .lists)) right in
       record {
-        verdicts = toldOf (stepsOf h) rs card (h .lists);
+        verdicts = toldOf (headedSteps h) rs card (h .lists);
         sentences = right;
-        fixed = λ v p s n. verdicts-unique (stepsOf h) rs card (h .lists) o v (toldOf (stepsOf h) rs card (h .lists)) p right s n;
+        fixed = λ v p s n. verdicts-unique (headedSteps h) rs card (h .lists) o v (toldOf (headedSteps h) rs card (h .lists)) p right s n;
         both-rules = least-order least;
         least = least;
         lowest = λ r k. elim (first-difference least k) [
@@ -185,10 +185,10 @@ module _ (i : Inputs) (rd : Reading) (h : HeaderGraph) (w : SoundSteps (stepsOf 
       }
 
   module _ (lent : List ℕ) (said : Said) (exit : List ℕ) where
-    from-circle : has ≡ false → Shows (stepsOf h) (rootsOf i rd) lent said exit → PlansPast i rd h lent said exit
+    from-circle : has ≡ false → Shows (headedSteps h) (rootsOf i rd) lent said exit → PlansPast i rd h lent said exit
     from-circle t s =
         let n : said .number ≡ 14 = number (s .shown) in
-        let no = no-order (stepsOf h) (rootsOf i rd) .1 t in
+        let no = no-order (headedSteps h) (rootsOf i rd) .1 t in
         record {
           circle = (λ e. no, λ f. n);
           real = λ e. s;
@@ -241,7 +241,7 @@ module _ (i : Inputs) (rd : Reading) (h : HeaderGraph) (w : SoundSteps (stepsOf 
 -- ------------------------------------------------------------------ the asks
 
 module _ (i : Inputs) (lent : List ℕ) (said : Said) (exit : List ℕ) where
-  past-sound : {rd : Reading} {h : HeaderGraph} → PastChecks i (length lent) rd h → SoundSteps (stepsOf h) (h .lists)
+  past-sound : {rd : Reading} {h : HeaderGraph} → PastChecks i (length lent) rd h → SoundSteps (headedSteps h) (h .lists)
   past-sound {rd} {h} p = headed-sound (i .headers) rd h (accepted-makers (i .manifest) rd (p .read)) (p .added)
 
   demand-3 : PlanMeets (planAsk i (length lent)) lent said exit → Demand3 i lent said exit
@@ -251,15 +251,15 @@ module _ (i : Inputs) (lent : List ℕ) (said : Said) (exit : List ℕ) where
   }
 
   -- what was read has no more steps than there is room for
-  few : {rd : Reading} {h : HeaderGraph} → PastChecks i (length lent) rd h → length (stepsOf h) ≤ length lent
+  few : {rd : Reading} {h : HeaderGraph} → PastChecks i (length lent) rd h → length (headedSteps h) ≤ length lent
   few {rd} {h} p = omega (arith, accepted-few (i .manifest) rd (p .read), steps-counted (i .headers) rd h (p .added), p .buffer)
 
   list-room : {rd : Reading} {h : HeaderGraph} {l : List ℕ} → PastChecks i (length lent) rd h → Listing i rd h l → length l ≤ length lent
   list-room {h = h} {l} p g =
-      omega (arith, few p, once-below l (length (stepsOf h)) (g .both-rules .lists .once) (λ s k. needed-low (g .both-rules .lists .no-others s k .needed)))
+      omega (arith, few p, once-below l (length (headedSteps h)) (g .both-rules .lists .once) (λ s k. needed-low (g .both-rules .lists .no-others s k .needed)))
 
-  circle-room : {rd : Reading} {h : HeaderGraph} {c : List ℕ} → PastChecks i (length lent) rd h → NeededCircle (stepsOf h) (rootsOf i rd) c → length c ≤ length lent
-  circle-room {h = h} {c} p k = omega (arith, few p, once-below c (length (stepsOf h)) (k .once) (λ s w. needed-low (k .wanted s w)))
+  circle-room : {rd : Reading} {h : HeaderGraph} {c : List ℕ} → PastChecks i (length lent) rd h → NeededCircle (headedSteps h) (rootsOf i rd) c → length c ≤ length lent
+  circle-room {h = h} {c} p k = omega (arith, few p, once-below c (length (headedSteps h)) (k .once) (λ s w. needed-low (k .wanted s w)))
 
   -- a 14 is a circle of what was read, and an answer is a list
   on-circle : said .number ≡ 14 → Demand3 i lent said exit → Demand1 (CircleRead i (length lent)) lent said exit

@@ -76,15 +76,15 @@ pub data Demand1 (Circle : List ℕ → Type 0) (lent : List ℕ) (said : Said) 
       → AnswerIs said exit (refusalSays r) (filled [] lent) → Demand1 Circle lent said exit
 
 -- the steps with the listed inputs added: what is needed, upstream, in a circle and stale is of these
-abbrev pub stepsOf : HeaderGraph → List Step
-stepsOf h = h .reading .steps
+abbrev pub headedSteps : HeaderGraph → List Step
+headedSteps h = h .reading .steps
 
 -- a circle of needed steps of what the manifest was read into, past the checks ahead of circles
 pub record CircleRead (i : Inputs) (room : ℕ) (c : List ℕ) : Type 0 where
   pub reading : Reading
   pub added : HeaderGraph
   pub past : PastChecks i room reading added
-  pub real : NeededCircle (stepsOf added) (rootsOf i reading) c
+  pub real : NeededCircle (headedSteps added) (rootsOf i reading) c
 
 -- a text has no circle
 abbrev pub NoCircle : List ℕ → Type 0
@@ -105,20 +105,20 @@ pub record LowerThan (l r : List ℕ) : Type 0 where
 
 -- what document 01's sentences say of stale and fresh, by the card's times of the files
 abbrev pub RightIn : Inputs → Reading → HeaderGraph → (ℕ → Verdict) → Type 0
-RightIn i rd h v = RightVerdicts (stepsOf h) (cardTime (i .card) (h .reading)) (h .lists) (rootsOf i rd) v
+RightIn i rd h v = RightVerdicts (headedSteps h) (cardTime (i .card) (h .reading)) (h .lists) (rootsOf i rd) v
 
 pub record Listing (i : Inputs) (rd : Reading) (h : HeaderGraph) (list : List ℕ) : Type 0 where
   -- stale and fresh are what document 01's sentences say, and these fix them
   pub verdicts : ℕ → Verdict
   pub sentences : RightIn i rd h verdicts
-  pub fixed : (v : ℕ → Verdict) → RightIn i rd h v → (s : ℕ) → Needed (stepsOf h) (rootsOf i rd) s → v s ≡ verdicts s
+  pub fixed : (v : ℕ → Verdict) → RightIn i rd h v → (s : ℕ) → Needed (headedSteps h) (rootsOf i rd) s → v s ≡ verdicts s
   -- every stale needed command step once, each after all stale ones upstream
-  pub both-rules : KeepsBothRules (stepsOf h) (rootsOf i rd) verdicts list
+  pub both-rules : KeepsBothRules (headedSteps h) (rootsOf i rd) verdicts list
   -- and the least such list by step number: any other has the higher one where the two first differ
-  pub lowest : (r : List ℕ) → KeepsBothRules (stepsOf h) (rootsOf i rd) verdicts r → (list ≡ r) ⊎ LowerThan list r
+  pub lowest : (r : List ℕ) → KeepsBothRules (headedSteps h) (rootsOf i rd) verdicts r → (list ≡ r) ⊎ LowerThan list r
   -- "At each place stands the lowest-numbered of them not yet listed whose stale command steps upstream are all
   -- listed."
-  pub least : StaleList (stepsOf h) (rootsOf i rd) verdicts list
+  pub least : StaleList (headedSteps h) (rootsOf i rd) verdicts list
 
 -- such a list stands in the buffer, zeros beyond, and the answer is its length
 pub record ListShown (i : Inputs) (rd : Reading) (h : HeaderGraph) (lent : List ℕ) (said : Said) (exit : List ℕ) : Type 0 where
@@ -130,18 +130,18 @@ pub record ListShown (i : Inputs) (rd : Reading) (h : HeaderGraph) (lent : List 
 
 -- an order of the needed steps exists that "has each one after the makers of all its inputs"
 abbrev pub Ordered : Inputs → Reading → HeaderGraph → Type 0
-Ordered i rd h = (l : List ℕ) × NeededOrder (stepsOf h) (rootsOf i rd) l
+Ordered i rd h = (l : List ℕ) × NeededOrder (headedSteps h) (rootsOf i rd) l
 
 -- "a needed source is missing": file f
 abbrev pub MissingIn : Inputs → Reading → HeaderGraph → ℕ → Type 0
-MissingIn i rd h f = Missing (rd .steps) (stepsOf h) (cardTime (i .card) (h .reading)) (length (h .reading .files)) (rootsOf i rd) f
+MissingIn i rd h f = Missing (rd .steps) (headedSteps h) (cardTime (i .card) (h .reading)) (length (h .reading .files)) (rootsOf i rd) f
 
 -- past the checks ahead of circles, where `rd` is what the manifest was read into and `h` has the listed inputs too
 pub record PlansPast (i : Inputs) (rd : Reading) (h : HeaderGraph) (lent : List ℕ) (said : Said) (exit : List ℕ) : Type 0 where
   -- a circle is refused exactly when no order of the needed steps exists
   pub circle : (said .number ≡ 14) ↔ (¬ Ordered i rd h)
   -- and a real one is shown
-  pub real : said .number ≡ 14 → Shows (stepsOf h) (rootsOf i rd) lent said exit
+  pub real : said .number ≡ 14 → Shows (headedSteps h) (rootsOf i rd) lent said exit
   -- otherwise 15 is answered exactly when "a needed source is missing", at the "lowest file number"
   pub missing : (said .number ≡ 15) ↔ (Ordered i rd h × ((f : ℕ) × MissingIn i rd h f))
   pub lowest : said .number ≡ 15 → MissingIn i rd h (said .value) × ((f : ℕ) → MissingIn i rd h f → said .value ≤ f)

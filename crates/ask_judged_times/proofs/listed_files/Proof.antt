@@ -1,5 +1,5 @@
 -- `ask_judged_times::listed_files` meets its contract.
-use Rattle.ask_judged_times.specs.Lists.{listedIn}
+use Rattle.ask_judged_times.specs.Lists.{listedPart}
 use borrow.Author.Needs.{needs}
 use Rattle.ask_judged_times.proofs.listed_files.Statement.{statement}
 use Rattle.ask_judged_times.proofs.listed_files.Tie as tie
@@ -26,7 +26,7 @@ part-result-end : tie.Need-part-result-end
 part-result-end c = search needs
 
 returns : tie.Need-returns
-unfolding listedIn
+unfolding listedPart
 returns c = rw (c .before .at .ensures, c .before .before .end-at .ensures)
 
 pub listed-files-spec : {M : Type 1} → statement M
