@@ -1,4 +1,5 @@
 pub mod Calls
+pub mod Choosing
 pub mod Lending
 pub mod Promised
 pub mod Walks

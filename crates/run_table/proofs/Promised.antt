@@ -11,7 +11,9 @@ use Rattle.run_rules.specs.Runner.{afterFinish}
 use Rattle.run_columns.specs.Columns.{enough, gathered}
 use Rattle.run_columns.specs.Changes.{changed, shortChange, finishChange, finishedIn}
 use Rattle.run_columns.proofs.Changes.{finish-table, short-table, finished-gathered}
+use Rattle.run_table.specs.declared.Asked.{Asked}
 use Rattle.run_table.specs.Promises.{Finished}
+use Rattle.run_table.specs.Stub.{startedIn, Started}
 
 pub finished : (t : List Job) (s : ℕ) (good : Bool) (cs : List ℕ)
     → Finished t s good cs (finishedIn (length t) (gathered t cs) s good) (changed t (finishedIn (length t) (gathered t cs) s good)) (gathered t cs)
@@ -27,3 +29,6 @@ finished t s good cs =
         split (enough (length t) cs)
         (λ (e : enough (length t) cs ≡ true). rw e (finish-table t s good))
         (λ (e : enough (length t) cs ≡ false). rw e (short-table t))
+
+pub started : (t : List Job) (gs ds : List ℕ) (a : Asked) (cs : List ℕ) → Started t gs ds a cs (startedIn (length t) (gathered t cs) gs ds a) (changed t (startedIn (length t) (gathered t cs) gs ds a)) (gathered t cs)
+started t gs ds a cs = record { says = refl; table = refl; columns = refl }

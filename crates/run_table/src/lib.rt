@@ -4,6 +4,7 @@ ghost use Prim.Native.Nat.{_<_};
 ghost use Rattle.run_columns.specs.Columns.{gathered};
 ghost use Rattle.run_columns.specs.Changes.{turnedAt};
 ghost use Rattle.run_table.specs.Promises.{Finished};
+ghost use Rattle.run_table.specs.Stub.{startedIn, Started};
 use run_columns::Change;
 use run_columns::change_place;
 use run_columns::change_state;
@@ -39,6 +40,44 @@ pub fn finish(jobs: &mut [Job], columns: &mut [u32], step: u32, good: bool) -> C
 {
     gather(jobs, columns);
     let c = finish_change(columns, jobs.len(), step, good);
+    let i = change_place(c);
+    let state = change_state(c);
+    put_state(jobs, i, state);
+    c
+}
+
+// What a start is asked with, for C too: the job limit, the gate, on or off with its highest load, and the reading.
+#[repr(C)]
+pub struct Asked {
+    pub limit: u32,
+    pub gated: bool,
+    pub highest: f64,
+    pub load: f64,
+}
+
+fn start_change(columns: &[u32], n: usize, links: &[u32], depths: &[u32], a: Asked) -> Change
+    ensures { λ r. ⌜ r ≡ startedIn n (now (columns .entry)) (now (links .entry)) (now (depths .entry)) a ⌝ }
+{
+    Change {
+        place: n,
+        state: 0,
+        number: 0,
+        step: 0,
+    }
+}
+
+// A start of the lowest step that may start, and its answer.
+pub fn start(
+    jobs: &mut [Job],
+    columns: &mut [u32],
+    links: &[u32],
+    depths: &[u32],
+    a: Asked,
+) -> Change
+    ensures { λ r. ⌜ Started (now (jobs .entry)) (now (links .entry)) (now (depths .entry)) a (now (columns .entry)) r (now (jobs .exit)) (now (columns .exit)) ⌝ }
+{
+    gather(jobs, columns);
+    let c = start_change(columns, jobs.len(), links, depths, a);
     let i = change_place(c);
     let state = change_state(c);
     put_state(jobs, i, state);
