@@ -1,6 +1,6 @@
 use mathlib.Core.Path.{sym, _∙_}
 use Rattle.run_columns.specs.Columns.{noteAt}
-use Rattle.run_columns.proofs.Tables.{enough-room}
+use Rattle.run_columns.proofs.Tables.{row-room}
 use borrow.Author.Needs.{needs}
 use Rattle.run_columns.proofs.note.Statement.{statement}
 use Rattle.run_columns.proofs.note.Tie as tie
@@ -11,7 +11,7 @@ are-enough-requires c κs = search needs
 
 -- src/lib.rt:43:9
 store-requires : tie.Need-store-requires
-store-requires c κs = (c .before .before .before .before .before .pre, enough-room _ _ (sym (c .before .before .are-enough .ensures) ∙ c .before .if1 .taken))
+store-requires c κs = row-room _ _ _ (sym (c .before .before .are-enough .ensures) ∙ c .before .if1 .taken) (c .before .before .before .before .before .pre)
 
 -- src/lib.rt:38:1
 same-length : tie.Need-same-length

@@ -1,0 +1,66 @@
+use lib.ListN.{length-set}
+use native.Mathlib.Omega.{arith}
+use Prim.Native.Nat.{_-_}
+use lib.ListN.{length}
+use Rattle.run_columns.proofs.Answers.{DepthsTo, depths-begin, depths-more, depths-end}
+use borrow.Author.Needs.{needs}
+use Rattle.run_columns.proofs.copy_depths.Statement.{statement}
+use Rattle.run_columns.proofs.copy_depths.Tie as tie
+
+abbrev Inv-loop : tie.InvT-loop
+Inv-loop room₀ depths i₀ room i = DepthsTo room₀ depths room i
+
+abbrev μ-loop : tie.MeasureT-loop
+μ-loop room₀ depths i₀ room i = length room - i
+
+-- src/lib.rt:158:5
+loop-holds : tie.Need-loop-holds Inv-loop μ-loop
+loop-holds c = depths-begin
+
+-- src/lib.rt:159:19
+depth-at-requires : tie.Need-depth-at-requires Inv-loop μ-loop
+depth-at-requires c κs = search needs
+
+-- src/lib.rt:159:9
+mul-room : tie.Need-mul-room Inv-loop μ-loop
+mul-room c = search needs
+
+-- src/lib.rt:159:9
+slice-write-room : tie.Need-slice-write-room Inv-loop μ-loop
+slice-write-room c = search needs
+
+-- src/lib.rt:160:9
+add-i : tie.Need-add-i Inv-loop μ-loop
+add-i c = search needs
+
+-- src/lib.rt:158:5
+loop-less : tie.Need-loop-less Inv-loop μ-loop
+loop-less c = simp length-set (omega (arith, c .before .loop-test .taken))
+
+-- src/lib.rt:158:5
+loop-again : tie.Need-loop-again Inv-loop μ-loop
+loop-again c = depths-more (c .before .before .loop .inv) (c .before .loop-test .taken) (c .depth-at .ensures)
+
+-- src/lib.rt:154:1
+same-length : tie.Need-same-length Inv-loop μ-loop
+same-length c = c .before .loop .inv .long
+
+-- src/lib.rt:154:1
+returns : tie.Need-returns Inv-loop μ-loop
+returns c = depths-end (c .before .loop .inv) (c .loop-test .left)
+
+pub copy-depths-spec : {M : Type 1} → statement M
+copy-depths-spec =
+    tie.close
+    (tie.spec
+    Inv-loop
+    μ-loop
+    loop-holds
+    depth-at-requires
+    mul-room
+    slice-write-room
+    add-i
+    loop-less
+    loop-again
+    same-length
+    returns)
