@@ -31,11 +31,11 @@ use denote.Triple.Clauses.{ensured, lasts}
 use denote.Triple.Walked.{says}
 use Rattle.run_columns.specs.declared.Change.{Change}
 use Rattle.run_columns.proofs.Change as Ch
-use Rattle.run_table.specs.declared.Asked.{Asked}
-use Rattle.run_table.proofs.Asked as As
-use Rattle.run_table.proofs.Asked.Laws as As′
-use Rattle.run_table.specs.Stub.{startedIn}
-use Rattle.run_table.proofs.start_change as start′
+use Rattle.run_columns.specs.declared.Asked.{Asked}
+use Rattle.run_columns.proofs.Asked as As
+use Rattle.run_columns.proofs.Asked.Laws as As′
+use Rattle.run_columns.specs.Chosen.{startedIn}
+use Rattle.run_columns.proofs.start_change as start′
 use Rattle.run_table.proofs.Lending.{LentShared, lends-shared, shared-back}
 use Rattle.run_table.proofs.Calls as calls
 use Rattle.run_table.proofs.Calls.{One}

@@ -3,13 +3,14 @@ ghost use mathlib.Core.Path.{_≡_};
 ghost use Prim.Native.Nat.{_<_};
 ghost use Rattle.run_columns.specs.Columns.{gathered};
 ghost use Rattle.run_columns.specs.Changes.{turnedAt};
-ghost use Rattle.run_table.specs.Promises.{Finished};
-ghost use Rattle.run_table.specs.Stub.{startedIn, Started};
+ghost use Rattle.run_table.specs.Promises.{Finished, Started};
+use run_columns::Asked;
 use run_columns::Change;
 use run_columns::change_place;
 use run_columns::change_state;
 use run_columns::finish_change;
 use run_columns::note;
+use run_columns::start_change;
 use run_rules::Job;
 
 // The table's numbers in the columns, where they are long enough: in each turn the record is read by value, and the columns are lent again.
@@ -46,27 +47,7 @@ pub fn finish(jobs: &mut [Job], columns: &mut [u32], step: u32, good: bool) -> C
     c
 }
 
-// What a start is asked with, for C too: the job limit, the gate, on or off with its highest load, and the reading.
-#[repr(C)]
-pub struct Asked {
-    pub limit: u32,
-    pub gated: bool,
-    pub highest: f64,
-    pub load: f64,
-}
-
-fn start_change(columns: &[u32], n: usize, links: &[u32], depths: &[u32], a: Asked) -> Change
-    ensures { λ r. ⌜ r ≡ startedIn n (now (columns .entry)) (now (links .entry)) (now (depths .entry)) a ⌝ }
-{
-    Change {
-        place: n,
-        state: 0,
-        number: 0,
-        step: 0,
-    }
-}
-
-// A start of the lowest step that may start, and its answer.
+// A start of the lowest step that may start, and its answer. `links` has the rows of the graph, `depths` those of the pools.
 pub fn start(
     jobs: &mut [Job],
     columns: &mut [u32],

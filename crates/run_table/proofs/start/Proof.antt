@@ -39,24 +39,25 @@ use Rattle.run_rules.specs.declared.Job.{Job}
 use Rattle.run_rules.specs.Runner.{turned}
 use Rattle.run_rules.proofs.Job as T
 use Rattle.run_columns.specs.declared.Change.{Change}
-use Rattle.run_columns.specs.Columns.{blank, gathered}
+use Rattle.run_core.specs.Numbers.{noJob}
+use Rattle.run_columns.specs.Columns.{gathered}
 use Rattle.run_columns.specs.Changes.{changed}
 use Rattle.run_columns.proofs.Change as Ch
 use Rattle.run_columns.proofs.Change.Laws as Ch′
 use Rattle.run_columns.proofs.Tables.{noted-length}
-use Rattle.run_table.proofs.start_change.Symbol as start-def
-use Rattle.run_table.proofs.start_change.Symbol.{name as #run-table·start-change}
-use Rattle.run_table.proofs.start_change.Met as start-thm
+use Rattle.run_columns.proofs.start_change.Symbol as start-def
+use Rattle.run_columns.proofs.start_change.Symbol.{name as #run-columns·start-change}
+use Rattle.run_columns.proofs.start_change.Met as start-thm
 use Rattle.run_columns.proofs.change_place.Symbol as place-def
 use Rattle.run_columns.proofs.change_place.Symbol.{name as #run-columns·change-place}
 use Rattle.run_columns.proofs.change_place.Met as place-thm
 use Rattle.run_columns.proofs.change_state.Symbol as state-def
 use Rattle.run_columns.proofs.change_state.Symbol.{name as #run-columns·change-state}
 use Rattle.run_columns.proofs.change_state.Met as state-thm
-use Rattle.run_table.specs.declared.Asked.{Asked}
-use Rattle.run_table.specs.Stub.{startedIn}
-use Rattle.run_table.proofs.Asked as As
-use Rattle.run_table.proofs.Asked.Laws as As′
+use Rattle.run_columns.specs.declared.Asked.{Asked}
+use Rattle.run_columns.specs.Chosen.{startedIn}
+use Rattle.run_columns.proofs.Asked as As
+use Rattle.run_columns.proofs.Asked.Laws as As′
 use Rattle.run_table.proofs.Choosing as choosing
 use Rattle.run_table.proofs.Choosing.{Start}
 use Rattle.run_table.proofs.Walks.{unit-typed, word-typed, half-typed}
@@ -122,14 +123,14 @@ module _ {M : Type 1} (𝓤 : URA M) (H : Heap 𝓤) (A : Atoms 𝓤) (W : Given
   exits : Is As.the-row a (w ∷ []) → (v : Val) → Is Ch.the-row ch (v ∷ []) → ent 𝓤 (⋆ 𝓤 H A (Jobs zs ∷ Links ∷ Depths ∷ Cols cs′ ∷ [])) (Post v)
   exits ga v is =
       qed W (Jobs zs ∷ Links ∷ Depths ∷ Cols cs′ ∷ []) ∵
-      suffices ! _ (ends-at 𝓤 H A start.ended stayed (start.clauses 𝓤 H A at-mem run) W (((κ, (κ′, (κ₁, (κ₂, tt)))), (q, (q′, (q₁, (q₂, tt)))), tt, x, at), tt) v ch (zs, (cs′, (tt, (tt, (tt, tt))))) (length-set ys (ch .place) (turned (ch .state) (getD ys (ch .place) blank)), (noted-length ys n cs, (tt, (tt, (tt, tt)))))) $ says ! (started ys gs ds a cs) $
+      suffices ! _ (ends-at 𝓤 H A start.ended stayed (start.clauses 𝓤 H A at-mem run) W (((κ, (κ′, (κ₁, (κ₂, tt)))), (q, (q′, (q₁, (q₂, tt)))), tt, x, at), tt) v ch (zs, (cs′, (tt, (tt, (tt, tt))))) (length-set ys (ch .place) (turned (ch .state) (getD ys (ch .place) noJob)), (noted-length ys n cs, (tt, (tt, (tt, tt)))))) $ says ! (started ys gs ds a cs) $
       split ! $ move ! (4 ∷ []) $ split ! $ move ! (4 ∷ []) $ split ! $ move ! (6 ∷ []) $ split ! $
       -- [the depths; κ₂'s token; the links; κ₁'s; the columns; κ′'s; the table; κ's]
       nothing ! $ move ! (2 ∷ 0 ∷ []) $ join ! $ move ! (3 ∷ 0 ∷ []) $ join ! $ move ! (4 ∷ 0 ∷ []) $ join ! $ move ! (5 ∷ 0 ∷ []) $ join ! $ frame ! $
       nothing ! $ owned ! As.the-row (Is As.the-row) ((LL.makes As.the-type As′.the-plain) 𝓤 H A) a _ ga $ fjoin ! $ move ! (1 ∷ 0 ∷ []) $ fjoin ! $ move ! (1 ∷ 0 ∷ []) $ fjoin ! $ move ! (1 ∷ 0 ∷ []) $ fjoin ! $ move ! (1 ∷ 0 ∷ []) $ fjoin ! $
       owned ! Ch.the-row (Is Ch.the-row) ((LL.makes Ch.the-type Ch′.the-plain) 𝓤 H A) ch _ is $ move ! (1 ∷ 0 ∷ []) $ done !
 
-  module _ (C : Calls 𝓤 H) (Λ : Loops 𝓤 H) (fm : FmC 𝓤 H (W .laws) C) (known-gather : Triple 𝓤 (C #run-table·gather) (Gather 𝓤 H A at-mem run)) (known-start : Triple 𝓤 (C #run-table·start-change) (Start 𝓤 H A at-mem run)) (known-place : Triple 𝓤 (C #run-columns·change-place) (PlaceOf 𝓤 H A at-mem run)) (known-state : Triple 𝓤 (C #run-columns·change-state) (StateOf 𝓤 H A at-mem run)) (known-put : Triple 𝓤 (C #run-table·put-state) (Put 𝓤 H A at-mem run)) where
+  module _ (C : Calls 𝓤 H) (Λ : Loops 𝓤 H) (fm : FmC 𝓤 H (W .laws) C) (known-gather : Triple 𝓤 (C #run-table·gather) (Gather 𝓤 H A at-mem run)) (known-start : Triple 𝓤 (C #run-columns·start-change) (Start 𝓤 H A at-mem run)) (known-place : Triple 𝓤 (C #run-columns·change-place) (PlaceOf 𝓤 H A at-mem run)) (known-state : Triple 𝓤 (C #run-columns·change-state) (StateOf 𝓤 H A at-mem run)) (known-put : Triple 𝓤 (C #run-table·put-state) (Put 𝓤 H A at-mem run)) where
     walk : Room T.the-row n → Room u32 m → Room u32 (length gs) → Room u32 (length ds) → Is As.the-row a (w ∷ []) → ent 𝓤 (onEntry 𝓤 H A start.signature (κ, (κ′, (κ₁, (κ₂, tt)))) (q, (q′, (q₁, (q₂, tt)))) x at) (WpFn 𝓤 H C Λ code.function (sliceVal (b, o) n ∷ sliceVal (c, p) m ∷ sliceVal (g, h) (length gs) ∷ sliceVal (d, f) (length ds) ∷ w ∷ []) Post)
     walk gn gm gg gd ga =
         qed W ((‵ (flft κ q) ⊛ ‵ (flft κ′ q′) ⊛ ‵ (flft κ₁ q₁) ⊛ ‵ (flft κ₂ q₂) ⊛ ‵ ftrue) ∷ ‵ (owns (MutSlice (named 0) κ T.the-row ∷ MutSlice (named 1) κ′ u32 ∷ ShrSlice (named 2) κ₁ u32 ∷ ShrSlice (named 3) κ₂ u32 ∷ As.the-row ∷ []) x at) ∷ []) ∵
@@ -159,7 +160,7 @@ module _ {M : Type 1} (𝓤 : URA M) (H : Heap 𝓤) (A : Atoms 𝓤) (W : Given
         use2 W (later (given (Is Ch.the-row ch (v₁ ∷ [])) (Cols cs′ ⊛ (Links ⊛ Depths)))) (choosing.start-comes 𝓤 H A W at-mem run κ κ′ κ₁ κ₂ q q′ q₁ q₂ b o γ c p γ′ g h δ₁ gs d f δ₂ ds n a w m cs′ (noted-length ys n cs) gm z₁ v₁) $ await ! tt $ learn ! (λ e₁. split ! $ move ! (1 ∷ []) $ split ! $
         -- [Links; Depths; Cols; Jobs; …]
         land ! (from ! (stop !)) (init ! 28 refl (LL.lawful Ch.the-type Ch′.the-laws 𝓤 H A W .typed ch _ e₁ .0)) $
-        -- `place_of`, `state_of`
+        -- `change_place`, `change_state`
         owned ! Ch.the-row (Is Ch.the-row) ((LL.makes Ch.the-type Ch′.the-plain) 𝓤 H A) ch _ e₁ $ use1 W (raw (PlaceOf 𝓤 H A at-mem run .pre (calls.to-place 𝓤 H A W at-mem run ch v₁))) (calls.place-goes 𝓤 H A W at-mem run ch v₁) $
         calls-at ! fm (PlaceOf 𝓤 H A at-mem run) known-place (calls.to-place 𝓤 H A W at-mem run ch v₁) (and-then ! (load ! (from ! (stop !)) (look ! 29 refl)) (no-more !)) (λ v₂.
         use1 W (later (given ((v₂ ≡ vint w64 (ch .place)) × (ch .place < 2 ^ 64)) (‵ ftrue))) (calls.place-comes 𝓤 H A W at-mem run ch v₁ v₂) $ await ! tt $ learn ! (λ e₂. drop ! $
@@ -170,7 +171,7 @@ module _ {M : Type 1} (𝓤 : URA M) (H : Heap 𝓤) (A : Atoms 𝓤) (W : Given
         land ! (from ! (stop !)) (init ! 24 refl (half-typed v₃ (ch .state) (e₃ .0) (e₃ .1))) $ rewrite ! 24 (λ (y : Val). ‵ (fat fullShare (tyInt w32) l₈ 0 y)) (e₃ .0) refl $
         assigns ! (addr ! (from ! (fld ! refl (hop ! (look-in ! 38 (sub ! 0 refl (whole !))) (stop !))))) (from ! (stop !)) (init ! 6 refl (tt, tt)) $
         assigns ! (agg ! (and-then ! (load ! (from ! (stop !)) (look ! 6 refl)) (and-then ! (load ! (from ! (fld ! refl (stop !))) (look-in ! 38 (sub ! 1 refl (whole !)))) (no-more !)))) (from ! (stop !)) (init ! 4 refl (tt, (tt, (record { fits = gn .0 }, tt)))) $
-        -- `put`
+        -- `put_state`
         move ! (3 ∷ []) $ use1 W (later (some (λ (z : One). raw (Put 𝓤 H A at-mem run .pre (calls.to-put 𝓤 H A W at-mem run κ κ′ q q′ b o γ c p γ′ ys (ch .place) (ch .state) z)) ⊛ ‵ (calls.put-keeps 𝓤 H A W at-mem run κ κ′ q q′ b o γ c p γ′ ys (ch .place) (ch .state) z)))) (calls.put-goes 𝓤 H A W at-mem run κ κ′ q q′ b o γ c p γ′ ys (ch .place) (ch .state) (e₂ .1) (e₃ .1)) $ await ! tt $ pick ! (λ z₂. split ! $
         calls-at ! fm (Put 𝓤 H A at-mem run) known-put (calls.to-put 𝓤 H A W at-mem run κ κ′ q q′ b o γ c p γ′ ys (ch .place) (ch .state) z₂) (and-then ! (load ! (from ! (stop !)) (look ! 5 refl)) (and-then ! (load ! (from ! (stop !)) (look ! 27 refl)) (and-then ! (load ! (from ! (stop !)) (look ! 25 refl)) (no-more !)))) (λ v₄.
         use2 W (later (given (v₄ ≡ vunit) (Jobs zs))) (calls.put-comes 𝓤 H A W at-mem run κ κ′ q q′ b o γ c p γ′ ys (ch .place) (ch .state) gn z₂ v₄) $ await ! tt $ learn ! (λ e₄.
@@ -181,7 +182,7 @@ module _ {M : Type 1} (𝓤 : URA M) (H : Heap 𝓤) (A : Atoms 𝓤) (W : Given
         by ! (exits ga v₁ e₁)))))))))))))))))))))))))))))))))
 
 module _ {M : Type 1} (𝓤 : URA M) (H : Heap 𝓤) (A : Atoms 𝓤) (W : Given 𝓤 H A) (at-mem : Memory → SProp 𝓤) (run : Routine → Fun 𝓤) where
-  start-walks : (C : Calls 𝓤 H) (Λ : Loops 𝓤 H) → FmC 𝓤 H (W .laws) C → Triple 𝓤 (C #run-table·gather) (Gather 𝓤 H A at-mem run) → Triple 𝓤 (C #run-table·start-change) (Start 𝓤 H A at-mem run) → Triple 𝓤 (C #run-columns·change-place) (PlaceOf 𝓤 H A at-mem run) → Triple 𝓤 (C #run-columns·change-state) (StateOf 𝓤 H A at-mem run) → Triple 𝓤 (C #run-table·put-state) (Put 𝓤 H A at-mem run)
+  start-walks : (C : Calls 𝓤 H) (Λ : Loops 𝓤 H) → FmC 𝓤 H (W .laws) C → Triple 𝓤 (C #run-table·gather) (Gather 𝓤 H A at-mem run) → Triple 𝓤 (C #run-columns·start-change) (Start 𝓤 H A at-mem run) → Triple 𝓤 (C #run-columns·change-place) (PlaceOf 𝓤 H A at-mem run) → Triple 𝓤 (C #run-columns·change-state) (StateOf 𝓤 H A at-mem run) → Triple 𝓤 (C #run-table·put-state) (Put 𝓤 H A at-mem run)
       → Walks 𝓤 H A start.ended stayed (WpFn 𝓤 H C Λ code.function) (start.clauses 𝓤 H A at-mem run)
   start-walks C Λ fm known-gather known-start known-place known-state known-put = walked 𝓤 H A start.ended stayed (start.clauses 𝓤 H A at-mem run) (WpFn 𝓤 H C Λ code.function)
       (λ κs. (slice-vals, (slice-vals, (slice-vals, (slice-vals, (LL.vals As.the-type As′.the-laws, tt)))))) (λ κs. (mut-slice-tells (named 0) (κs .0) T.the-row, (mut-slice-tells (named 1) (κs .1 .0) u32, (shr-slice-tells (named 2) (κs .1 .1 .0) u32, (shr-slice-tells (named 3) (κs .1 .1 .1 .0) u32, (LL.tells As.the-type As′.the-laws, tt))))))
@@ -190,7 +191,7 @@ module _ {M : Type 1} (𝓤 : URA M) (H : Heap 𝓤) (A : Atoms 𝓤) (W : Given
       C Λ fm known-gather known-start known-place known-state known-put (are .0 .0 .1) (are .1 .0 .0 .1) (are .1 .1 .0 .0 .1) (are .1 .1 .1 .0 .0 .1) (are .1 .1 .1 .1 .0)))
 
 start-meets : {M : Type 1} (𝓤 : URA M) (H : Heap 𝓤) (A : Atoms 𝓤) → Given 𝓤 H A → (at-mem : Memory → SProp 𝓤) (run : Routine → Fun 𝓤) (𝓣 : Tables 𝓤 H)
-    → Triple 𝓤 (𝓣 .C #run-table·gather) (Gather 𝓤 H A at-mem run) → Triple 𝓤 (𝓣 .C #run-table·start-change) (Start 𝓤 H A at-mem run) → Triple 𝓤 (𝓣 .C #run-columns·change-place) (PlaceOf 𝓤 H A at-mem run) → Triple 𝓤 (𝓣 .C #run-columns·change-state) (StateOf 𝓤 H A at-mem run) → Triple 𝓤 (𝓣 .C #run-table·put-state) (Put 𝓤 H A at-mem run)
+    → Triple 𝓤 (𝓣 .C #run-table·gather) (Gather 𝓤 H A at-mem run) → Triple 𝓤 (𝓣 .C #run-columns·start-change) (Start 𝓤 H A at-mem run) → Triple 𝓤 (𝓣 .C #run-columns·change-place) (PlaceOf 𝓤 H A at-mem run) → Triple 𝓤 (𝓣 .C #run-columns·change-state) (StateOf 𝓤 H A at-mem run) → Triple 𝓤 (𝓣 .C #run-table·put-state) (Put 𝓤 H A at-mem run)
     → Meets 𝓤 H A start.signature (WpFn 𝓤 H (𝓣 .C) (𝓣 .Λ) code.function) (start.spec 𝓤 H A at-mem run)
 start-meets 𝓤 H A W at-mem run 𝓣 known-gather known-start known-place known-state known-put =
     walk-meets 𝓤 H A start.ended stayed W (goes-slice 𝓤 H A W 4 0 tt (plain (λ _. T.the-row)), (goes-slice 𝓤 H A W 4 1 tt (plain (λ _. u32)), (goes-none-slice 𝓤 H A W 4 (2 ∷ []) tt (plain (λ _. u32)) yes, (goes-none-slice 𝓤 H A W 4 (3 ∷ []) tt (plain (λ _. u32)) yes, (goes-none 𝓤 H A W 4 (λ _. As.the-row) yes (λ κs x f. refl), tt))))) (start.clauses 𝓤 H A at-mem run)
@@ -203,7 +204,7 @@ start-spec 𝓤 H 𝓜 𝓖 𝓡 =
     (tables 𝓤 H 𝓜 𝓡 code.env .C) (tables 𝓤 H 𝓜 𝓡 code.env .Λ) #run-table·start code.function (code.unfolded 𝓤 H 𝓜 𝓡)
     (start-meets 𝓤 H (𝓖 .A) (givenOf 𝓤 H 𝓜 𝓖) (𝓜 .mem) (𝓡 .run) (tablesOf 𝓤 H 𝓜 (tables 𝓤 H 𝓜 𝓡 code.env))
     (cited 𝓤 H (Gather 𝓤 H (𝓖 .A) (𝓜 .mem) (𝓡 .run)) 𝓜 𝓡 code.env #run-table·gather gather-def.routine code.calls-run-table·gather (gather-thm.met 𝓤 H 𝓜 𝓖 𝓡))
-    (cited 𝓤 H (Start 𝓤 H (𝓖 .A) (𝓜 .mem) (𝓡 .run)) 𝓜 𝓡 code.env #run-table·start-change start-def.routine code.calls-run-table·start-change (start-thm.met 𝓤 H 𝓜 𝓖 𝓡))
+    (cited 𝓤 H (Start 𝓤 H (𝓖 .A) (𝓜 .mem) (𝓡 .run)) 𝓜 𝓡 code.env #run-columns·start-change start-def.routine code.calls-run-columns·start-change (start-thm.met 𝓤 H 𝓜 𝓖 𝓡))
     (cited 𝓤 H (PlaceOf 𝓤 H (𝓖 .A) (𝓜 .mem) (𝓡 .run)) 𝓜 𝓡 code.env #run-columns·change-place place-def.routine code.calls-run-columns·change-place (place-thm.met 𝓤 H 𝓜 𝓖 𝓡))
     (cited 𝓤 H (StateOf 𝓤 H (𝓖 .A) (𝓜 .mem) (𝓡 .run)) 𝓜 𝓡 code.env #run-columns·change-state state-def.routine code.calls-run-columns·change-state (state-thm.met 𝓤 H 𝓜 𝓖 𝓡))
     (cited 𝓤 H (Put 𝓤 H (𝓖 .A) (𝓜 .mem) (𝓡 .run)) 𝓜 𝓡 code.env #run-table·put-state put-def.routine code.calls-run-table·put-state (put-thm.met 𝓤 H 𝓜 𝓖 𝓡)))
