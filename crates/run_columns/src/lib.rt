@@ -8,6 +8,7 @@ ghost use Rattle.run_core.specs.Numbers.{jobsIn, givenIn};
 ghost use Rattle.run_core.specs.Passes.{startAnswer};
 ghost use Rattle.run_columns.specs.Columns.{storedAt, noteAt, enough};
 ghost use Rattle.run_columns.specs.Changes.{shortChange, endState, finishChange, finishedIn};
+ghost use Rattle.run_columns.specs.Fresh.{freshJob, freshCount, freshNumber};
 ghost use Rattle.run_columns.specs.Chosen.{askedGate, depthsOf, askedGiven, startChange, startedIn};
 use run_core::StartAnswer;
 use run_core::finish_of;
@@ -52,6 +53,48 @@ pub fn change_state(c: Change) -> u32
     ensures { λ r. ⌜ r ≡ c .state ⌝ }
 {
     c.state
+}
+
+// An entry, 0 past the end.
+fn number_at(a: &[u32], i: usize) -> u32
+    ensures { λ r. ⌜ r ≡ getD (now (a .entry)) i 0 ⌝ }
+{
+    if i < a.len() {
+        return a[i];
+    }
+    0
+}
+
+// ---- a fresh table
+// How many records are made of n steps where there is room for m: all or none.
+pub fn fresh_count(m: usize, n: usize) -> usize
+    ensures { λ r. ⌜ r ≡ freshCount m n ⌝ }
+{
+    if n <= m {
+        return n;
+    }
+    0
+}
+
+// 1 where the table is too short for the list.
+pub fn fresh_number(m: usize, n: usize) -> u32
+    ensures { λ r. ⌜ r ≡ freshNumber m n ⌝ }
+{
+    if n <= m {
+        return 0;
+    }
+    1
+}
+
+// Step i of the list waits, in its pool.
+pub fn fresh_job(steps: &[u32], pools: &[u32], i: usize) -> Job
+    ensures { λ r. ⌜ r ≡ freshJob (now (steps .entry)) (now (pools .entry)) i ⌝ }
+{
+    Job {
+        step: number_at(steps, i),
+        pool: number_at(pools, i),
+        state: 0,
+    }
 }
 
 // ---- the table noted
@@ -142,22 +185,13 @@ fn gate_of(a: Asked) -> Gate
     Gate::Off
 }
 
-fn depth_at(depths: &[u32], i: usize) -> u32
-    ensures { λ r. ⌜ r ≡ getD (now (depths .entry)) i 0 ⌝ }
-{
-    if i < depths.len() {
-        return depths[i];
-    }
-    0
-}
-
 // The depths, as far as there is room for them; 0 for the rest.
 fn copy_depths(room: &mut [u32], depths: &[u32])
     ensures { λ _. ⌜ now (room .exit) ≡ depthsOf (now (depths .entry)) (length (now (room .entry))) ⌝ }
 {
     let mut i = 0;
     while i < room.len() {
-        room[i] = depth_at(depths, i);
+        room[i] = number_at(depths, i);
         i += 1;
     }
 }

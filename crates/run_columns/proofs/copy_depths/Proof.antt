@@ -18,8 +18,8 @@ loop-holds : tie.Need-loop-holds Inv-loop μ-loop
 loop-holds c = depths-begin
 
 -- src/lib.rt:159:19
-depth-at-requires : tie.Need-depth-at-requires Inv-loop μ-loop
-depth-at-requires c κs = search needs
+number-at-requires : tie.Need-number-at-requires Inv-loop μ-loop
+number-at-requires c κs = search needs
 
 -- src/lib.rt:159:9
 mul-room : tie.Need-mul-room Inv-loop μ-loop
@@ -39,7 +39,7 @@ loop-less c = simp length-set (omega (arith, c .before .loop-test .taken))
 
 -- src/lib.rt:158:5
 loop-again : tie.Need-loop-again Inv-loop μ-loop
-loop-again c = depths-more (c .before .before .loop .inv) (c .before .loop-test .taken) (c .depth-at .ensures)
+loop-again c = depths-more (c .before .before .loop .inv) (c .before .loop-test .taken) (c .number-at .ensures)
 
 -- src/lib.rt:154:1
 same-length : tie.Need-same-length Inv-loop μ-loop
@@ -56,7 +56,7 @@ copy-depths-spec =
     Inv-loop
     μ-loop
     loop-holds
-    depth-at-requires
+    number-at-requires
     mul-room
     slice-write-room
     add-i

@@ -1,8 +1,8 @@
 use mathlib.Core.Path.{sym}
 use lib.ListN.{List·getD-eq-default}
 use borrow.Author.Needs.{needs}
-use Rattle.run_columns.proofs.depth_at.Statement.{statement}
-use Rattle.run_columns.proofs.depth_at.Tie as tie
+use Rattle.run_columns.proofs.number_at.Statement.{statement}
+use Rattle.run_columns.proofs.number_at.Tie as tie
 
 -- src/lib.rt:148:16
 mul-result : tie.Need-mul-result
@@ -18,7 +18,7 @@ returns c = search needs
 
 -- src/lib.rt:144:1
 returns-2 : tie.Need-returns-2
-returns-2 c = sym (List·getD-eq-default (c .before .args .depths .now) 0 (c .if1 .left))
+returns-2 c = sym (List·getD-eq-default (c .before .args .a .now) 0 (c .if1 .left))
 
-pub depth-at-spec : {M : Type 1} → statement M
-depth-at-spec = tie.close (tie.spec mul-result shared-slice-read-result returns returns-2)
+pub number-at-spec : {M : Type 1} → statement M
+number-at-spec = tie.close (tie.spec mul-result shared-slice-read-result returns returns-2)
