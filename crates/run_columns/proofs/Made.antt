@@ -77,3 +77,10 @@ fresh-made ss ps t =
     ∙ ap (λ (x : List Job). x ++ drop (0 + length ss) t) (take-length f)
     ∙ ap (λ (k : ℕ). f ++ drop k t) (zero-add (length ss))))
     (λ (e : leb (length ss) (length t) ≡ false). rw e)
+
+pub count-fits : (m n : ℕ) → freshCount m n ≤ m
+unfolding freshCount
+count-fits m n =
+    split (leb n m)
+    (λ (e : leb n m ≡ true). rw e (leb-true n m e))
+    (λ (e : leb n m ≡ false). rw e (omega arith))

@@ -1,5 +1,6 @@
 pub mod Calls
 pub mod Choosing
 pub mod Lending
+pub mod Making
 pub mod Promised
 pub mod Walks

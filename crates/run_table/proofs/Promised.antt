@@ -12,9 +12,14 @@ use Rattle.run_core.specs.Passes.{startAnswer}
 use Rattle.run_columns.specs.Columns.{enough, gathered}
 use Rattle.run_columns.specs.Changes.{changed, shortChange, finishChange, finishedIn}
 use Rattle.run_columns.specs.Chosen.{askedGiven, startChange, startedTable, startedIn}
+use Rattle.run_columns.specs.Fresh.{freshTo, freshCount, freshNumber}
+use Rattle.run_columns.proofs.Made.{fresh-made}
 use Rattle.run_columns.proofs.Changes.{finish-table, start-table, short-table, finished-gathered, started-gathered}
 use Rattle.run_columns.specs.declared.Asked.{Asked}
-use Rattle.run_table.specs.Promises.{Finished, Started}
+use Rattle.run_table.specs.Promises.{Fresh, Finished, Started}
+
+pub fresh-promised : (t : List Job) (ss ps : List ℕ) → Fresh t ss ps (freshNumber (length t) (length ss)) (freshTo ss ps (freshCount (length t) (length ss)) t)
+fresh-promised t ss ps = record { says = refl; table = fresh-made ss ps t }
 
 -- the table with a change, or the table itself where the columns are too short
 by-room : (t : List Job) (cs : List ℕ) (c : Change) {u : List Job} → changed t c ≡ u
