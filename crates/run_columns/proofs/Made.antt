@@ -36,11 +36,11 @@ fresh-waits (s ∷ ss) [] j (later h) = fresh-waits ss [] j h
 fresh-waits (s ∷ ss) (p ∷ ps) j (first e) = ap (λ (k : Job). k .state) e
 fresh-waits (s ∷ ss) (p ∷ ps) j (later h) = fresh-waits ss ps j h
 
-table-length : (ss ps : List ℕ) → length (freshTable ss ps) ≡ length ss
+pub fresh-table-length : (ss ps : List ℕ) → length (freshTable ss ps) ≡ length ss
 unfolding freshTable
-table-length [] ps = refl
-table-length (s ∷ ss) [] = ap suc (table-length ss [])
-table-length (s ∷ ss) (p ∷ ps) = ap suc (table-length ss ps)
+fresh-table-length [] ps = refl
+fresh-table-length (s ∷ ss) [] = ap suc (fresh-table-length ss [])
+fresh-table-length (s ∷ ss) (p ∷ ps) = ap suc (fresh-table-length ss ps)
 
 table-at : (ss ps : List ℕ) (i : ℕ) → i < length ss → getD (freshTable ss ps) i noJob ≡ freshJob ss ps i
 unfolding freshTable
@@ -57,7 +57,7 @@ fresh-front ss ps t l zero b = paste-zero t 0 (freshTable ss ps)
 fresh-front ss ps t l (suc i) b =
     let f = freshTable ss ps in
     let z = zero-add i in
-    let n = table-length ss ps in
+    let n = fresh-table-length ss ps in
     ap (λ (x : List Job). set x i (freshJob ss ps i)) (fresh-front ss ps t l i (omega (arith, b)))
     ∙ ap (λ (j : Job). set (paste t 0 f i) i j) (sym (table-at ss ps i b))
     ∙ ap (λ (k : ℕ). set (paste t 0 f i) k (getD f i noJob)) (sym z)
@@ -73,7 +73,7 @@ fresh-made ss ps t =
     (λ (e : leb (length ss) (length t) ≡ true).
     rw e
     (fresh-front ss ps t (leb-true (length ss) (length t) e) (length ss) (omega arith)
-    ∙ ap (λ (k : ℕ). take k f ++ drop (0 + length ss) t) (sym (table-length ss ps))
+    ∙ ap (λ (k : ℕ). take k f ++ drop (0 + length ss) t) (sym (fresh-table-length ss ps))
     ∙ ap (λ (x : List Job). x ++ drop (0 + length ss) t) (take-length f)
     ∙ ap (λ (k : ℕ). f ++ drop k t) (zero-add (length ss))))
     (λ (e : leb (length ss) (length t) ≡ false). rw e)

@@ -3,4 +3,5 @@ pub mod Choosing
 pub mod Lending
 pub mod Making
 pub mod Promised
+pub mod Runs
 pub mod Walks
