@@ -1,7 +1,7 @@
 -- The answers by their cases, and the depths copied.
-use Prim.Native.Nat.{ℕ, zero, suc, _+_, _-_, _*_, _≤_, _<_}
+use Prim.Native.Nat.{ℕ, suc, _+_, _-_, _*_, _≤_, _<_}
 use mathlib.Core.Bool.{Bool, true, false}
-use mathlib.Core.List.{List, [], _∷_, _++_, append-nil}
+use mathlib.Core.List.{List, _++_, append-nil}
 use mathlib.Core.Path.{_≡_, refl, sym, ap, _∙_}
 use native.Mathlib.Nat.{zero-add}
 use native.Mathlib.Numerals.{add-one}
@@ -25,7 +25,7 @@ use Rattle.run_core.specs.Passes.{startAnswer}
 use Rattle.run_columns.specs.declared.Change.{Change}
 use Rattle.run_columns.specs.declared.Asked.{Asked}
 use Rattle.run_columns.specs.Columns.{enough, tableIn}
-use Rattle.run_columns.specs.Changes.{shortChange, endState, finishChange, finishedIn}
+use Rattle.run_columns.specs.Changes.{noChange, shortChange, endState, finishChange, finishedIn}
 use Rattle.run_columns.specs.Chosen.{startSteps, startPools, askedGate, depthsOf, askedGiven, startChange, startedIn}
 
 -- ---- finish_at
@@ -34,15 +34,15 @@ module _ (t : List Job) (s : ℕ) (good : Bool) {f : FinishAnswer} (e : f ≡ fi
   unfolding finishChange
   finish-noted d p w = rw (sym e ∙ d, p, w)
 
-  pub finish-refused : {n k : ℕ} → f ≡ NotRunning k → n ≡ length t → record { place = n; state = 0; number = 27; step = k } ≡ finishChange t s good (finishOf t s)
+  pub finish-refused : {n k : ℕ} {r : Change} → f ≡ NotRunning k → n ≡ length t → r ≡ noChange n 27 k → r ≡ finishChange t s good (finishOf t s)
   unfolding finishChange
-  finish-refused d l = rw (sym e ∙ d, l)
+  finish-refused d l h = rw (sym e ∙ d, ← l) h
 
 -- ---- start_made
 module _ (t : List Job) {f : StartAnswer} where
-  pub start-none : {n : ℕ} → f ≡ NoneStarts → n ≡ length t → record { place = n; state = 0; number = 0; step = 0 } ≡ startChange t f
+  pub start-none : {n : ℕ} {r : Change} → f ≡ NoneStarts → n ≡ length t → r ≡ noChange n 0 0 → r ≡ startChange t f
   unfolding startChange
-  start-none d l = rw (d, l)
+  start-none d l h = rw (d, ← l) h
 
   pub start-some : {p s : ℕ} → f ≡ Starts s → p ≡ jobPlace s 0 t → record { place = p; state = 1; number = 0; step = s } ≡ startChange t f
   unfolding startChange
@@ -68,16 +68,16 @@ module _ (n : ℕ) (cs : List ℕ) {b : Bool} {r : Change} (e : b ≡ enough n c
   unfolding finishedIn tableIn
   finish-long s good d h = rw (sym e ∙ d) h
 
-  pub finish-short : (s : ℕ) (good : Bool) → b ≡ false → r ≡ shortChange n → r ≡ finishedIn n cs s good
-  unfolding finishedIn
+  pub finish-short : (s : ℕ) (good : Bool) → b ≡ false → r ≡ noChange n 1 0 → r ≡ finishedIn n cs s good
+  unfolding finishedIn shortChange
   finish-short s good d h = rw (sym e ∙ d) h
 
   pub start-long : (gs ds : List ℕ) (a : Asked) → b ≡ true → r ≡ startChange (jobsIn (take (n * 3) cs)) (startAnswer (nextStart (askedGiven gs ds a) (a .load) (jobsIn (take (n * 3) cs)))) → r ≡ startedIn n cs gs ds a
   unfolding startedIn tableIn
   start-long gs ds a d h = rw (sym e ∙ d) h
 
-  pub start-short : (gs ds : List ℕ) (a : Asked) → b ≡ false → r ≡ shortChange n → r ≡ startedIn n cs gs ds a
-  unfolding startedIn
+  pub start-short : (gs ds : List ℕ) (a : Asked) → b ≡ false → r ≡ noChange n 1 0 → r ≡ startedIn n cs gs ds a
+  unfolding startedIn shortChange
   start-short gs ds a d h = rw (sym e ∙ d) h
 
 -- ---- copy_depths

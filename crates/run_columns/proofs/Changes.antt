@@ -3,13 +3,12 @@ use Prim.Native.Nat.{ℕ}
 use mathlib.Core.Bool.{Bool, true, false}
 use mathlib.Core.List.{List}
 use mathlib.Core.Option.{Option, none, some}
-use mathlib.Core.Path.{_≡_, refl, sym, _∙_}
+use mathlib.Core.Path.{_≡_, sym, _∙_}
 use native.Mathlib.Omega.{arith}
 use lib.ListN.{length, getD}
 use lib.Seq.{set-out}
 use Rattle.lists.specs.Tests.{ifB, split}
 use Rattle.run_rules.specs.declared.Job.{Job}
-use Rattle.run_rules.specs.declared.FinishAnswer.the-variants.{Noted, NotRunning}
 use Rattle.run_rules.specs.Runner.{turned, jobIs, finishOf, afterFinish, nextStart, afterStart}
 use Rattle.run_rules.specs.Places.{moved-set}
 use Rattle.run_rules.proofs.Moved.{moved-none}

@@ -11,7 +11,6 @@ use lib.ListN.{length, getD, set, take, drop, length-set}
 use lib.Seq.{paste, paste-zero, paste-suc, take-length}
 use Rattle.lists.specs.Tests.{ifB, split}
 use Rattle.run_rules.specs.declared.Job.{Job}
-use Rattle.run_rules.specs.Runner.{waitingJob}
 use Rattle.run_rules.specs.Claims.{_among_, first, later, stepsOf}
 use Rattle.run_core.specs.Numbers.{noJob}
 use Rattle.run_columns.specs.Fresh.{freshTable, freshJob, freshTo, freshCount}

@@ -20,9 +20,13 @@ turnedAt t i a = set t i (turned a (getD t i noJob))
 abbrev pub changed : List Job → Change → List Job
 changed t c = turnedAt t (c .place) (c .state)
 
+-- no record of n changes
+abbrev pub noChange : ℕ → ℕ → ℕ → Change
+noChange n number step = record { place = n; state = 0; number = number; step = step }
+
 -- 1: the working columns are too short for the table
 unfoldable pub shortChange : ℕ → Change
-shortChange n = record { place = n; state = 0; number = 1; step = 0 }
+shortChange n = noChange n 1 0
 
 -- ---- a finish
 abbrev pub endState : Bool → ℕ
@@ -32,7 +36,7 @@ endState good = cond good 2 3
 unfoldable pub finishChange : List Job → ℕ → Bool → FinishAnswer → Change
 unfolding jobPlace
 finishChange t s good Noted = record { place = jobPlace s 1 t; state = endState good; number = 0; step = s }
-finishChange t s good (NotRunning k) = record { place = length t; state = 0; number = 27; step = k }
+finishChange t s good (NotRunning k) = noChange (length t) 27 k
 
 unfoldable pub finishedIn : ℕ → List ℕ → ℕ → Bool → Change
 unfolding enough tableIn finishOf finishChange shortChange

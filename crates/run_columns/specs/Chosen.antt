@@ -1,6 +1,5 @@
 -- What a start makes of a table: which step starts, with what it is asked and lent.
 use Prim.Native.Nat.{ℕ}
-use mathlib.Core.Bool.{Bool}
 use mathlib.Core.List.{List, _++_}
 use mathlib.Core.Option.{Option, none, some}
 use lib.ListN.{length, take}
@@ -18,7 +17,7 @@ use Rattle.run_core.specs.Passes.{startAnswer}
 use Rattle.run_columns.specs.declared.Change.{Change}
 use Rattle.run_columns.specs.declared.Asked.{Asked}
 use Rattle.run_columns.specs.Columns.{enough, tableIn}
-use Rattle.run_columns.specs.Changes.{shortChange}
+use Rattle.run_columns.specs.Changes.{noChange, shortChange}
 
 -- How many steps and pools count: all that a plan can have (request [7]), and 64 pools beside `console` and the empty one.
 abbrev pub startSteps : ℕ
@@ -43,7 +42,7 @@ askedGiven gs ds a = givenIn startSteps gs (depthsOf ds startPools) (a .limit) (
 -- a step starts, or none: then no record changes
 unfoldable pub startChange : List Job → StartAnswer → Change
 unfolding jobPlace
-startChange t NoneStarts = record { place = length t; state = 0; number = 0; step = 0 }
+startChange t NoneStarts = noChange (length t) 0 0
 startChange t (Starts s) = record { place = jobPlace s 0 t; state = 1; number = 0; step = s }
 
 unfoldable pub startedTable : List Job → Option ℕ → List Job

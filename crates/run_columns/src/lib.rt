@@ -1,13 +1,13 @@
 // The runner's table as numbers in lent columns, and what is decided on them: the record that changes, and the answer.
 ghost use mathlib.Core.Path.{_≡_};
-ghost use Prim.Native.Nat.{_≤_, _<_, _+_, _*_};
+ghost use Prim.Native.Nat.{_<_, _+_, _*_};
 ghost use lib.ListN.{length, getD};
 ghost use Rattle.lists.specs.Lent.{Spare, Leaves};
 ghost use Rattle.run_rules.specs.Runner.{nextStart, finishOf};
 ghost use Rattle.run_core.specs.Numbers.{jobsIn, givenIn};
 ghost use Rattle.run_core.specs.Passes.{startAnswer};
 ghost use Rattle.run_columns.specs.Columns.{storedAt, noteAt, enough};
-ghost use Rattle.run_columns.specs.Changes.{shortChange, endState, finishChange, finishedIn};
+ghost use Rattle.run_columns.specs.Changes.{noChange, endState, finishChange, finishedIn};
 ghost use Rattle.run_columns.specs.Fresh.{freshJob, freshCount, freshNumber};
 ghost use Rattle.run_columns.specs.Chosen.{askedGate, depthsOf, askedGiven, startChange, startedIn};
 use run_core::StartAnswer;
@@ -124,15 +124,15 @@ pub fn note(columns: &mut [u32], n: usize, i: usize, j: Job)
     }
 }
 
-// The columns are too short for the table: a 1, and nothing changes.
-fn short(n: usize) -> Change
-    ensures { λ r. ⌜ r ≡ shortChange n ⌝ }
+// No record changes: the place is past the end of n records.
+fn no_change(n: usize, number: u32, step: u32) -> Change
+    ensures { λ r. ⌜ r ≡ noChange n number step ⌝ }
 {
     Change {
         place: n,
         state: 0,
-        number: 1,
-        step: 0,
+        number,
+        step,
     }
 }
 
@@ -157,22 +157,18 @@ fn finish_at(records: &[u32], step: u32, good: bool) -> Change
             number: 0,
             step,
         },
-        FinishAnswer::NotRunning(s) => Change {
-            place: job_count(records),
-            state: 0,
-            number: 27,
-            step: s,
-        },
+        FinishAnswer::NotRunning(s) => no_change(job_count(records), 27, s),
     }
 }
 
+// 1 where the columns are too short for the table.
 pub fn finish_change(columns: &[u32], n: usize, step: u32, good: bool) -> Change
     ensures { λ r. ⌜ r ≡ finishedIn n (now (columns .entry)) step good ⌝ }
 {
     if are_enough(columns, n) {
         return finish_at(&columns[..n * 3], step, good);
     }
-    short(n)
+    no_change(n, 1, 0)
 }
 
 // ---- a start
@@ -201,12 +197,7 @@ fn start_made(records: &[u32], answer: StartAnswer) -> Change
     ensures { λ r. ⌜ r ≡ startChange (jobsIn (now (records .entry))) answer ⌝ }
 {
     match answer {
-        StartAnswer::NoneStarts => Change {
-            place: job_count(records),
-            state: 0,
-            number: 0,
-            step: 0,
-        },
+        StartAnswer::NoneStarts => no_change(job_count(records), 0, 0),
         StartAnswer::Starts(s) => Change {
             place: place_of(records, s, 0),
             state: 1,
@@ -241,5 +232,5 @@ pub fn start_change(columns: &[u32], n: usize, links: &[u32], depths: &[u32], a:
     if are_enough(columns, n) {
         return start_at(&columns[..n * 3], links, depths, a);
     }
-    short(n)
+    no_change(n, 1, 0)
 }

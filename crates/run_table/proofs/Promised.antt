@@ -7,11 +7,11 @@ use lib.ListN.{length}
 use Rattle.lists.specs.Tests.{ifB, split}
 use Rattle.run_rules.specs.declared.Job.{Job}
 use Rattle.run_columns.specs.declared.Change.{Change}
-use Rattle.run_rules.specs.Runner.{finishOf, afterFinish, nextStart}
+use Rattle.run_rules.specs.Runner.{finishOf, nextStart}
 use Rattle.run_core.specs.Passes.{startAnswer}
 use Rattle.run_columns.specs.Columns.{enough, gathered}
 use Rattle.run_columns.specs.Changes.{changed, shortChange, finishChange, finishedIn}
-use Rattle.run_columns.specs.Chosen.{askedGiven, startChange, startedTable, startedIn}
+use Rattle.run_columns.specs.Chosen.{askedGiven, startChange, startedIn}
 use Rattle.run_columns.specs.Fresh.{freshTo, freshCount, freshNumber}
 use Rattle.run_columns.proofs.Made.{fresh-made}
 use Rattle.run_columns.proofs.Changes.{finish-table, start-table, short-table, finished-gathered, started-gathered}

@@ -1,5 +1,5 @@
 -- What the functions promise gives the rules' moves, so that what is proved of the rules holds of every run over a lent table.
-use Prim.Native.Nat.{ℕ, _<_, _≤_}
+use Prim.Native.Nat.{ℕ, _≤_}
 use mathlib.Core.Bool.{Bool, true, false, cond}
 use mathlib.Core.List.{List, [], _∷_, _++_}
 use mathlib.Core.Option.{Option, none, some}
@@ -10,18 +10,17 @@ use lib.Ieee.{Float}
 use lib.ListN.{length, take, drop}
 use lib.Seq.{take-at}
 use Rattle.lists.specs.Tests.{split}
-use Rattle.lists.specs.Members.{any, _∈_, _⊆_, Once, Each}
+use Rattle.lists.specs.Members.{any, _⊆_}
 use Rattle.orders.specs.Order.{IsOrder}
 use Rattle.orders.specs.Reach.{ComesBefore}
 use Rattle.run_rules.specs.declared.Job.{Job}
 use Rattle.run_rules.specs.declared.Gate.{Gate}
-use Rattle.run_rules.specs.declared.FinishAnswer.the-variants.{Noted, NotRunning}
+use Rattle.run_rules.specs.declared.FinishAnswer.the-variants.{Noted}
 use Rattle.run_rules.specs.Runner.{Given, nextStart, jobIs, finishOf, afterFinish}
-use Rattle.run_rules.specs.Claims.{Moves, starts, finishes, RunEvent, began, ended, TableReached, fresh-table, further-on, FreshTable, SoundTable, DeepPools, RunsOut}
+use Rattle.run_rules.specs.Claims.{starts, finishes, RunEvent, began, ended, TableReached, fresh-table, further-on, FreshTable, SoundTable, DeepPools, RunsOut}
 use Rattle.run_rules.proofs.Moved.{moved-none}
 use Rattle.run_rules.proofs.Reaching.{reached-sound}
 use Rattle.run_rules.proofs.Progress.{runs-out}
-use Rattle.run_core.specs.Numbers.{givenIn, graphRows}
 use Rattle.run_core.proofs.Upstream.{rows-fresh}
 use Rattle.run_columns.specs.declared.Asked.{Asked}
 use Rattle.run_columns.specs.declared.Change.{Change}

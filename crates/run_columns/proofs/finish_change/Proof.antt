@@ -1,3 +1,4 @@
+-- `run_columns::finish_change` meets its contract.
 use mathlib.Core.Path.{sym, _∙_}
 use lib.Seq.{length-take-le}
 use Rattle.run_columns.proofs.Tables.{enough-room}
@@ -6,33 +7,26 @@ use borrow.Author.Needs.{needs}
 use Rattle.run_columns.proofs.finish_change.Statement.{statement}
 use Rattle.run_columns.proofs.finish_change.Tie as tie
 
--- src/lib.rt:128:8
 are-enough-requires : tie.Need-are-enough-requires
 are-enough-requires c κs = search needs
 
--- src/lib.rt:129:37
 mul-finish-at : tie.Need-mul-finish-at
 mul-finish-at c = let r = enough-room _ _ (sym (c .before .are-enough .ensures) ∙ c .if1 .taken) in search needs
 
--- src/lib.rt:129:26
 slice-aggregate-finish-at : tie.Need-slice-aggregate-finish-at
 slice-aggregate-finish-at c = sym (length-take-le _ _ (enough-room _ _ (sym (c .before .before .are-enough .ensures) ∙ c .before .if1 .taken)))
 
--- src/lib.rt:129:9
 finish-at-requires : tie.Need-finish-at-requires
 finish-at-requires c κs = search needs
 
--- src/lib.rt:129:9
 returns : tie.Need-returns
 returns c = finish-long _ _ (c .before .before .before .are-enough .ensures) _ _ (c .before .before .if1 .taken) (c .finish-at .ensures)
 
--- src/lib.rt:131:5
-short-requires : tie.Need-short-requires
-short-requires c κs = search needs
+no-change-requires : tie.Need-no-change-requires
+no-change-requires c κs = search needs
 
--- src/lib.rt:125:1
 returns-2 : tie.Need-returns-2
-returns-2 c = finish-short _ _ (c .before .before .are-enough .ensures) _ _ (c .before .if1 .left) (c .short .ensures)
+returns-2 c = finish-short _ _ (c .before .before .are-enough .ensures) _ _ (c .before .if1 .left) (c .no-change .ensures)
 
 pub finish-change-spec : {M : Type 1} → statement M
 finish-change-spec =
@@ -43,5 +37,5 @@ finish-change-spec =
     slice-aggregate-finish-at
     finish-at-requires
     returns
-    short-requires
+    no-change-requires
     returns-2)

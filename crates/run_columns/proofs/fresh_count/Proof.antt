@@ -1,14 +1,13 @@
+-- `run_columns::fresh_count` meets its contract.
 use borrow.Author.Tests.{le-leb, lt-leb}
 use Rattle.run_columns.specs.Fresh.{freshCount}
 use Rattle.run_columns.proofs.fresh_count.Statement.{statement}
 use Rattle.run_columns.proofs.fresh_count.Tie as tie
 
--- src/lib.rt:74:9
 returns : tie.Need-returns
 unfolding freshCount
 returns c = rw (le-leb (c .before .args .n) (c .before .args .m) (c .if1 .taken))
 
--- src/lib.rt:70:1
 returns-2 : tie.Need-returns-2
 unfolding freshCount
 returns-2 c = rw (lt-leb (c .before .args .n) (c .before .args .m) (c .if1 .left))

@@ -1,18 +1,16 @@
+-- `run_columns::fresh_job` meets its contract.
 use mathlib.Core.Path.{ap₂}
 use Rattle.run_rules.specs.Runner.{waitingJob}
 use borrow.Author.Needs.{needs}
 use Rattle.run_columns.proofs.fresh_job.Statement.{statement}
 use Rattle.run_columns.proofs.fresh_job.Tie as tie
 
--- src/lib.rt:94:15
 number-at-requires : tie.Need-number-at-requires
 number-at-requires c κs = search needs
 
--- src/lib.rt:95:15
 number-at-requires-2 : tie.Need-number-at-requires-2
 number-at-requires-2 c κs = search needs
 
--- src/lib.rt:90:1
 returns : tie.Need-returns
 returns c = ap₂ waitingJob (c .before .number-at .ensures) (c .number-at2 .ensures)
 

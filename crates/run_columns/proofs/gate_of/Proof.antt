@@ -1,14 +1,12 @@
+-- `run_columns::gate_of` meets its contract.
 use Rattle.run_columns.specs.Chosen.{askedGate}
-use borrow.Author.Needs.{needs}
 use Rattle.run_columns.proofs.gate_of.Statement.{statement}
 use Rattle.run_columns.proofs.gate_of.Tie as tie
 
--- src/lib.rt:139:9
 returns : tie.Need-returns
 unfolding askedGate
 returns c = rw (c .if1 .taken)
 
--- src/lib.rt:135:1
 returns-2 : tie.Need-returns-2
 unfolding askedGate
 returns-2 c = rw (c .if1 .left)

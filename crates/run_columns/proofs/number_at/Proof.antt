@@ -1,22 +1,19 @@
+-- `run_columns::number_at` meets its contract.
 use mathlib.Core.Path.{sym}
 use lib.ListN.{List·getD-eq-default}
 use borrow.Author.Needs.{needs}
 use Rattle.run_columns.proofs.number_at.Statement.{statement}
 use Rattle.run_columns.proofs.number_at.Tie as tie
 
--- src/lib.rt:148:16
 mul-result : tie.Need-mul-result
 mul-result c = search needs
 
--- src/lib.rt:148:16
 shared-slice-read-result : tie.Need-shared-slice-read-result
 shared-slice-read-result c = search needs
 
--- src/lib.rt:148:9
 returns : tie.Need-returns
 returns c = search needs
 
--- src/lib.rt:144:1
 returns-2 : tie.Need-returns-2
 returns-2 c = sym (List·getD-eq-default (c .before .args .a .now) 0 (c .if1 .left))
 

@@ -1,32 +1,27 @@
+-- `run_columns::start_at` meets its contract.
 use Prim.Native.Nat.{ℕ}
-use mathlib.Core.Path.{sym, refl, ap, _∙_}
+use mathlib.Core.Path.{sym}
 use lib.ListN.{length-replicate}
 use Rattle.run_columns.proofs.Answers.{start-spaced}
 use borrow.Author.Needs.{needs}
 use Rattle.run_columns.proofs.start_at.Statement.{statement}
 use Rattle.run_columns.proofs.start_at.Tie as tie
 
--- src/lib.rt:213:17
 slice-aggregate-copy-depths : tie.Need-slice-aggregate-copy-depths
 slice-aggregate-copy-depths c = sym (length-replicate {A = ℕ} 66 0)
 
--- src/lib.rt:213:5
 copy-depths-requires : tie.Need-copy-depths-requires
 copy-depths-requires c κs = tt
 
--- src/lib.rt:214:30
 slice-aggregate-start-in : tie.Need-slice-aggregate-start-in
 slice-aggregate-start-in c = search needs
 
--- src/lib.rt:214:41
 slice-aggregate-start-in-2 : tie.Need-slice-aggregate-start-in-2
 slice-aggregate-start-in-2 c = search needs
 
--- src/lib.rt:214:5
 start-in-requires : tie.Need-start-in-requires
 start-in-requires c κs = tt
 
--- src/lib.rt:208:1
 returns : tie.Need-returns
 returns c = start-spaced _ _ _ _ (length-replicate {A = ℕ} 2048 0) (length-replicate {A = ℕ} 66 0) (c .before .before .before .before .before .before .copy-depths .ensures) (c .before .before .start-in .ensures .promise)
 

@@ -1,3 +1,4 @@
+-- `run_columns::start_in` meets its contract.
 use lib.ListN.{length}
 use Rattle.run_core.specs.Numbers.{jobsIn}
 use Rattle.run_columns.proofs.Answers.{start-gated}
@@ -5,31 +6,24 @@ use borrow.Author.Needs.{needs}
 use Rattle.run_columns.proofs.start_in.Statement.{statement}
 use Rattle.run_columns.proofs.start_in.Tie as tie
 
--- src/lib.rt:194:9
 gate-of-requires : tie.Need-gate-of-requires
 gate-of-requires c κs = search needs
 
--- src/lib.rt:200:9
 cast-start-of : tie.Need-cast-start-of
 cast-start-of c = search needs
 
--- src/lib.rt:195:9
 start-of-requires : tie.Need-start-of-requires
 start-of-requires c κs = search needs
 
--- src/lib.rt:204:5
 start-made-requires : tie.Need-start-made-requires
 start-made-requires c κs = search needs
 
--- src/lib.rt:185:1
 same-length : tie.Need-same-length
 same-length c = search needs
 
--- src/lib.rt:185:1
 same-length-2 : tie.Need-same-length-2
 same-length-2 c = search needs
 
--- src/lib.rt:185:1
 returns : tie.Need-returns
 returns c =
     let x = c .before .before .before .before .before .before .before .before .before .before .before .before .before .before .args in

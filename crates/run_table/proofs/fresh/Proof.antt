@@ -1,7 +1,7 @@
 -- `fresh`: a walk of its MIR with a loop, by hand. The table is opened once, before the loop, and closed once, after it. Each turn calls a covered function with
 -- the two `&` parameters passed on (`Steps`, `Pools` of Making.antt, two entries of the invariant) and stores the record that it returned.
 use mathlib.Core.Path.{_≡_, refl, sym, ap, subst, _∙_}
-use Prim.Native.Nat.{ℕ, zero, suc, _<_, _≤_, _^_, _+_, _*_}
+use Prim.Native.Nat.{ℕ, zero, suc, _<_, _^_, _+_, _*_}
 use native.Mathlib.Nat.{lt-of-le-of-lt, lt-of-lt-of-le, le-of-lt, zero-add, add-zero, add-suc, suc-add, le-add-left, lt-suc-self, lt-irrefl}
 use mathlib.Core.Bool.{Bool}
 use mathlib.Core.List.{[], _∷_, List}
