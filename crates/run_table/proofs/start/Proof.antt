@@ -54,10 +54,10 @@ use Rattle.run_columns.proofs.change_place.Met as place-thm
 use Rattle.run_columns.proofs.change_state.Symbol as state-def
 use Rattle.run_columns.proofs.change_state.Symbol.{name as #run-columns·change-state}
 use Rattle.run_columns.proofs.change_state.Met as state-thm
-use Rattle.run_columns.specs.declared.Asked.{Asked}
+use Rattle.run_columns.specs.declared.StartAsk.{StartAsk}
 use Rattle.run_columns.specs.Chosen.{startedIn}
-use Rattle.run_columns.proofs.Asked as As
-use Rattle.run_columns.proofs.Asked.Laws as As′
+use Rattle.run_columns.proofs.StartAsk as As
+use Rattle.run_columns.proofs.StartAsk.Laws as As′
 use Rattle.run_table.proofs.Choosing as choosing
 use Rattle.run_table.proofs.Choosing.{Start}
 use Rattle.run_table.proofs.Walks.{unit-typed, word-typed, half-typed}
@@ -79,10 +79,10 @@ abbrev stayed : Stays (start.ended .signature .params) (start.ended .kept)
 stayed = (stay-slice (0 ∷ []) tt (plain (λ _. T.the-row)), (stay-slice (1 ∷ []) tt (plain (λ _. u32)), (stay-none-slice (2 ∷ []) tt (plain (λ _. u32)) yes, (stay-none-slice (3 ∷ []) tt (plain (λ _. u32)) yes, (stay-none (λ _. As.the-row) yes, tt)))))
 
 abbrev Arg : Type 0
-Arg = RefT (List Job) × (RefT (List ℕ) × (RefT (List ℕ) × (RefT (List ℕ) × (Asked × Unit {0}))))
+Arg = RefT (List Job) × (RefT (List ℕ) × (RefT (List ℕ) × (RefT (List ℕ) × (StartAsk × Unit {0}))))
 
 -- b, o, γ, ys: the table; c, p, γ′, cs: the columns; g, h, δ₁, gs: the links; d, f, δ₂, ds: the depths; a, w: what is asked, and its machine value
-module _ {M : Type 1} (𝓤 : URA M) (H : Heap 𝓤) (A : Atoms 𝓤) (W : Given 𝓤 H A) (at-mem : Memory → SProp 𝓤) (run : Routine → Fun 𝓤) (κ κ′ κ₁ κ₂ : Lft) (q q′ q₁ q₂ : Share) (b o : ℕ) (γ : GName) (ys : List Job) (c p : ℕ) (γ′ : GName) (cs : List ℕ) (g h : ℕ) (δ₁ : GName) (gs : List ℕ) (d f : ℕ) (δ₂ : GName) (ds : List ℕ) (a : Asked) (w : Val) where
+module _ {M : Type 1} (𝓤 : URA M) (H : Heap 𝓤) (A : Atoms 𝓤) (W : Given 𝓤 H A) (at-mem : Memory → SProp 𝓤) (run : Routine → Fun 𝓤) (κ κ′ κ₁ κ₂ : Lft) (q q′ q₁ q₂ : Share) (b o : ℕ) (γ : GName) (ys : List Job) (c p : ℕ) (γ′ : GName) (cs : List ℕ) (g h : ℕ) (δ₁ : GName) (gs : List ℕ) (d f : ℕ) (δ₂ : GName) (ds : List ℕ) (a : StartAsk) (w : Val) where
   abbrev n : ℕ
   n = length ys
 
