@@ -1,5 +1,6 @@
--- `start`: a walk of its MIR, by hand. The walk of `finish`, with two `&` parameters that are passed on (`Links`, `Depths` of Choosing.antt). What is had of each slice is one entry of the context (`Jobs`,
--- `Cols` of Calls.antt), and a call is five lines: the entry goes to the callee, the call, it comes back, and the result lands.
+-- `start`: a walk of its MIR, by hand. It is the walk of `finish`, with two `&` parameters that are passed on (`Links`, `Depths` of Choosing.antt). What is had of
+-- each slice is one entry of the context (`Jobs`, `Cols` of Calls.antt), and a call is five lines: the entry goes to the callee, the call, it comes back, and the
+-- result lands.
 use mathlib.Core.Path.{_≡_, refl}
 use Prim.Native.Nat.{ℕ, _<_, _^_}
 use mathlib.Core.List.{[], _∷_, List}
