@@ -23,7 +23,7 @@ use Rattle.run_core.specs.declared.StartAnswer.the-variants.{Starts, NoneStarts
 use Rattle.run_core.specs.Numbers.{jobsIn, givenIn}
 use Rattle.run_core.specs.Passes.{startAnswer}
 use Rattle.run_columns.specs.declared.Change.{Change}
-use Rattle.run_columns.specs.declared.Asked.{Asked}
+use Rattle.run_columns.specs.declared.StartAsk.{StartAsk}
 use Rattle.run_columns.specs.Columns.{enough, tableIn}
 use Rattle.run_columns.specs.Changes.{noChange, shortChange, endState, finishChange, finishedIn}
 use Rattle.run_columns.specs.Chosen.{startSteps, startPools, askedGate, depthsOf, askedGiven, startChange, startedIn}
@@ -49,7 +49,7 @@ module _ (t : List Job) {f : StartAnswer} where
   start-some d p = rw (d, p)
 
 -- ---- start_in, start_at
-module _ (t : List Job) (gs : List ℕ) (a : Asked) {r : Change} where
+module _ (t : List Job) (gs : List ℕ) (a : StartAsk) {r : Change} where
   pub start-gated : {f : StartAnswer} {g : Gate} (n : ℕ) (room : List ℕ) → r ≡ startChange t f → f ≡ startAnswer (nextStart (givenIn n gs room (a .limit) g) (a .load) t) → g ≡ askedGate a
       → r ≡ startChange t (startAnswer (nextStart (givenIn n gs room (a .limit) (askedGate a)) (a .load) t))
   start-gated n room e d q = e ∙ ap (startChange t) (d ∙ ap (λ (g : Gate). startAnswer (nextStart (givenIn n gs room (a .limit) g) (a .load) t)) q)
@@ -72,11 +72,11 @@ module _ (n : ℕ) (cs : List ℕ) {b : Bool} {r : Change} (e : b ≡ enough n c
   unfolding finishedIn shortChange
   finish-short s good d h = rw (sym e ∙ d) h
 
-  pub start-long : (gs ds : List ℕ) (a : Asked) → b ≡ true → r ≡ startChange (jobsIn (take (n * 3) cs)) (startAnswer (nextStart (askedGiven gs ds a) (a .load) (jobsIn (take (n * 3) cs)))) → r ≡ startedIn n cs gs ds a
+  pub start-long : (gs ds : List ℕ) (a : StartAsk) → b ≡ true → r ≡ startChange (jobsIn (take (n * 3) cs)) (startAnswer (nextStart (askedGiven gs ds a) (a .load) (jobsIn (take (n * 3) cs)))) → r ≡ startedIn n cs gs ds a
   unfolding startedIn tableIn
   start-long gs ds a d h = rw (sym e ∙ d) h
 
-  pub start-short : (gs ds : List ℕ) (a : Asked) → b ≡ false → r ≡ noChange n 1 0 → r ≡ startedIn n cs gs ds a
+  pub start-short : (gs ds : List ℕ) (a : StartAsk) → b ≡ false → r ≡ noChange n 1 0 → r ≡ startedIn n cs gs ds a
   unfolding startedIn shortChange
   start-short gs ds a d h = rw (sym e ∙ d) h
 

@@ -15,7 +15,7 @@ use Rattle.run_rules.proofs.Moved.{moved-none}
 use Rattle.run_core.specs.Numbers.{noJob}
 use Rattle.run_core.specs.Passes.{startAnswer}
 use Rattle.lists.specs.Members.{any}
-use Rattle.run_columns.specs.declared.Asked.{Asked}
+use Rattle.run_columns.specs.declared.StartAsk.{StartAsk}
 use Rattle.run_columns.specs.Columns.{enough, gathered}
 use Rattle.run_columns.specs.Changes.{changed, turnedAt, shortChange, endState, finishChange, finishedIn}
 use Rattle.run_columns.specs.Chosen.{askedGiven, startChange, startedTable, startedIn}
@@ -54,7 +54,7 @@ module _ (t : List Job) (cs : List ℕ) where
       (λ (e : enough (length t) cs ≡ true). rw (same, e, table-gathered t cs e))
       (λ (e : enough (length t) cs ≡ false). rw (same, e))
 
-  pub started-gathered : (gs ds : List ℕ) (a : Asked)
+  pub started-gathered : (gs ds : List ℕ) (a : StartAsk)
       → startedIn (length t) (gathered t cs) gs ds a ≡ ifB (enough (length t) cs) (λ _. startChange t (startAnswer (nextStart (askedGiven gs ds a) (a .load) t))) (λ _. shortChange (length t))
   unfolding startedIn
   started-gathered gs ds a =

@@ -15,7 +15,7 @@ use Rattle.run_core.specs.declared.StartAnswer.the-variants.{Starts, NoneStarts
 use Rattle.run_core.specs.Numbers.{givenIn}
 use Rattle.run_core.specs.Passes.{startAnswer}
 use Rattle.run_columns.specs.declared.Change.{Change}
-use Rattle.run_columns.specs.declared.Asked.{Asked}
+use Rattle.run_columns.specs.declared.StartAsk.{StartAsk}
 use Rattle.run_columns.specs.Columns.{enough, tableIn}
 use Rattle.run_columns.specs.Changes.{noChange, shortChange}
 
@@ -27,7 +27,7 @@ abbrev pub startPools : ℕ
 startPools = 66
 
 -- "The load gate is off, or a highest load as a float"
-unfoldable pub askedGate : Asked → Gate
+unfoldable pub askedGate : StartAsk → Gate
 askedGate a = ifB (a .gated) (λ _. At (a .highest)) (λ _. Off)
 
 -- the depths of n pools; a pool without one has 0
@@ -35,7 +35,7 @@ unfoldable pub depthsOf : List ℕ → ℕ → List ℕ
 depthsOf ds n = take n (ds ++ zeros n)
 
 -- what a start is given: rows, depths, and what is asked
-unfoldable pub askedGiven : List ℕ → List ℕ → Asked → Given
+unfoldable pub askedGiven : List ℕ → List ℕ → StartAsk → Given
 unfolding askedGate depthsOf
 askedGiven gs ds a = givenIn startSteps gs (depthsOf ds startPools) (a .limit) (askedGate a)
 
@@ -50,6 +50,6 @@ unfolding afterStart
 startedTable t none = t
 startedTable t (some s) = afterStart t s
 
-unfoldable pub startedIn : ℕ → List ℕ → List ℕ → List ℕ → Asked → Change
+unfoldable pub startedIn : ℕ → List ℕ → List ℕ → List ℕ → StartAsk → Change
 unfolding enough tableIn startAnswer nextStart askedGiven startChange shortChange
 startedIn n cs gs ds a = ifB (enough n cs) (λ _. startChange (tableIn n cs) (startAnswer (nextStart (askedGiven gs ds a) (a .load) (tableIn n cs)))) (λ _. shortChange n)

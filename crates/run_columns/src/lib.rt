@@ -36,7 +36,7 @@ pub struct Change {
 
 // What a start is asked with, for C too: the job limit, the load gate, on or off with its highest load, and the reading.
 #[repr(C)]
-pub struct Asked {
+pub struct StartAsk {
     pub limit: u32,
     pub gated: bool,
     pub highest: f64,
@@ -172,7 +172,7 @@ pub fn finish_change(columns: &[u32], n: usize, step: u32, good: bool) -> Change
 }
 
 // ---- a start
-fn gate_of(a: Asked) -> Gate
+fn gate_of(a: StartAsk) -> Gate
     ensures { λ r. ⌜ r ≡ askedGate a ⌝ }
 {
     if a.gated {
@@ -208,7 +208,13 @@ fn start_made(records: &[u32], answer: StartAnswer) -> Change
 }
 
 // With the depths in `room`, which is working space behind it, as `marks` is.
-fn start_in(records: &[u32], links: &[u32], room: &mut [u32], marks: &mut [u32], a: Asked) -> Change
+fn start_in(
+    records: &[u32],
+    links: &[u32],
+    room: &mut [u32],
+    marks: &mut [u32],
+    a: StartAsk,
+) -> Change
     ensures { λ r. ⌜ Leaves (Spare (now (room .entry)) (now (room .exit)) × Spare (now (marks .entry)) (now (marks .exit))) (r ≡ startChange (jobsIn (now (records .entry))) (startAnswer (nextStart (givenIn (length (now (marks .entry))) (now (links .entry)) (now (room .entry)) (a .limit) (askedGate a)) (a .load) (jobsIn (now (records .entry)))))) ⌝ }
 {
     let gate = gate_of(a);
@@ -217,7 +223,7 @@ fn start_in(records: &[u32], links: &[u32], room: &mut [u32], marks: &mut [u32],
 }
 
 // The same, with the working space.
-fn start_at(records: &[u32], links: &[u32], depths: &[u32], a: Asked) -> Change
+fn start_at(records: &[u32], links: &[u32], depths: &[u32], a: StartAsk) -> Change
     ensures { λ r. ⌜ r ≡ startChange (jobsIn (now (records .entry))) (startAnswer (nextStart (askedGiven (now (links .entry)) (now (depths .entry)) a) (a .load) (jobsIn (now (records .entry))))) ⌝ }
 {
     let mut marks = [0u32; STEPS];
@@ -226,7 +232,7 @@ fn start_at(records: &[u32], links: &[u32], depths: &[u32], a: Asked) -> Change
     start_in(records, links, &mut room, &mut marks, a)
 }
 
-pub fn start_change(columns: &[u32], n: usize, links: &[u32], depths: &[u32], a: Asked) -> Change
+pub fn start_change(columns: &[u32], n: usize, links: &[u32], depths: &[u32], a: StartAsk) -> Change
     ensures { λ r. ⌜ r ≡ startedIn n (now (columns .entry)) (now (links .entry)) (now (depths .entry)) a ⌝ }
 {
     if are_enough(columns, n) {

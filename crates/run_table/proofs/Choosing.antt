@@ -29,9 +29,9 @@ use denote.Triple.Statement.{Contract}
 use denote.Triple.Clauses.{ensured, lasts}
 use Rattle.run_columns.specs.declared.Change.{Change}
 use Rattle.run_columns.proofs.Change as Ch
-use Rattle.run_columns.specs.declared.Asked.{Asked}
-use Rattle.run_columns.proofs.Asked as As
-use Rattle.run_columns.proofs.Asked.Laws as As′
+use Rattle.run_columns.specs.declared.StartAsk.{StartAsk}
+use Rattle.run_columns.proofs.StartAsk as As
+use Rattle.run_columns.proofs.StartAsk.Laws as As′
 use Rattle.run_columns.specs.Chosen.{startedIn}
 use Rattle.run_columns.proofs.start_change as start′
 use Rattle.run_table.proofs.Lending.{LentShared, lends-shared, shared-back}
@@ -42,7 +42,7 @@ abbrev pub Start : {M : Type 1} (𝓤 : URA M) (H : Heap 𝓤) (A : Atoms 𝓤) 
 Start 𝓤 H A at-mem run = tripleOf 𝓤 H A start′.signature (start′.spec 𝓤 H A at-mem run)
 
 -- g, h, δ₁, gs: the links; e, f, δ₂, ds: the depths; a, w: what is asked, and its machine value
-module _ {M : Type 1} (𝓤 : URA M) (H : Heap 𝓤) (A : Atoms 𝓤) (W : Given 𝓤 H A) (at-mem : Memory → SProp 𝓤) (run : Routine → Fun 𝓤) (κ κ′ κ₁ κ₂ : Lft) (q q′ q₁ q₂ : Share) (b o : ℕ) (γ : GName) (c p : ℕ) (γ′ : GName) (g h : ℕ) (δ₁ : GName) (gs : List ℕ) (e f : ℕ) (δ₂ : GName) (ds : List ℕ) (n : ℕ) (a : Asked) (w : Val) where
+module _ {M : Type 1} (𝓤 : URA M) (H : Heap 𝓤) (A : Atoms 𝓤) (W : Given 𝓤 H A) (at-mem : Memory → SProp 𝓤) (run : Routine → Fun 𝓤) (κ κ′ κ₁ κ₂ : Lft) (q q′ q₁ q₂ : Share) (b o : ℕ) (γ : GName) (c p : ℕ) (γ′ : GName) (g h : ℕ) (δ₁ : GName) (gs : List ℕ) (e f : ℕ) (δ₂ : GName) (ds : List ℕ) (n : ℕ) (a : StartAsk) (w : Val) where
   abbrev columns : GName → List ℕ → RefT (List ℕ)
   columns δ cs = record { ptr = (c, p); name = δ; now = cs }
 

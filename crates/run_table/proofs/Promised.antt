@@ -15,7 +15,7 @@ use Rattle.run_columns.specs.Chosen.{askedGiven, startChange, startedIn}
 use Rattle.run_columns.specs.Fresh.{freshTo, freshCount, freshNumber}
 use Rattle.run_columns.proofs.Made.{fresh-made}
 use Rattle.run_columns.proofs.Changes.{finish-table, start-table, short-table, finished-gathered, started-gathered}
-use Rattle.run_columns.specs.declared.Asked.{Asked}
+use Rattle.run_columns.specs.declared.StartAsk.{StartAsk}
 use Rattle.run_table.specs.Promises.{Fresh, Finished, Started}
 
 pub fresh-promised : (t : List Job) (ss ps : List ℕ) → Fresh t ss ps (freshNumber (length t) (length ss)) (freshTo ss ps (freshCount (length t) (length ss)) t)
@@ -38,7 +38,7 @@ finished t s good cs =
       columns = refl;
     }
 
-pub started : (t : List Job) (gs ds : List ℕ) (a : Asked) (cs : List ℕ)
+pub started : (t : List Job) (gs ds : List ℕ) (a : StartAsk) (cs : List ℕ)
     → Started t gs ds a cs (startedIn (length t) (gathered t cs) gs ds a) (changed t (startedIn (length t) (gathered t cs) gs ds a)) (gathered t cs)
 started t gs ds a cs =
     let o = nextStart (askedGiven gs ds a) (a .load) t in

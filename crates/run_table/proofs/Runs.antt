@@ -22,7 +22,7 @@ use Rattle.run_rules.proofs.Moved.{moved-none}
 use Rattle.run_rules.proofs.Reaching.{reached-sound}
 use Rattle.run_rules.proofs.Progress.{runs-out}
 use Rattle.run_core.proofs.Upstream.{rows-fresh}
-use Rattle.run_columns.specs.declared.Asked.{Asked}
+use Rattle.run_columns.specs.declared.StartAsk.{StartAsk}
 use Rattle.run_columns.specs.declared.Change.{Change}
 use Rattle.run_columns.specs.Columns.{enough}
 use Rattle.run_columns.specs.Changes.{shortChange, finishChange}
@@ -31,7 +31,7 @@ use Rattle.run_columns.specs.Chosen.{startSteps, startPools, depthsOf, askedGat
 use Rattle.run_columns.proofs.Made.{fresh-steps, fresh-waits, fresh-table-length}
 use Rattle.run_core.specs.Passes.{startAnswer}
 use Rattle.run_table.specs.Promises.{Fresh, Finished, Started}
-use Rattle.run_table.specs.Runs.{StartOutcome, starts-step, none-starts, start-lacks-room, FinishOutcome, notes, refuses, finish-lacks-room, startEvents, finishEvents, runGiven, Ran, unasked, start-asked, finish-asked, RowsOf}
+use Rattle.run_table.specs.Runs.{StartOutcome, starts-step, none-starts, start-lacks-room, FinishOutcome, notes, refuses, finish-lacks-room, startEvents, finishEvents, runGiven, LentRun, unasked, start-asked, finish-asked, RowsOf}
 
 -- ---- the answers by their cases
 module _ {g : Given} {load : Float} {t : List Job} {r : Change} {t′ : List Job} where
@@ -44,7 +44,7 @@ module _ {g : Given} {load : Float} {t : List Job} {r : Change} {t′ : List Job
   unfolding shortChange
   start-short q d = start-lacks-room (ap (λ (c : Change). c .number) q) (ap (λ (c : Change). c .state) q) d
 
-pub start-outcome : {t : List Job} {gs ds : List ℕ} {x : Asked} {cs : List ℕ} {r : Change} {t′ : List Job} {cs′ : List ℕ} → Started t gs ds x cs r t′ cs′
+pub start-outcome : {t : List Job} {gs ds : List ℕ} {x : StartAsk} {cs : List ℕ} {r : Change} {t′ : List Job} {cs′ : List ℕ} → Started t gs ds x cs r t′ cs′
     → StartOutcome (askedGiven gs ds x) (x .load) t r t′
 start-outcome {t} {gs} {ds} {x} {cs} h =
     split (enough (length t) cs)
@@ -84,11 +84,11 @@ module _ {g : Given} {a : List Job} {es : List RunEvent} {t t′ : List Job} {r 
   finished-on (finish-lacks-room n d) = rw (n, d) h
 
 -- an ask of the run is given what the run is
-asked-run : (gs ds : List ℕ) {limit : ℕ} {gate : Gate} (x : Asked) → x .limit ≡ limit → askedGate x ≡ gate → askedGiven gs ds x ≡ runGiven gs ds limit gate
+asked-run : (gs ds : List ℕ) {limit : ℕ} {gate : Gate} (x : StartAsk) → x .limit ≡ limit → askedGate x ≡ gate → askedGiven gs ds x ≡ runGiven gs ds limit gate
 unfolding askedGiven
 asked-run gs ds x e d = ap₂ (λ (k : ℕ) (w : Gate). runGiven gs ds k w) e d
 
-pub ran-reached : {gs ds : List ℕ} {limit : ℕ} {gate : Gate} {a : List Job} {es : List RunEvent} {t : List Job} → Ran gs ds limit gate a es t → TableReached (runGiven gs ds limit gate) a es t
+pub ran-reached : {gs ds : List ℕ} {limit : ℕ} {gate : Gate} {a : List Job} {es : List RunEvent} {t : List Job} → LentRun gs ds limit gate a es t → TableReached (runGiven gs ds limit gate) a es t
 ran-reached (unasked e) = fresh-table e
 ran-reached {gs} {ds} (start-asked {t = t} {t′ = t′} {x = x} {r = r} h e d s) =
     started-on (ran-reached h) (subst (λ (g : Given). StartOutcome g (x .load) t r t′) (asked-run gs ds x e d) (start-outcome s))
@@ -112,7 +112,7 @@ module _ {Want : ℕ → Type 0} {before : ℕ → List ℕ} {l ss gs : List ℕ
 
   -- "its pool has room", "the job limit allows it", "every listed step upstream is done", each at most once: along every run over the front of a table that
   -- `fresh` has filled
-  pub run-sound : {t₀ t₁ : List Job} {r : ℕ} {es : List RunEvent} {t : List Job} → Fresh t₀ ss ps r t₁ → r ≡ 0 → Ran gs ds limit gate (take (length ss) t₁) es t
+  pub run-sound : {t₀ t₁ : List Job} {r : ℕ} {es : List RunEvent} {t : List Job} → Fresh t₀ ss ps r t₁ → r ≡ 0 → LentRun gs ds limit gate (take (length ss) t₁) es t
       → SoundTable (runGiven gs ds limit gate) (freshTable ss ps) es t
   run-sound {es = es} {t = t} h e m = reached-sound run-fresh (subst (λ (a : List Job). TableReached (runGiven gs ds limit gate) a es t) (fresh-front h e) (ran-reached m))
 
@@ -122,7 +122,7 @@ module _ {Want : ℕ → Type 0} {before : ℕ → List ℕ} {l ss gs : List ℕ
   run-out one deep = runs-out run-fresh deep one
 
 -- "the runner starts and names the lowest such step": where there is one, a start with columns that are long enough names it
-pub start-told : {t : List Job} {gs ds : List ℕ} {x : Asked} {cs : List ℕ} {r : Change} {t′ : List Job} {cs′ : List ℕ} {s : ℕ} → Started t gs ds x cs r t′ cs′ → enough (length t) cs ≡ true
+pub start-told : {t : List Job} {gs ds : List ℕ} {x : StartAsk} {cs : List ℕ} {r : Change} {t′ : List Job} {cs′ : List ℕ} {s : ℕ} → Started t gs ds x cs r t′ cs′ → enough (length t) cs ≡ true
     → nextStart (askedGiven gs ds x) (x .load) t ≡ some s → startEvents r ≡ began s ∷ []
 unfolding startEvents startAnswer startChange
 start-told h e d =

@@ -10,7 +10,7 @@ use Rattle.lists.specs.Tests.{ifB}
 use Rattle.run_rules.specs.declared.Job.{Job}
 use Rattle.run_rules.specs.Runner.{finishOf, afterFinish, nextStart}
 use Rattle.run_core.specs.Passes.{startAnswer}
-use Rattle.run_columns.specs.declared.Asked.{Asked}
+use Rattle.run_columns.specs.declared.StartAsk.{StartAsk}
 use Rattle.run_columns.specs.declared.Change.{Change}
 use Rattle.run_columns.specs.Fresh.{freshTable, freshNumber}
 use Rattle.run_columns.specs.Columns.{enough, gathered}
@@ -29,7 +29,7 @@ pub record Finished (t : List Job) (s : ℕ) (good : Bool) (cs : List ℕ) (r : 
   pub columns : cs′ ≡ gathered t cs
 
 -- of a start, with the rows of the graph, the depths of the pools and what is asked: the step that is named is the one that starts
-pub record Started (t : List Job) (gs ds : List ℕ) (a : Asked) (cs : List ℕ) (r : Change) (t′ : List Job) (cs′ : List ℕ) : Type 0 where
+pub record Started (t : List Job) (gs ds : List ℕ) (a : StartAsk) (cs : List ℕ) (r : Change) (t′ : List Job) (cs′ : List ℕ) : Type 0 where
   pub says : r ≡ ifB (enough (length t) cs) (λ _. startChange t (startAnswer (nextStart (askedGiven gs ds a) (a .load) t))) (λ _. shortChange (length t))
   pub table : t′ ≡ ifB (enough (length t) cs) (λ _. startedTable t (nextStart (askedGiven gs ds a) (a .load) t)) (λ _. t)
   pub columns : cs′ ≡ gathered t cs

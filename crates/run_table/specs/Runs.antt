@@ -16,7 +16,7 @@ use Rattle.run_rules.specs.declared.FinishAnswer.the-variants.{Noted, NotRunnin
 use Rattle.run_rules.specs.Runner.{Given, nextStart, afterStart, finishOf, afterFinish}
 use Rattle.run_rules.specs.Claims.{RunEvent, began, ended}
 use Rattle.run_core.specs.Numbers.{givenIn, graphRows}
-use Rattle.run_columns.specs.declared.Asked.{Asked}
+use Rattle.run_columns.specs.declared.StartAsk.{StartAsk}
 use Rattle.run_columns.specs.declared.Change.{Change}
 use Rattle.run_columns.specs.Chosen.{startSteps, startPools, depthsOf, askedGate}
 use Rattle.run_table.specs.Promises.{Finished, Started}
@@ -44,14 +44,14 @@ finishEvents s good r = ifB (eqb (r .number) 0) (λ _. ended s good ∷ []) (λ 
 abbrev pub runGiven : List ℕ → List ℕ → ℕ → Gate → Given
 runGiven gs ds limit gate = givenIn startSteps gs (depthsOf ds startPools) limit gate
 
--- Asked again and again over one table, from a on: the job limit and the gate stay, load readings, columns and what is finished are any. The newest event is
+-- StartAsk again and again over one table, from a on: the job limit and the gate stay, load readings, columns and what is finished are any. The newest event is
 -- the first.
-pub data Ran (gs ds : List ℕ) (limit : ℕ) (gate : Gate) (a : List Job) : List RunEvent → List Job → Type 0 where
-  unasked : {t : List Job} → t ≡ a → Ran gs ds limit gate a [] t
-  start-asked : {es : List RunEvent} {t t′ : List Job} {cs cs′ : List ℕ} {x : Asked} {r : Change} → Ran gs ds limit gate a es t → x .limit ≡ limit → askedGate x ≡ gate
-      → Started t gs ds x cs r t′ cs′ → Ran gs ds limit gate a (startEvents r ++ es) t′
-  finish-asked : {es : List RunEvent} {t t′ : List Job} {cs cs′ : List ℕ} {s : ℕ} {good : Bool} {r : Change} → Ran gs ds limit gate a es t
-      → Finished t s good cs r t′ cs′ → Ran gs ds limit gate a (finishEvents s good r ++ es) t′
+pub data LentRun (gs ds : List ℕ) (limit : ℕ) (gate : Gate) (a : List Job) : List RunEvent → List Job → Type 0 where
+  unasked : {t : List Job} → t ≡ a → LentRun gs ds limit gate a [] t
+  start-asked : {es : List RunEvent} {t t′ : List Job} {cs cs′ : List ℕ} {x : StartAsk} {r : Change} → LentRun gs ds limit gate a es t → x .limit ≡ limit → askedGate x ≡ gate
+      → Started t gs ds x cs r t′ cs′ → LentRun gs ds limit gate a (startEvents r ++ es) t′
+  finish-asked : {es : List RunEvent} {t t′ : List Job} {cs cs′ : List ℕ} {s : ℕ} {good : Bool} {r : Change} → LentRun gs ds limit gate a es t
+      → Finished t s good cs r t′ cs′ → LentRun gs ds limit gate a (finishEvents s good r ++ es) t′
 
 -- The rows gs are those of l, an order of the graph by what each of its steps comes after directly, and the steps ss are listed in an order of their own.
 pub record RowsOf (Want : ℕ → Type 0) (before : ℕ → List ℕ) (l ss gs : List ℕ) : Type 0 where

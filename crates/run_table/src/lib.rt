@@ -4,8 +4,8 @@ ghost use Prim.Native.Nat.{_<_};
 ghost use Rattle.run_columns.specs.Columns.{gathered};
 ghost use Rattle.run_columns.specs.Changes.{turnedAt};
 ghost use Rattle.run_table.specs.Promises.{Fresh, Finished, Started};
-use run_columns::Asked;
 use run_columns::Change;
+use run_columns::StartAsk;
 use run_columns::change_place;
 use run_columns::change_state;
 use run_columns::finish_change;
@@ -70,7 +70,7 @@ pub fn start(
     columns: &mut [u32],
     links: &[u32],
     depths: &[u32],
-    a: Asked,
+    a: StartAsk,
 ) -> Change
     ensures { λ r. ⌜ Started (now (jobs .entry)) (now (links .entry)) (now (depths .entry)) a (now (columns .entry)) r (now (jobs .exit)) (now (columns .exit)) ⌝ }
 {

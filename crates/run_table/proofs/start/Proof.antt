@@ -1,5 +1,6 @@
--- `start`: a walk of its MIR, by hand. The walk of `finish`, with two `&` parameters that are passed on (`Links`, `Depths` of Choosing.antt). What is had of each slice is one entry of the context (`Jobs`,
--- `Cols` of Calls.antt), and a call is five lines: the entry goes to the callee, the call, it comes back, and the result lands.
+-- `start`: a walk of its MIR, by hand. It is the walk of `finish`, with two `&` parameters that are passed on (`Links`, `Depths` of Choosing.antt). What is had of
+-- each slice is one entry of the context (`Jobs`, `Cols` of Calls.antt), and a call is five lines: the entry goes to the callee, the call, it comes back, and the
+-- result lands.
 use mathlib.Core.Path.{_≡_, refl}
 use Prim.Native.Nat.{ℕ, _<_, _^_}
 use mathlib.Core.List.{[], _∷_, List}
@@ -54,10 +55,10 @@ use Rattle.run_columns.proofs.change_place.Met as place-thm
 use Rattle.run_columns.proofs.change_state.Symbol as state-def
 use Rattle.run_columns.proofs.change_state.Symbol.{name as #run-columns·change-state}
 use Rattle.run_columns.proofs.change_state.Met as state-thm
-use Rattle.run_columns.specs.declared.Asked.{Asked}
+use Rattle.run_columns.specs.declared.StartAsk.{StartAsk}
 use Rattle.run_columns.specs.Chosen.{startedIn}
-use Rattle.run_columns.proofs.Asked as As
-use Rattle.run_columns.proofs.Asked.Laws as As′
+use Rattle.run_columns.proofs.StartAsk as As
+use Rattle.run_columns.proofs.StartAsk.Laws as As′
 use Rattle.run_table.proofs.Choosing as choosing
 use Rattle.run_table.proofs.Choosing.{Start}
 use Rattle.run_table.proofs.Walks.{unit-typed, word-typed, half-typed}
@@ -79,10 +80,10 @@ abbrev stayed : Stays (start.ended .signature .params) (start.ended .kept)
 stayed = (stay-slice (0 ∷ []) tt (plain (λ _. T.the-row)), (stay-slice (1 ∷ []) tt (plain (λ _. u32)), (stay-none-slice (2 ∷ []) tt (plain (λ _. u32)) yes, (stay-none-slice (3 ∷ []) tt (plain (λ _. u32)) yes, (stay-none (λ _. As.the-row) yes, tt)))))
 
 abbrev Arg : Type 0
-Arg = RefT (List Job) × (RefT (List ℕ) × (RefT (List ℕ) × (RefT (List ℕ) × (Asked × Unit {0}))))
+Arg = RefT (List Job) × (RefT (List ℕ) × (RefT (List ℕ) × (RefT (List ℕ) × (StartAsk × Unit {0}))))
 
 -- b, o, γ, ys: the table; c, p, γ′, cs: the columns; g, h, δ₁, gs: the links; d, f, δ₂, ds: the depths; a, w: what is asked, and its machine value
-module _ {M : Type 1} (𝓤 : URA M) (H : Heap 𝓤) (A : Atoms 𝓤) (W : Given 𝓤 H A) (at-mem : Memory → SProp 𝓤) (run : Routine → Fun 𝓤) (κ κ′ κ₁ κ₂ : Lft) (q q′ q₁ q₂ : Share) (b o : ℕ) (γ : GName) (ys : List Job) (c p : ℕ) (γ′ : GName) (cs : List ℕ) (g h : ℕ) (δ₁ : GName) (gs : List ℕ) (d f : ℕ) (δ₂ : GName) (ds : List ℕ) (a : Asked) (w : Val) where
+module _ {M : Type 1} (𝓤 : URA M) (H : Heap 𝓤) (A : Atoms 𝓤) (W : Given 𝓤 H A) (at-mem : Memory → SProp 𝓤) (run : Routine → Fun 𝓤) (κ κ′ κ₁ κ₂ : Lft) (q q′ q₁ q₂ : Share) (b o : ℕ) (γ : GName) (ys : List Job) (c p : ℕ) (γ′ : GName) (cs : List ℕ) (g h : ℕ) (δ₁ : GName) (gs : List ℕ) (d f : ℕ) (δ₂ : GName) (ds : List ℕ) (a : StartAsk) (w : Val) where
   abbrev n : ℕ
   n = length ys
 
