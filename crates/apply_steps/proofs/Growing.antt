@@ -1,20 +1,19 @@
 -- The tables of the graph with a step more.
 use Prim.Native.Nat.{ℕ, suc, _+_, _<_}
 use mathlib.Core.Bool.{Bool, true, false, or-false}
-use mathlib.Core.List.{List, [], _∷_, _++_, map, append-assoc, append-nil}
+use mathlib.Core.List.{List, [], _∷_, _++_, append-nil}
 use mathlib.Core.Path.{_≡_, refl, sym, _∙_, ap}
 use native.Mathlib.Numerals.{add-one}
 use native.Mathlib.Omega.{arith}
 use borrow.Author.Tests.{eqb-true, eqb-false}
 use lib.Dec.{eqb}
-use lib.ListN.{length, getD, set, length-set, length-append}
+use lib.ListN.{length, getD, set, length-set}
 use lib.Seq.{getD-set-same, getD-set-other}
 use Rattle.lists.specs.Tests.{ifB, split, or-left, or-right}
 use Rattle.lists.specs.Members.{has}
-use Rattle.spec.specs.Basics.{concat}
 use Rattle.spec.specs.Reading.{Step}
-use Rattle.spec.specs.Graph.{inputs, makers, makersFrom}
-use Rattle.hold_columns.specs.Columns.{mentionsOf, stepEndsFrom, madeBy, makerIn, HoldsColumns}
+use Rattle.spec.specs.Graph.{makers, makersFrom}
+use Rattle.hold_columns.specs.Columns.{madeBy, makerIn, HoldsColumns}
 use Rattle.hold_columns.proofs.Held.{held-makers}
 use Rattle.apply_step_columns.specs.StepColumns.{setAll}
 

@@ -1,6 +1,6 @@
 -- The test entry by entry, and what it says of the reading where nothing has that name.
 use Prim.Native.Nat.{ℕ, zero, suc, _+_, _≤_, _<_}
-use mathlib.Core.Bool.{Bool, true, false, _||_}
+use mathlib.Core.Bool.{Bool, true, false}
 use mathlib.Core.List.{List, [], _∷_}
 use mathlib.Core.Option.{none}
 use mathlib.Core.Path.{_≡_, refl, sym, _∙_, ap}
@@ -8,13 +8,13 @@ use native.Mathlib.Nat.{not-suc-le-zero}
 use native.Mathlib.Decide.{decLt}
 use native.Mathlib.Omega.{arith}
 use lib.Dec.{eqb}
-use lib.ListN.{length, getD, List·getD-eq-default}
-use Rattle.lists.specs.Tests.{ifB, split, or-false, or-left, or-right}
+use lib.ListN.{length, List·getD-eq-default}
+use Rattle.lists.specs.Tests.{split, or-false, or-left, or-right}
 use Rattle.lists.specs.Bytes.{eqBytes}
 use Rattle.lists.specs.Members.{any}
 use Rattle.spec.specs.declared.Key.the-variants.{Depfile as depfileKey}
 use Rattle.spec.specs.Text.{keyName}
-use Rattle.spec.specs.Reading.{Bound, Rule, Scope, Reading, scopeAt, boundTo, keysOf}
+use Rattle.spec.specs.Reading.{Reading, scopeAt, boundTo, keysOf}
 use Rattle.spec.specs.Graph.{stepAt, noStep}
 use Rattle.spec.proofs.NoLists.{NoDepfile}
 use Rattle.hold_bindings.specs.Log.{Logged, ofRules, ofKeys, ofBlock, ofScope, entryAt, boundBy, scopingOf, scopesFrom, variablesOf, rulesIn, rulesOf}

@@ -1,5 +1,4 @@
 -- Is anything called `depfile`: then steps may have header lists (document 02, [4]), and otherwise none has.
-use Prim.Native.Nat.{ℕ}
 use mathlib.Core.Bool.{Bool}
 use mathlib.Core.List.{List}
 use Rattle.lists.specs.Bytes.{eqBytes}

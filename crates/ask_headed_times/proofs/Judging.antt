@@ -1,21 +1,20 @@
 -- The card's times, and then those by which steps are judged.
 use Prim.Native.Nat.{ℕ, zero, suc, _≤_, _<_}
 use native.Mathlib.Nat.{not-suc-le-zero, le-of-suc-le-suc, le-of-eq}
-use native.Mathlib.Omega.{arith}
 use mathlib.Core.Bool.{true}
 use mathlib.Core.List.{List, [], _∷_, _++_, map, append-nil}
-use mathlib.Core.Path.{_≡_, refl, sym, ap, _∙_, fun-ext}
-use lib.ListN.{length, drop, getD, length-map, drop-of-length-le}
+use mathlib.Core.Path.{_≡_, refl, ap, _∙_, fun-ext}
+use lib.ListN.{length, getD, length-map, drop-of-length-le}
 use Rattle.spec.specs.Card.{soundCard, cardEntries, timeIn}
 use Rattle.spec.specs.Reading.{Reading}
-use Rattle.spec.specs.Headers.{HeaderGraph, judged}
-use Rattle.spec.specs.PlanAsk.{Inputs, cardTime, judgedTime}
+use Rattle.spec.specs.Headers.{judged}
+use Rattle.spec.specs.PlanAsk.{cardTime}
 use Rattle.hold_names.specs.Table.{HoldsNames}
 use Rattle.graph_stale.specs.Judge.{timeAt}
 use Rattle.ask_file_times.specs.Times.{timesOf, Timed}
 use Rattle.ask_judged_times.specs.Lists.{TimesJudged}
-use Rattle.ask_headed_times.specs.Times.{HoldsHeaded, HeadedAsked, HeadedTimes}
-use Rattle.ask_headed_times.proofs.CardTimes.{CardTimes, card-time}
+use Rattle.ask_headed_times.specs.Times.{HeadedAsked, HeadedTimes}
+use Rattle.ask_headed_times.proofs.CardTimes.{card-time}
 
 time-at : (g : List ℕ → ℕ) (files : List (List ℕ)) (f : ℕ) → f < length files → getD (map g files) f 0 ≡ g (getD files f [])
 time-at g [] f b = absurd (not-suc-le-zero b)

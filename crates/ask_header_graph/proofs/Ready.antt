@@ -1,22 +1,22 @@
 -- What the plan behind the header lists asks of names and columns, and that they hold the steps with their listed inputs.
-use Prim.Native.Nat.{ℕ, _+_, _-_, _*_, _≤_, _<_}
+use Prim.Native.Nat.{ℕ, _+_, _-_, _≤_, _<_}
 use mathlib.Core.Bool.{Bool, true, false}
 use mathlib.Core.List.{List, map}
-use mathlib.Core.Path.{_≡_, refl, sym, _∙_, ap, subst}
+use mathlib.Core.Path.{_≡_, sym, _∙_, ap, subst}
 use native.Mathlib.Omega.{arith}
 use lib.ListN.{length, getD, length-map, List·getD-map}
-use Rattle.lists.specs.Parts.{part, length-part, getD-part}
+use Rattle.lists.specs.Parts.{part, getD-part}
 use Rattle.spec.specs.Limits.{maxMentions}
 use Rattle.spec.specs.Headers.{Listed, nothingListed, listedOf, HeaderGraph}
 use Rattle.hold_names.specs.Table.{HoldsNames, SoundNames}
-use Rattle.hold_columns.specs.Columns.{bit, lastEnd, orderOnlyEnd, implicitEnd, endAt, HoldsColumns, SoundColumns}
+use Rattle.hold_columns.specs.Columns.{bit, implicitEnd, endAt, SoundColumns}
 use Rattle.hold_columns.proofs.Held.{held-steps, held-sound}
 use Rattle.hold_reading.specs.declared.Counts.{Counts}
 use Rattle.hold_reading.specs.Held.{ruleStart}
 use Rattle.hold_headers.specs.Headed.{listedNumber, listedIn}
 use Rattle.ask_judged_times.specs.Lists.{listedPart}
 use Rattle.ask_headed_times.specs.Times.{HoldsHeaded}
-use Rattle.ask_header_graph.specs.Graph.{mentionsIn, endsIn, phonyIn, madeIn, ListedLast, HeadedGraph}
+use Rattle.ask_header_graph.specs.Graph.{mentionsIn, endsIn, phonyIn, madeIn, HeadedGraph}
 use Rattle.ask_header_graph.specs.Split.{SplitAsked, SplitsLists}
 
 -- what `plan_headed` asks of them

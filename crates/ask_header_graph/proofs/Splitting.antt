@@ -1,18 +1,18 @@
 -- The loop that splits what the depfiles tell into two columns.
-use Prim.Native.Nat.{ℕ, suc, _+_, _-_, _*_, _/_, _%_, _≤_, _<_}
+use Prim.Native.Nat.{ℕ, _+_, _/_, _%_, _≤_, _<_}
 use mathlib.Core.Bool.{Bool, true, false}
-use mathlib.Core.List.{List, [], _∷_, map}
-use mathlib.Core.Path.{_≡_, refl, sym, _∙_, ap, subst}
+use mathlib.Core.List.{List, map}
+use mathlib.Core.Path.{_≡_, sym, _∙_, ap}
 use native.Mathlib.Omega.{arith}
 use borrow.Author.Tests.{ltb-true, ltb-false}
 use lib.Dec.{ltb}
 use lib.ListN.{length, getD, set, length-set, length-map, List·getD-map}
 use lib.Seq.{getD-set-same, getD-set-other, ext-getD}
 use Rattle.lists.specs.Tests.{split}
-use Rattle.lists.specs.Parts.{part, length-part, getD-part}
+use Rattle.lists.specs.Parts.{length-part, getD-part}
 use Rattle.spec.specs.Headers.{Listed, nothingListed, listedOf}
 use Rattle.hold_columns.specs.Columns.{bit}
-use Rattle.hold_reading.specs.Held.{ruleStart, columnsEnd}
+use Rattle.hold_reading.specs.Held.{ruleStart}
 use Rattle.hold_headers.specs.Headed.{listedNumber, listedIn}
 use Rattle.ask_header_graph.specs.Split.{SplitAsked, SplitsLists}
 

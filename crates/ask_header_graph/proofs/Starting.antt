@@ -4,20 +4,19 @@ use mathlib.Core.Bool.{true, false}
 use mathlib.Core.List.{List, [], _∷_, _++_, map, append-nil, append-assoc}
 use mathlib.Core.Path.{_≡_, refl, sym, _∙_, ap, subst}
 use native.Mathlib.Omega.{arith}
-use lib.ListN.{length, take, drop, getD, length-append, length-map}
+use lib.ListN.{length, drop, getD, length-append, length-map}
 use lib.Seq.{drop-append-seam}
 use Rattle.lists.specs.Tests.{split}
 use Rattle.lists.specs.Members.{_∈_, has, not-in-nil}
 use Rattle.lists.specs.Parts.{part, part-from-start, length-part, drop-part}
-use Rattle.spec.specs.declared.Refusal.{Refusal}
 use Rattle.spec.specs.Basics.{concat}
 use Rattle.spec.specs.Reading.{Step, Reading, isPhony}
 use Rattle.spec.specs.Manifest.{readManifest, accepted}
 use Rattle.spec.specs.Graph.{stepAt, nonOrderOnly, makers, makersFrom}
-use Rattle.spec.specs.Headers.{Listed, listedOf, HeaderGraph, Heading, headed, headless, stepless, withHeaders}
+use Rattle.spec.specs.Headers.{Listed, listedOf, HeaderGraph, Heading, headed, stepless, withHeaders}
 use Rattle.spec.proofs.Manifests.{accepted-sound, accepted-makers}
 use Rattle.spec.proofs.Headers.{Heads, no-heads, next-head, heads, steps-counted}
-use Rattle.arena.specs.Columns.{Lies, startOf, column}
+use Rattle.arena.specs.Columns.{startOf, column}
 use Rattle.arena.proofs.Laws.{lies-part}
 use Rattle.hold_bindings.specs.Log.{Logged}
 use Rattle.hold_columns.specs.Columns.{bit, mentionsOf, perStep, outsEnd, implicitEnd, endAt, stepEndsFrom, madeBy, makerIn, nonOrderOnlyIn, HoldsColumns}
@@ -25,15 +24,14 @@ use Rattle.hold_columns.proofs.Places.{length-ends}
 use Rattle.hold_columns.proofs.Held.{held-steps, held-makers, held-sound, held-non-order-only}
 use Rattle.hold_reading.specs.declared.Counts.{Counts}
 use Rattle.hold_reading.specs.Held.{capacities, endsStart, phonyStart, madeStart, ruleStart, defaultsStart, columnsEnd, HoldsBound, Graphed, HoldsReading}
-use Rattle.hold_reading.specs.Buffers.{Buffers, buffers, withFiles}
-use Rattle.apply_files.specs.Lines.{Columns, Writing}
+use Rattle.hold_reading.specs.Buffers.{Buffers, withFiles}
+use Rattle.apply_files.specs.Lines.{Columns}
 use Rattle.apply_files.proofs.Columns.{graph-long}
 use Rattle.hold_headers.specs.declared.AddedHeaders.{AddedHeaders}
-use Rattle.hold_headers.specs.declared.AddedHeaders.the-variants.{Headed, Refused}
-use Rattle.hold_headers.specs.Headed.{listedNumber, phonyBits, headLine, HoldsHeaders, AgreesHeaders, heads as headsTold, refuses}
+use Rattle.hold_headers.specs.Headed.{listedNumber, phonyBits, HoldsHeaders, AgreesHeaders, heads as headsTold, refuses}
 use Rattle.ask_header_graph.specs.Graph.{mentionsIn, endsIn, phonyIn, madeIn, toldIn, ListedLast, HeadedGraph, HeadStepsAsked, AgreesSteps, all-headed, one-refused, HeadsSteps}
 use Rattle.ask_header_graph.specs.Begins.{BeginAsked, Begins}
-use Rattle.ask_header_graph.specs.Turns.{noPaths, noSteps, StartHeld, WalkAsked, HeadsAll}
+use Rattle.ask_header_graph.specs.Turns.{noPaths, StartHeld, WalkAsked, HeadsAll}
 use Rattle.ask_header_graph.proofs.Tails.{listed-last}
 
 -- ---- before the first step

@@ -1,9 +1,8 @@
 -- The files that a step's depfile lists are the last of its implicit inputs.
 use Prim.Native.Nat.{ℕ, zero, suc}
-use mathlib.Core.Bool.{Bool, true, false, _||_}
-use mathlib.Core.List.{List, [], _∷_, _++_, append-nil}
-use mathlib.Core.Path.{_≡_, refl, sym, ap, subst}
-use native.Mathlib.Omega.{arith}
+use mathlib.Core.Bool.{true, false, _||_}
+use mathlib.Core.List.{List, [], _∷_, _++_}
+use mathlib.Core.Path.{_≡_, refl, subst}
 use Rattle.lists.specs.Tests.{split}
 use Rattle.spec.specs.Reading.{Step, Reading, numbersOf}
 use Rattle.spec.specs.Statements.{mentioned, overPaths, overCounts}

@@ -1,25 +1,25 @@
 -- One step: the name of its depfile, then its listed inputs.
 use Prim.Native.Nat.{ℕ, _≤_, _<_}
 use mathlib.Core.List.{List, []}
-use mathlib.Core.Path.{_≡_, refl, sym, _∙_, ap, subst}
+use mathlib.Core.Path.{_≡_, sym, subst}
 use native.Mathlib.Omega.{arith}
 use lib.ListN.{length, take}
 use Rattle.spec.specs.declared.Refusal.{Refusal}
 use Rattle.spec.specs.Reading.{Reading}
 use Rattle.spec.specs.Graph.{stepAt}
-use Rattle.spec.specs.Headers.{FoundDepfile, badDepfile, HeaderGraph, depfileNamed, depfileOf, addHeaders}
+use Rattle.spec.specs.Headers.{FoundDepfile, HeaderGraph, depfileNamed, addHeaders}
 use Rattle.hold_names.specs.Table.{HoldsNames}
 use Rattle.hold_bindings.specs.Log.{Logged}
 use Rattle.hold_reading.specs.declared.Counts.{Counts}
-use Rattle.hold_reading.specs.Buffers.{Buffers, buffers, withFiles}
+use Rattle.hold_reading.specs.Buffers.{Buffers, withFiles}
 use Rattle.hold_headers.specs.declared.AddedHeaders.{AddedHeaders}
-use Rattle.hold_headers.specs.declared.AddedHeaders.the-variants.{Headed, Refused}
+use Rattle.hold_headers.specs.declared.AddedHeaders.the-variants.{Refused}
 use Rattle.hold_headers.specs.Headed.{AgreesHeaders, refuses}
 use Rattle.ask_depfile_names.specs.declared.StepDepfile.{StepDepfile}
 use Rattle.ask_depfile_names.specs.declared.StepDepfile.the-variants.{None, Written, Refused as NameRefused}
 use Rattle.ask_depfile_names.specs.Names.{HoldsGrown, DepfileAsk, TellsDepfile, NamesDepfile}
 use Rattle.ask_header_list.specs.Adds.{StepHeld, AddHeadersAsks, AddsHeaders}
-use Rattle.ask_header_graph.specs.Turns.{ListsReady, TurnHeld, TurnAsked, Turns}
+use Rattle.ask_header_graph.specs.Turns.{TurnHeld, TurnAsked, Turns}
 
 module _ {log : List Logged} {bs : Buffers} {c : Counts} {second : List ℕ} {s : ℕ} {d : Counts} {rd : Reading} {h : HeaderGraph} (w : TurnHeld log bs c second s d rd h) where
   grown : HoldsGrown log bs c (d .files) rd (w .holds .more)

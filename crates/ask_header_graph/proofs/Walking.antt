@@ -1,7 +1,7 @@
 -- All steps, one after another.
 use Prim.Native.Nat.{ℕ, suc, _+_, _≤_, _<_}
-use mathlib.Core.Bool.{Bool, true, false, _||_}
-use mathlib.Core.List.{List, [], _∷_, _++_}
+use mathlib.Core.Bool.{true, false, _||_}
+use mathlib.Core.List.{List, [], _∷_}
 use mathlib.Core.Path.{_≡_, refl, sym, _∙_, ap, subst}
 use native.Mathlib.Numerals.{add-one}
 use native.Mathlib.Omega.{arith}
@@ -19,8 +19,8 @@ use Rattle.hold_reading.specs.declared.Counts.{Counts}
 use Rattle.hold_reading.specs.Buffers.{Buffers, buffers, withFiles}
 use Rattle.hold_headers.specs.declared.AddedHeaders.{AddedHeaders}
 use Rattle.hold_headers.specs.declared.AddedHeaders.the-variants.{Headed, Refused}
-use Rattle.hold_headers.specs.Headed.{HoldsHeaders, AgreesHeaders, heads, refuses}
-use Rattle.ask_header_graph.specs.Turns.{ListsReady, TurnHeld, TurnAsked, Turns, noPaths, noSteps, StartHeld, WalkAsked, HeadsAll}
+use Rattle.hold_headers.specs.Headed.{AgreesHeaders, heads, refuses}
+use Rattle.ask_header_graph.specs.Turns.{TurnHeld, TurnAsked, Turns, noPaths, noSteps, StartHeld, WalkAsked, HeadsAll}
 
 -- ---- a step more
 

@@ -13,7 +13,7 @@ use Rattle.scan_bundle.specs.Bundles.{BundleIndexed}
 use Rattle.hold_bindings.specs.Log.{Logged}
 use Rattle.hold_reading.specs.declared.Counts.{Counts}
 use Rattle.hold_reading.specs.Held.{HoldsBound, Graphed}
-use Rattle.hold_reading.specs.Buffers.{Buffers, buffers, withFiles}
+use Rattle.hold_reading.specs.Buffers.{Buffers, withFiles}
 use Rattle.hold_headers.specs.declared.AddedHeaders.{AddedHeaders}
 use Rattle.hold_headers.specs.Headed.{HoldsHeaders, AgreesHeaders}
 

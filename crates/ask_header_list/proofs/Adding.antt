@@ -1,19 +1,17 @@
 -- The answer for a step: what is told of its depfile, and the second columns with the step.
-use Prim.Native.Nat.{ℕ, suc, _+_, _*_, _≤_, _<_}
+use Prim.Native.Nat.{ℕ, _+_, _*_}
 use mathlib.Core.Bool.{Bool, true, false, _||_}
-use mathlib.Core.List.{List, [], _∷_, _++_}
+use mathlib.Core.List.{List, [], _++_}
 use mathlib.Core.Path.{_≡_, refl, sym, _∙_, ap, subst}
 use native.Mathlib.Omega.{arith}
-use lib.ListN.{length, getD}
-use lib.Dec.{ltb}
+use lib.ListN.{length}
 use borrow.Author.Tests.{le-ltb}
-use Rattle.lists.specs.Tests.{ifB}
 use Rattle.spec.specs.declared.Refusal.the-variants.{BadHeaders}
 use Rattle.spec.specs.Limits.{maxFiles, maxBindings, maxMentions, maxWritten}
 use Rattle.spec.specs.Reading.{Step, Reading, numbersOf, mention}
 use Rattle.spec.specs.Statements.{mentioned, overPaths, overCounts}
 use Rattle.spec.specs.Graph.{stepAt}
-use Rattle.spec.specs.Headers.{FoundDepfile, noDepfile, missingDepfile, depfileLists, badDepfile, Listed, nothingListed, HeaderGraph, Heading, headed, headless, headStep, addHeaders, depfileNamed}
+use Rattle.spec.specs.Headers.{FoundDepfile, Listed, HeaderGraph, headStep, addHeaders}
 use Rattle.hold_bindings.specs.Log.{Logged}
 use Rattle.hold_reading.specs.declared.Counts.{Counts}
 use Rattle.hold_reading.specs.Buffers.{Buffers, buffers}
@@ -21,10 +19,8 @@ use Rattle.apply_files.specs.Lines.{LineHeld, Writing, withPaths, overLine}
 use Rattle.apply_files.proofs.Columns.{made-fit}
 use Rattle.apply_files.proofs.Closed.{paths-reading, length-numbers}
 use Rattle.apply_files.proofs.Limits.{mentioned-none}
-use Rattle.hold_headers.specs.declared.AddedHeaders.{AddedHeaders}
 use Rattle.hold_headers.specs.declared.AddedHeaders.the-variants.{Headed, Refused}
 use Rattle.hold_headers.specs.Headed.{listedNumber, readingWith, headLine, HoldsHeaders, AgreesHeaders, heads, refuses}
-use Rattle.ask_header_list.specs.declared.DepfileTold.{DepfileTold}
 use Rattle.ask_header_list.specs.declared.DepfileTold.the-variants.{Told, Refused as RefusedList}
 use Rattle.ask_header_list.specs.Places.{placesIn}
 use Rattle.ask_header_list.specs.Copies.{Closes}

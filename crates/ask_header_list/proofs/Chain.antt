@@ -1,28 +1,26 @@
 -- The calls for a step, one after another: what each asks, and what is held after it.
 use Prim.Native.Nat.{ℕ, _+_, _-_, _*_, _≤_, _<_}
-use mathlib.Core.List.{List, [], _∷_, _++_}
-use mathlib.Core.Path.{_≡_, refl, sym, _∙_, ap, subst}
+use mathlib.Core.List.{List, [], _++_}
+use mathlib.Core.Path.{_≡_, sym, _∙_, ap, subst}
 use native.Mathlib.Omega.{arith}
 use lib.ListN.{length, getD, length-append, List·getD-append}
 use Rattle.lists.specs.Members.{in-at, in-left}
 use Rattle.spec.specs.declared.Refusal.the-variants.{BadHeaders}
 use Rattle.spec.specs.Limits.{maxPath, maxMentions, maxWritten}
-use Rattle.spec.specs.Reading.{Step, Reading, numbersOf, mention}
+use Rattle.spec.specs.Reading.{Reading}
 use Rattle.spec.specs.Statements.{mentioned}
-use Rattle.spec.specs.Graph.{inputs, stepAt}
+use Rattle.spec.specs.Graph.{inputs}
 use Rattle.spec.specs.Headers.{FoundDepfile, HeaderGraph, firstOutput, depfileNamed, addHeaders}
 use Rattle.hold_bindings.specs.Log.{Logged}
 use Rattle.hold_columns.specs.Columns.{mentionsOf}
 use Rattle.hold_reading.specs.declared.Counts.{Counts}
 use Rattle.hold_reading.specs.Buffers.{Buffers, buffers}
-use Rattle.apply_files.specs.Lines.{LineHeld, Writing, withPaths}
+use Rattle.apply_files.specs.Lines.{LineHeld, Writing}
 use Rattle.apply_files.proofs.Columns.{graph-long}
 use Rattle.apply_files.proofs.Closed.{paths-reading}
 use Rattle.scan_bundle.specs.Bundles.{BundleIndexed}
-use Rattle.hold_headers.specs.declared.AddedHeaders.{AddedHeaders}
 use Rattle.hold_headers.specs.declared.AddedHeaders.the-variants.{Headed, Refused}
 use Rattle.hold_headers.specs.Headed.{AgreesHeaders}
-use Rattle.ask_header_names.specs.Names.{HeaderAsks}
 use Rattle.ask_header_list.specs.declared.StepPlaces.{StepPlaces}
 use Rattle.ask_header_list.specs.declared.DepfilePlace.{DepfilePlace}
 use Rattle.ask_header_list.specs.declared.DepfilePlace.the-variants.{Unnamed, Absent, Lists, Malformed}
@@ -31,7 +29,7 @@ use Rattle.ask_header_list.specs.declared.DepfileTold.the-variants.{Told
 use Rattle.ask_header_list.specs.Places.{placesIn, PlacesAsk}
 use Rattle.ask_header_list.specs.Copies.{CopyAsks, Copies, CloseAsks, Closes}
 use Rattle.ask_header_list.specs.Finds.{DepfileFor, FindAsks, FindsDepfile, StepPlaced, ToldAsks, ToldFor, unnamed, absent, lists, MentionsListed}
-use Rattle.ask_header_list.specs.Adds.{StepHeld, AddHeadersAsks, AddsHeaders}
+use Rattle.ask_header_list.specs.Adds.{StepHeld}
 use Rattle.ask_header_list.proofs.Placing.{places-ask}
 use Rattle.ask_header_list.proofs.Telling.{paths-more}
 use Rattle.ask_header_list.proofs.Heading.{line-copied, left-room, stands-here, front-asks, written-low}

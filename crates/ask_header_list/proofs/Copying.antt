@@ -5,12 +5,10 @@ use mathlib.Core.Path.{_≡_, refl, sym, _∙_, ap, subst}
 use native.Mathlib.Omega.{arith}
 use lib.ListN.{length, getD, set, length-set, length-append}
 use Rattle.lists.specs.Parts.{part, part-none, part-snoc, length-part}
-use Rattle.spec.specs.Limits.{maxMentions}
 use Rattle.hold_reading.specs.declared.Counts.{Counts}
-use Rattle.hold_reading.specs.Held.{columnsEnd}
 use Rattle.apply_files.specs.Lines.{Columns}
 use Rattle.apply_files.proofs.Columns.{push-mention}
-use Rattle.ask_header_list.specs.Copies.{countedCopies, CopyAsks, Copies}
+use Rattle.ask_header_list.specs.Copies.{CopyAsks, Copies}
 
 pub record Copying (graph : List ℕ) (from to : ℕ) (second₀ : List ℕ) (c : Counts) (second : List ℕ) (i paths : ℕ) : Type 0 where
   pub asks : CopyAsks graph from to second₀ c

@@ -1,10 +1,10 @@
 -- A step's ends and its number behind those of the steps before it.
-use Prim.Native.Nat.{ℕ, _+_, _-_, _*_, _≤_, _<_}
-use mathlib.Core.List.{List, [], _∷_, _++_, append-assoc}
+use Prim.Native.Nat.{ℕ, _+_, _-_}
+use mathlib.Core.List.{List, [], _∷_, _++_}
 use mathlib.Core.Path.{_≡_, refl, sym, _∙_, ap, subst}
 use native.Mathlib.Omega.{arith}
 use lib.ListN.{length, set, length-append}
-use Rattle.lists.specs.Parts.{part, length-part}
+use Rattle.lists.specs.Parts.{part}
 use Rattle.hold_columns.specs.Columns.{outsEnd, insEnd, implicitEnd, orderOnlyEnd, endPlace}
 use Rattle.hold_reading.specs.declared.Counts.{Counts}
 use Rattle.hold_reading.specs.Held.{endsStart, ruleStart}

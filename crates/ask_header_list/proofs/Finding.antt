@@ -3,27 +3,27 @@ use Prim.Native.Nat.{ℕ, _≤_, _<_}
 use mathlib.Core.Bool.{true, false}
 use mathlib.Core.List.{List, [], _∷_}
 use mathlib.Core.Option.{none}
-use mathlib.Core.Path.{_≡_, refl, sym, _∙_, ap, subst}
+use mathlib.Core.Path.{_≡_, refl, sym, _∙_, subst}
 use native.Mathlib.Omega.{arith}
-use lib.ListN.{length, getD}
+use lib.ListN.{length}
 use Rattle.spec.specs.declared.Refusal.the-variants.{BadHeaders}
 use Rattle.spec.specs.Basics.{isEmpty, orElse, among}
 use Rattle.spec.specs.Bundle.{bundleNames}
 use Rattle.spec.specs.Card.{numberAt}
 use Rattle.spec.specs.Reading.{Reading, numberOf}
-use Rattle.spec.specs.Headers.{noDepfile, missingDepfile, depfileLists, badDepfile, firstOutput, depfileNamed}
+use Rattle.spec.specs.Headers.{depfileLists, badDepfile, firstOutput, depfileNamed}
 use Rattle.depfile.specs.Depfile.{depfileRule, listedFor}
-use Rattle.hold_names.specs.Table.{NamesFile, SoundNames}
+use Rattle.hold_names.specs.Table.{NamesFile}
 use Rattle.spec.proofs.Numbers.{number-below}
 use Rattle.scan_bundle.specs.declared.FoundRecord.{FoundRecord}
 use Rattle.scan_bundle.specs.declared.FoundRecord.the-variants.{At, Missing}
-use Rattle.scan_bundle.specs.Bundles.{LaidBundle, foundRecord}
+use Rattle.scan_bundle.specs.Bundles.{foundRecord}
 use Rattle.scan_bundle.proofs.Laws.{found-at, found-none}
 use Rattle.scan_bundle.proofs.Lying.{length-names}
 use Rattle.scan_depfile.specs.Answers.{ListedFrom}
 use Rattle.ask_header_list.specs.declared.DepfilePlace.{DepfilePlace}
 use Rattle.ask_header_list.specs.declared.DepfilePlace.the-variants.{Unnamed, Absent, Lists, Malformed}
-use Rattle.ask_header_list.specs.Finds.{StartsAt, listTextIn, DepfileFor, FindAsks, FindsDepfile}
+use Rattle.ask_header_list.specs.Finds.{StartsAt, listTextIn, DepfileFor, FindsDepfile}
 
 empty-is : (n : List ℕ) → length n ≡ 0 → isEmpty n ≡ true
 empty-is [] h = refl
@@ -98,6 +98,3 @@ module _ {headers name names index : List ℕ} {files out : ℕ} where
           finds = λ paths w rd s o.
               for-text headers rd s name full p a q (o ∙ sym (n .answer paths w)) (subst (λ (b : List ℕ). StartsAt b path k p) t l);
         }
-
-pub find-names : {headers : List ℕ} {count : ℕ} {order names index : List ℕ} {files out : ℕ} → FindAsks headers count order names index files out → SoundNames names index files
-find-names a = record { files = a .paths; holds = a .named }

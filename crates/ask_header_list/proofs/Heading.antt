@@ -1,37 +1,34 @@
 -- The second columns hold a step more with its listed inputs.
-use Prim.Native.Nat.{ℕ, suc, _+_, _-_, _*_, _≤_, _<_}
-use mathlib.Core.Bool.{Bool, true, false, _||_}
-use mathlib.Core.List.{List, [], _∷_, _++_, map, append-assoc, append-nil}
+use Prim.Native.Nat.{ℕ, suc, _+_, _-_, _≤_, _<_}
+use mathlib.Core.Bool.{Bool}
+use mathlib.Core.List.{List, [], _∷_, _++_, map, append-assoc}
 use mathlib.Core.Logic.{_⊎_, inl, inr}
 use mathlib.Core.Path.{_≡_, refl, sym, _∙_, ap, subst}
 use native.Mathlib.Omega.{arith}
-use lib.ListN.{length, drop, getD, length-append, length-map}
+use lib.ListN.{length, drop, length-append, length-map}
 use lib.Seq.{drop-cons}
-use Rattle.lists.specs.Tests.{ifB}
 use Rattle.lists.specs.Parts.{part}
 use Rattle.lists.specs.Members.{_∈_, place, in-left, in-right, in-append}
 use Rattle.spec.specs.Basics.{concat}
-use Rattle.spec.specs.Limits.{maxMentions}
 use Rattle.spec.specs.Reading.{Step, Reading, numbersOf, mention}
-use Rattle.spec.specs.Statements.{mentioned, overPaths, overCounts}
+use Rattle.spec.specs.Statements.{mentioned}
 use Rattle.spec.specs.Manifest.{withStep}
 use Rattle.spec.specs.Graph.{inputs, noStep, stepAt}
 use Rattle.spec.specs.Headers.{Listed, HeaderGraph, withListed, headStep}
 use Rattle.spec.proofs.Numbers.{mention-grows, mention-longer}
 use Rattle.hold_bindings.specs.Log.{Logged}
-use Rattle.hold_columns.specs.Columns.{bit, mentionsOf, madeBy, outsEnd, orderOnlyEnd, endPlace, endAt, stepStart, outsIn, inputsIn, stepEndsFrom}
+use Rattle.hold_columns.specs.Columns.{mentionsOf, madeBy, outsEnd, orderOnlyEnd, endPlace, endAt, stepStart, outsIn, inputsIn, stepEndsFrom}
 use Rattle.hold_columns.proofs.Held.{in-part, held-outs, held-inputs}
 use Rattle.hold_columns.proofs.Places.{length-ends}
 use Rattle.hold_columns.proofs.Growing.{mentions-more, length-mentions, ends-more}
 use Rattle.hold_reading.specs.declared.Counts.{Counts}
 use Rattle.hold_reading.specs.Held.{HoldsBound, Graphed}
 use Rattle.hold_reading.specs.Buffers.{Buffers, buffers, withGraph}
-use Rattle.apply_files.specs.Lines.{LineHeld, Columns, Writing, withPaths, overLine}
+use Rattle.apply_files.specs.Lines.{LineHeld, Columns, Writing, withPaths}
 use Rattle.apply_files.proofs.Columns.{graph-long}
 use Rattle.hold_names.specs.Table.{HoldsNames}
 use Rattle.apply_files.proofs.Closed.{paths-reading, paths-mentions, paths-log, paths-ends, paths-phony, paths-ruled, paths-made, among-all, numbers-low, length-numbers}
 use Rattle.hold_headers.specs.Headed.{listedNumber, readingWith, headLine, mentionsLeft, HoldsHeaders}
-use Rattle.ask_header_list.specs.declared.StepPlaces.{StepPlaces}
 use Rattle.ask_header_list.specs.Copies.{countedCopies, CopyAsks, Copies, endsOf, movedEnds, Closes}
 use Rattle.ask_header_list.specs.Places.{placesIn}
 use Rattle.ask_header_list.specs.Adds.{StepHeld}

@@ -2,14 +2,13 @@
 use Prim.Native.Nat.{ℕ, zero, suc, _+_, _-_, _*_, _≤_, _<_}
 use mathlib.Core.Bool.{false}
 use mathlib.Core.List.{List, [], _∷_, _++_, append-assoc}
-use mathlib.Core.Path.{_≡_, refl, sym, _∙_, ap, ap₂, subst}
+use mathlib.Core.Path.{_≡_, refl, sym, _∙_, ap, ap₂}
 use native.Mathlib.Omega.{arith}
 use lib.ListN.{length, take, drop, getD, length-append}
 use lib.Seq.{take-take, drop-append-seam}
-use Rattle.lists.specs.Members.{_∈_, in-at}
+use Rattle.lists.specs.Members.{in-at}
 use Rattle.lists.specs.Parts.{part, part-append, length-part, getD-part, drop-take}
 use Rattle.spec.specs.Basics.{isEmpty}
-use Rattle.spec.specs.Limits.{maxFiles, maxSteps}
 use Rattle.spec.specs.Reading.{Step, Reading}
 use Rattle.spec.specs.Graph.{inputs, nonOrderOnly, stepAt}
 use Rattle.arena.proofs.Laws.{lies-column}
@@ -18,7 +17,7 @@ use Rattle.hold_columns.specs.Columns.{perStep, outsEnd, insEnd, implicitEnd, o
 use Rattle.hold_columns.proofs.Held.{held-sound, held-outs, held-non-order-only, held-inputs}
 use Rattle.hold_columns.proofs.Places.{length-ends, read-ins, read-ins-placed}
 use Rattle.hold_reading.specs.declared.Counts.{Counts}
-use Rattle.hold_reading.specs.Held.{capacities, columnsEnd, endIn, Graphed}
+use Rattle.hold_reading.specs.Held.{capacities, endIn, Graphed}
 use Rattle.apply_files.specs.Lines.{Columns}
 use Rattle.apply_files.proofs.Columns.{graph-long, read-end, read-mention}
 use Rattle.ask_header_list.specs.declared.StepPlaces.{StepPlaces}

@@ -1,9 +1,9 @@
 -- The names of a step's depfile mentioned: what is told by each answer.
 use Prim.Native.Nat.{ℕ, _+_, _-_, _*_, _≤_, _<_}
-use mathlib.Core.Bool.{true, false}
-use mathlib.Core.List.{List, [], _∷_, _++_, append-nil}
-use mathlib.Core.Option.{Option, none, some}
-use mathlib.Core.Path.{_≡_, refl, sym, _∙_, ap, subst}
+use mathlib.Core.Bool.{true}
+use mathlib.Core.List.{List, [], append-nil}
+use mathlib.Core.Option.{Option}
+use mathlib.Core.Path.{_≡_, sym, _∙_, ap, subst}
 use native.Mathlib.Omega.{arith}
 use lib.ListN.{length, length-append}
 use Rattle.spec.specs.declared.Refusal.the-variants.{BadHeaders}
@@ -24,7 +24,7 @@ use Rattle.ask_header_list.specs.declared.DepfilePlace.{DepfilePlace}
 use Rattle.ask_header_list.specs.declared.DepfilePlace.the-variants.{Unnamed, Absent, Lists, Malformed}
 use Rattle.ask_header_list.specs.declared.DepfileTold.{DepfileTold}
 use Rattle.ask_header_list.specs.declared.DepfileTold.the-variants.{Told, Refused}
-use Rattle.ask_header_list.specs.Finds.{listTextIn, ListsFrom, DepfileFor, StepPlaced, ToldAsks, ToldFor, unnamed, absent, lists, passed, bad, MentionsListed}
+use Rattle.ask_header_list.specs.Finds.{listTextIn, DepfileFor, StepPlaced, ToldAsks, ToldFor, unnamed, absent, lists, passed, bad, MentionsListed}
 
 -- the mentions are as many as the names
 pub paths-more : {bs : Buffers} {c : Counts} {h : LineHeld} {bs′ : Buffers} {d : Counts} (ns : List (List ℕ)) → Writing bs c h → Writing bs′ d (withPaths ns h) → d .paths ≡ c .paths + length ns

@@ -1,7 +1,6 @@
 -- Where a step's parts stand among the written mentions.
 use Prim.Native.Nat.{ℕ, zero, suc, _≤_, _<_}
 use mathlib.Core.List.{List}
-use mathlib.Core.Path.{_≡_}
 use lib.ListN.{length, getD}
 use Rattle.spec.specs.Limits.{maxFiles, maxSteps}
 use Rattle.hold_columns.specs.Columns.{outsEnd, insEnd, implicitEnd, orderOnlyEnd, lastEnd}

@@ -1,6 +1,5 @@
 // The names that a depfile lists, each a mention more: its limits, its number by first mention, and that at the end of the second mentions.
 ghost use Rattle.lists.specs.Lent.{Spare, Leaves};
-ghost use Rattle.hold_reading.specs.Buffers.{SameRoom, buffers};
 ghost use Rattle.ask_header_names.specs.Names.{HeaderAsks, AddsHeader, HeaderListAsks, AddsHeaderList};
 use apply_files::Mentioned;
 use apply_files::add_path;

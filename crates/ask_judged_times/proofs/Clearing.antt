@@ -8,7 +8,6 @@ use mathlib.Core.List.{List}
 use lib.Dec.{eqb}
 use lib.ListN.{length, getD, set, length-set, length-map, List·getD-map, List·getD-eq-default}
 use lib.Seq.{getD-set-same, getD-set-other}
-use borrow.Author.Tests.{eq-eqb, ne-eqb}
 use Rattle.lists.specs.Tests.{ifB}
 use Rattle.lists.specs.Members.{_∈_, any}
 use Rattle.spec.specs.Basics.{isEmpty}
@@ -21,7 +20,7 @@ use Rattle.hold_columns.proofs.Makers.{in-makerIn}
 use Rattle.hold_columns.proofs.Held.{held-makers}
 use Rattle.graph_stale.specs.Judge.{timeAt}
 use Rattle.graph_stale.proofs.Judging.{bit-test}
-use Rattle.ask_judged_times.specs.Lists.{HoldsLists, someAbsent, forcedIn, markedMaker, JudgedAsked, MarksAsked, MarkedAsked, ClearAsked, ForcedMarked, TimesCleared, TimesJudged}
+use Rattle.ask_judged_times.specs.Lists.{HoldsLists, someAbsent, forcedIn, markedMaker, JudgedAsked, MarksAsked, ClearAsked, ForcedMarked, TimesCleared, TimesJudged}
 
 -- ---- the maker's mark
 

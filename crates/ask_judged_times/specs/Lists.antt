@@ -7,7 +7,7 @@ use mathlib.Core.List.{List, map}
 use lib.Dec.{eqb}
 use lib.ListN.{length, getD}
 use Rattle.lists.specs.Tests.{ifB}
-use Rattle.lists.specs.Members.{_∈_, any}
+use Rattle.lists.specs.Members.{any}
 use Rattle.lists.specs.Parts.{part}
 use Rattle.spec.specs.Basics.{isEmpty}
 use Rattle.spec.specs.Reading.{Step}

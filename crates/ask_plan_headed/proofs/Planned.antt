@@ -7,7 +7,7 @@ use lib.ListN.{length}
 use Rattle.spec.specs.declared.PlanAnswer.{PlanAnswer}
 use Rattle.ask_headed_times.specs.Times.{HeadedAsked, HeadedTimes}
 use Rattle.ask_plan_order.specs.Order.{RootsAsked, PlansOrdered}
-use Rattle.ask_plan_headed.specs.Headed.{HeadedPlanAsked, HeadedSpaceAsked, PlansHeaded}
+use Rattle.ask_plan_headed.specs.Headed.{HeadedSpaceAsked, PlansHeaded}
 
 module _ {card names index wmentions wends mentions ends phony made missing listed roots times list : List ℕ} (q : HeadedSpaceAsked card names index wmentions wends mentions ends phony made missing listed roots times list) where
   pub ask-times : HeadedAsked card names index mentions ends made missing listed times

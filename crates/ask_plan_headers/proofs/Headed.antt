@@ -1,15 +1,14 @@
 -- The header lists, and then the plan by the second columns; or the first refusal.
-use Prim.Native.Nat.{ℕ, _≤_}
+use Prim.Native.Nat.{ℕ}
 use native.Mathlib.Nat.{le-of-eq}
 use native.Mathlib.Omega.{arith}
 use borrow.Author.Tests.{ne-eqb}
-use mathlib.Core.Bool.{true, false}
-use mathlib.Core.List.{List, [], _∷_}
-use mathlib.Core.Logic.{_⊎_, inl, inr}
+use mathlib.Core.List.{List}
+use mathlib.Core.Logic.{inl, inr}
 use mathlib.Core.Path.{_≡_, refl, sym, _∙_, subst}
 use lib.ListN.{length}
 use Rattle.lists.specs.Fill.{zeroed}
-use Rattle.lists.specs.Members.{_∈_, in-cons, not-in-nil}
+use Rattle.lists.specs.Members.{in-cons, not-in-nil}
 use Rattle.lists.specs.Tests.{differ}
 use Rattle.spec.specs.declared.PlanAnswer.{PlanAnswer}
 use Rattle.spec.specs.declared.PlanAnswer.the-variants.{Refused as PlanRefused}

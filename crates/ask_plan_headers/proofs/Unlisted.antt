@@ -4,7 +4,6 @@ use mathlib.Core.Bool.{Bool, false}
 use mathlib.Core.List.{List}
 use mathlib.Core.Path.{_≡_, sym, _∙_}
 use Rattle.spec.specs.declared.PlanAnswer.{PlanAnswer}
-use Rattle.spec.specs.Reading.{Reading}
 use Rattle.spec.specs.Headers.{onHeaded}
 use Rattle.spec.specs.PlanAsk.{planHeaders}
 use Rattle.spec.proofs.NoLists.{unlisted-reading}

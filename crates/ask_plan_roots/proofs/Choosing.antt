@@ -3,9 +3,9 @@ use Prim.Native.Nat.{ℕ, _+_, _≤_, _<_}
 use native.Mathlib.Omega.{arith}
 use native.Mathlib.Nat.{not-suc-le-zero}
 use native.Mathlib.Numerals.{add-one}
-use mathlib.Core.Path.{_≡_, refl, sym, ap, _∙_}
+use mathlib.Core.Path.{_≡_, refl, sym, _∙_}
 use mathlib.Core.Bool.{Bool, true, false, not, _&&_}
-use mathlib.Core.List.{List, [], _∷_, _++_}
+use mathlib.Core.List.{List, [], _∷_}
 use lib.ListN.{length, getD, take, set, length-set}
 use lib.Seq.{take-suc, take-suc-set, take-all, length-take-le}
 use Rattle.lists.specs.Members.{in-at}
@@ -16,7 +16,7 @@ use Rattle.spec.specs.PlanAsk.{targetFiles}
 use Rattle.hold_columns.proofs.Held.{held-steps}
 use Rattle.graph_roots.specs.Tops.{TopsFound}
 use Rattle.ask_plan_roots.specs.declared.Roots.the-variants.{From, None}
-use Rattle.ask_plan_roots.specs.Roots.{Chosen, PutAsked, FilesPut, ChoiceAsked, RootsPut, RootsFrom, RootsNone, RootsFound}
+use Rattle.ask_plan_roots.specs.Roots.{PutAsked, FilesPut, ChoiceAsked, RootsPut, RootsFound}
 
 some-in : {A : Type 0} (l : List A) → 0 < length l → isEmpty l ≡ false
 some-in [] b = absurd (not-suc-le-zero b)

@@ -5,7 +5,6 @@ use mathlib.Core.Bool.{true, false}
 use mathlib.Core.List.{List}
 use lib.ListN.{length, getD, take}
 use Rattle.lists.specs.Fill.{zeros}
-use Rattle.lists.specs.Members.{_∈_}
 use Rattle.spec.specs.Reading.{Reading}
 use Rattle.spec.specs.Graph.{noRoot}
 use Rattle.spec.specs.PlanAsk.{Inputs, targetFiles, rootsOf}

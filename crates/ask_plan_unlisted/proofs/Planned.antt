@@ -1,24 +1,19 @@
 -- The card's times are those by which steps are judged where no depfile tells anything, and the columns are what was read.
-use Prim.Native.Nat.{ℕ, _≤_, _<_}
+use Prim.Native.Nat.{ℕ}
 use native.Mathlib.Nat.{le-of-eq}
-use native.Mathlib.Omega.{arith}
 use mathlib.Core.List.{List}
-use mathlib.Core.Path.{_≡_, refl, sym, _∙_, ap}
-use lib.ListN.{length, getD}
+use mathlib.Core.Path.{_≡_, sym, _∙_}
+use lib.ListN.{length}
 use Rattle.spec.specs.declared.PlanAnswer.{PlanAnswer}
-use Rattle.spec.specs.Reading.{Reading}
-use Rattle.spec.specs.Headers.{Listed}
 use Rattle.spec.specs.PlanAsk.{cardTime}
 use Rattle.spec.proofs.NoLists.{by-card}
-use Rattle.hold_names.specs.Table.{HoldsNames}
-use Rattle.hold_columns.specs.Columns.{HoldsColumns, SoundColumns}
 use Rattle.hold_columns.proofs.Held.{held-inputs, held-steps, held-sound}
 use Rattle.hold_reading.specs.declared.Counts.{Counts}
 use Rattle.hold_parts.proofs.Parts.{Cut, cut-tables, cut-counted}
 use Rattle.ask_file_times.specs.Times.{TimesAsked, Timed}
 use Rattle.ask_headed_times.proofs.Judging.{filled-times}
 use Rattle.ask_plan_order.specs.Order.{RootsAsked, PlansOrdered}
-use Rattle.ask_plan_unlisted.specs.Unlisted.{NothingListed, CardPlanAsked, PlansByCard, UnlistedAsked, PlansUnlisted}
+use Rattle.ask_plan_unlisted.specs.Unlisted.{CardPlanAsked, PlansByCard, UnlistedAsked, PlansUnlisted}
 
 module _ {card names index mentions ends phony made roots times list : List ℕ} (q : CardPlanAsked card names index mentions ends phony made roots times list) where
   pub ask-times : TimesAsked card names index (length made) times

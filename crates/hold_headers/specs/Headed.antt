@@ -1,8 +1,8 @@
 -- What the second columns of the graph hold while the listed inputs of the steps are added. They are laid out as the first ones are, with two changes: they have
 -- the steps so far with their listed inputs, and what each step's depfile tells stands where the first ones have rules.
 use Prim.Native.Nat.{ℕ, _+_, _*_, _≤_, _<_}
-use mathlib.Core.Bool.{Bool, false}
-use mathlib.Core.List.{List, [], _∷_, _++_, map}
+use mathlib.Core.Bool.{false}
+use mathlib.Core.List.{List, _++_, map}
 use mathlib.Core.Path.{_≡_}
 use lib.ListN.{length, drop, getD}
 use Rattle.lists.specs.Members.{_∈_}

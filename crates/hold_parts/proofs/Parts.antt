@@ -1,5 +1,5 @@
 -- What the parts are, where the columns hold a reading's steps.
-use Prim.Native.Nat.{ℕ, _+_, _*_, _≤_, _<_}
+use Prim.Native.Nat.{ℕ, _+_, _*_, _<_}
 use mathlib.Core.List.{List, [], _∷_}
 use mathlib.Core.Path.{_≡_, refl, sym, _∙_, ap}
 use native.Mathlib.Omega.{arith}
@@ -13,7 +13,7 @@ use Rattle.hold_columns.proofs.Places.{length-ends}
 use Rattle.hold_columns.proofs.Held.{held-steps}
 use Rattle.hold_bindings.specs.Log.{Logged}
 use Rattle.hold_reading.specs.declared.Counts.{Counts}
-use Rattle.hold_reading.specs.Held.{capacities, endsStart, phonyStart, madeStart, defaultsStart, columnsEnd, HoldsReading}
+use Rattle.hold_reading.specs.Held.{capacities, endsStart, phonyStart, madeStart, defaultsStart, HoldsReading}
 use Rattle.hold_reading.specs.Buffers.{Buffers}
 use Rattle.hold_parts.specs.Parts.{mentionsIn, endsIn, phonyIn, madeIn, defaultsIn, ColumnsCut, Tabled}
 

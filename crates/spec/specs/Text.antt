@@ -130,9 +130,6 @@ unfolding lookupBy expand
 textBy spell rd s zero n = []
 textBy spell rd s (suc k) n = onFound (lookupBy spell rd s n) (λ v. v) (λ raw. expand (textBy spell rd s k) raw)
 
-abbrev pub textOf : Reading → Step → ℕ → List ℕ → List ℕ
-textOf = textBy quoted
-
 -- [4] plain or quoted
 abbrev pub spelledBy : Bool → Spelling
 spelledBy true n = n

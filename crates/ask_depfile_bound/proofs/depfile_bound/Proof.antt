@@ -1,6 +1,5 @@
 -- `ask_depfile_bound::depfile_bound` meets its contract.
 use Prim.Native.Nat.{_-_}
-use native.Mathlib.Omega.{arith}
 use Rattle.spec.specs.Text.{keyName}
 use Rattle.ask_depfile_bound.proofs.Bound.{Seen, begun, one-found, one-more, none-found}
 use borrow.Author.Needs.{needs}

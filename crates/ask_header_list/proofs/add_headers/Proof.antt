@@ -1,5 +1,5 @@
 -- `ask_header_list::add_headers` meets its contract.
-use mathlib.Core.Path.{refl, _∙_}
+use mathlib.Core.Path.{_∙_}
 use Rattle.ask_header_list.proofs.Chain.{places-asked, start-low, front-asked, find-asked, told-asked, close-asked, headed-here, refused-here}
 use Rattle.ask_header_list.proofs.add_headers.Statement.{statement}
 use Rattle.ask_header_list.proofs.add_headers.Tie as tie

@@ -2,7 +2,6 @@
 use mathlib.Core.Path.{refl}
 use native.Mathlib.Omega.{arith}
 use Rattle.ask_header_list.proofs.Telling.{tells-unnamed, tells-absent, tells-malformed, tells-on, tells-over, tells-as, told-low, told-asks, told-more}
-use borrow.Author.Needs.{needs}
 use Rattle.ask_header_list.proofs.mention_listed.Statement.{statement}
 use Rattle.ask_header_list.proofs.mention_listed.Tie as tie
 

@@ -1,7 +1,6 @@
 -- `ask_judged_times::some_absent` meets its contract.
 use Prim.Native.Nat.{_-_}
 use lib.ListN.{length}
-use native.Mathlib.Omega.{arith}
 use Rattle.hold_columns.proofs.Looking.{Looking, look-begin, look-more, look-found, look-end}
 use Rattle.ask_judged_times.specs.Lists.{someAbsent}
 use Rattle.ask_judged_times.proofs.Forcing.{with-maker, absent-there, present-there, none-absent}

@@ -1,5 +1,4 @@
 -- `ask_plan_unlisted::plan_unlisted` meets its contract.
-use mathlib.Core.Path.{sym}
 use Rattle.spec.specs.Limits.{maxFiles}
 use Rattle.hold_columns.proofs.Blank.{length-blank}
 use Rattle.hold_parts.proofs.Parts.{parted}

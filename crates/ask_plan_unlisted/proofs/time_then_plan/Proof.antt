@@ -1,5 +1,4 @@
 -- `ask_plan_unlisted::time_then_plan` meets its contract.
-use mathlib.Core.Path.{_∙_}
 use Rattle.ask_plan_unlisted.proofs.Planned.{ask-times, ask-order, planned}
 use Rattle.ask_plan_unlisted.proofs.time_then_plan.Statement.{statement}
 use Rattle.ask_plan_unlisted.proofs.time_then_plan.Tie as tie
