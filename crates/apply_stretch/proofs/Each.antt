@@ -30,7 +30,7 @@ use Rattle.hold_reading.proofs.Agreement.{agreed-on, agreed-refused, turned-ans
 use Rattle.apply_statements.specs.Asks.{BetweenLines, LineMeets, TurnMeets, LineAsks}
 use Rattle.apply_stretch.specs.declared.Stretch.{Stretch}
 use Rattle.apply_stretch.specs.declared.Stretch.the-variants.{Answered, Opens}
-use Rattle.apply_stretch.specs.Stretches.{readEach, placedAt, placedIn, foundLine, LinesDone, StretchAsk, StretchOpens, StretchMeets, stretch-answers, stretch-opens}
+use Rattle.apply_stretch.specs.Stretches.{readEach, placedAt, linesPlaced, foundLine, LinesDone, StretchAsk, StretchOpens, StretchMeets, stretch-answers, stretch-opens}
 
 -- the buffers have the lengths that they began with
 pub record Same (bs₀ : Buffers) (word₀ : List ℕ) (bs : Buffers) (word : List ℕ) : Type 0 where
@@ -180,17 +180,17 @@ each-begin via ask = record { done = []; left = refl; bounds = ask .bounds; meet
 module _ {via : Opener} {base : ℕ} {m found : List ℕ} {k₀ : ℕ} {bs₀ : Buffers} {c₀ : Counts} {o₀ : Open} {bs : Buffers} {a : LineAnswer} {k : ℕ}
     (g : LinesDone via base m found k₀ bs₀ c₀ o₀ bs a k) where
   -- all are read
-  pub each-end : length found ≤ k → LineMeets bs₀ c₀ o₀ (readEach via (placedIn base m (drop k₀ found))) bs a
+  pub each-end : length found ≤ k → LineMeets bs₀ c₀ o₀ (readEach via (linesPlaced base m (drop k₀ found))) bs a
   unfolding linesIn
   each-end h =
-      let e : placedIn base m (drop k₀ found) ≡ g .done =
-      g .left ∙ ap (λ (l : List ℕ). g .done ++ placedIn base m l) (drop-of-length-le found {i = k} h) ∙ append-nil (g .done) in
+      let e : linesPlaced base m (drop k₀ found) ≡ g .done =
+      g .left ∙ ap (λ (l : List ℕ). g .done ++ linesPlaced base m l) (drop-of-length-le found {i = k} h) ∙ append-nil (g .done) in
       subst (λ (ls : List Line). LineMeets bs₀ c₀ o₀ (readEach via ls) bs a) (sym e) (g .meets)
 
-  pub each-refused : {r : Refusal} → a ≡ Refused r → LineMeets bs₀ c₀ o₀ (readEach via (placedIn base m (drop k₀ found))) bs (Refused r)
+  pub each-refused : {r : Refusal} → a ≡ Refused r → LineMeets bs₀ c₀ o₀ (readEach via (linesPlaced base m (drop k₀ found))) bs (Refused r)
   each-refused {r} e =
       subst (λ (ls : List Line). LineMeets bs₀ c₀ o₀ (readEach via ls) bs (Refused r)) (sym (g .left))
-      (meets-stop via (g .done) (placedIn base m (drop k found)) (subst (λ (x : LineAnswer). LineMeets bs₀ c₀ o₀ (readEach via (g .done)) bs x) e (g .meets)))
+      (meets-stop via (g .done) (linesPlaced base m (drop k found)) (subst (λ (x : LineAnswer). LineMeets bs₀ c₀ o₀ (readEach via (g .done)) bs x) e (g .meets)))
 
   -- what lines leave that go on
   module _ {c : Counts} {o : Open} (e : a ≡ Goes c o) where
@@ -210,7 +210,7 @@ module _ {via : Opener} {base : ℕ} {m found : List ℕ} {k₀ : ℕ} {bs₀ : 
     each-joins {j = j} h =
         record {
           done = g .done ++ h .done;
-          left = g .left ∙ ap (λ (ls : List Line). g .done ++ ls) (h .left) ∙ sym (append-more (g .done) (h .done) (placedIn base m (drop j found)));
+          left = g .left ∙ ap (λ (ls : List Line). g .done ++ ls) (h .left) ∙ sym (append-more (g .done) (h .done) (linesPlaced base m (drop j found)));
           bounds = h .bounds;
           meets = meets-more via (g .done) (h .done) met (h .meets);
         }
@@ -227,7 +227,7 @@ module _ {via : Opener} {base : ℕ} {m found : List ℕ} {k₀ : ℕ} {bs₀ : 
       pub each-within : y ≤ length m
       each-within = rw ey (each-pair .within)
 
-      behind : placedIn base m (drop k found) ≡ placedAt base (lineIn m x y) ∷ placedIn base m (drop (k + 2) found)
+      behind : linesPlaced base m (drop k found) ≡ placedAt base (lineIn m x y) ∷ linesPlaced base m (drop (k + 2) found)
       behind =
           let e : linesIn m (drop k found) ≡ lineIn m x y ∷ linesIn m (drop (k + 2) found) = rw (ex, ey) (each-pair .lines) in
           ap (map (placedAt base)) e
@@ -255,7 +255,7 @@ module _ {via : Opener} {base : ℕ} {m found : List ℕ} {k₀ : ℕ} {bs₀ : 
             let l = placedAt base (lineIn m x y) in
             record {
               done = g .done ++ (l ∷ []);
-              left = g .left ∙ ap (λ (ls : List Line). g .done ++ ls) behind ∙ sym (append-one (g .done) l (placedIn base m (drop (k + 2) found)));
+              left = g .left ∙ ap (λ (ls : List Line). g .done ++ ls) behind ∙ sym (append-one (g .done) l (linesPlaced base m (drop (k + 2) found)));
               bounds = each-pair .bounds;
               meets = meets-more via (g .done) (l ∷ []) (met e) (meets-one via l j);
             }
@@ -268,7 +268,7 @@ noFiles start sub raw rd = goesOn rd noBlock
 
 module _ {base : ℕ} {m found : List ℕ} {k₀ : ℕ} {bs₀ : Buffers} {c₀ : Counts} {o₀ : Open} {bs′ : Buffers} where
   pub answered-stretch : {a : LineAnswer} → StretchMeets base m found k₀ bs₀ c₀ o₀ bs′ (Answered a)
-      → (via : Opener) → LineMeets bs₀ c₀ o₀ (readEach via (placedIn base m (drop k₀ found))) bs′ a
+      → (via : Opener) → LineMeets bs₀ c₀ o₀ (readEach via (linesPlaced base m (drop k₀ found))) bs′ a
   answered-stretch (stretch-answers h) = h
 
   pub opened-stretch : {j : ℕ} {d : Counts} {sub : Bool} {from to : ℕ} → StretchMeets base m found k₀ bs₀ c₀ o₀ bs′ (Opens j d sub from to)

@@ -27,8 +27,8 @@ abbrev pub placedAt : ℕ → Line → Line
 placedAt base l = record { start = base + l .start; text = l .text; ended = l .ended }
 
 -- the lines of these numbers, at their places among all texts
-abbrev pub placedIn : ℕ → List ℕ → List ℕ → List Line
-placedIn base m ns = map (placedAt base) (linesIn m ns)
+abbrev pub linesPlaced : ℕ → List ℕ → List ℕ → List Line
+linesPlaced base m ns = map (placedAt base) (linesIn m ns)
 
 -- the line of the two numbers from k on
 abbrev pub foundLine : ℕ → List ℕ → List ℕ → ℕ → Line
@@ -42,7 +42,7 @@ readEach via (l ∷ ls) rd b = andThen (opening via (readLine l rd b)) (readEach
 -- Of the numbers from k₀ on the lines up to number k are read, and were answered by a.
 pub record LinesDone (via : Opener) (base : ℕ) (m found : List ℕ) (k₀ : ℕ) (bs₀ : Buffers) (c₀ : Counts) (o₀ : Open) (bs : Buffers) (a : LineAnswer) (k : ℕ) : Type 0 where
   pub done : List Line
-  pub left : placedIn base m (drop k₀ found) ≡ done ++ placedIn base m (drop k found)
+  pub left : linesPlaced base m (drop k₀ found) ≡ done ++ linesPlaced base m (drop k found)
   pub bounds : Bounds m (drop k found)
   pub meets : LineMeets bs₀ c₀ o₀ (readEach via done) bs a
 
@@ -72,6 +72,6 @@ pub record StretchOpens (base : ℕ) (m found : List ℕ) (k : ℕ) (bs : Buffer
 
 -- Whatever files there are: no line opens one, or one does.
 pub data StretchMeets (base : ℕ) (m found : List ℕ) (k : ℕ) (bs : Buffers) (c : Counts) (o : Open) (bs′ : Buffers) : Stretch → Type 0 where
-  stretch-answers : {a : LineAnswer} → ((via : Opener) → LineMeets bs c o (readEach via (placedIn base m (drop k found))) bs′ a) → StretchMeets base m found k bs c o bs′ (Answered a)
+  stretch-answers : {a : LineAnswer} → ((via : Opener) → LineMeets bs c o (readEach via (linesPlaced base m (drop k found))) bs′ a) → StretchMeets base m found k bs c o bs′ (Answered a)
   stretch-opens : {j : ℕ} {d : Counts} {sub : Bool} {from to : ℕ} → StretchOpens base m found k bs c o bs′ j d sub from to
       → StretchMeets base m found k bs c o bs′ (Opens j d sub from to)

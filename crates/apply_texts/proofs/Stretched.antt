@@ -17,7 +17,7 @@ use Rattle.hold_reading.specs.declared.LineAnswer.the-variants.{Goes}
 use Rattle.hold_reading.specs.declared.LineTurn.the-variants.{Opens as TurnOpens}
 use Rattle.hold_reading.specs.Buffers.{Buffers, SameRoom}
 use Rattle.apply_statements.specs.Asks.{BetweenLines, LineMeets, TurnMeets}
-use Rattle.apply_stretch.specs.Stretches.{placedAt, placedIn, readEach, LinesDone, StretchAsk, StretchOpens}
+use Rattle.apply_stretch.specs.Stretches.{placedAt, linesPlaced, readEach, LinesDone, StretchAsk, StretchOpens}
 use Rattle.apply_stretch.proofs.Each.{Same, EachFrom, append-nil, noFiles, each-between, each-joins, each-pair, each-forward, each-within, each-on}
 use Rattle.apply_texts.specs.Texts.{fileOpener, TurnAsk, LinesMeet, EachAsk, FileAsk}
 use Rattle.apply_texts.proofs.Files.{turn-opened, raw-ordered, raw-within, file-asks}
@@ -25,17 +25,17 @@ use Rattle.apply_texts.proofs.Files.{turn-opened, raw-ordered, raw-with
 -- ---- no line opens a file
 
 pub all-done : (via : Opener) (base : ℕ) (m found : List ℕ) (k : ℕ) {bs : Buffers} {c : Counts} {o : Open} {bs′ : Buffers} {a : LineAnswer} → k < length found
-    → LineMeets bs c o (readEach via (placedIn base m (drop k found))) bs′ a → LinesMeet via base m found k bs c o bs′ (record { next = length found; answer = a })
+    → LineMeets bs c o (readEach via (linesPlaced base m (drop k found))) bs′ a → LinesMeet via base m found k bs c o bs′ (record { next = length found; answer = a })
 unfolding linesIn Bounds
 all-done via base m found k h x =
-    let ls = placedIn base m (drop k found) in
+    let ls = linesPlaced base m (drop k found) in
     let e : drop (length found) found ≡ [] = drop-of-length-le found {i = length found} (omega arith) in
     record {
       forward = h;
       done =
           record {
             done = ls;
-            left = sym (ap (λ (l : List ℕ). ls ++ placedIn base m l) e ∙ append-nil ls);
+            left = sym (ap (λ (l : List ℕ). ls ++ linesPlaced base m l) e ∙ append-nil ls);
             bounds = rw e tt;
             meets = x;
           };

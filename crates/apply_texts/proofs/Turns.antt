@@ -30,7 +30,7 @@ use Rattle.hold_reading.specs.Buffers.{Buffers}
 use Rattle.hold_reading.proofs.Lift.{met, sound}
 use Rattle.hold_reading.proofs.Agreement.{agreed-on, agreed-refused}
 use Rattle.apply_statements.specs.Asks.{BetweenLines, LineMeets}
-use Rattle.apply_stretch.specs.Stretches.{placedAt, placedIn, readEach}
+use Rattle.apply_stretch.specs.Stretches.{placedAt, linesPlaced, readEach}
 use Rattle.apply_stretch.proofs.Each.{Same, then-same, then-then, append-more, meets-more}
 use Rattle.apply_texts.specs.Texts.{EachAsk, TextReadAsk}
 use Rattle.scan_texts.proofs.Texts.{text-near, text-short}
@@ -123,7 +123,7 @@ found-ask {s = s} {k = k} {m = m} a e h n =
 module _ {via : Opener} {base : ℕ} {m : List ℕ} {bs₀ : Buffers} {c₀ : Counts} {o₀ : Open} {bs : Buffers} {c : Counts} {o : Open} {i : ℕ}
     (w : Reached via base m bs₀ c₀ o₀ bs c o i) {out out′ : List ℕ} {f : Found} (found : LinesFound m i out out′ f) where
   abbrev ls : List Line
-  ls = placedIn base m (take (f .filled) out′)
+  ls = linesPlaced base m (take (f .filled) out′)
 
   -- they are the first of the lines that are left
   left-found : leftFrom base m 0 ≡ (w .done ++ ls) ++ leftFrom base m (f .next)

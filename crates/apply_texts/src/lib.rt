@@ -2,7 +2,7 @@
 ghost use Rattle.lists.specs.Lent.{Spare, Leaves};
 ghost use Rattle.spec.specs.Bundle.{bundleTexts};
 ghost use Rattle.spec.specs.Manifest.{readLines, textLines};
-ghost use Rattle.apply_stretch.specs.Stretches.{placedIn, readEach};
+ghost use Rattle.apply_stretch.specs.Stretches.{linesPlaced, readEach};
 ghost use Rattle.apply_texts.specs.Texts.{fileOpener, TurnAsk, LinesMeet, EachAsk, TextReadAsk, FileAsk};
 ghost use Rattle.apply_statements.specs.Asks.{LineMeets};
 ghost use Rattle.hold_reading.specs.Buffers.{SameRoom, buffers};
@@ -183,7 +183,7 @@ fn read_each(
     s: State,
 ) -> LineAnswer
     requires { ⌜ EachAsk (now t) (now b) (now m) (p .base) (now found) (buffers (now names) (now index) (now texts) (now bind) (now graph)) (now word) (s .counts) (s .open) ⌝ }
-    ensures { λ r. ⌜ Leaves (SameRoom (buffers (now (names .entry)) (now (index .entry)) (now (texts .entry)) (now (bind .entry)) (now (graph .entry))) (buffers (now (names .exit)) (now (index .exit)) (now (texts .exit)) (now (bind .exit)) (now (graph .exit))) × (Spare (now (word .entry)) (now (word .exit)))) (LineMeets (buffers (now (names .entry)) (now (index .entry)) (now (texts .entry)) (now (bind .entry)) (now (graph .entry))) (s .counts) (s .open) (readEach (fileOpener (now (b .entry)) (p .more)) (placedIn (p .base) (now (m .entry)) (now (found .entry)))) (buffers (now (names .exit)) (now (index .exit)) (now (texts .exit)) (now (bind .exit)) (now (graph .exit))) r) ⌝ }
+    ensures { λ r. ⌜ Leaves (SameRoom (buffers (now (names .entry)) (now (index .entry)) (now (texts .entry)) (now (bind .entry)) (now (graph .entry))) (buffers (now (names .exit)) (now (index .exit)) (now (texts .exit)) (now (bind .exit)) (now (graph .exit))) × (Spare (now (word .entry)) (now (word .exit)))) (LineMeets (buffers (now (names .entry)) (now (index .entry)) (now (texts .entry)) (now (bind .entry)) (now (graph .entry))) (s .counts) (s .open) (readEach (fileOpener (now (b .entry)) (p .more)) (linesPlaced (p .base) (now (m .entry)) (now (found .entry)))) (buffers (now (names .exit)) (now (index .exit)) (now (texts .exit)) (now (bind .exit)) (now (graph .exit))) r) ⌝ }
 {
     let c = s.counts;
     let block = s.open;
