@@ -28,9 +28,8 @@ use Rattle.hold_reading.specs.Held.{Agrees, goes, refuses}
 use Rattle.hold_reading.specs.Buffers.{Buffers}
 use Rattle.hold_reading.proofs.Agreement.{agreed-on, agreed-refused, turned-answer}
 use Rattle.apply_statements.specs.Asks.{BetweenLines, LineMeets, TurnMeets, LineAsks}
-use Rattle.apply_stretch.specs.declared.Stretch.{Stretch}
 use Rattle.apply_stretch.specs.declared.Stretch.the-variants.{Answered, Opens}
-use Rattle.apply_stretch.specs.Stretches.{readEach, placedAt, linesPlaced, foundLine, LinesDone, StretchAsk, StretchOpens, StretchMeets, stretch-answers, stretch-opens}
+use Rattle.apply_stretch.specs.Stretches.{readEach, placedAt, linesPlaced, LinesDone, StretchAsk, StretchOpens, StretchMeets, stretch-answers, stretch-opens}
 
 -- the buffers have the lengths that they began with
 pub record Same (bs₀ : Buffers) (word₀ : List ℕ) (bs : Buffers) (word : List ℕ) : Type 0 where

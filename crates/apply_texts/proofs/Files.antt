@@ -28,7 +28,7 @@ use Rattle.hold_reading.specs.declared.LineAnswer.the-variants.{Goes, Refused}
 use Rattle.hold_reading.specs.declared.LineTurn.the-variants.{Opens as TurnOpens}
 use Rattle.hold_reading.specs.Held.{joined, OpensBlock, nothing, HoldsReading, Agrees, goes, refuses}
 use Rattle.hold_reading.specs.Binds.{Known}
-use Rattle.hold_reading.specs.Buffers.{Buffers, withBindings, SameRoom}
+use Rattle.hold_reading.specs.Buffers.{Buffers, withBindings}
 use Rattle.hold_reading.proofs.Lift.{known, met, lifted, none-bound}
 use Rattle.hold_reading.proofs.Agreement.{agreed-on, agreed-refused, OpensAt, turned-opens}
 use Rattle.hold_reading.proofs.Opened.{scope-there}
@@ -37,7 +37,7 @@ use Rattle.apply_statements.proofs.Outcomes.{between-sound, close-none}
 use Rattle.apply_open.specs.declared.OpenedFile.{OpenedFile}
 use Rattle.apply_open.specs.declared.OpenedPath.the-variants.{Found, Refused as NotOpened}
 use Rattle.apply_open.specs.Opens.{OpenAsks, NamesRecord, OpensAs, OpensPath, EnterAsks, Enters, EnteredFrom, LeaveAsks, LeavesScope}
-use Rattle.apply_texts.specs.Texts.{fileOpener, TurnAsk, TextReadAsk, FileAsk}
+use Rattle.apply_texts.specs.Texts.{fileOpener, TextReadAsk, FileAsk}
 use Rattle.scan_texts.proofs.Texts.{laid}
 
 -- ---- the end of a text closes a block

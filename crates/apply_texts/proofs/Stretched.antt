@@ -2,7 +2,7 @@
 use Prim.Native.Nat.{ℕ, _+_, _-_, _≤_, _<_}
 use mathlib.Core.Bool.{Bool}
 use mathlib.Core.List.{List, [], _++_}
-use mathlib.Core.Path.{_≡_, refl, sym, _∙_, ap, subst}
+use mathlib.Core.Path.{_≡_, refl, sym, _∙_, ap}
 use native.Mathlib.Omega.{arith}
 use lib.ListN.{length, drop, getD, drop-of-length-le}
 use Rattle.lists.specs.Parts.{part, length-part}
@@ -17,9 +17,9 @@ use Rattle.hold_reading.specs.declared.LineAnswer.the-variants.{Goes}
 use Rattle.hold_reading.specs.declared.LineTurn.the-variants.{Opens as TurnOpens}
 use Rattle.hold_reading.specs.Buffers.{Buffers, SameRoom}
 use Rattle.apply_statements.specs.Asks.{BetweenLines, LineMeets, TurnMeets}
-use Rattle.apply_stretch.specs.Stretches.{placedAt, linesPlaced, readEach, LinesDone, StretchAsk, StretchOpens}
-use Rattle.apply_stretch.proofs.Each.{Same, EachFrom, append-nil, noFiles, each-between, each-joins, each-pair, each-forward, each-within, each-on}
-use Rattle.apply_texts.specs.Texts.{fileOpener, TurnAsk, LinesMeet, EachAsk, FileAsk}
+use Rattle.apply_stretch.specs.Stretches.{placedAt, linesPlaced, readEach, LinesDone, StretchOpens}
+use Rattle.apply_stretch.proofs.Each.{Same, append-nil, noFiles, each-between, each-pair, each-forward, each-within, each-on}
+use Rattle.apply_texts.specs.Texts.{TurnAsk, LinesMeet, EachAsk, FileAsk}
 use Rattle.apply_texts.proofs.Files.{turn-opened, raw-ordered, raw-within, file-asks}
 
 -- ---- no line opens a file

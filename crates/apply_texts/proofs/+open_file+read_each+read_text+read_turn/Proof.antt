@@ -12,7 +12,6 @@ use Rattle.apply_stretch.proofs.read_stretch.Reads as read-stretch-reads
 use Rattle.apply_texts.proofs.Turns.{Reached, turn-begin, found-ask, turn-asks, turn-on, turn-refused, turn-sound, turn-end}
 use Rattle.apply_texts.proofs.Files.{path-asks, not-opened, all-open, enter-asks, text-asks, file-stopped, leave-asks, file-read}
 use Rattle.apply_texts.proofs.Stretched.{all-done, opens-two, opens-forward, opens-within, path-ordered, path-within, opens-asks, opens-done, turn-asked}
-use borrow.Author.Needs.{needs}
 use Prim.Native.Nat.{ℕ, _+_, _*_, _-_, _<_}
 use borrow.Fn.Kinds.{In}
 use borrow.Fn.PlainCycle.{Measures, is, falls, and}
