@@ -1,6 +1,6 @@
 -- Lines read one after the other: what some lines say together, and the loop over those that were found.
 use Prim.Native.Nat.{ℕ, suc, _+_, _-_, _≤_, _<_}
-use mathlib.Core.Bool.{true, false}
+use mathlib.Core.Bool.{Bool, true, false}
 use mathlib.Core.List.{List, [], _∷_, _++_, map}
 use mathlib.Core.Path.{_≡_, refl, sym, _∙_, ap, subst}
 use native.Mathlib.Numerals.{add-one}
@@ -14,7 +14,7 @@ use Rattle.lists.specs.Parts.{part, length-part}
 use Rattle.spec.specs.declared.Refusal.{Refusal}
 use Rattle.spec.specs.Lines.{Line}
 use Rattle.spec.specs.Reading.{Reading}
-use Rattle.spec.specs.Statements.{Block, Outcome, goesOn, opens, refused}
+use Rattle.spec.specs.Statements.{Block, noBlock, Outcome, goesOn, opens, refused}
 use Rattle.spec.specs.Manifest.{andThen, readLine, Opener, opening}
 use Rattle.scan_cursor.specs.Spans.{lineIn}
 use Rattle.scan_cursor.specs.Found.{linesIn, Bounds}
@@ -23,11 +23,13 @@ use Rattle.hold_reading.specs.declared.Counts.{Counts}
 use Rattle.hold_reading.specs.declared.Open.{Open}
 use Rattle.hold_reading.specs.declared.LineAnswer.{LineAnswer}
 use Rattle.hold_reading.specs.declared.LineAnswer.the-variants.{Goes, Refused}
+use Rattle.hold_reading.specs.declared.LineTurn.the-variants.{Answered as TurnAnswered, Opens as TurnOpens}
 use Rattle.hold_reading.specs.Held.{Agrees, goes, refuses}
 use Rattle.hold_reading.specs.Buffers.{Buffers}
-use Rattle.hold_reading.proofs.Agreement.{agreed-on, agreed-refused}
-use Rattle.apply_statements.specs.Asks.{LineMeets}
-use Rattle.apply_texts.specs.Texts.{readEach, placedAt, TurnAsk, EachAsk}
+use Rattle.hold_reading.proofs.Agreement.{agreed-on, agreed-refused, turned-answer}
+use Rattle.apply_statements.specs.Asks.{BetweenLines, LineMeets, TurnMeets, LineAsks}
+use Rattle.apply_stretch.specs.declared.Stretch.the-variants.{Answered, Opens}
+use Rattle.apply_stretch.specs.Stretches.{readEach, placedAt, linesPlaced, LinesDone, StretchAsk, StretchOpens, StretchMeets, stretch-answers, stretch-opens}
 
 -- the buffers have the lengths that they began with
 pub record Same (bs₀ : Buffers) (word₀ : List ℕ) (bs : Buffers) (word : List ℕ) : Type 0 where
@@ -44,6 +46,10 @@ same-begin = record { names-same = refl; ends-same = refl; texts-same = refl; bi
 pub append-nil : {A : Type 0} (l : List A) → l ++ [] ≡ l
 append-nil [] = refl
 append-nil (x ∷ l) = ap (λ k. x ∷ k) (append-nil l)
+
+pub append-more : {A : Type 0} (l k j : List A) → (l ++ k) ++ j ≡ l ++ (k ++ j)
+append-more [] k j = refl
+append-more (x ∷ l) k j = ap (λ r. x ∷ r) (append-more l k j)
 
 -- ---- one part after the other
 
@@ -106,6 +112,18 @@ module _ (via : Opener) where
   meets-one l {bs′} {r} a =
       record { agrees = λ log rd b h p. subst (λ (out : Outcome). Agrees bs′ out r) (sym (each-one l rd b)) (a .agrees log rd b h p) }
 
+-- ---- a line that opens no file
+
+-- what an answer agrees with opens no file
+opens-none : (via : Opener) {bs : Buffers} {out : Outcome} {r : LineAnswer} → Agrees bs out r → Agrees bs (opening via out) r
+unfolding opening
+opens-none via (goes h p) = goes h p
+opens-none via refuses = refuses
+
+module _ (via : Opener) {l : Line} {bs : Buffers} {c : Counts} {o : Open} {bs′ : Buffers} where
+  pub turn-answered : {r : LineAnswer} → TurnMeets l bs c o (readLine l) bs′ (TurnAnswered r) → LineMeets bs c o (λ rd b. opening via (readLine l rd b)) bs′ r
+  turn-answered m = record { agrees = λ log rd b h p. opens-none via (turned-answer (m .agrees log rd b h p)) }
+
 -- ---- the numbers of one line
 
 -- the line at place k of the numbers, and those behind it
@@ -148,41 +166,53 @@ module _ (m found : List ℕ) (k : ℕ) (h : k < length found) (b : Bounds m (dr
 
 -- ---- the loop
 
--- the lines of these numbers, at their places among all texts
-abbrev pub placedIn : ℕ → List ℕ → List ℕ → List Line
-placedIn base m ns = map (placedAt base) (linesIn m ns)
+-- the lines so far, by the answer before the first of them
+abbrev pub EachFrom : Opener → ℕ → List ℕ → List ℕ → ℕ → Buffers → LineAnswer → Buffers → LineAnswer → ℕ → Type 0
+EachFrom via base m found k₀ bs₀ (Goes c₀ o₀) bs a k = LinesDone via base m found k₀ bs₀ c₀ o₀ bs a k
+EachFrom via base m found k₀ bs₀ (Refused r) bs a k = ⊥
 
--- before the line at place k of the numbers, where the lines so far were answered by a
-pub record EachDone (via : Opener) (base : ℕ) (m found : List ℕ) (bs₀ : Buffers) (c₀ : Counts) (o₀ : Open) (bs : Buffers) (a : LineAnswer) (k : ℕ) : Type 0 where
-  pub done : List Line
-  pub left : placedIn base m found ≡ done ++ placedIn base m (drop k found)
-  pub bounds : Bounds m (drop k found)
-  pub meets : LineMeets bs₀ c₀ o₀ (readEach via done) bs a
-
--- the same, by the answer before the first line
-abbrev pub EachFrom : Opener → ℕ → List ℕ → List ℕ → Buffers → LineAnswer → Buffers → LineAnswer → ℕ → Type 0
-EachFrom via base m found bs₀ (Goes c₀ o₀) bs a k = EachDone via base m found bs₀ c₀ o₀ bs a k
-EachFrom via base m found bs₀ (Refused r) bs a k = ⊥
-
-pub each-begin : (via : Opener) {t s m : List ℕ} {base : ℕ} {found : List ℕ} {bs₀ : Buffers} {word₀ : List ℕ} {c₀ : Counts} {o₀ : Open}
-    → EachAsk t s m base found bs₀ word₀ c₀ o₀ → EachDone via base m found bs₀ c₀ o₀ bs₀ (Goes c₀ o₀) 0
+pub each-begin : (via : Opener) {t m : List ℕ} {base : ℕ} {found : List ℕ} {k₀ : ℕ} {bs₀ : Buffers} {word₀ : List ℕ} {c₀ : Counts} {o₀ : Open}
+    → StretchAsk t m base found k₀ bs₀ word₀ c₀ o₀ → LinesDone via base m found k₀ bs₀ c₀ o₀ bs₀ (Goes c₀ o₀) k₀
 unfolding readEach
 each-begin via ask = record { done = []; left = refl; bounds = ask .bounds; meets = record { agrees = λ log rd b h p. goes h p } }
 
-module _ {via : Opener} {base : ℕ} {m found : List ℕ} {bs₀ : Buffers} {c₀ : Counts} {o₀ : Open} {bs : Buffers} {a : LineAnswer} {k : ℕ}
-    (g : EachDone via base m found bs₀ c₀ o₀ bs a k) where
+module _ {via : Opener} {base : ℕ} {m found : List ℕ} {k₀ : ℕ} {bs₀ : Buffers} {c₀ : Counts} {o₀ : Open} {bs : Buffers} {a : LineAnswer} {k : ℕ}
+    (g : LinesDone via base m found k₀ bs₀ c₀ o₀ bs a k) where
   -- all are read
-  pub each-end : length found ≤ k → LineMeets bs₀ c₀ o₀ (readEach via (placedIn base m found)) bs a
+  pub each-end : length found ≤ k → LineMeets bs₀ c₀ o₀ (readEach via (linesPlaced base m (drop k₀ found))) bs a
   unfolding linesIn
   each-end h =
-      let e : placedIn base m found ≡ g .done =
-      g .left ∙ ap (λ (l : List ℕ). g .done ++ placedIn base m l) (drop-of-length-le found {i = k} h) ∙ append-nil (g .done) in
+      let e : linesPlaced base m (drop k₀ found) ≡ g .done =
+      g .left ∙ ap (λ (l : List ℕ). g .done ++ linesPlaced base m l) (drop-of-length-le found {i = k} h) ∙ append-nil (g .done) in
       subst (λ (ls : List Line). LineMeets bs₀ c₀ o₀ (readEach via ls) bs a) (sym e) (g .meets)
 
-  pub each-refused : {r : Refusal} → a ≡ Refused r → LineMeets bs₀ c₀ o₀ (readEach via (placedIn base m found)) bs (Refused r)
+  pub each-refused : {r : Refusal} → a ≡ Refused r → LineMeets bs₀ c₀ o₀ (readEach via (linesPlaced base m (drop k₀ found))) bs (Refused r)
   each-refused {r} e =
       subst (λ (ls : List Line). LineMeets bs₀ c₀ o₀ (readEach via ls) bs (Refused r)) (sym (g .left))
-      (meets-stop via (g .done) (placedIn base m (drop k found)) (subst (λ (x : LineAnswer). LineMeets bs₀ c₀ o₀ (readEach via (g .done)) bs x) e (g .meets)))
+      (meets-stop via (g .done) (linesPlaced base m (drop k found)) (subst (λ (x : LineAnswer). LineMeets bs₀ c₀ o₀ (readEach via (g .done)) bs x) e (g .meets)))
+
+  -- what lines leave that go on
+  module _ {c : Counts} {o : Open} (e : a ≡ Goes c o) where
+    met : LineMeets bs₀ c₀ o₀ (readEach via (g .done)) bs (Goes c o)
+    met = subst (λ (z : LineAnswer). LineMeets bs₀ c₀ o₀ (readEach via (g .done)) bs z) e (g .meets)
+
+    pub each-goes : LinesDone via base m found k₀ bs₀ c₀ o₀ bs (Goes c o) k
+    each-goes = record { done = g .done; left = g .left; bounds = g .bounds; meets = met }
+
+    pub each-between : BetweenLines bs₀ c₀ o₀ → BetweenLines bs c o
+    each-between n =
+        let d = agreed-on (met .agrees (n .log) (n .reading) (n .block) (n .holds) (n .opens)) in
+        record { log = d .log; reading = d .reading; block = d .block; holds = d .holds; opens = d .opens }
+
+    -- and others go on from there
+    pub each-joins : {bs′ : Buffers} {r : LineAnswer} {j : ℕ} → LinesDone via base m found k bs c o bs′ r j → LinesDone via base m found k₀ bs₀ c₀ o₀ bs′ r j
+    each-joins {j = j} h =
+        record {
+          done = g .done ++ h .done;
+          left = g .left ∙ ap (λ (ls : List Line). g .done ++ ls) (h .left) ∙ sym (append-more (g .done) (h .done) (linesPlaced base m (drop j found)));
+          bounds = h .bounds;
+          meets = meets-more via (g .done) (h .done) met (h .meets);
+        }
 
   module _ (h : k < length found) where
     pub each-pair : Paired m found k
@@ -196,44 +226,56 @@ module _ {via : Opener} {base : ℕ} {m found : List ℕ} {bs₀ : Buffers} {c�
       pub each-within : y ≤ length m
       each-within = rw ey (each-pair .within)
 
-      behind : placedIn base m (drop k found) ≡ placedAt base (lineIn m x y) ∷ placedIn base m (drop (k + 2) found)
+      behind : linesPlaced base m (drop k found) ≡ placedAt base (lineIn m x y) ∷ linesPlaced base m (drop (k + 2) found)
       behind =
           let e : linesIn m (drop k found) ≡ lineIn m x y ∷ linesIn m (drop (k + 2) found) = rw (ex, ey) (each-pair .lines) in
           ap (map (placedAt base)) e
 
       module _ {c : Counts} {o : Open} (e : a ≡ Goes c o) where
-        met : LineMeets bs₀ c₀ o₀ (readEach via (g .done)) bs (Goes c o)
-        met = subst (λ (z : LineAnswer). LineMeets bs₀ c₀ o₀ (readEach via (g .done)) bs z) e (g .meets)
-
         -- what the next line asks
-        pub each-asks : {t s word₀ word : List ℕ} → EachAsk t s m base found bs₀ word₀ c₀ o₀ → Same bs₀ word₀ bs word → TurnAsk t s (base + x) (part m x y) bs word c o
+        pub each-asks : {t word₀ word : List ℕ} → StretchAsk t m base found k₀ bs₀ word₀ c₀ o₀ → Same bs₀ word₀ bs word → LineAsks t (base + x) (part m x y) bs word c o
         each-asks ask w =
-            let n = ask .between in
-            let d = agreed-on (met .agrees (n .log) (n .reading) (n .block) (n .holds) (n .opens)) in
             let l : length (part m x y) ≡ y - x = length-part m x y each-within in
             record {
-              bundle = ask .bundle;
-              line =
+              cut = record { table = ask .table; near = rw l (omega (arith, ask .near, each-forward, each-within)); short = rw l (omega (arith, ask .short, each-forward, each-within)) };
+              room =
                   record {
-                    cut = record { table = ask .table; near = rw l (omega (arith, ask .near, each-forward, each-within)); short = rw l (omega (arith, ask .short, each-forward, each-within)) };
-                    room =
-                        record {
-                          names-room = rw (w .names-same) (ask .room .names-room);
-                          scratch = rw (w .graph-same) (ask .room .scratch);
-                          word-room = rw (w .word-same) (ask .room .word-room);
-                        };
-                    between = record { log = d .log; reading = d .reading; block = d .block; holds = d .holds; opens = d .opens };
+                    names-room = rw (w .names-same) (ask .room .names-room);
+                    scratch = rw (w .graph-same) (ask .room .scratch);
+                    word-room = rw (w .word-same) (ask .room .word-room);
                   };
+              between = each-between e (ask .between);
             }
 
         -- it is read
         pub each-on : {bs′ : Buffers} {r : LineAnswer} → LineMeets bs c o (λ rd b. opening via (readLine (placedAt base (lineIn m x y)) rd b)) bs′ r
-            → EachDone via base m found bs₀ c₀ o₀ bs′ r (k + 2)
+            → LinesDone via base m found k₀ bs₀ c₀ o₀ bs′ r (k + 2)
         each-on j =
             let l = placedAt base (lineIn m x y) in
             record {
               done = g .done ++ (l ∷ []);
-              left = g .left ∙ ap (λ (ls : List Line). g .done ++ ls) behind ∙ sym (append-one (g .done) l (placedIn base m (drop (k + 2) found)));
+              left = g .left ∙ ap (λ (ls : List Line). g .done ++ ls) behind ∙ sym (append-one (g .done) l (linesPlaced base m (drop (k + 2) found)));
               bounds = each-pair .bounds;
-              meets = meets-more via (g .done) (l ∷ []) met (meets-one via l j);
+              meets = meets-more via (g .done) (l ∷ []) (met e) (meets-one via l j);
             }
+
+-- ---- the end of a stretch
+
+-- any files, where it does not matter which
+abbrev pub noFiles : Opener
+noFiles start sub raw rd = goesOn rd noBlock
+
+module _ {base : ℕ} {m found : List ℕ} {k₀ : ℕ} {bs₀ : Buffers} {c₀ : Counts} {o₀ : Open} {bs′ : Buffers} where
+  pub answered-stretch : {a : LineAnswer} → StretchMeets base m found k₀ bs₀ c₀ o₀ bs′ (Answered a)
+      → (via : Opener) → LineMeets bs₀ c₀ o₀ (readEach via (linesPlaced base m (drop k₀ found))) bs′ a
+  answered-stretch (stretch-answers h) = h
+
+  pub opened-stretch : {j : ℕ} {d : Counts} {sub : Bool} {from to : ℕ} → StretchMeets base m found k₀ bs₀ c₀ o₀ bs′ (Opens j d sub from to)
+      → StretchOpens base m found k₀ bs₀ c₀ o₀ bs′ j d sub from to
+  opened-stretch (stretch-opens h) = h
+
+  pub opens-at : {bs : Buffers} {c : Counts} {o : Open} {k : ℕ} → ((via : Opener) → LinesDone via base m found k₀ bs₀ c₀ o₀ bs (Goes c o) k) → k₀ ≤ k → k < length found
+      → {x y : ℕ} → x ≡ getD found k 0 → y ≡ getD found (k + 1) 0 → {d : Counts} {sub : Bool} {from to : ℕ}
+      → TurnMeets (placedAt base (lineIn m x y)) bs c o (readLine (placedAt base (lineIn m x y))) bs′ (TurnOpens d sub from to)
+      → StretchMeets base m found k₀ bs₀ c₀ o₀ bs′ (Opens k d sub from to)
+  opens-at {bs} {c} {o} g f h ex ey m = stretch-opens (record { forward = f; below = h; held = bs; counts = c; block = o; before = g; turn = rw (ex, ey) at m })
