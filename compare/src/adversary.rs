@@ -234,6 +234,16 @@ fn plan_with(name: &'static str, manifest: String, lists: &[(String, String)]) -
     Slow { name, ask: Ask::plan(Lent { headers, ..Lent::alone(manifest) }) }
 }
 
+/// The same with every output newer than every header, so that nothing is stale: what is left is the
+/// reading of the lists.
+fn fresh(name: &'static str, slow: Slow) -> Slow {
+    let files = (0..limits::STEPS).flat_map(|k| [(format!("{k}"), 2), (format!("h{k}"), 1)]);
+    let mut times: Vec<(Vec<u8>, u64)> = files.map(|(file, time)| (file.into(), time)).collect();
+    times.sort();
+    let times: Vec<(&[u8], u64)> = times.iter().map(|(file, time)| (&file[..], *time)).collect();
+    Slow { name, ask: Ask::plan(Lent { card: card::write(&times), ..slow.ask.lent }) }
+}
+
 /// The bytes of a long list.
 const LONG: usize = 2 << 20;
 
@@ -259,6 +269,7 @@ fn headers() -> Vec<Slow> {
     let names = format!("v={}\nrule r\n command=\n depfile=$v$v$v$v\n{steps}", "x".repeat(2_048));
     vec![
         plan_with("512 lists of 7 names, 1,024 files", all.clone(), &filled),
+        fresh("  all fresh", plan_with("512 lists of 7 names, 1,024 files", all.clone(), &filled)),
         plan_with("512 lists of 7 outputs far behind (14)", all.clone(), &far),
         plan_with(
             "a list of 1,023 names of one front of 54 bytes",

@@ -2,7 +2,7 @@
 ghost use Rattle.lists.specs.Lent.{Spare, Leaves};
 ghost use Rattle.ask_header_names.specs.Names.{HeaderAsks, AddsHeader, HeaderListAsks, AddsHeaderList};
 use apply_files::Mentioned;
-use apply_files::add_path;
+use apply_files::add_listed;
 use apply_files::path_over;
 use hold_reading::Counts;
 use scan_depfile::DepfileName;
@@ -23,7 +23,7 @@ fn add_header(
     if path_over(n, c) {
         return Mentioned::Over;
     }
-    add_path(&word[..n], names, index, graph, c)
+    add_listed(&word[..n], names, index, graph, c)
 }
 
 // All names that are listed from a place of a depfile on. Over where it is malformed, too: either is the step's 20. The word buffer is working space.

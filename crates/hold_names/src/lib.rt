@@ -455,6 +455,28 @@ pub fn add(names: &mut [u8], index: &mut [u32], count: usize, path: &[u8]) -> Ad
     Added::New(count)
 }
 
+// The same for names that header lists bring. It stands by itself for speed: `add` is built into what calls it, and that into the reader's function for a
+// path, only while each of them is called from one place.
+pub fn add_listed_name(names: &mut [u8], index: &mut [u32], files: usize, path: &[u8]) -> Added
+    requires { ⌜ SoundNames (now names) (now index) files ⌝ }
+    ensures { λ r. ⌜ AddsName (now (names .entry)) (now (index .entry)) files (now (path .entry)) (now (names .exit)) (now (index .exit)) r ⌝ }
+{
+    let s = seek(names, index, files, path);
+    if s.number < files {
+        return Added::Old(s.number);
+    }
+    if FILES <= files {
+        return Added::Full;
+    }
+    let from = start(index, files);
+    if names.len() - from < path.len() {
+        return Added::Full;
+    }
+    copy_at(names, from, path);
+    enter(index, files, s.bucket, from + path.len(), s.block, s.place);
+    Added::New(files)
+}
+
 // The path of a number, as a part of the names.
 pub fn file_name<'a>(names: &'a [u8], index: &[u32], count: usize, k: usize) -> &'a [u8]
     requires { ⌜ SoundNames (now names) (now index) count ⌝ }

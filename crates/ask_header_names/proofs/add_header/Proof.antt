@@ -17,23 +17,23 @@ path-over-requires c κs = search needs
 returns : tie.Need-returns
 returns c = record { space = (record { long = refl }, record { long = refl }, record { long = refl }); promise = header-over (c .before .before .before .before .before .before .pre) (c .before .before .before .before .before .before .args .n) (sym (c .before .path-over .ensures) ∙ c .if1 .taken) }
 
-slice-aggregate-add-path : tie.Need-slice-aggregate-add-path
-slice-aggregate-add-path c = sym (name-counted (c .before .before .before .before .before .before .before .pre) (c .before .before .before .before .before .before .before .args .n) (inside (c .before)))
+slice-aggregate-add-listed : tie.Need-slice-aggregate-add-listed
+slice-aggregate-add-listed c = sym (name-counted (c .before .before .before .before .before .before .before .pre) (c .before .before .before .before .before .before .before .args .n) (inside (c .before)))
 
-add-path-requires : tie.Need-add-path-requires
-add-path-requires c κs = header-fits (c .before .before .before .before .before .before .before .before .before .before .pre) (c .before .before .before .before .before .before .before .before .before .before .args .n) (inside (c .before .before .before .before))
+add-listed-requires : tie.Need-add-listed-requires
+add-listed-requires c κs = header-fits (c .before .before .before .before .before .before .before .before .before .before .pre) (c .before .before .before .before .before .before .before .before .before .before .args .n) (inside (c .before .before .before .before))
 
 same-length : tie.Need-same-length
-same-length c = c .before .before .before .before .before .before .add-path .kept .1 .0
+same-length c = c .before .before .before .before .before .before .add-listed .kept .1 .0
 
 same-length-2 : tie.Need-same-length-2
-same-length-2 c = c .before .before .before .before .before .before .add-path .kept .1 .1 .0
+same-length-2 c = c .before .before .before .before .before .before .add-listed .kept .1 .1 .0
 
 same-length-3 : tie.Need-same-length-3
-same-length-3 c = c .before .before .before .before .before .before .add-path .kept .1 .1 .1 .0
+same-length-3 c = c .before .before .before .before .before .before .add-listed .kept .1 .1 .1 .0
 
 returns-2 : tie.Need-returns-2
-returns-2 c = record { space = (record { long = same-length c }, record { long = same-length-2 c }, record { long = same-length-3 c }); promise = header-added (c .before .before .before .before .before .before .before .before .before .before .before .before .before .before .before .before .before .pre) (c .before .before .before .before .before .before .before .before .before .before .before .before .before .before .before .before .before .args .n) (inside (c .before .before .before .before .before .before .before .before .before .before .before)) (c .before .before .before .before .before .before .add-path .ensures .promise) }
+returns-2 c = record { space = (record { long = same-length c }, record { long = same-length-2 c }, record { long = same-length-3 c }); promise = header-added (c .before .before .before .before .before .before .before .before .before .before .before .before .before .before .before .before .before .pre) (c .before .before .before .before .before .before .before .before .before .before .before .before .before .before .before .before .before .args .n) (inside (c .before .before .before .before .before .before .before .before .before .before .before)) (c .before .before .before .before .before .before .add-listed .ensures .promise) }
 
 pub add-header-spec : {M : Type 1} → statement M
 add-header-spec =
@@ -41,8 +41,8 @@ add-header-spec =
     (tie.spec
     path-over-requires
     returns
-    slice-aggregate-add-path
-    add-path-requires
+    slice-aggregate-add-listed
+    add-listed-requires
     same-length
     same-length-2
     same-length-3
