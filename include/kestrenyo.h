@@ -1,6 +1,7 @@
 /*
- * Kestrenyo: a build planner whose every answer is proved. From ninja manifests, a card of file times and a list of targets
- * it decides which steps to run, in which order, and what each one's command says. It runs nothing itself.
+ * Kestrenyo: a build planner whose every answer is proved. From ninja manifests, the header lists that a compiler left, a card
+ * of file times and a list of targets it decides which steps to run, in which order, and what each one's command says. It runs
+ * nothing itself.
  *
  * The library is libkestrenyo.a (in dist/, or by `rt staticlib kestrenyo`), for x86-64 Linux. It needs memcpy and memset
  * alone, keeps nothing between calls, allocates nothing, opens nothing and never fails to return: any bytes get an answer.
@@ -55,11 +56,13 @@ extern "C" {
  *   13  steps exist, but no target, no default, and every output is some input (place 0)
  *   14  the needed steps have no order: the length of the circle that the list buffer shows
  *   15  a needed source is missing: its file number, counted from 0 by first mention
- *   16  a rule's text leads back to itself: the step
- *   17  the text has over 8,192 bytes: the step; a status line: 0
+ *   16  a rule's text, or a depfile's name, leads back to itself: the step
+ *   17  the text, or a depfile's name, has over 8,192 bytes: the step; a status line: 0
  *   18  there is no such step, or it is phony: the step
  *   19  the bundle is malformed (place 0); or a line opens a file that is not in the bundle, a ninth at a time, or a 65th in
  *       all: where the line starts
+ *   20  the bundle of header lists is malformed (place 0); or a step's list is malformed, its first target is not the step's
+ *       first output, or what it lists goes over a limit of 9: the step
  *   21  a `%` of a status format begins no placeholder: its place in the format
  */
 struct kestrenyo_said {
@@ -69,13 +72,20 @@ struct kestrenyo_said {
 };
 
 /*
- * The plan: the numbers of the steps to run, counted from 0 as read, in their order. Refusals 1 to 15 and 19.
+ * The plan: the numbers of the steps to run, counted from 0 as read, in their order. Refusals 1 to 17, 19 and 20; 16 and 17
+ * are of the name of a step's depfile.
  *
  * bundle: the manifests by name, the top file first, then those that it and others open by `include NAME` and
  * `subninja NAME`. Numbers are little-endian. Four of 4 bytes: the count n of files (1 to 64), 16, 16 + 16n, the bundle's
  * whole length. Then a record of four numbers of 4 bytes for each file: where its name starts in what follows the records,
  * the name's length, 1 to 255, where its text starts there, the text's length. Then all names, end to end in record order,
  * none twice, and all texts likewise. One manifest alone is lent under any name; the program's is build.ninja.
+ *
+ * headers: the texts that a compiler left, each by the path that a step's `depfile` expands to, without quotes. The layout is
+ * the bundle's, with 0 to 512 records; with none it is 16 bytes: 0, 16, 16, 16. A text is one rule with blank lines around it:
+ * targets, a colon, names between spaces. A backslash before a space or a `#` gives that byte, before a newline it is a space,
+ * `$$` gives `$`. What stands behind the first colon are further inputs of the step. A step whose depfile is not there is
+ * stale, and so is one with a listed file that is missing and that no step makes. A text that no step names is not read.
  *
  * card: numbers are little-endian. Four of 4 bytes: the count n of files (1,024 at most), 16, 16 + 16n, the card's whole
  * length (49,152 at most). Then a record for each file: where its name starts in the names (4 bytes), the name's length, 1 to
@@ -89,8 +99,9 @@ struct kestrenyo_said {
  * makes, and the last one that the first makes; all beyond is zero. After another refusal all of it is zero, but 1 touches
  * nothing.
  */
-struct kestrenyo_said kestrenyo_plan(const uint8_t *bundle, size_t bundle_len, const uint8_t *card, size_t card_len,
-                                     const uint8_t *targets, size_t targets_len, uint32_t *list, size_t list_len);
+struct kestrenyo_said kestrenyo_plan(const uint8_t *bundle, size_t bundle_len, const uint8_t *headers, size_t headers_len,
+                                     const uint8_t *card, size_t card_len, const uint8_t *targets, size_t targets_len,
+                                     uint32_t *list, size_t list_len);
 
 /*
  * A text of a step: its command where wanted is KESTRENYO_COMMAND, its description where it is any other number. The names

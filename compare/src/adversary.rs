@@ -1,5 +1,5 @@
-//! Asks that are meant to be slow: what a manifest of 49,152 bytes can make a reader or a planner
-//! do most often.
+//! Asks that are meant to be slow: what a manifest of 49,152 bytes, or header lists of any length, can
+//! make a reader or a planner do most often.
 
 use crate::names::{bucket, one_bucket};
 use second::{bundle, card, limits, shapes, Ask, Lent, Question, Wanted};
@@ -20,6 +20,7 @@ pub fn all() -> Vec<Slow> {
     all.extend(graphs());
     all.extend(texts());
     all.extend(split());
+    all.extend(headers());
     for slow in &all {
         let records = bundle::read(&slow.ask.lent.bundle).expect("a sound bundle");
         let length: usize = records.iter().map(|record| record.text.len()).sum();
@@ -33,8 +34,7 @@ fn plan(name: &'static str, manifest: Vec<u8>) -> Slow {
 }
 
 fn with_card(name: &'static str, manifest: Vec<u8>, card: Vec<u8>, targets: Vec<u8>) -> Slow {
-    let bundle = bundle::alone(&manifest);
-    Slow { name, ask: Ask::plan(Lent { bundle, card, targets }) }
+    Slow { name, ask: Ask::plan(Lent { card, targets, ..Lent::alone(manifest) }) }
 }
 
 fn text(name: &'static str, manifest: Vec<u8>) -> Slow {
@@ -223,6 +223,72 @@ fn split() -> Vec<Slow> {
             &[("t".to_string(), again.into_bytes()), ("a".to_string(), lines.into_bytes())],
         ),
         plan_of("64 records of one front of 252 bytes, all opened", &many),
+    ]
+}
+
+/// A plan of a manifest with header lists.
+fn plan_with(name: &'static str, manifest: String, lists: &[(String, String)]) -> Slow {
+    let lists: Vec<_> =
+        lists.iter().map(|(name, text)| (name.as_bytes(), text.as_bytes())).collect();
+    let headers = bundle::write(&lists);
+    Slow { name, ask: Ask::plan(Lent { headers, ..Lent::alone(manifest) }) }
+}
+
+/// The same with every output newer than every header, so that nothing is stale: what is left is the
+/// reading of the lists.
+fn fresh(name: &'static str, slow: Slow) -> Slow {
+    let files = (0..limits::STEPS).flat_map(|k| [(format!("{k}"), 2), (format!("h{k}"), 1)]);
+    let mut times: Vec<(Vec<u8>, u64)> = files.map(|(file, time)| (file.into(), time)).collect();
+    times.sort();
+    let times: Vec<(&[u8], u64)> = times.iter().map(|(file, time)| (&file[..], *time)).collect();
+    Slow { name, ask: Ask::plan(Lent { card: card::write(&times), ..slow.ask.lent }) }
+}
+
+/// The bytes of a long list.
+const LONG: usize = 2 << 20;
+
+/// Lists filled to the limits, of 512 steps and of one; texts of 2 MB of which nothing is listed; names
+/// of depfiles as long as may be.
+fn headers() -> Vec<Slow> {
+    let rule = "rule r\n command=\n depfile=$out.d\n";
+    let steps: String = (0..limits::STEPS).map(|step| format!("build {step}:r\n")).collect();
+    let of = |step: usize, listed: String| (format!("{step}.d"), format!("{step}:{listed}\n"));
+    let lists = |listed: fn(usize) -> String| -> Vec<(String, String)> {
+        (0..limits::STEPS).map(|step| of(step, listed(step))).collect()
+    };
+    let filled =
+        lists(|step| (0..7).map(|name| format!(" \\\n h{}", (step + name) % 512)).collect());
+    let far =
+        lists(|step| (0..7).map(|far| format!(" {}", (step + far * far + 1).min(511))).collect());
+    let one = |text: String| vec![("0.d".to_string(), text)];
+    let all = format!("{rule}{steps}");
+    let alone = || format!("{rule}build 0:r\n");
+    let many: String = (0..limits::FILES - 1).map(|name| format!(" {name:058}")).collect();
+    let again = " h".repeat(limits::MENTIONS - 1);
+    let long = |part: &str| part.repeat(LONG / part.len());
+    let names = format!("v={}\nrule r\n command=\n depfile=$v$v$v$v\n{steps}", "x".repeat(2_048));
+    vec![
+        plan_with("512 lists of 7 names, 1,024 files", all.clone(), &filled),
+        fresh("  all fresh", plan_with("512 lists of 7 names, 1,024 files", all.clone(), &filled)),
+        plan_with("512 lists of 7 outputs far behind (14)", all.clone(), &far),
+        plan_with(
+            "a list of 1,023 names of one front of 54 bytes",
+            alone(),
+            &one(format!("0:{many}")),
+        ),
+        plan_with("a list of 4,095 times one name", alone(), &one(format!("0:{again}"))),
+        plan_with("2 MB of continuations", alone(), &one(format!("0:{}", long("\\\n")))),
+        plan_with("2 MB of blank lines", alone(), &one(format!("{}0:{}", long("\n"), "\n"))),
+        plan_with("2 MB of blank lines behind", alone(), &one(format!("0:\n{}", long(" \n")))),
+        plan_with("2 MB of joined blank lines", alone(), &one(format!("{}0:", long("\\\n\n")))),
+        plan_with("2 MB of spaces", alone(), &one(format!("0:{}h", long(" ")))),
+        plan_with("2 MB of other targets", alone(), &one(format!("0 {}:", long("x ")))),
+        plan_with("2 MB of one other target", alone(), &one(format!("0 {}:", long("\\ $$\\#x")))),
+        plan_with("2 MB and a lone `$` (20)", alone(), &one(format!("0:{}$", long("\\\n")))),
+        plan_with("2 MB of one name (20)", alone(), &one(format!("0:{}", long("xy")))),
+        plan_with("2 MB of names (20)", alone(), &one(format!("0:{}", long(" h")))),
+        plan_with("512 depfiles of 8,192 bytes, all missing", names, &[]),
+        plan_with("512 lists that no step names", alone(), &lists(|_| " h".repeat(500))),
     ]
 }
 

@@ -4,6 +4,7 @@
 use kestrenyo::lent::{self, Said};
 use second::generate::{self, damage};
 use second::graph::Start;
+use second::headers::Headers;
 use second::kind::Kind;
 use second::rng::Rng;
 use second::{limits, manifest, naive, targets, Answer, Ask, Lent, Question, Refusal, Wanted};
@@ -165,11 +166,11 @@ pub enum Ours {
 }
 
 pub fn ours(ask: &Ask) -> Ours {
-    let Lent { bundle, card, targets } = &ask.lent;
+    let Lent { bundle, headers, card, targets } = &ask.lent;
     match ask.question {
         Question::Plan { list_len } => {
             let mut list = Buffer::new(list_len);
-            Ours::Plan(lent::plan(bundle, card, targets, list.lent()), list)
+            Ours::Plan(lent::plan(bundle, headers, card, targets, list.lent()), list)
         }
         Question::Text { step, wanted, buf_len } => {
             let mut buffer = Buffer::new(buf_len);
@@ -245,12 +246,16 @@ fn circle(ask: &Ask, said: Said, list: &Buffer<u32>) -> Result<(), Difference> {
 }
 
 /// Whether these are needed steps, each having an input made by the next, the last by the first,
-/// none twice.
+/// none twice. What header lists name are inputs.
 fn is_true(ask: &Ask, circle: &[u32]) -> bool {
-    let Ok(read) = manifest::read(&ask.lent.bundle) else { return false };
+    let Ok(mut read) = manifest::read(&ask.lent.bundle) else { return false };
     let Ok(targets) = targets::read(&ask.lent.targets, |name| read.files.number(name)) else {
         return false;
     };
+    let Ok(headers) = Headers::read(&ask.lent.headers) else { return false };
+    if headers.add_to(&mut read).is_err() {
+        return false;
+    }
     let start = Start { times: Vec::new(), targets, defaults: read.defaults };
     let needed = naive::needed(&read.graph, &naive::roots(&read.graph, &start));
     naive::is_circle(&read.graph, &needed, circle)

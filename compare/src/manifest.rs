@@ -43,7 +43,7 @@ extern "C" {
 
 /// The lengths that do for any manifest, in the order of the buffers.
 pub const LENGTHS: [usize; 6] =
-    [60_000, 3_072, 60_000 + 64 * ENTRIES, PARENTS + SCOPES, 61_440, 2_048];
+    [60_000, 4_096, 60_000 + 64 * ENTRIES, PARENTS + SCOPES, 61_440, 2_048];
 
 /// The most scopes, and the most entries of the table of bindings: bindings, rules, and two marks for
 /// each scope.
@@ -200,6 +200,7 @@ impl Buffers {
                 implicit: part(ends[2]),
                 order_only: part(ends[3]),
                 phony: phony == 1,
+                ..Step::default()
             });
         }
         accepted.graph.files = numbers.files;

@@ -1,7 +1,8 @@
-//! Makes an ask smaller as long as something holds of it: steps of a list, files and their lines,
-//! card records and target names are dropped, then bytes.
+//! Makes an ask smaller as long as something holds of it: steps of a list, files, header lists and
+//! their lines, card records and target names are dropped, then bytes.
 
-use second::{bundle, card, limits, Ask, Question};
+use second::bundle::{self, Bundle};
+use second::{card, limits, Ask, Question};
 
 /// The ask with as little left as `holds` allows to drop part by part. `holds` is true of the ask
 /// given.
@@ -10,7 +11,8 @@ pub fn minimise(mut ask: Ask, holds: impl Fn(&Ask) -> bool) -> Ask {
         let before = ask.clone();
         ask = question(ask, &holds);
         ask = by_steps(ask, &holds);
-        ask = by_files(ask, &holds);
+        ask = by_files(ask, |ask| &mut ask.lent.bundle, bundle::MANIFEST, &holds);
+        ask = by_files(ask, |ask| &mut ask.lent.headers, bundle::HEADERS, &holds);
         ask = by_lines(ask, |ask| &mut ask.lent.targets, &holds);
         ask = by_records(ask, |ask| &mut ask.lent.card, &holds);
         if ask == before {
@@ -80,23 +82,27 @@ fn by_lines(mut ask: Ask, part: Part, holds: &impl Fn(&Ask) -> bool) -> Ask {
     with(&ask, part, bytes)
 }
 
-/// Drops files of the bundle but the top one, then lines and bytes of each text; bytes where it is no
-/// sound bundle.
-fn by_files(mut ask: Ask, holds: &impl Fn(&Ask) -> bool) -> Ask {
-    let part: Part = |ask| &mut ask.lent.bundle;
+/// Drops files of a part that is a bundle but for as many leading ones as it has at least, then lines
+/// and bytes of each text; bytes where it is no sound bundle.
+fn by_files(
+    mut ask: Ask,
+    part: Part,
+    (least, most): (usize, usize),
+    holds: &impl Fn(&Ask) -> bool,
+) -> Ask {
     let bytes = part(&mut ask).clone();
-    let Ok(records) = bundle::read(&bytes) else {
+    let Some(Bundle { records }) = Bundle::read(&bytes, (least, most)) else {
         let least = dropped(bytes, |bytes| holds(&with(&ask, part, bytes.to_vec())));
         return with(&ask, part, least);
     };
-    let mut files: Vec<_> = records.iter().map(|file| (file.name, file.text.to_vec())).collect();
+    let mut files: Vec<_> = records.iter().map(|(name, text)| (*name, text.to_vec())).collect();
     let written = |files: &[(&[u8], Vec<u8>)]| {
         let files: Vec<_> = files.iter().map(|(name, text)| (*name, &text[..])).collect();
         with(&ask, part, bundle::write(&files))
     };
-    let top = files.remove(0);
-    let under = |others: &[_]| [std::slice::from_ref(&top), others].concat();
-    files = under(&dropped(files, |others| holds(&written(&under(others)))));
+    let others = files.split_off(least);
+    let under = |others: &[_]| [&files[..], others].concat();
+    let mut files = under(&dropped(others, |others| holds(&written(&under(others)))));
     for at in 0..files.len() {
         let of = |text: Vec<u8>| {
             let mut files = files.clone();

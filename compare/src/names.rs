@@ -70,7 +70,7 @@ pub struct Names {
 impl Names {
     /// Room for so many bytes, 1,024 names and so many answers.
     pub fn new(bytes: usize, answers: usize) -> Self {
-        Names { names: vec![0; bytes], index: vec![0; 3_072], numbers: vec![0; answers] }
+        Names { names: vec![0; bytes], index: vec![0; 4_096], numbers: vec![0; answers] }
     }
 
     /// Adds the names of a list, each ended by a newline, to a table of none; how many were added,

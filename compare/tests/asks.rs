@@ -6,8 +6,9 @@ use compare::asks::{asks, compare, judge, ours, run, Buffer, Filled, Ours};
 use compare::minimise::minimise;
 use compare::settings::setting;
 use kestrenyo::lent::Said;
+use second::bundle::{self, Bundle};
 use second::kind::Kind;
-use second::{bundle, limits, Answer, Ask, Lent, Question};
+use second::{limits, Answer, Ask, Lent, Place, Question, Refusal};
 use std::ops::Not;
 
 const ASKS: u64 = 200_000;
@@ -132,7 +133,8 @@ fn texts_of(ask: &Ask) -> usize {
 #[test]
 fn asks_are_minimised() {
     let is_list = |ask: &Ask| matches!(ask.answer(), Answer::List(steps) if !steps.is_empty());
-    let ask = some(Kind::List).find(|ask| texts_of(ask) > 100).expect("a list");
+    let is_alone = |ask: &Ask| bundle::text_alone(&ask.lent.bundle).is_some();
+    let ask = some(Kind::List).find(|ask| is_alone(ask) && texts_of(ask) > 100).expect("a list");
     let least = minimise(ask, is_list);
     assert!(is_list(&least) && texts_of(&least) < 40, "{least}");
     let Lent { targets, card, .. } = least.lent;
@@ -151,6 +153,22 @@ fn bundles_are_minimised() {
     let least = minimise(ask, is_missing);
     let files = bundle::read(&least.lent.bundle).expect("a sound bundle");
     assert!(is_missing(&least) && texts_of(&least) < 40 && files.len() == 2, "{least}");
+}
+
+/// So are header lists.
+#[test]
+fn lists_are_minimised() {
+    let is_refused = |ask: &Ask| {
+        let refusal = ask.answer().refusal();
+        matches!(refusal, Some(Refusal { number: 20, place: Place::Number(1..) }))
+    };
+    let lists = |ask: &Ask| {
+        let lists = Bundle::read(&ask.lent.headers, bundle::HEADERS);
+        lists.map_or(0, |lists| lists.records.len())
+    };
+    let ask = some(Kind::Refused(20)).find(|ask| is_refused(ask) && lists(ask) > 1).expect("a 20");
+    let least = minimise(ask, is_refused);
+    assert!(is_refused(&least) && texts_of(&least) < 80 && lists(&least) == 1, "{least}");
 }
 
 /// So does a texts ask, whose list and buffers get shorter too.

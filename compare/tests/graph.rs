@@ -1,24 +1,27 @@
-//! Plans of random graphs, each written as a manifest: the proved planner's against the second
-//! planner's and against its naive transcription of the rules. `GRAPHS` in the environment runs
+//! Plans of random graphs, each written as a manifest with header lists: the proved planner's against
+//! the second planner's and against its naive transcription of the rules. `GRAPHS` in the environment runs
 //! another number of graphs, from seed `FROM` on.
 
 use compare::asks::{judge, ours};
 use compare::settings::setting;
 use second::generate::graphs::{self, graph_ask, GraphAsk};
 use second::graph::Start;
+use second::headers::Headers;
 use second::rng::Rng;
 use second::{bundle, card, manifest, naive, targets, Answer, Ask, Lent};
 use std::collections::BTreeMap;
 
 const GRAPHS: u64 = 200_000;
 
-/// The graph as what a plan ask lends, file `n` being named `fn`. A target that no step mentions
-/// has no place in a manifest and is left out.
+/// The graph as what a plan ask lends, file `n` being named `fn`. A target that no step mentions, but
+/// perhaps its list, has no place in a manifest and is left out.
 fn lent(rng: &mut Rng, ask: &GraphAsk) -> Lent {
     let GraphAsk { graph, start } = ask;
     let mentioned = |file: u32| {
         let steps = &mut graph.steps.iter();
-        steps.any(|step| step.outputs.contains(&file) || step.inputs().any(|input| input == file))
+        steps.any(|step| {
+            step.outputs.contains(&file) || step.written_inputs().any(|input| input == file)
+        })
     };
     let names: Vec<Vec<u8>> =
         (0..start.times.len()).map(|file| format!("f{file}").into_bytes()).collect();
@@ -32,21 +35,26 @@ fn lent(rng: &mut Rng, ask: &GraphAsk) -> Lent {
         .filter(|&&file| mentioned(file))
         .map(|file| format!("f{file}\n"))
         .collect();
-    let bundle = bundle::alone(&graphs::manifest(rng, ask));
-    Lent { bundle, card: card::write(&records), targets: targets.into_bytes() }
+    let lent = Lent::alone(graphs::manifest(rng, ask));
+    let lists = graphs::lists(rng, ask);
+    let lists: Vec<_> = lists.iter().map(|(path, text)| (&path[..], &text[..])).collect();
+    let (headers, card) = (bundle::write(&lists), card::write(&records));
+    Lent { headers, card, targets: targets.into_bytes(), ..lent }
 }
 
 /// What the naive transcription answers to what is lent, and none for a circle.
 fn by_the_rules(lent: &Lent) -> Option<Answer> {
-    let read = manifest::read(&lent.bundle).expect("a sound manifest");
-    let number = |name: &[u8]| read.files.number(name);
+    let mut read = manifest::read(&lent.bundle).expect("a sound manifest");
+    let targets = targets::read(&lent.targets, |name| read.files.number(name));
+    let headers = Headers::read(&lent.headers).expect("sound header lists");
+    headers.add_to(&mut read).expect("lists of their steps");
     let mut times = vec![0; read.files.names.len()];
     for (name, time) in card::read(&lent.card).expect("a sound card") {
-        if let Some(file) = number(name) {
+        if let Some(file) = read.files.number(name) {
             times[file as usize] = time;
         }
     }
-    let targets = targets::read(&lent.targets, number).expect("targets that are mentioned");
+    let targets = targets.expect("targets that are mentioned");
     naive::plan(&read.graph, &Start { times, targets, defaults: read.defaults.clone() })
 }
 

@@ -109,7 +109,7 @@ fn counts(theirs: &Manifest, ours: &Accepted) -> Numbers {
         entries: rules + bindings + ours.marks,
         rules,
         bindings,
-        mentions: paths.len() + theirs.defaults.len(),
+        mentions: theirs.mentions,
         written: theirs.together,
     }
 }
@@ -134,6 +134,7 @@ fn compare_tables(ours: &Accepted, theirs: &Manifest, shown: &str) {
     for (rule, raw) in ours.rules.iter().zip(&theirs.rules[1..]) {
         let keys = [
             (Key::Command, "command"),
+            (Key::Depfile, "depfile"),
             (Key::Description, "description"),
             (Key::Generator, "generator"),
         ];

@@ -345,7 +345,7 @@ fn manifests_agree() {
         }
     }
     assert!(
-        counts.iter().all(|&count| count > 2_000) && sound > 20_000 && damaged > 5_000,
+        counts.iter().all(|&count| count > 1_500) && sound > 20_000 && damaged > 5_000,
         "{counts:?} {sound} {damaged}"
     );
 }

@@ -111,6 +111,8 @@ static int refused(struct kestrenyo_said said)
 int main(void)
 {
     static const struct file files[] = {{"a.c", 5}, {"a.o", 7}, {"b.c", 5}, {"t.h", 9}};
+    /* no header lists: a count of 0, then 16, 16 and the length */
+    static const uint8_t headers[16] = {0, 0, 0, 0, 16, 0, 0, 0, 16, 0, 0, 0, 16, 0, 0, 0};
     uint8_t bundle[512], card[256];
     uint32_t list[KESTRENYO_LIST];
     uint8_t bytes[KESTRENYO_TEXT];
@@ -118,7 +120,8 @@ int main(void)
 
     size_t length = write_bundle(bundle, TEXTS, sizeof TEXTS / sizeof *TEXTS);
     size_t card_length = write_card(card, files, sizeof files / sizeof *files);
-    struct kestrenyo_said plan = kestrenyo_plan(bundle, length, card, card_length, NULL, 0, list, KESTRENYO_LIST);
+    struct kestrenyo_said plan = kestrenyo_plan(bundle, length, headers, sizeof headers, card, card_length, NULL, 0,
+                                                list, KESTRENYO_LIST);
     if (plan.number != 0)
         return refused(plan);
     /* a call writes as many texts as there is room for, one at least; the next call goes on behind them */

@@ -1,7 +1,7 @@
 //! Plans the bench example of document 01, its rule in a file of its own, and prints what the program
 //! prints: `cargo run --example bench`.
 
-use kestrenyo::{card, plan, texts, Bundle, Wanted};
+use kestrenyo::{card, plan, texts, Bundle, Headers, Wanted};
 use std::error::Error;
 
 const MANIFEST: &[u8] = b"cflags = -O1
@@ -22,8 +22,8 @@ fn main() -> Result<(), Box<dyn Error>> {
     let mut bundle = Bundle::alone(MANIFEST);
     bundle.add("rules.ninja", RULES)?;
     // a refusal is shown with the file, the line and the column of its place
-    let steps =
-        plan(&bundle, &card, b"").map_err(|refusal| refusal.located(&bundle).to_string())?;
+    let steps = plan(&bundle, &Headers::none(), &card, b"")
+        .map_err(|refusal| refusal.located(&bundle).to_string())?;
     for (place, command) in (1..).zip(texts(&bundle, &steps, Wanted::Command)) {
         println!("[{place}/{}] {}", steps.len(), String::from_utf8_lossy(&command?));
     }

@@ -1,22 +1,14 @@
 //! Bundles: manifests by name, in document 02's layout.
 
+use crate::records::{read, taken, written, BYTES, NAME};
 use std::error::Error;
 use std::fmt::{self, Display, Formatter};
 
-/// The most files of a bundle, the most bytes of a name.
+/// The most files of a bundle.
 const FILES: usize = 64;
-const NAME: usize = 255;
-
-/// The bytes of the header and of each record, and of a number.
-const HEADER: usize = 16;
-const RECORD: usize = 16;
-const NUMBER: usize = 4;
 
 /// The name under which a manifest is lent alone.
 const ALONE: &[u8] = b"build.ninja";
-
-/// The most bytes of a bundle: as many as its four bytes for the total length can say.
-const BYTES: usize = u32::MAX as usize;
 
 /// Manifests by name, as they are lent to an ask: the top file first, and those that it and others
 /// open by `include NAME` and `subninja NAME`. Names are compared byte for byte; nothing is read
@@ -82,9 +74,6 @@ impl Display for BundleError {
 
 impl Error for BundleError {}
 
-/// A file of a bundle: its name and its text.
-type File<'a> = (&'a [u8], &'a [u8]);
-
 impl Bundle {
     /// A bundle without files. Lent as it is, it is refused with 19: the top file has to be added.
     pub fn new() -> Self {
@@ -96,7 +85,7 @@ impl Bundle {
     /// Of a text that four bytes can't tell the length of, no more is kept than they can: it is
     /// refused with 2 all the same.
     pub fn alone(manifest: &[u8]) -> Self {
-        let most = BYTES - HEADER - RECORD - ALONE.len();
+        let most = BYTES - written(&[(ALONE, b"")]).len();
         Bundle { bytes: written(&[(ALONE, manifest.get(..most).unwrap_or(manifest))]) }
     }
 
@@ -118,7 +107,7 @@ impl Bundle {
         text: impl AsRef<[u8]>,
     ) -> Result<&mut Self, BundleError> {
         let (name, text) = (name.as_ref(), text.as_ref());
-        let mut files = self.files().ok_or(BundleError::Malformed)?;
+        let mut files = read(&self.bytes).ok_or(BundleError::Malformed)?;
         if name.is_empty() {
             return Err(BundleError::EmptyName);
         }
@@ -131,8 +120,7 @@ impl Bundle {
         if files.len() >= FILES {
             return Err(BundleError::ManyFiles);
         }
-        let length =
-            self.bytes.len().saturating_add(RECORD + name.len()).saturating_add(text.len());
+        let length = self.bytes.len().saturating_add(taken((name, text)));
         if length > BYTES {
             return Err(BundleError::LongBundle(length));
         }
@@ -148,7 +136,7 @@ impl Bundle {
 
     /// How many files the bundle has.
     pub fn len(&self) -> usize {
-        self.files().map_or(0, |files| files.len())
+        read(&self.bytes).map_or(0, |files| files.len())
     }
 
     /// Whether the bundle has no file.
@@ -158,20 +146,7 @@ impl Bundle {
 
     /// The name and the text of the file with this record number, counted from 0 as added.
     pub fn file(&self, record: usize) -> Option<(&[u8], &[u8])> {
-        self.files()?.get(record).copied()
-    }
-
-    /// All files, if the bytes can be read as a bundle.
-    fn files(&self) -> Option<Vec<File<'_>>> {
-        let names = number(&self.bytes, 8)?;
-        let (heads, behind) = (self.bytes.get(HEADER..names)?, self.bytes.get(names..)?);
-        let part = |at: usize, length: usize| behind.get(at..)?.get(..length);
-        let file = |head: &[u8]| {
-            let name = part(number(head, 0)?, number(head, NUMBER)?)?;
-            let text = part(number(head, 2 * NUMBER)?, number(head, 3 * NUMBER)?)?;
-            Some((name, text))
-        };
-        heads.chunks_exact(RECORD).map(file).collect()
+        read(&self.bytes)?.get(record).copied()
     }
 }
 
@@ -185,39 +160,6 @@ impl AsRef<[u8]> for Bundle {
     fn as_ref(&self) -> &[u8] {
         self.as_bytes()
     }
-}
-
-/// The number of four bytes at `at`, the lowest first.
-fn number(bytes: &[u8], at: usize) -> Option<usize> {
-    let four = bytes.get(at..)?.first_chunk()?;
-    usize::try_from(u32::from_le_bytes(*four)).ok()
-}
-
-/// The bytes of these files, which are [`BYTES`] at most.
-fn written(files: &[File]) -> Vec<u8> {
-    let length = |part: fn(&File) -> usize| files.iter().map(part).sum::<usize>();
-    let names = HEADER + RECORD * files.len();
-    let (of_names, of_texts) = (length(|(name, _)| name.len()), length(|(_, text)| text.len()));
-    let mut bytes = Vec::with_capacity(names + of_names + of_texts);
-    for number in [files.len(), HEADER, names, names + of_names + of_texts] {
-        put(&mut bytes, number);
-    }
-    let (mut name_at, mut text_at) = (0, of_names);
-    for (name, text) in files {
-        for number in [name_at, name.len(), text_at, text.len()] {
-            put(&mut bytes, number);
-        }
-        name_at += name.len();
-        text_at += text.len();
-    }
-    files.iter().for_each(|(name, _)| bytes.extend_from_slice(name));
-    files.iter().for_each(|(_, text)| bytes.extend_from_slice(text));
-    bytes
-}
-
-/// Four bytes of a number; none that is put is above [`BYTES`].
-fn put(bytes: &mut Vec<u8>, number: usize) {
-    bytes.extend(number.to_le_bytes().into_iter().take(NUMBER));
 }
 
 #[cfg(test)]

@@ -82,6 +82,8 @@ extern "C" {
     fn kestrenyo_plan(
         bundle: *const u8,
         bundle_len: usize,
+        headers: *const u8,
+        headers_len: usize,
         card: *const u8,
         card_len: usize,
         targets: *const u8,
@@ -120,15 +122,19 @@ impl Wanted {
     }
 }
 
-/// The plan ask; `bundle` has the bytes of a [`Bundle`](crate::Bundle). The steps to run stand at the start of `list`, which has [`LIST`](crate::LIST)
-/// numbers at least, and all beyond them is zero. After a refusal all of it is zero, but for two:
-/// 14 writes the steps of a circle, their number being its place, and 1 touches nothing.
-pub fn plan(bundle: &[u8], card: &[u8], targets: &[u8], list: &mut [u32]) -> Said {
+/// The plan ask; `bundle` has the bytes of a [`Bundle`](crate::Bundle), `headers` those of
+/// [`Headers`](crate::Headers). The steps to run stand at the start of `list`, which has
+/// [`LIST`](crate::LIST) numbers at least, and all beyond them is zero. After a refusal all of it is
+/// zero, but for two: 14 writes the steps of a circle, their number being its place, and 1 touches
+/// nothing.
+pub fn plan(bundle: &[u8], headers: &[u8], card: &[u8], targets: &[u8], list: &mut [u32]) -> Said {
     // SAFETY: the function asks nothing of its arguments, reads the slices and writes the list.
     unsafe {
         kestrenyo_plan(
             bundle.as_ptr(),
             bundle.len(),
+            headers.as_ptr(),
+            headers.len(),
             card.as_ptr(),
             card.len(),
             targets.as_ptr(),

@@ -1,14 +1,14 @@
-//! A build planner whose every answer is proved: from ninja manifests, a card of file times and a
-//! list of targets it decides which steps to run, in which order, and what each one's command
-//! says. It runs nothing itself.
+//! A build planner whose every answer is proved: from ninja manifests, the header lists that a
+//! compiler left, a card of file times and a list of targets it decides which steps to run, in which
+//! order, and what each one's command says. It runs nothing itself.
 //!
 //! ```
-//! use kestrenyo::{card, plan, text, texts, Bundle, Wanted};
+//! use kestrenyo::{card, plan, text, texts, Bundle, Headers, Wanted};
 //!
 //! let manifest = b"rule cc\n  command = cc -c $in -o $out\nbuild a.o: cc a.c\n";
 //! let bundle = Bundle::alone(manifest);
 //! let times = card(&[("a.c", 9), ("a.o", 7)])?;
-//! let steps = plan(&bundle, &times, b"")?;
+//! let steps = plan(&bundle, &Headers::none(), &times, b"")?;
 //! assert_eq!(steps, [0]);
 //! assert_eq!(text(&bundle, 0, Wanted::Command)?, b"cc -c a.c -o a.o");
 //! for command in texts(&bundle, &steps, Wanted::Command) {
@@ -19,7 +19,8 @@
 //!
 //! [`plan()`] lists the steps to run, [`text()`] gives the text of one step, and [`texts()`] those of
 //! many, without reading the manifests anew for each. They are lent as a [`Bundle`]: one manifest
-//! alone, or a top file with those that it opens. [`Status`] prints how far a build is.
+//! alone, or a top file with those that it opens. [`Headers`] are what a compiler left at the
+//! depfiles of steps. [`Status`] prints how far a build is.
 //!
 //! Any input gets an answer: a list, a text, or a [`Refusal`] with its number and place, of which
 //! [`Refusal::located`] tells file, line and column. Nothing panics and nothing is read or written
@@ -36,14 +37,17 @@
 
 mod bundle;
 mod card;
+mod headers;
 pub mod lent;
 mod place;
+mod records;
 mod refusal;
 mod status;
 mod texts;
 
 pub use bundle::{Bundle, BundleError};
 pub use card::{card, CardError};
+pub use headers::{Headers, HeadersError};
 pub use lent::Wanted;
 pub use place::{Located, Location, Place, TextPlace};
 pub use refusal::Refusal;
@@ -61,16 +65,38 @@ pub const STACK: usize = 640 << 10;
 
 /// The steps to run, in order: the stale ones of those that the targets need.
 ///
+/// `headers` has the texts at the depfiles of steps: what they list are further inputs. A step whose
+/// depfile is not among them is stale, and so is one with a listed file that is missing and that no
+/// step makes.
+///
+/// ```
+/// # use kestrenyo::{card, plan, Bundle, Headers};
+/// let rule = "rule cc\n  command = cc -MD -MF $depfile -c $in -o $out\n  depfile = $out.d\n";
+/// let bundle = Bundle::alone(format!("{rule}build a.o: cc a.c\n").as_bytes());
+/// let times = card(&[("a.c", 5), ("a.h", 9), ("a.o", 7)])?;
+/// let lists = Headers::of([("a.o.d", "a.o: a.c a.h\n")])?;
+/// assert_eq!(plan(&bundle, &lists, &times, b""), Ok(vec![0]));
+/// let lists = Headers::of([("a.o.d", "a.o: a.c\n")])?;
+/// assert_eq!(plan(&bundle, &lists, &times, b""), Ok(vec![]));
+/// # Ok::<(), Box<dyn std::error::Error>>(())
+/// ```
+///
 /// `card` is a time card (see [`card()`]), `targets` the names of files, each ended by a newline;
 /// with none, the manifests' defaults, and without those every output that is no step's input.
 /// Steps are numbered from 0 as read.
 ///
 /// # Errors
 ///
-/// Refusals 2 to 15 and 19; 1 can't come, since the buffer is this function's own.
-pub fn plan(bundle: &Bundle, card: &[u8], targets: &[u8]) -> Result<Vec<u32>, Refusal> {
+/// Refusals 2 to 17, 19 and 20; 1 can't come, since the buffer is this function's own. 16 and 17 are
+/// of the name of a step's depfile.
+pub fn plan(
+    bundle: &Bundle,
+    headers: &Headers,
+    card: &[u8],
+    targets: &[u8],
+) -> Result<Vec<u32>, Refusal> {
     let mut list = [0; LIST];
-    let said = lent::plan(bundle.as_bytes(), card, targets, &mut list);
+    let said = lent::plan(bundle.as_bytes(), headers.as_bytes(), card, targets, &mut list);
     match said.number {
         0 => Ok(list.into_iter().take(said.value).collect()),
         _ => Err(Refusal::of(said, &list)),

@@ -44,9 +44,9 @@ pub enum Refusal {
     Circle(Vec<u32>),
     /// 15: a needed source is missing: the file with this number, counted from 0 by first mention.
     MissingSource(usize),
-    /// 16: the text of this step leads back to itself.
+    /// 16: the text of this step, or the name of its depfile, leads back to itself.
     EndlessText(usize),
-    /// 17: the text of this step has over 8,192 bytes.
+    /// 17: the text of this step, or the name of its depfile, has over 8,192 bytes.
     LongText(usize),
     /// 18: there is no step of this number, or it is a phony one.
     NoCommand(usize),
@@ -56,6 +56,9 @@ pub enum Refusal {
     BadBundle,
     /// 19, of a line: it opens a file that is not in the bundle, a ninth at a time, or a 65th in all.
     BadOpening(TextPlace),
+    /// 20: the header list of this step is malformed, is another step's or goes over a limit; 0 also
+    /// where the lent lists are no sound ones.
+    BadList(usize),
     /// 21: a `%` of a status format, at this place, that begins no placeholder.
     BadPlaceholder(usize),
     /// A number that this crate does not know, with its place. The library of this crate's edition
@@ -90,6 +93,7 @@ impl Refusal {
             17 => Refusal::LongText(place),
             18 => Refusal::NoCommand(place),
             19 => Refusal::BadBundle,
+            20 => Refusal::BadList(place),
             21 => Refusal::BadPlaceholder(place),
             number => Refusal::Unknown { number, place: Place::Number(place) },
         }
@@ -118,7 +122,7 @@ impl Refusal {
         }
     }
 
-    /// The documents' number, 1 to 19 or 21 but for [`Unknown`](Refusal::Unknown).
+    /// The documents' number, 1 to 21 but for [`Unknown`](Refusal::Unknown).
     pub fn number(&self) -> usize {
         match self {
             Refusal::ShortBuffer => 1,
@@ -140,6 +144,7 @@ impl Refusal {
             Refusal::LongText(_) | Refusal::LongLine => 17,
             Refusal::NoCommand(_) => 18,
             Refusal::BadBundle | Refusal::BadOpening(_) => 19,
+            Refusal::BadList(_) => 20,
             Refusal::BadPlaceholder(_) => 21,
             Refusal::Unknown { number, .. } => *number,
         }
@@ -169,6 +174,7 @@ impl Refusal {
             | Refusal::EndlessText(place)
             | Refusal::LongText(place)
             | Refusal::NoCommand(place)
+            | Refusal::BadList(place)
             | Refusal::BadPlaceholder(place) => Place::Number(*place),
             Refusal::Unknown { place, .. } => *place,
         }
@@ -228,9 +234,11 @@ impl Display for Refusal {
                  makes it"
             ),
             Refusal::EndlessText(step) => {
-                write!(f, "the text of step {step} leads back to itself")
+                write!(f, "the text of step {step}, or its depfile's name, leads back to itself")
             }
-            Refusal::LongText(step) => write!(f, "the text of step {step} has over 8,192 bytes"),
+            Refusal::LongText(step) => {
+                write!(f, "the text of step {step}, or its depfile's name, has over 8,192 bytes")
+            }
             Refusal::NoCommand(step) => write!(f, "there is no step {step}, or it is phony"),
             Refusal::LongLine => write!(f, "the status line has over 8,192 bytes"),
             Refusal::BadBundle => write!(f, "the bundle is malformed"),
@@ -238,6 +246,11 @@ impl Display for Refusal {
                 f,
                 "{} opens a file that is not in the bundle, a ninth at a time, or a 65th in all",
                 Line(*place)
+            ),
+            Refusal::BadList(step) => write!(
+                f,
+                "the header list of step {step} is malformed, is of another target or goes over a \
+                 limit, or the lent lists are malformed"
             ),
             Refusal::BadPlaceholder(place) => {
                 write!(f, "the `%` at byte {place} of the format begins no placeholder")

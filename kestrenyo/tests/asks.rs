@@ -1,7 +1,7 @@
 //! What a Rust caller gets: answers, each refusal, lent buffers, and the stack that an ask takes.
 
 use kestrenyo::lent::{self, Said};
-use kestrenyo::{card, plan, text, Bundle, CardError, Place, Refusal, TextPlace, Wanted};
+use kestrenyo::{card, text, Bundle, CardError, Headers, Place, Refusal, TextPlace, Wanted};
 use kestrenyo::{LIST, STACK, TEXT};
 use std::error::Error;
 
@@ -15,6 +15,11 @@ build a.o: cc a.c | t.h
 build axis: phony a.o b.o
 default axis
 ";
+
+/// A plan without header lists.
+fn plan(bundle: &Bundle, card: &[u8], targets: &[u8]) -> Result<Vec<u32>, Refusal> {
+    kestrenyo::plan(bundle, &Headers::none(), card, targets)
+}
 
 fn bench() -> Bundle {
     Bundle::alone(MANIFEST)
@@ -57,6 +62,34 @@ fn split_manifests() {
     assert!(refusal.to_string().starts_with("refused 19 at 2:3: the line at byte 3 of record 2 "));
     let located = refusal.located(&faulty).to_string();
     assert!(located.starts_with("a:3:1: refused 19 at 2:3: "), "{located}");
+}
+
+/// The bench example with depfiles: the header that step 1 has written is listed by both steps.
+#[test]
+fn header_lists() {
+    let depfile = "  depfile = $out.d\n";
+    let manifest = String::from_utf8(MANIFEST.to_vec())
+        .unwrap()
+        .replace("  desc", &(depfile.to_owned() + "  desc"));
+    let bundle = Bundle::alone(manifest.as_bytes());
+    let times = card(&[("t.h", 6), ("a.c", 5), ("b.c", 5), ("a.o", 7), ("b.o", 7)]).unwrap();
+    let plan = |lists: &Headers, card: &[u8]| kestrenyo::plan(&bundle, lists, card, b"");
+    assert_eq!(plan(&Headers::none(), &times), Ok(vec![0, 1]));
+    let mut lists = Headers::of([("a.o.d", "a.o: a.c t.h\n")]).unwrap();
+    assert_eq!(plan(&lists, &times), Ok(vec![0]));
+    lists.add("b.o.d", "\nb.o: b.c \\\n t.h\n").unwrap();
+    assert_eq!(plan(&lists, &times), Ok(vec![]));
+    assert_eq!(plan(&lists, &bench_card()), Ok(vec![0, 1]));
+
+    let of = |text: &str| Headers::of([("a.o.d", text), ("b.o.d", "b.o:")]).unwrap();
+    for malformed in ["", "a.o: $\n", "b.o: b.c\n", "a.o: a.c\na.c:\n"] {
+        let refusal = plan(&of(malformed), &times).unwrap_err();
+        assert_eq!(refusal, Refusal::BadList(1), "{malformed}");
+        assert!(refusal.to_string().starts_with("refused 20 at 1: the header list of step 1 "));
+    }
+    let cut = Headers::from_bytes(&lists.as_bytes()[..lists.as_bytes().len() - 1]);
+    assert_eq!(plan(&cut, &times), Err(Refusal::BadList(0)));
+    assert_eq!(plan(&of("a.o: a.o\n"), &times), Err(Refusal::Circle(vec![1])));
 }
 
 #[test]
@@ -164,6 +197,13 @@ fn refusals() {
         (unread(usize::MAX, ""), Refusal::NoCommand(usize::MAX), 18, "18446744073709551615"),
         (refused(b"\ninclude a\n", b""), Refusal::BadOpening(at(1)), 19, "0:1"),
         (plan(&Bundle::new(), &empty, b"").unwrap_err(), Refusal::BadBundle, 19, "0"),
+        (
+            kestrenyo::plan(&Bundle::alone(b""), &Headers::from_bytes([]), &empty, b"")
+                .unwrap_err(),
+            Refusal::BadList(0),
+            20,
+            "0",
+        ),
     ];
     for (refusal, right, number, place) in told {
         assert_eq!(refusal, right);
@@ -192,12 +232,12 @@ fn a_circle_of_two() {
 
 #[test]
 fn lent_buffers() {
-    let (bundle, mut list) = (bench(), [7; LIST + 1]);
-    let bundle = bundle.as_bytes();
+    let (bundle, headers, mut list) = (bench(), Headers::none(), [7; LIST + 1]);
+    let (bundle, none) = (bundle.as_bytes(), headers.as_bytes());
     let short = Said { number: 1, text: 0, value: 0 };
-    assert_eq!(lent::plan(bundle, &bench_card(), b"", &mut list[..LIST - 1]), short);
+    assert_eq!(lent::plan(bundle, none, &bench_card(), b"", &mut list[..LIST - 1]), short);
     assert_eq!(list, [7; LIST + 1]);
-    let said = lent::plan(bundle, &bench_card(), b"", &mut list);
+    let said = lent::plan(bundle, none, &bench_card(), b"", &mut list);
     assert_eq!(said, Said { number: 0, text: 0, value: 2 });
     assert_eq!(list[..2], [0, 1]);
     assert_eq!(list[2..], [0; LIST - 1]);
@@ -220,9 +260,9 @@ fn lent_buffers() {
 #[test]
 fn threads() {
     let ask = || {
-        let (bundle, card) = (bench(), bench_card());
+        let (bundle, none, card) = (bench(), Headers::none(), bench_card());
         let mut list = vec![0; LIST];
-        let said = lent::plan(bundle.as_bytes(), &card, b"", &mut list);
+        let said = lent::plan(bundle.as_bytes(), none.as_bytes(), &card, b"", &mut list);
         let mut buffer = vec![0; TEXT];
         let texts = lent::text(bundle.as_bytes(), 1, Wanted::Command, &mut buffer);
         (said, texts, list, buffer)

@@ -39,7 +39,7 @@ impl Answer {
     }
 }
 
-/// A refusal: its number, 1 to 19, and its place.
+/// A refusal: its number, 1 to 20, and its place.
 #[derive(Debug, Clone, Copy, PartialEq, Eq)]
 pub struct Refusal {
     pub number: u8,

@@ -1,6 +1,6 @@
 //! An ask as one value: what is lent to the planner, and what it is asked.
 
-use crate::{bundle, card, limits, manifest, plan, text, texts, Answer, Refusal};
+use crate::{bundle, card, headers, limits, manifest, plan, text, texts, Answer, Refusal};
 
 /// An ask with all that it lends.
 #[derive(Debug, Clone, PartialEq, Eq)]
@@ -13,6 +13,8 @@ pub struct Ask {
 #[derive(Debug, Clone, PartialEq, Eq)]
 pub struct Lent {
     pub bundle: Vec<u8>,
+    /// The bundle of header lists.
+    pub headers: Vec<u8>,
     pub card: Vec<u8>,
     pub targets: Vec<u8>,
 }
@@ -37,12 +39,13 @@ pub enum Wanted {
 }
 
 impl Lent {
-    /// A bundle with the card of no files, and no targets.
+    /// A bundle with no header lists, the card of no files, and no targets.
     pub fn bundle(bundle: impl Into<Vec<u8>>) -> Self {
-        Lent { bundle: bundle.into(), card: card::write(&[]), targets: Vec::new() }
+        let (headers, card) = (headers::none(), card::write(&[]));
+        Lent { bundle: bundle.into(), headers, card, targets: Vec::new() }
     }
 
-    /// One manifest alone, under the name `build.ninja`, with the card of no files and no targets.
+    /// One manifest alone, under the name `build.ninja`, with nothing beside it.
     pub fn alone(manifest: impl AsRef<[u8]>) -> Self {
         Lent::bundle(bundle::alone(manifest.as_ref()))
     }
@@ -113,13 +116,18 @@ impl Ask {
 
     fn answer_or_refusal(&self) -> Result<Answer, Refusal> {
         Refusal::when(self.question.lends_too_little(), 1, 0)?;
-        let manifest = manifest::read(&self.lent.bundle)?;
+        let lent = &self.lent;
         match self.question {
-            Question::Plan { .. } => plan::plan(&manifest, &self.lent),
+            Question::Plan { .. } => {
+                let (mut manifest, headers) = plan::read(lent)?;
+                plan::plan(&mut manifest, &headers, lent)
+            }
             Question::Text { step, wanted, .. } => {
+                let manifest = manifest::read(&lent.bundle)?;
                 text::text(&manifest, step, wanted).map(Answer::Text)
             }
             Question::Texts { ref steps, wanted, buf_len, ends_len } => {
+                let manifest = manifest::read(&lent.bundle)?;
                 let room = texts::Room { bytes: buf_len, ends: ends_len };
                 texts::texts(&manifest, steps, wanted, room).map(Answer::Texts)
             }

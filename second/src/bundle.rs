@@ -2,15 +2,15 @@
 //! a text lies. All offsets follow from the lengths, so a bundle is sound exactly when its lengths
 //! keep the rules and writing its names and texts anew gives the same bytes.
 
-use crate::limits::{NAMES, PATH};
+use crate::limits::{self, PATH};
 use crate::Refusal;
 use std::collections::HashSet;
 
 /// How many records a manifest's bundle has: "1 to 64 records".
-pub const MANIFEST: (usize, usize) = (1, NAMES);
+pub const MANIFEST: (usize, usize) = (1, limits::NAMES);
 
 /// How many header lists have: "0 to 512 by path".
-pub const HEADERS: (usize, usize) = (0, 512);
+pub const HEADERS: (usize, usize) = (0, limits::HEADERS);
 
 /// The records of a sound bundle, each a name and its text.
 #[derive(Debug, PartialEq, Eq)]

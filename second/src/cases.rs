@@ -19,7 +19,7 @@ pub use lines::{ask_lines, program_line, texts_lines};
 pub use pack::{pack, TooGreat};
 pub use parse::parse;
 
-use crate::{bundle, Ask, Lent, Question};
+use crate::{bundle, headers, Ask, Lent, Question};
 use std::str::FromStr;
 
 #[derive(Debug, Clone)]
@@ -42,9 +42,9 @@ impl Case {
         Ask { lent: self.lent.clone(), question: question.clone() }
     }
 
-    /// The manifest, if it is lent alone as the program does it.
+    /// The manifest, if it is lent alone and without header lists, as the program does it.
     pub fn manifest_alone(&self) -> Option<&[u8]> {
-        bundle::text_alone(&self.lent.bundle)
+        bundle::text_alone(&self.lent.bundle).filter(|_| self.lent.headers == headers::none())
     }
 }
 

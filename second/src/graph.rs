@@ -14,6 +14,10 @@ pub struct Step {
     pub explicit: Vec<u32>,
     pub implicit: Vec<u32>,
     pub order_only: Vec<u32>,
+    /// What its header list names; a phony step has none.
+    pub listed: Vec<u32>,
+    /// Whether it has a depfile that is missing.
+    pub lacks_list: bool,
     pub phony: bool,
 }
 
@@ -22,20 +26,25 @@ pub struct Step {
 pub struct Start {
     /// The card's time of each file, 0 if missing.
     pub times: Vec<u64>,
-    /// No targets means the defaults, and without those every output that is no step's input.
+    /// No targets means the defaults, and without those every output that is no written input.
     pub targets: Vec<u32>,
     pub defaults: Vec<u32>,
 }
 
 impl Step {
-    /// The inputs whose age counts.
+    /// The inputs whose age counts: listed ones are implicit inputs after the written ones.
     pub fn dated_inputs(&self) -> impl Iterator<Item = u32> + '_ {
-        self.explicit.iter().chain(&self.implicit).copied()
+        self.explicit.iter().chain(&self.implicit).chain(&self.listed).copied()
     }
 
     /// The inputs of any kind.
     pub fn inputs(&self) -> impl Iterator<Item = u32> + '_ {
         self.dated_inputs().chain(self.order_only.iter().copied())
+    }
+
+    /// The inputs of any kind that the manifest itself gives.
+    pub fn written_inputs(&self) -> impl Iterator<Item = u32> + '_ {
+        self.explicit.iter().chain(&self.implicit).chain(&self.order_only).copied()
     }
 }
 

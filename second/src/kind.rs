@@ -32,7 +32,7 @@ impl Kind {
     pub fn all() -> impl Iterator<Item = Kind> {
         let lists = [Kind::List, Kind::EmptyList];
         let texts = [Kind::Text, Kind::EmptyText, Kind::Texts, Kind::NoTexts];
-        lists.into_iter().chain(texts).chain((1..=19).map(Kind::Refused))
+        lists.into_iter().chain(texts).chain((1..=20).map(Kind::Refused))
     }
 }
 

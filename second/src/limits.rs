@@ -8,6 +8,8 @@ pub const TEXT: usize = 8_192;
 pub const MANIFEST: usize = 49_152;
 /// The most records of a bundle of manifests.
 pub const NAMES: usize = 64;
+/// The most records of a bundle of header lists.
+pub const HEADERS: usize = 512;
 /// The most files that are open at once, the top one counted.
 pub const OPEN: usize = 8;
 /// The most files that are opened in all, the top one counted.
@@ -26,7 +28,7 @@ pub const FILES: usize = 1_024;
 pub const RULES: usize = 128;
 /// Binding lines: file lines and lines of any block, rules' too.
 pub const BINDINGS: usize = 1_024;
-/// Path mentions of build and default lines.
+/// Path mentions of build and default lines, and of header lists.
 pub const MENTIONS: usize = 4_096;
 /// Bytes of a declared name: a rule's, or one on the left of `=` (reading 19).
 pub const NAME: usize = 64;

@@ -188,8 +188,8 @@ fn not_a_keyword(word: &[u8]) -> Result<(), Fault> {
 /// keyword of the statement that is not yet read.
 fn not_yet(word: &[u8]) -> Result<(), Fault> {
     match word {
-        b"pool" | b"depfile" | b"deps" | b"dyndep" | b"msvc_deps_prefix" | b"restat"
-        | b"rspfile" | b"rspfile_content" => Err(Fault::NotYet),
+        b"pool" | b"deps" | b"dyndep" | b"msvc_deps_prefix" | b"restat" | b"rspfile"
+        | b"rspfile_content" => Err(Fault::NotYet),
         _ => Ok(()),
     }
 }

@@ -32,7 +32,8 @@ pub struct Manifest<'a> {
     pub scopes: Vec<Scope<'a>>,
     /// The files of the default lines.
     pub defaults: Vec<u32>,
-    /// The bytes of all paths and values, as the limit measures them.
+    /// Path mentions, and the bytes of all paths and values, as the limits measure them.
+    pub mentions: usize,
     pub together: usize,
 }
 
@@ -48,6 +49,19 @@ impl<'a> Manifest<'a> {
     /// The number of a declared rule; that of `phony` is 0.
     pub fn rule_number(&self, name: &[u8]) -> Option<usize> {
         self.rule_numbers.get(name).copied()
+    }
+
+    /// The number of a file that a header list names; none where that passes a limit on paths, on
+    /// their bytes together, on files or on mentions, which go on from what the manifest has.
+    pub fn mention_listed(&mut self, name: Cow<'a, [u8]>) -> Option<u32> {
+        self.mentions += 1;
+        self.together += name.len();
+        let is_within = name.len() <= limits::PATH
+            && self.mentions <= limits::MENTIONS
+            && self.together <= limits::TOGETHER;
+        let file = is_within.then(|| self.files.mention(name))?;
+        self.graph.files = self.files.names.len();
+        (self.graph.files <= limits::FILES).then_some(file)
     }
 
     /// Expands a raw path or value with the variables that a file's scope sees, as they now stand.
@@ -85,16 +99,18 @@ pub enum Key {
     Command,
     Description,
     Generator,
+    Depfile,
 }
 
 impl Key {
-    pub const COUNT: usize = 3;
+    pub const COUNT: usize = 4;
 
     pub fn of(name: &[u8]) -> Option<Key> {
         match name {
             b"command" => Some(Key::Command),
             b"description" => Some(Key::Description),
             b"generator" => Some(Key::Generator),
+            b"depfile" => Some(Key::Depfile),
             _ => None,
         }
     }
@@ -109,7 +125,8 @@ pub struct Scope<'a> {
     pub bindings: Vec<(&'a [u8], Cow<'a, [u8]>)>,
 }
 
-/// Files by first mention. Paths are compared byte for byte.
+/// Files by first mention, those that only header lists name behind the manifest's. Paths are
+/// compared byte for byte.
 #[derive(Debug, Default)]
 pub struct Files<'a> {
     pub names: Vec<Cow<'a, [u8]>>,
@@ -119,7 +136,11 @@ pub struct Files<'a> {
 }
 
 impl<'a> Files<'a> {
-    /// The number of a file that the manifest mentions.
+    pub fn name(&self, file: u32) -> &[u8] {
+        &self.names[file as usize]
+    }
+
+    /// The number of a file that is mentioned.
     pub fn number(&self, name: &[u8]) -> Option<u32> {
         self.numbers.get(name).copied()
     }
@@ -149,7 +170,11 @@ impl<'a> Files<'a> {
 
 /// Reads a bundle of manifests: refusals 19 and 2 to 10.
 pub fn read(bundle: &[u8]) -> Result<Manifest<'_>, Refusal> {
-    let records = bundle::read(bundle)?;
+    of(bundle::read(bundle)?)
+}
+
+/// Reads the manifests of a sound bundle: refusals 2 to 10, and 19 at a line.
+pub fn of(records: Vec<Record<'_>>) -> Result<Manifest<'_>, Refusal> {
     let length: usize = records.iter().map(|record| record.text.len()).sum();
     Refusal::when(length > limits::MANIFEST, 2, 0)?;
     for (number, record) in records.iter().enumerate() {
@@ -157,6 +182,7 @@ pub fn read(bundle: &[u8]) -> Result<Manifest<'_>, Refusal> {
     }
     let mut reader = Reader::new(records);
     reader.file(TOP, TOP_SCOPE)?;
+    reader.manifest.mentions = reader.tally.mentions;
     reader.manifest.together = reader.tally.together;
     Ok(reader.manifest)
 }
@@ -380,6 +406,7 @@ impl<'a> Reader<'a> {
             implicit: self.mention(&build.implicit, start)?,
             order_only: self.mention(&build.order_only, start)?,
             phony: rule == PHONY,
+            ..Step::default()
         };
         let manifest = &mut self.manifest;
         manifest.graph.files = manifest.files.names.len();

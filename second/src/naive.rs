@@ -1,5 +1,6 @@
 //! The section "Needed and stale" of document 01 transcribed sentence by sentence, by brute force,
-//! to compare the planning with. It shares nothing with it but the graph.
+//! with what document 02, [4] adds to it of header lists, to compare the planning with. It shares
+//! nothing with it but the graph.
 
 use crate::graph::{Graph, Start, Step};
 use crate::{Answer, Refusal};
@@ -38,7 +39,8 @@ pub fn is_circle(graph: &Graph, needed: &Steps, circle: &[u32]) -> bool {
         && circle.iter().zip(next).all(|(&step, next)| makers_of_inputs(graph, step).contains(next))
 }
 
-/// "Empty list: the defaults; without defaults, every output that is no step's input."
+/// "Empty list: the defaults; without defaults, every output that is no step's input", and
+/// "default roots and 13 go by written inputs".
 pub fn roots(graph: &Graph, start: &Start) -> Vec<u32> {
     if !start.targets.is_empty() {
         return start.targets.clone();
@@ -46,7 +48,7 @@ pub fn roots(graph: &Graph, start: &Start) -> Vec<u32> {
     if !start.defaults.is_empty() {
         return start.defaults.clone();
     }
-    let is_input = |file| graph.steps.iter().any(|step| step.inputs().any(|input| input == file));
+    let is_input = |file| graph.steps.iter().any(|step| written(step).contains(&file));
     (0..graph.files as u32)
         .filter(|&file| maker(graph, file).is_some() && !is_input(file))
         .collect()
@@ -67,8 +69,19 @@ fn maker(graph: &Graph, file: u32) -> Option<u32> {
     place.map(|step| step as u32)
 }
 
+fn written(step: &Step) -> Vec<u32> {
+    [&step.explicit[..], &step.implicit, &step.order_only].concat()
+}
+
+/// "Names after the colon count as implicit inputs after the written ones."
+fn not_order_only(step: &Step) -> Vec<u32> {
+    [&step.explicit[..], &step.implicit, &step.listed].concat()
+}
+
 fn makers_of_inputs(graph: &Graph, step: u32) -> Steps {
-    at(graph, step).inputs().filter_map(|file| maker(graph, file)).collect()
+    let step = at(graph, step);
+    let inputs = written(step).into_iter().chain(not_order_only(step));
+    inputs.filter_map(|file| maker(graph, file)).collect()
 }
 
 /// The least set of steps that holds the given ones and what each of its steps leads to.
@@ -102,9 +115,10 @@ fn has_order(graph: &Graph, needed: &Steps) -> bool {
     }
 }
 
-/// "A needed source is a file without a maker that is a target or an input of a needed step."
+/// "A needed source is a file without a maker that is a target or an input of a needed step", of
+/// which a missing listed file "by itself is no needed source".
 fn sources(graph: &Graph, targets: &[u32], needed: &Steps) -> BTreeSet<u32> {
-    let inputs = needed.iter().flat_map(|&step| at(graph, step).inputs());
+    let inputs = needed.iter().flat_map(|&step| written(at(graph, step)));
     let files = inputs.chain(targets.iter().copied());
     files.filter(|&file| maker(graph, file).is_none()).collect()
 }
@@ -121,7 +135,7 @@ fn times(graph: &Graph, card: &[u64]) -> Vec<u64> {
     loop {
         let mut next = card.to_vec();
         for step in graph.steps.iter().filter(|step| step.phony) {
-            let greatest = step.dated_inputs().map(|file| times[file as usize]).max();
+            let greatest = not_order_only(step).iter().map(|&file| times[file as usize]).max();
             for &output in step.outputs.iter().filter(|&&file| missing(card, file)) {
                 next[output as usize] = greatest.unwrap_or(0);
             }
@@ -140,9 +154,13 @@ fn stale(graph: &Graph, card: &[u64], needed: &Steps) -> Steps {
     loop {
         let is_stale = |step: &&u32| {
             let step = at(graph, **step);
-            let mut makers = step.dated_inputs().filter_map(|file| maker(graph, file));
+            let mut makers = not_order_only(step).into_iter().filter_map(|file| maker(graph, file));
             makers.any(|maker| stale.contains(&maker))
-                || if step.phony { phony_is_stale(step, card) } else { is_old(step, card, &times) }
+                || if step.phony {
+                    phony_is_stale(step, card)
+                } else {
+                    is_old(step, card, &times) || lacks_headers(graph, step, card)
+                }
         };
         let now: Steps = needed.iter().filter(is_stale).copied().collect();
         if now == stale {
@@ -155,14 +173,21 @@ fn stale(graph: &Graph, card: &[u64], needed: &Steps) -> Steps {
 /// "... an output is missing, or an output's time is below the time of some non-order-only input."
 fn is_old(step: &Step, card: &[u64], times: &[u64]) -> bool {
     let below = |output: u32, input: u32| times[output as usize] < times[input as usize];
+    let dated = not_order_only(step);
     step.outputs
         .iter()
-        .any(|&output| missing(card, output) || step.dated_inputs().any(|i| below(output, i)))
+        .any(|&output| missing(card, output) || dated.iter().any(|&input| below(output, input)))
+}
+
+/// "A missing depfile makes its step stale; so does a missing listed file without a maker".
+fn lacks_headers(graph: &Graph, step: &Step, card: &[u64]) -> bool {
+    let lacks = |file: &u32| missing(card, *file) && maker(graph, *file).is_none();
+    step.lacks_list || step.listed.iter().any(lacks)
 }
 
 /// "... or if it has no inputs at all and an output is missing."
 fn phony_is_stale(step: &Step, card: &[u64]) -> bool {
-    step.inputs().count() == 0 && step.outputs.iter().any(|&output| missing(card, output))
+    written(step).is_empty() && step.outputs.iter().any(|&output| missing(card, output))
 }
 
 /// "At each place stands the lowest-numbered of them not yet listed whose stale command steps

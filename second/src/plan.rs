@@ -1,37 +1,55 @@
-//! Planning: roots, needed steps, circle or order, needed sources, staleness and the list;
-//! refusals 11 to 15 in their order.
+//! Planning: roots, header lists, needed steps, circle or order, needed sources, staleness and the
+//! list; refusals 11 to 13, those of the lists, 14 and 15 in this order.
 
 use crate::graph::{Graph, Start, Step};
-use crate::manifest::Manifest;
-use crate::{card, targets, Answer, Lent, Refusal};
+use crate::headers::Headers;
+use crate::manifest::{self, Manifest};
+use crate::{bundle, card, targets, Answer, Lent, Refusal};
 use std::cmp::Reverse;
 use std::collections::BinaryHeap;
 
-/// Plans a manifest, which has been read, with what else is lent.
-pub fn plan(manifest: &Manifest, lent: &Lent) -> Result<Answer, Refusal> {
-    let files = &manifest.files;
+/// Reads the two bundles of a plan: refusals 19 and 20 at place 0, then 2 to 10 and 19 at a line.
+pub fn read(lent: &Lent) -> Result<(Manifest<'_>, Headers<'_>), Refusal> {
+    let records = bundle::read(&lent.bundle)?;
+    let headers = Headers::read(&lent.headers)?;
+    Ok((manifest::of(records)?, headers))
+}
+
+/// Plans a manifest, which has been read, with what else is lent. The header lists are added to it
+/// behind 13: targets and roots go by what is written (reading 02.17).
+pub fn plan<'a>(
+    manifest: &mut Manifest<'a>,
+    headers: &Headers<'a>,
+    lent: &Lent,
+) -> Result<Answer, Refusal> {
+    let card = card::read(&lent.card)?;
+    let targets = targets::read(&lent.targets, |name| manifest.files.number(name))?;
+    let roots = roots(&manifest.graph, &targets, &manifest.defaults)?;
+    headers.add_to(manifest)?;
     // A file not listed is missing and has time 0; names that no line mentions are fine
     // (reading 23).
-    let mut times = vec![0; files.names.len()];
-    for (name, time) in card::read(&lent.card)? {
-        if let Some(file) = files.number(name) {
+    let mut times = vec![0; manifest.graph.files];
+    for (name, time) in card {
+        if let Some(file) = manifest.files.number(name) {
             times[file as usize] = time;
         }
     }
-    let targets = targets::read(&lent.targets, |name| files.number(name))?;
-    let defaults = manifest.defaults.clone();
-    plan_graph(&manifest.graph, &Start { times, targets, defaults })
+    plan_roots(&manifest.graph, &roots, &times)
 }
 
 /// Plans the graph.
 pub fn plan_graph(graph: &Graph, start: &Start) -> Result<Answer, Refusal> {
-    let roots = roots(graph, start)?;
-    let planner = Planner { graph, makers: graph.makers(), times: &start.times };
-    let order = match planner.order(&roots) {
+    let roots = roots(graph, &start.targets, &start.defaults)?;
+    plan_roots(graph, &roots, &start.times)
+}
+
+fn plan_roots(graph: &Graph, roots: &[u32], times: &[u64]) -> Result<Answer, Refusal> {
+    let planner = Planner { graph, makers: graph.makers(), times };
+    let order = match planner.order(roots) {
         Ok(order) => order,
         Err(circle) => return Ok(Answer::Circle(circle)),
     };
-    if let Some(file) = planner.missing_source(&roots, &order) {
+    if let Some(file) = planner.missing_source(roots, &order) {
         return Err(Refusal::new(15, file as usize));
     }
     let stale = planner.stale(&order);
@@ -39,14 +57,13 @@ pub fn plan_graph(graph: &Graph, start: &Start) -> Result<Answer, Refusal> {
 }
 
 /// The files to bring up to date: refusal 13 if there are steps but no such file.
-fn roots(graph: &Graph, start: &Start) -> Result<Vec<u32>, Refusal> {
-    let given = [&start.targets, &start.defaults];
-    if let Some(given) = given.into_iter().find(|files| !files.is_empty()) {
-        return Ok(given.clone());
+fn roots(graph: &Graph, targets: &[u32], defaults: &[u32]) -> Result<Vec<u32>, Refusal> {
+    if let Some(given) = [targets, defaults].into_iter().find(|files| !files.is_empty()) {
+        return Ok(given.to_vec());
     }
-    // "No step's input": of any kind and of any step, its own included (reading 25).
+    // "No step's input": of any kind and of any step, its own included (reading 25), but as written.
     let mut is_input = vec![false; graph.files];
-    for file in graph.steps.iter().flat_map(Step::inputs) {
+    for file in graph.steps.iter().flat_map(Step::written_inputs) {
         is_input[file as usize] = true;
     }
     let outputs = graph.steps.iter().flat_map(|step| &step.outputs).copied();
@@ -123,13 +140,14 @@ impl Planner<'_> {
         Ok(())
     }
 
-    /// The lowest missing file without a maker that is a target or an input of a needed step.
+    /// The lowest missing file without a maker that is a target or a written input of a needed step.
     fn missing_source(&self, roots: &[u32], order: &[u32]) -> Option<u32> {
-        let inputs = order.iter().flat_map(|&step| self.step(step).inputs());
-        inputs
-            .chain(roots.iter().copied())
-            .filter(|&file| self.maker(file).is_none() && self.times[file as usize] == 0)
-            .min()
+        let inputs = order.iter().flat_map(|&step| self.step(step).written_inputs());
+        inputs.chain(roots.iter().copied()).filter(|&file| self.is_missing_source(file)).min()
+    }
+
+    fn is_missing_source(&self, file: u32) -> bool {
+        self.maker(file).is_none() && self.times[file as usize] == 0
     }
 
     /// Which of the ordered steps are stale, makers first.
@@ -160,7 +178,9 @@ impl Planner<'_> {
             // "No inputs at all" counts order-only inputs (reading 25).
             step.inputs().next().is_none() && outputs.any(|time| time == 0)
         } else {
-            outputs.any(|time| time == 0 || time < newest)
+            step.lacks_list
+                || step.listed.iter().any(|&file| self.is_missing_source(file))
+                || outputs.any(|time| time == 0 || time < newest)
         }
     }
 

@@ -1,7 +1,7 @@
 //! The small program's work, from the bytes it reads to the bytes it writes.
 
-use crate::manifest::{self, Manifest};
-use crate::plan::plan;
+use crate::manifest::Manifest;
+use crate::plan;
 use crate::text::text;
 use crate::{Answer, Lent, Refusal, Wanted};
 
@@ -11,8 +11,8 @@ pub fn output(lent: &Lent) -> Vec<u8> {
 }
 
 fn lines(lent: &Lent) -> Result<Vec<u8>, Refusal> {
-    let manifest = manifest::read(&lent.bundle)?;
-    match plan(&manifest, lent)? {
+    let (mut manifest, headers) = plan::read(lent)?;
+    match plan::plan(&mut manifest, &headers, lent)? {
         Answer::List(list) if list.is_empty() => Ok(b"no work\n".to_vec()),
         Answer::List(list) => commands(&manifest, &list),
         answer => Ok(refused(&answer)),

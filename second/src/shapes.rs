@@ -1,7 +1,7 @@
 //! Graph shapes to measure planning on: a chain, a fan and a lattice, each with a card by which
 //! all steps are fresh and one by which all are stale.
 
-use crate::{bundle, card, Ask, Lent};
+use crate::{card, Ask, Lent};
 
 /// A manifest of one shape, and its two cards.
 pub struct Shape {
@@ -15,8 +15,7 @@ impl Shape {
     /// The plans by either card, with what they find the steps to be.
     pub fn plans(&self) -> [(&'static str, Ask); 2] {
         [("fresh", &self.fresh), ("stale", &self.stale)].map(|(age, card)| {
-            let (bundle, card) = (bundle::alone(&self.manifest), card.clone());
-            (age, Ask::plan(Lent { bundle, card, targets: Vec::new() }))
+            (age, Ask::plan(Lent { card: card.clone(), ..Lent::alone(&self.manifest) }))
         })
     }
 }

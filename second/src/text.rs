@@ -1,4 +1,5 @@
-//! The text of a step: the lookup of names and the expansion of rule texts; refusals 18, 16, 17.
+//! The text of a step, and the name of its depfile: the lookup of names and the expansion of rule
+//! texts; refusals 18, 16, 17.
 
 use crate::expand::{pieces, Piece};
 use crate::limits;
@@ -10,11 +11,34 @@ use std::borrow::Cow;
 pub fn text(manifest: &Manifest, step: usize, wanted: Wanted) -> Result<Vec<u8>, Refusal> {
     let commands = manifest.graph.steps.get(step).filter(|step| !step.phony);
     Refusal::when(commands.is_none(), 18, step)?;
-    let name = wanted.name().as_bytes();
+    looked_up(manifest, step, wanted.name().as_bytes(), Spelling::Quoted)
+}
+
+/// The name of a step's depfile, which is looked up as any text but unquoted; empty means none.
+pub fn depfile(manifest: &Manifest, step: usize) -> Result<Vec<u8>, Refusal> {
+    looked_up(manifest, step, b"depfile", Spelling::Plain)
+}
+
+/// How a text gives the names of files.
+#[derive(Clone, Copy, PartialEq, Eq)]
+enum Spelling {
+    /// As a shell reads them back (document 02, [2]).
+    Quoted,
+    /// As they are: in a depfile's name alone (reading 02.10).
+    Plain,
+}
+
+/// What a step's lookup of a name gives: refusals 16 and 17.
+fn looked_up(
+    manifest: &Manifest,
+    step: usize,
+    name: &[u8],
+    spelling: Spelling,
+) -> Result<Vec<u8>, Refusal> {
     let lookup = Lookup::new(manifest, step);
     Refusal::when(lookup.leads_back(name, &mut [Visit::None; Key::COUNT]), 16, step)?;
     let mut text = Text::default();
-    Expansion { lookup, done: Default::default() }
+    Expansion { lookup, spelling, done: Default::default() }
         .append(name, &mut text)
         .map_err(|TooLong| Refusal::new(17, step))?;
     Ok(text.bytes)
@@ -138,6 +162,7 @@ impl Text {
 /// An expansion without a way back; the text of each rule key is expanded once.
 struct Expansion<'m> {
     lookup: Lookup<'m>,
+    spelling: Spelling,
     done: [Option<Vec<u8>>; Key::COUNT],
 }
 
@@ -163,7 +188,11 @@ impl Expansion<'_> {
             if place > 0 {
                 text.push(&[joint])?;
             }
-            text.push(&quoted(&self.lookup.manifest.files.names[file as usize]))?;
+            let name = self.lookup.manifest.files.name(file);
+            match self.spelling {
+                Spelling::Quoted => text.push(&quoted(name))?,
+                Spelling::Plain => text.push(name)?,
+            }
         }
         Ok(())
     }

@@ -1,6 +1,6 @@
 //! The plain lines in which tools hand asks and answers on, bytes in hex and `-` for none:
 //!
-//! - `plan BUNDLE CARD TARGETS LISTLEN`, `text BUNDLE STEP command|description BUFLEN`,
+//! - `plan BUNDLE HEADERS CARD TARGETS LISTLEN`, `text BUNDLE STEP command|description BUFLEN`,
 //!   `texts BUNDLE command|description BUFLEN ENDSLEN STEP STEP ..`
 //! - `list 0 3 1`, `text 6363`, `texts 6363 - 61`, `circle 0 1`, `refused 12 at 17`, and
 //!   `refused 4 at 0:17` for an offset in the text of a record
@@ -56,8 +56,8 @@ impl FromStr for Ask {
     fn from_str(line: &str) -> Result<Self, Error> {
         let words: Vec<&str> = line.split(' ').collect();
         match words[..] {
-            ["plan", bundle, card, targets, list_len] => Ok(Ask {
-                lent: lent(bundle, card, targets)?,
+            ["plan", bundle, headers, card, targets, list_len] => Ok(Ask {
+                lent: lent([bundle, headers, card, targets])?,
                 question: Question::Plan { list_len: number(list_len)? },
             }),
             ["text", bundle, step, wanted, buf_len] => {
@@ -81,10 +81,11 @@ fn wanted_by(name: &str, line: &str) -> Result<Wanted, Error> {
     Wanted::of(name).ok_or_else(|| Error::Form(line.to_string()))
 }
 
-/// Bundle, card and targets, as a plan's line has them.
+/// Bundle, header lists, card and targets, as a plan's line has them.
 impl Display for Lent {
     fn fmt(&self, f: &mut Formatter) -> fmt::Result {
-        write!(f, "{} {} {}", Hex(&self.bundle), Hex(&self.card), Hex(&self.targets))
+        let Lent { bundle, headers, card, targets } = self;
+        write!(f, "{} {} {} {}", Hex(bundle), Hex(headers), Hex(card), Hex(targets))
     }
 }
 
@@ -94,14 +95,15 @@ impl FromStr for Lent {
     fn from_str(line: &str) -> Result<Self, Error> {
         let words: Vec<&str> = line.split(' ').collect();
         match words[..] {
-            [bundle, card, targets] => lent(bundle, card, targets),
+            [bundle, headers, card, targets] => lent([bundle, headers, card, targets]),
             _ => Err(Error::Form(line.to_string())),
         }
     }
 }
 
-fn lent(bundle: &str, card: &str, targets: &str) -> Result<Lent, Error> {
-    Ok(Lent { bundle: unhex(bundle)?, card: unhex(card)?, targets: unhex(targets)? })
+fn lent([bundle, headers, card, targets]: [&str; 4]) -> Result<Lent, Error> {
+    let (bundle, headers) = (unhex(bundle)?, unhex(headers)?);
+    Ok(Lent { bundle, headers, card: unhex(card)?, targets: unhex(targets)? })
 }
 
 impl Display for Answer {

@@ -4,7 +4,7 @@ use second::cases::{
     ask_lines, check, files, folder, pack, parse, program_line, read, texts_lines,
 };
 use second::cases::{Error, Expected, Fault, TooGreat};
-use second::{bundle, Answer, Lent, Place, Refusal};
+use second::{bundle, headers, Answer, Lent, Place, Refusal};
 use std::fs;
 use std::path::Path;
 
@@ -60,7 +60,8 @@ case two
     assert_eq!(cases[1].lent.card, [1, 0, 0, 0, 2]);
     let bundle: String = cases[0].lent.bundle.iter().map(|byte| format!("{byte:02x}")).collect();
     assert!(bundle.ends_with("61203d203030302c3130312c3230322c200a0a6200"));
-    let lent = "0100000002 610a";
+    let none = "00000000100000001000000010000000";
+    let lent = format!("{none} 0100000002 610a");
     assert_eq!(
         ask_lines(&cases[1]),
         [
@@ -123,6 +124,44 @@ case three
 }
 
 #[test]
+fn header_lists_are_read_as_described() {
+    let content = r"
+case one
+  says x
+  manifest
+    |
+  depfile a\sb
+    | x: \\\\
+    + y
+  depfiles \{2 \i }
+  plan refused 20 at 7
+case two
+  says x
+  manifest of one
+  plan list
+case three
+  says x
+  file a
+  depfile b
+    | c
+  headers cut 2
+  headers put end =yy
+  plan refused 20 at 0
+";
+    let cases = parse("sample", content).unwrap();
+    let lists: &[(&[u8], &[u8])] = &[(b"a b", b"x: \\\\\ny"), (b"0", b""), (b"1", b"")];
+    assert_eq!(cases[0].lent.headers, bundle::write(lists));
+    let refused = |place: usize| Expected::One(Answer::Refused(Refusal::new(20, place)));
+    assert_eq!(cases[0].asks[0].1, refused(7));
+    assert_eq!(cases[0].manifest_alone(), None);
+    // no lists, and not those of the case whose manifest it has
+    assert_eq!(cases[1].lent.headers, headers::none());
+    assert_eq!(cases[1].manifest_alone(), Some(&b"\n"[..]));
+    let list = bundle::write(&[(b"b", b"c\n")]);
+    assert_eq!(cases[2].lent.headers, [&list[..list.len() - 2], b"yy"].concat());
+}
+
+#[test]
 fn a_circle_may_begin_anywhere_but_not_turn_round() {
     let circles = Expected::Circles(vec![vec![0, 1, 2], vec![3]]);
     for answer in ["circle 0 1 2", "circle 1 2 0", "circle 2 0 1", "circle 3"] {
@@ -148,7 +187,13 @@ fn errors_name_file_and_line() {
         ("case a\nsays x\nmanifest\ncase b", "f:1: the case a has no expected answer"),
         (
             "case a\nsays x\nfile b\nprints",
-            "f:1: the case a has no manifest that the program would lend: `build.ninja` alone",
+            "f:1: the case a has no manifest that the program would lend: `build.ninja` alone, \
+             without header lists",
+        ),
+        (
+            "case a\nsays x\nmanifest\ndepfile b\nprints",
+            "f:1: the case a has no manifest that the program would lend: `build.ninja` alone, \
+             without header lists",
         ),
     ] {
         assert_eq!(parse("f", content).unwrap_err().to_string(), error);
@@ -182,6 +227,12 @@ fn faults_of_lines() {
         ("bundle put 44 =a", Fault::Beyond(44)),
         ("bundle put x =a", number("x")),
         ("bundle put 0 a", expected("`WIDTH:NUMBER` or `=TEXT`")),
+        ("depfile a\nheaders raw =", Fault::Second("headers")),
+        ("headers raw =\ndepfile a", Fault::Second("headers")),
+        ("headers cut 1\ndepfiles a", Fault::Second("headers")),
+        ("headers", expected("`headers raw`, `headers cut` or `headers put`")),
+        ("headers cut 17", Fault::Beyond(17)),
+        ("depfile a\n| a: \\@b", Fault::MarkInList),
         ("plan steps 1", expected("`list`, `circle` or `refused`")),
         ("plan list 4294967296", number("4294967296")),
         ("plan circle", Fault::EmptyCircle),
@@ -262,8 +313,9 @@ fn packed_numbers_have_four_bytes() {
 #[test]
 fn packed_cases_have_room() {
     for case in read(&files(&folder()).unwrap()).unwrap() {
-        let Lent { bundle, card, targets } = &case.lent;
-        let length = case.name.len() + bundle.len() + card.len() + targets.len();
+        let Lent { bundle, headers, card, targets } = &case.lent;
+        let parts = [case.name.as_bytes(), bundle, headers, card, targets];
+        let length: usize = parts.iter().map(|part| part.len()).sum();
         assert!(length <= 65_536, "{}: {length}", case.name);
     }
 }
@@ -274,7 +326,7 @@ fn packed_places() {
     let packed = |lines: &str| pack(&parse("f", &format!("case a\nsays x\n{lines}\n")).unwrap());
     let answer = |lines: &str| {
         let packed = packed(lines).unwrap();
-        let end = packed.len() - 20;
+        let end = packed.len() - 24;
         let words = packed[end - 20..end].chunks(4).map(|word| word[0]);
         words.collect::<Vec<u8>>()
     };
@@ -291,6 +343,6 @@ fn texts_asks_are_not_packed() {
     let case = |asks: &str| {
         pack(&parse("f", &format!("case a\nsays x\nmanifest\n{asks}\n")).unwrap()).unwrap()
     };
-    assert_eq!(case("texts command ="), [0; 20]);
+    assert_eq!(case("texts command ="), [0; 24]);
     assert_eq!(case("plan list\ntexts command ="), case("plan list"));
 }

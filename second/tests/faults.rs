@@ -250,6 +250,9 @@ fn failure(fault: &Fault, asked: &[Asked], answers: &[String]) -> Option<String>
 fn every_planted_fault_is_noticed() {
     let mut faults = faults();
     assert!(faults.len() >= 15, "only {} faults", faults.len());
+    // by hand: only those whose name begins with FAULTS
+    let only = std::env::var("FAULTS").unwrap_or_default();
+    faults.retain(|fault| fault.name.starts_with(&only));
     // The copy without a fault: no case may differ.
     faults.push(Fault::default());
     let source = source();

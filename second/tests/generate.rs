@@ -1,8 +1,9 @@
 //! The random asks reach every refusal and every kind of answer often enough.
 
+use second::bundle::{self, Bundle};
 use second::generate::{ask, small_ask, SMALL};
 use second::kind::Kind;
-use second::{bundle, wire, Answer, Ask, Lent, Place, Refusal, Wanted};
+use second::{wire, Answer, Ask, Lent, Place, Refusal, Wanted};
 use std::collections::BTreeMap;
 
 const ASKS: u64 = 20_000;
@@ -31,26 +32,35 @@ fn every_answer_occurs() {
 #[test]
 fn small_asks_are_small_and_reach_all_but_one_refusal() {
     check(&count(small_ask), Kind::all().filter(|&kind| kind != Kind::Refused(2)));
-    let texts = |bundle: &[u8]| {
-        bundle::read(bundle).map_or(0, |files| files.iter().map(|file| file.text.len()).sum())
+    let texts = |bundle: &[u8], counts| {
+        let bundle = Bundle::read(bundle, counts);
+        bundle.map_or(0, |bundle| bundle.records.iter().map(|(_, text)| text.len()).sum())
     };
-    assert!((0..ASKS).all(|seed| texts(&small_ask(seed).lent.bundle) <= SMALL));
+    for Lent { bundle, headers, .. } in (0..ASKS).map(|seed| small_ask(seed).lent) {
+        assert!(texts(&bundle, bundle::MANIFEST) <= SMALL, "{bundle:?}");
+        assert!(texts(&headers, bundle::HEADERS) <= SMALL, "{headers:?}");
+    }
 }
 
 #[test]
 fn asks_and_answers_as_lines() {
     let alone = bundle::alone(b"\n");
     let hex: String = alone.iter().map(|byte| format!("{byte:02x}")).collect();
-    let plan = Ask::plan(Lent { bundle: alone, card: vec![], targets: vec![97] });
-    assert_eq!(plan.to_string(), format!("plan {hex} - 61 512"));
+    let lent = Lent { card: vec![], targets: vec![97], ..Lent::bundle(alone) };
+    let plan = Ask::plan(lent.clone());
+    let none = "00000000100000001000000010000000";
+    assert_eq!(plan.to_string(), format!("plan {hex} {none} - 61 512"));
     assert_eq!(plan.answer().to_string(), "refused 11 at 0");
+    let unlisted = Ask::plan(Lent { headers: vec![], ..lent });
+    assert_eq!(unlisted.to_string(), format!("plan {hex} - - 61 512"));
+    assert_eq!(unlisted.answer().to_string(), "refused 20 at 0");
     let text = Ask::text(*b"\n", 7, Wanted::Description);
     assert_eq!(text.to_string(), format!("text {hex} 7 description 8192"));
     let texts = Ask::texts(*b"\n", &[7, 0, u32::MAX], Wanted::Command);
     assert_eq!(texts.to_string(), format!("texts {hex} command 8192 3 7 0 4294967295"));
     let none = Ask { lent: Lent::bundle([]), ..Ask::texts(b"", &[], Wanted::Description) };
     assert_eq!(none.to_string(), "texts - description 8192 0");
-    for ask in [plan, text, texts, none].into_iter().chain((0..200).map(ask)) {
+    for ask in [plan, unlisted, text, texts, none].into_iter().chain((0..200).map(ask)) {
         assert_eq!(ask.to_string().parse(), Ok(ask));
     }
     for (answer, line) in [
@@ -75,16 +85,20 @@ fn asks_and_answers_as_lines() {
 #[test]
 fn lines_that_are_none() {
     let form = |line: &str| wire::Error::Form(line.to_string());
-    for line in
-        ["", "plan 0a - 61", "text 0a 7 generator 8192", "program - - -", "texts 0a command 8192"]
-    {
+    for line in [
+        "",
+        "plan 0a - - 61",
+        "text 0a 7 generator 8192",
+        "program - - - -",
+        "texts 0a command 8192",
+    ] {
         assert_eq!(line.parse::<Ask>(), Err(form(line)));
     }
-    assert_eq!("plan 0a - 61 x".parse::<Ask>(), Err(wire::Error::Number("x".to_string())));
+    assert_eq!("plan 0a - - 61 x".parse::<Ask>(), Err(wire::Error::Number("x".to_string())));
     let great = "texts 0a command 8192 1 4294967296".parse::<Ask>();
     assert_eq!(great, Err(wire::Error::Number("4294967296".to_string())));
     for hex in ["6", "6g", "+6", ""] {
-        let line = format!("plan {hex} - - 512");
+        let line = format!("plan {hex} - - - 512");
         assert_eq!(line.parse::<Ask>(), Err(wire::Error::Hex(hex.to_string())));
     }
     for line in ["", "circles 0", "refused 4", "refused 4 of 17", "text"] {

@@ -1,7 +1,7 @@
 //! The cases that document 01 itself gives: the bench example, M1 to M10, and those the program
 //! is to run; with the exact bytes the program writes.
 
-use second::{bundle, card, program, Answer, Ask, Lent, Wanted};
+use second::{card, program, Answer, Ask, Lent, Wanted};
 
 const BENCH: &[u8] = b"cflags = -O1
 rule cc
@@ -20,7 +20,8 @@ fn card(records: &[(&str, u64)]) -> Vec<u8> {
 }
 
 fn lent(manifest: &[u8], records: &[(&str, u64)], targets: &str) -> Lent {
-    Lent { bundle: bundle::alone(manifest), card: card(records), targets: targets.into() }
+    let (card, targets) = (card(records), targets.into());
+    Lent { card, targets, ..Lent::alone(manifest) }
 }
 
 fn plan(manifest: &[u8], records: &[(&str, u64)], targets: &str) -> Answer {

@@ -48,8 +48,8 @@ fn card(records: &[(&str, u64)]) -> Vec<u8> {
 }
 
 fn plan(manifest: &str, card: &[u8], targets: &str) -> Answer {
-    let bundle = bundle::alone(manifest.as_bytes());
-    Ask::plan(Lent { bundle, card: card.into(), targets: targets.into() }).answer()
+    let (card, targets) = (card.into(), targets.into());
+    Ask::plan(Lent { card, targets, ..Lent::alone(manifest) }).answer()
 }
 
 fn planned(manifest: &str, records: &[(&str, u64)], targets: &str) -> Answer {
@@ -107,10 +107,10 @@ fn readings_7_8_9_words_before_later_faults() {
     all_refused(6, 0, &["build a: pool $.\n", "rule pool\n", "pool\n", "pool $.\n"]);
     all_refused(4, 15, &["build a: phony\n rule = $.\n"]);
     all_refused(6, 15, &["build a: phony\n pool = $.\n", "build a: phony\n  restat\n"]);
-    all_refused(6, 0, &["depfile x\n", "deps\n", "dyndep$.\n", "rspfile_content = $.\n"]);
-    all_sound(&["rule depfile\n command = x\nbuild restat: depfile deps pool rule\n"]);
+    all_refused(6, 0, &["rspfile x\n", "deps\n", "dyndep$.\n", "rspfile_content = $.\n"]);
+    all_sound(&["rule rspfile\n command = x\nbuild restat: rspfile deps pool rule\n"]);
     all_refused(5, 6, &["build $. pool: pool\n"]);
-    all_refused(4, 0, &["  pool = 1\n", " $.\n", "  depfile = x\n"]);
+    all_refused(4, 0, &["  pool = 1\n", " $.\n", "  deps = x\n"]);
 }
 
 #[test]
@@ -341,7 +341,7 @@ fn reading_26_sources_and_phony_times() {
 
 #[test]
 fn order_of_the_checks_before_the_lines() {
-    let lent = Lent { bundle: bundle::alone(b"\0"), card: vec![], targets: b"x".to_vec() };
+    let lent = Lent { card: vec![], targets: b"x".to_vec(), ..Lent::alone(b"\0") };
     let answer = |question| Ask { lent: lent.clone(), question }.answer();
     assert_eq!(answer(Question::Plan { list_len: 511 }), refusal(1, 0));
     assert_eq!(answer(Question::Plan { list_len: 512 }), refusal(3, 0));

@@ -42,8 +42,9 @@ fn flat(records: &[Record], at: usize, left: &mut usize) -> Option<Vec<u8>> {
     Some(text)
 }
 
+/// A list's 20 goes on with the reading's counts, to which what opens a file adds its path.
 fn is_of_the_reading(answer: &Answer) -> bool {
-    answer.refusal().is_some_and(|refusal| matches!(refusal.number, 1..=10 | 19))
+    answer.refusal().is_some_and(|refusal| matches!(refusal.number, 1..=10 | 19 | 20))
 }
 
 #[test]

@@ -92,11 +92,11 @@ fn many_texts() {
 /// Both planners on an ask, after seeing that they agree on it.
 fn measure(name: &str, ask: &Ask) {
     let kind = compare(ask).unwrap_or_else(|difference| panic!("{name}: {difference}"));
-    let Lent { bundle, card, targets } = &ask.lent;
+    let Lent { bundle, headers, card, targets } = &ask.lent;
     let (ours, theirs) = match ask.question {
         Question::Plan { list_len } => {
             let mut list = vec![0; list_len];
-            both(|| lent::plan(bundle, card, targets, &mut list), || ask.answer())
+            both(|| lent::plan(bundle, headers, card, targets, &mut list), || ask.answer())
         }
         Question::Text { step, wanted, buf_len } => {
             let mut buffer = vec![0; buf_len];

@@ -4,8 +4,9 @@
 
 use compare::asks::{compare, run, Counts};
 use compare::minimise::minimise;
+use second::bundle::{self, Bundle};
 use second::kind::Kind;
-use second::{bundle, Ask};
+use second::Ask;
 use std::process::ExitCode;
 use std::time::Instant;
 
@@ -48,14 +49,18 @@ fn main() -> ExitCode {
     }
 }
 
-/// An ask as a line, the second planner's answer, and the files by name.
+/// An ask as a line, the second planner's answer, and the files and header lists by name.
 fn show(which: &str, ask: &Ask) {
     println!("-- {which}: {ask}");
     if let Err(difference) = compare(ask) {
         println!("-- {difference}; the second planner: {}", ask.answer());
     }
-    for file in bundle::read(&ask.lent.bundle).unwrap_or_default() {
-        let text = String::from_utf8_lossy(file.text);
-        println!("-- {}\n{text}", file.name.escape_ascii());
+    for (bytes, counts) in
+        [(&ask.lent.bundle, bundle::MANIFEST), (&ask.lent.headers, bundle::HEADERS)]
+    {
+        let bundle = Bundle::read(bytes, counts);
+        for (name, text) in bundle.map_or(Vec::new(), |bundle| bundle.records) {
+            println!("-- {}\n{}", name.escape_ascii(), String::from_utf8_lossy(text));
+        }
     }
 }

@@ -8,7 +8,7 @@ use lib.Dec.{leb, ltb}
 use lib.ListN.{length}
 use Rattle.lists.specs.Tests.{ifB}
 use Rattle.spec.specs.declared.Refusal.{Refusal}
-use Rattle.spec.specs.declared.Refusal.the-variants.{ShortBuffer, BadCard, BadTarget, NoRoot, MissingSource, EndlessText, LongText, NoCommand}
+use Rattle.spec.specs.declared.Refusal.the-variants.{ShortBuffer, BadCard, BadTarget, NoRoot, MissingSource, EndlessText, LongText, NoCommand, BadHeaders}
 use Rattle.spec.specs.declared.Wanted.{Wanted}
 use Rattle.spec.specs.Basics.{orElse}
 use Rattle.spec.specs.Limits.{leastList, maxText}
@@ -17,18 +17,22 @@ use Rattle.spec.specs.Manifest.{Read, accepted, refusedWith, readManifest}
 use Rattle.spec.specs.Card.{soundCard}
 use Rattle.spec.specs.Targets.{badTarget}
 use Rattle.spec.specs.Graph.{hasOrder, noRoot, stepAt}
-use Rattle.spec.specs.PlanAsk.{Inputs, PlanOutcome, listed, circular, noPlan, targetFiles, rootsOf, missingSource, planListed, planSources, planOrdered, planRooted, planTargets, planRead, planManifest, planAsk}
+use Rattle.spec.specs.Headers.{HeaderGraph, Heading, headed, headless, onHeaded, withHeaders}
+use Rattle.spec.specs.PlanAsk.{Inputs, PlanOutcome, listed, circular, noPlan, targetFiles, rootsOf, missingSource, planListed, planSources, planOrdered, planHeaders, planRooted, planTargets, planRead, planManifest, badHeaders, planAsk}
 use Rattle.spec.specs.Text.{leadsBack, deep, nameText, nameRefusal}
 use Rattle.spec.specs.TextAsk.{TextOutcome, text, noText, wantedName, nameOutcome, textOfStep, textRead, textAsk}
+use Rattle.spec.proofs.Headers.{OfHeaders, of-bad, headers-off}
 
 -- ---- the plan ask
 
--- what its checks behind the reading refuse with
+-- what its checks ahead of the reading and behind it refuse with
 pub record PlanRefusals (P : Refusal → Type 0) : Type 0 where
   pub short : P ShortBuffer
   pub card : P BadCard
   pub target : (p : ℕ) → P (BadTarget p)
   pub root : P NoRoot
+  -- 16, 17 and 20
+  pub headers : (r : Refusal) → OfHeaders r → P r
   pub source : (f : ℕ) → P (MissingSource f)
 
 module _ (P : Refusal → Type 0) where
@@ -51,18 +55,27 @@ module _ (P : Refusal → Type 0) where
   at-plan (some n) r f p q = p n
 
   module _ (i : Inputs) (h : PlanRefusals P) where
-    ordered-plan : (rd : Reading) → RefusesPlan (planOrdered i rd)
+    ordered-plan : (rd : Reading) (g : HeaderGraph) → RefusesPlan (planOrdered i rd g)
     unfolding planOrdered planSources planListed
-    ordered-plan rd =
-        either-plan (hasOrder (rd .steps) (rootsOf i rd)) (planSources i rd) (circular (rd .steps) (rootsOf i rd))
-        (at-plan (missingSource (i .card) rd (rootsOf i rd)) MissingSource (λ _. planListed i rd) (h .source) tt) tt
+    ordered-plan rd g =
+        either-plan (hasOrder (g .reading .steps) (rootsOf i rd)) (planSources i rd g) (circular (g .reading .steps) (rootsOf i rd))
+        (at-plan (missingSource (i .card) (rd .steps) (g .reading) (rootsOf i rd)) MissingSource (λ _. planListed i rd g) (h .source) tt) tt
+
+    headed-plan : (rd : Reading) (x : Heading) → withHeaders (i .headers) rd ≡ x → RefusesPlan (onHeaded x noPlan (planOrdered i rd))
+    unfolding onHeaded
+    headed-plan rd (headed g) e = ordered-plan rd g
+    headed-plan rd (headless r) e = h .headers r (headers-off (i .headers) rd r e)
+
+    headers-plan : (rd : Reading) → RefusesPlan (planHeaders i rd)
+    unfolding planHeaders
+    headers-plan rd = headed-plan rd (withHeaders (i .headers) rd) refl
 
     read-plan : (rd : Reading) → RefusesPlan (planRead i rd)
     unfolding planRead planTargets planRooted
     read-plan rd =
         if-plan (not (soundCard (i .card))) BadCard (λ _. planTargets i rd) (h .card)
         (at-plan (badTarget (rd .files) (i .targets)) BadTarget (λ _. planRooted i rd) (h .target)
-        (if-plan (noRoot rd (targetFiles (i .targets) rd)) NoRoot (λ _. planOrdered i rd) (h .root) (ordered-plan rd)))
+        (if-plan (noRoot rd (targetFiles (i .targets) rd)) NoRoot (λ _. planHeaders i rd) (h .root) (headers-plan rd)))
 
     manifest-plan : (x : Read) → ((r : Refusal) → x ≡ refusedWith r → P r) → RefusesPlan (planManifest i x)
     unfolding planManifest
@@ -72,8 +85,9 @@ module _ (P : Refusal → Type 0) where
     ask-plan : (room : ℕ) → ((r : Refusal) → readManifest (i .manifest) ≡ refusedWith r → P r) → RefusesPlan (planAsk i room)
     unfolding planAsk
     ask-plan room m =
-        either-plan (ltb room leastList) (noPlan ShortBuffer) (planManifest i (readManifest (i .manifest))) (h .short)
-        (manifest-plan (readManifest (i .manifest)) m)
+        if-plan (ltb room leastList) ShortBuffer (λ _. ifB (badHeaders i) (λ _. noPlan (BadHeaders 0)) (λ _. planManifest i (readManifest (i .manifest)))) (h .short)
+        (if-plan (badHeaders i) (BadHeaders 0) (λ _. planManifest i (readManifest (i .manifest))) (h .headers (BadHeaders 0) (of-bad 0))
+        (manifest-plan (readManifest (i .manifest)) m))
 
     pub plan-refuses : (room : ℕ) {r : Refusal} → ((q : Refusal) → readManifest (i .manifest) ≡ refusedWith q → P q) → planAsk i room ≡ noPlan r → P r
     plan-refuses room {r} m e = subst RefusesPlan e (ask-plan room m)

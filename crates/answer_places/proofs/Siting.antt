@@ -1,19 +1,23 @@
 -- A place in a text is one of a sound bundle: a malformed bundle is refused with 1 or 19 at 0, and what comes behind the reading has no place in a text.
-use Prim.Native.Nat.{ℕ}
+use Prim.Native.Nat.{ℕ, _<_}
 use mathlib.Core.Bool.{true, false}
-use mathlib.Core.List.{List}
+use mathlib.Core.List.{List, [], _∷_}
 use mathlib.Core.Path.{_≡_, refl, ap}
+use native.Mathlib.Omega.{arith}
 use Rattle.lists.specs.Tests.{split, differ}
+use Rattle.lists.specs.Members.{_∈_, here, there, not-in-nil}
 use Rattle.spec.specs.declared.Refusal.{Refusal}
-use Rattle.spec.specs.declared.Refusal.the-variants.{BadBundle}
+use Rattle.spec.specs.declared.Refusal.the-variants.{ShortBuffer, LongManifest, BadByte, BadLine, BadDollar, NotYet, BadRule, BadPath, OverLimit, BadVersion, BadCard, BadTarget, NoRoot, Circle, MissingSource, EndlessText, LongText, NoCommand, BadBundle, BadOpen, BadHeaders}
 use Rattle.spec.specs.declared.Wanted.{Wanted}
 use Rattle.spec.specs.Limits.{maxBundle}
-use Rattle.spec.specs.Answers.{Said, refusalSays}
+use Rattle.spec.specs.Answers.{Said, refusalSays, numberOfRefusal}
 use Rattle.spec.specs.Bundle.{soundBundle}
 use Rattle.spec.specs.Manifest.{refusedWith, readManifest}
 use Rattle.spec.specs.PlanAsk.{Inputs, PlanOutcome, listed, circular, noPlan, planAsk}
 use Rattle.spec.specs.TextAsk.{TextOutcome, text, noText, textAsk}
 use Rattle.spec.specs.Promises.{PlanMeets, TextMeets}
+use Rattle.spec.proofs.Headers.{OfHeaders}
+use Rattle.spec.proofs.Demands.{header-number}
 use Rattle.answer_places.specs.Places.{Sited}
 use Rattle.answer_places.proofs.Outcomes.{PlanRefusals, plan-refuses, TextRefusals, text-refuses}
 
@@ -37,6 +41,45 @@ read-sited b r e t =
 pub sited-outside : (b : List ℕ) (s : Said) → s .text ≡ false → Sited b s
 sited-outside b s e t = differ t e
 
+-- ---- the refusals of header lists
+
+not-19 : {n : ℕ} → n ∈ 16 ∷ 17 ∷ 20 ∷ [] → n ≡ 19 → ⊥
+not-19 (here e) z = omega (arith, e, z)
+not-19 (there (here e)) z = omega (arith, e, z)
+not-19 (there (there (here e))) z = omega (arith, e, z)
+not-19 (there (there (there h))) z = not-in-nil h
+
+-- past 10 a place in a text is that of a 19
+outside-texts : (r : Refusal) → 15 < numberOfRefusal r → (numberOfRefusal r ≡ 19 → ⊥) → refusalSays r .text ≡ false
+unfolding numberOfRefusal refusalSays
+outside-texts ShortBuffer l n = refl
+outside-texts LongManifest l n = refl
+outside-texts (BadByte p) l n = absurd (omega (arith, l))
+outside-texts (BadLine p) l n = absurd (omega (arith, l))
+outside-texts (BadDollar p) l n = absurd (omega (arith, l))
+outside-texts (NotYet p) l n = absurd (omega (arith, l))
+outside-texts (BadRule p) l n = absurd (omega (arith, l))
+outside-texts (BadPath p) l n = absurd (omega (arith, l))
+outside-texts (OverLimit p) l n = absurd (omega (arith, l))
+outside-texts (BadVersion p) l n = absurd (omega (arith, l))
+outside-texts BadCard l n = refl
+outside-texts (BadTarget p) l n = refl
+outside-texts NoRoot l n = refl
+outside-texts (Circle p) l n = refl
+outside-texts (MissingSource f) l n = refl
+outside-texts (EndlessText s) l n = refl
+outside-texts (LongText s) l n = refl
+outside-texts (NoCommand s) l n = refl
+outside-texts BadBundle l n = refl
+outside-texts (BadOpen p) l n = absurd (n refl)
+outside-texts (BadHeaders s) l n = refl
+
+pub headers-outside : (r : Refusal) → OfHeaders r → refusalSays r .text ≡ false
+headers-outside r o = outside-texts r (header-number o) (not-19 o)
+
+sited-headers : (b : List ℕ) (r : Refusal) → OfHeaders r → SitedRefusal b r
+sited-headers b r o = sited-outside b (refusalSays r) (headers-outside r o)
+
 module _ (b : List ℕ) where
   pub sited-plan-checks : PlanRefusals (SitedRefusal b)
   unfolding refusalSays
@@ -46,6 +89,7 @@ module _ (b : List ℕ) where
         card = λ t. differ t refl;
         target = λ p t. differ t refl;
         root = λ t. differ t refl;
+        headers = sited-headers b;
         source = λ f t. differ t refl;
       }
 

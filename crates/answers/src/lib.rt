@@ -55,6 +55,7 @@ pub fn of_refusal(r: Refusal) -> Numbers
         Refusal::NoCommand(s) => told(18, false, s),
         Refusal::BadBundle => told(19, false, 0),
         Refusal::BadOpen(p) => told(19, true, p),
+        Refusal::BadHeaders(s) => told(20, false, s),
     }
 }
 

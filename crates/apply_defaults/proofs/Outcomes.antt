@@ -14,7 +14,7 @@ use Rattle.spec.specs.Basics.{sum}
 use Rattle.spec.specs.Limits.{maxFiles, maxBindings, maxMentions, maxPath, maxWritten}
 use Rattle.spec.specs.Reading.{Reading, numberOf, numbersOf, mention, isMade}
 use Rattle.spec.specs.Statements.{goesOn, refused, noBlock, longerThan, mentioned, overPaths, overCounts, withDefaults}
-use Rattle.hold_names.proofs.Numbers.{mention-old, mention-none, number-mention}
+use Rattle.spec.proofs.Numbers.{mention-old, mention-none, number-mention}
 use Rattle.hold_bindings.specs.Log.{Logged}
 use Rattle.hold_reading.specs.declared.Counts.{Counts}
 use Rattle.hold_reading.specs.Held.{HoldsReading}

@@ -166,19 +166,6 @@ module _ {l texts bind : List ℕ} {c : Counts} {from to : ℕ} {table : List �
             record { within = omega (arith, x .within); between = λ log rd b. rw (a, e) at (x .between log rd b) };
       }
 
--- the last entry, which is looked at first
-module _ {l texts bind : List ℕ} {c : Counts} {from to : ℕ} {table : List ℕ} (s : OutputsSorted l texts bind c table) (some : 0 < length table) {r : Order} (o : PathOrdered l texts bind c from to table (length table - 1) r) where
-  pub last-less : r ≡ Less → Halving l texts bind c from to table 0 (length table - 1)
-  last-less e = half-lower (half-begin l texts bind c from to table) s (omega arith) (omega arith) o e
-
-  pub last-greater : r ≡ Greater → PlaceIn l texts bind c from to table (Free (length table))
-  last-greater e =
-      let n : length table - 1 + 1 ≡ length table = omega arith in
-      rw n at (half-end (half-higher (half-begin l texts bind c from to table) s (omega arith) (omega arith) o e) (omega arith))
-
-  pub last-equal : r ≡ Equal → PlaceIn l texts bind c from to table Taken
-  last-equal e = half-found (half-begin l texts bind c from to table) s (omega arith) (omega arith) o e
-
 -- ---- a path that is put in
 
 module _ {l texts bind : List ℕ} {c : Counts} {from to : ℕ} {table : List ℕ} {n : ℕ} where

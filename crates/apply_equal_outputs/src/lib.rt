@@ -36,9 +36,7 @@ fn order_at(
     order(t, &l[from..to], &l[a..b], texts, bind, c.entries)
 }
 
-// Where the path from one place to another stands in the table, by halving. The last entry comes first: outputs often stand in rising order, and then
-// one compare does. That `order_at` is called at two places is for speed, too: the compiler then leaves it a function of its own, and the reader's
-// function for a line, which this one is built into, stays small enough to be built into its caller.
+// Where the path from one place to another stands in the table, by halving.
 fn place_for(
     t: &[u8; 256],
     l: &[u8],
@@ -54,19 +52,6 @@ fn place_for(
 {
     let mut low = 0;
     let mut high = table.len();
-    if 0 < high {
-        match order_at(t, l, from, to, texts, bind, c, table, high - 1) {
-            Order::Less => {
-                high -= 1;
-            }
-            Order::Greater => {
-                return TablePlace::Free(high);
-            }
-            Order::Equal => {
-                return TablePlace::Taken;
-            }
-        }
-    }
     while low < high {
         let mid = low + (high - low) / 2;
         match order_at(t, l, from, to, texts, bind, c, table, mid) {
@@ -108,7 +93,9 @@ fn is_taken(
     }
 }
 
-// Whether two paths of a list are equal. The table has room for all of them.
+// Whether two paths of a list are equal. The table has room for all of them. A turn is for two paths, so that `is_taken` is called at two places: the
+// compiler then leaves it a function of its own, with its compares in its loop, and the reader's function for a line, which this one is built into, stays
+// small enough to be built into its caller.
 fn has_equal(
     t: &[u8; 256],
     l: &[u8],
@@ -130,7 +117,18 @@ fn has_equal(
                     return true;
                 }
                 n += 1;
-                i = to;
+                match next_listed(t, l, to) {
+                    ListPath::Path(after, end) => {
+                        if is_taken(t, l, after, end, texts, bind, c, table, n) {
+                            return true;
+                        }
+                        n += 1;
+                        i = end;
+                    }
+                    ListPath::Stop => {
+                        return false;
+                    }
+                }
             }
             ListPath::Stop => {
                 return false;

@@ -13,7 +13,7 @@ use Rattle.spec.specs.Statements.{mentioned}
 use Rattle.hold_names.specs.declared.Added.{Added}
 use Rattle.hold_names.specs.declared.Added.the-variants.{Old, New, Full}
 use Rattle.hold_names.specs.Table.{AddsName}
-use Rattle.hold_names.proofs.Numbers.{mention-none, mention-old, mention-new}
+use Rattle.spec.proofs.Numbers.{mention-none, mention-old, mention-new}
 use Rattle.hold_names.proofs.Laws as named
 use Rattle.hold_names.proofs.Laws.{after-old, after-new, after-full}
 use Rattle.hold_reading.specs.declared.Counts.{Counts}

@@ -1,3 +1,5 @@
 pub mod Limits
 pub mod Columns
 pub mod Adding
+pub mod Closed
+pub mod Marks

@@ -15,7 +15,7 @@ use Rattle.spec.specs.Basics.{among, sum}
 use Rattle.spec.specs.Limits.{maxFiles, maxBindings, maxMentions, maxPath, maxWritten}
 use Rattle.spec.specs.Reading.{Reading, mention}
 use Rattle.spec.specs.Statements.{mentioned, longerThan, overPaths, overCounts}
-use Rattle.hold_names.proofs.Numbers.{mention-none, mention-old, mention-new, mention-append}
+use Rattle.spec.proofs.Numbers.{mention-none, mention-old, mention-new, mention-append}
 use Rattle.hold_reading.specs.declared.Counts.{Counts}
 use Rattle.apply_files.specs.Lines.{LineHeld, Writing, overLine}
 use Rattle.apply_files.specs.Path.{pathOver}

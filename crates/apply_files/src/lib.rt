@@ -9,6 +9,7 @@ ghost use Rattle.apply_files.specs.Path.{pathOver, Again, First, PathFit
 use arena::put;
 use hold_names::Added;
 use hold_names::add;
+use hold_names::add_listed_name;
 use hold_reading::Counts;
 use hold_reading::columns::MADE_START;
 use spec::limits::MENTIONS;
@@ -84,6 +85,25 @@ pub fn add_path(
     match add(names, index, files, path) {
         Added::Old(k) => Mentioned::On(note_again(graph, c, k, path.len())),
         Added::New(k) => Mentioned::On(note_first(graph, c, k, path.len())),
+        Added::Full => Mentioned::Over,
+    }
+}
+
+// The same for a name that a depfile lists. It stands by itself for speed, as `add_listed_name` does.
+pub fn add_listed(
+    name: &[u8],
+    names: &mut [u8],
+    index: &mut [u32],
+    graph: &mut [u32],
+    c: Counts,
+) -> Mentioned
+    requires { ⌜ PathFits (now name) (now names) (now index) (now graph) c ⌝ }
+    ensures { λ r. ⌜ Leaves ((Spare (now (names .entry)) (now (names .exit))) × (Spare (now (index .entry)) (now (index .exit))) × (Spare (now (graph .entry)) (now (graph .exit)))) (AddsPath (now (name .entry)) (now (names .entry)) (now (index .entry)) (now (graph .entry)) c (now (names .exit)) (now (index .exit)) (now (graph .exit)) r) ⌝ }
+{
+    let files = c.files;
+    match add_listed_name(names, index, files, name) {
+        Added::Old(k) => Mentioned::On(note_again(graph, c, k, name.len())),
+        Added::New(k) => Mentioned::On(note_first(graph, c, k, name.len())),
         Added::Full => Mentioned::Over,
     }
 }

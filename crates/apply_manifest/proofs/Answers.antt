@@ -18,6 +18,7 @@ use Rattle.spec.specs.Manifest.{readLines, textLines, badByteIn, refusedWith, r
 use Rattle.scan_raw.specs.declared.FirstBad.{FirstBad}
 use Rattle.scan_raw.specs.declared.FirstBad.the-variants.{Nowhere, At}
 use Rattle.scan_raw.specs.Texts.{placeOf}
+use Rattle.hold_names.specs.Table.{headsFrom, maxNumbers}
 use Rattle.hold_names.proofs.Lies.{holds-none}
 use Rattle.hold_bindings.specs.Held.{scopesAt, currentAt, parentsAt}
 use Rattle.hold_bindings.proofs.Entries.{held-none}
@@ -80,7 +81,7 @@ lines-ask a b = record { bundle = b; roomy = a }
 -- ---- the top file
 
 -- the names are cleared, and the bindings begun
-module _ {t s : List ℕ} {bs : Buffers} {word cleared begun : List ℕ} (a : LinesAsk t s bs word) (e : cleared ≡ zeroed (bs .index) 2048 3072)
+module _ {t s : List ℕ} {bs : Buffers} {word cleared begun : List ℕ} (a : LinesAsk t s bs word) (e : cleared ≡ zeroed (bs .index) headsFrom maxNumbers)
     (f : begun ≡ set (set (set (bs .bind) scopesAt 1) currentAt 0) parentsAt 0) where
   abbrev empty : Buffers
   empty = buffers (bs .names) cleared (bs .texts) begun (bs .graph)
@@ -90,7 +91,7 @@ module _ {t s : List ℕ} {bs : Buffers} {word cleared begun : List ℕ} (a : Li
   nothing-held =
       let r = a .roomy in
       rw (e, f)
-      (start-held (buffers (bs .names) (zeroed (bs .index) 2048 3072) (bs .texts) (set (set (set (bs .bind) scopesAt 1) currentAt 0) parentsAt 0) (bs .graph))
+      (start-held (buffers (bs .names) (zeroed (bs .index) headsFrom maxNumbers) (bs .texts) (set (set (set (bs .bind) scopesAt 1) currentAt 0) parentsAt 0) (bs .graph))
       (holds-none (bs .names) (bs .index) (r .names-small) (r .numbers-room))
       (held-none (bs .texts) (bs .bind) (r .texts-room) (r .bind-room))
       (omega (arith, r .room .scratch)))

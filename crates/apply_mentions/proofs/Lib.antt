@@ -1,3 +1,2 @@
 pub mod Mentioning
 pub mod Passing
-pub mod Closed

@@ -1,6 +1,5 @@
 -- The loop over a list of raw paths: what it has mentioned so far, and what is left.
 use Prim.Native.Nat.{ℕ, _≤_}
-use mathlib.Core.Bool.{true, false}
 use mathlib.Core.List.{List, [], _∷_, _++_}
 use mathlib.Core.Path.{_≡_, refl, _∙_}
 use native.Mathlib.Omega.{arith}
@@ -8,36 +7,18 @@ use lib.ListN.{length}
 use Rattle.lists.specs.Parts.{part, length-part}
 use Rattle.spec.specs.Dollars.{expand}
 use Rattle.spec.specs.Reading.{Reading, fileVar}
-use Rattle.spec.specs.Statements.{expanded, mentioned, overPaths}
+use Rattle.spec.specs.Statements.{expanded, mentioned}
 use Rattle.scan_raw.specs.Texts.{PathNext}
 use Rattle.cut_forms.specs.Paths.{PathsAt}
 use Rattle.cut_forms.proofs.Walks.{walk-on}
 use Rattle.hold_reading.specs.declared.Counts.{Counts}
 use Rattle.apply_files.specs.declared.Mentioned.{Mentioned}
 use Rattle.apply_files.specs.declared.Mentioned.the-variants.{On, Over}
-use Rattle.apply_files.specs.Lines.{LineHeld, Writing, withMention, withPaths, overLine, AddedPaths, on, over}
+use Rattle.apply_files.specs.Lines.{LineHeld, Writing, withMention, withPaths, AddedPaths, on, over}
 use Rattle.apply_mentions.specs.Asks.{MentionRoom, MentionAsks, Mentions, MentionListAsks, MentionsAll}
-use Rattle.apply_files.proofs.Limits.{line-later, short-append, short-none}
+use Rattle.apply_files.proofs.Limits.{short-none}
+use Rattle.apply_files.proofs.Marks.{marks-on, marks-short, marks-over, marks-cons}
 use Rattle.hold_reading.specs.Buffers.{Buffers, withFiles}
-
--- ---- answers
-
-module _ {bs : Buffers} {h : LineHeld} {ps : List (List ℕ)} where
-  pub marks-on : {c : Counts} → AddedPaths bs h ps (On c) → Writing bs c (withPaths ps h)
-  marks-on (on w s) = w
-
-  pub marks-short : {c : Counts} → AddedPaths bs h ps (On c) → overPaths ps ≡ false
-  marks-short (on w s) = s
-
-  pub marks-over : AddedPaths bs h ps Over → (more : List (List ℕ)) → overLine (ps ++ more) (h .reading) ≡ true
-  marks-over (over f) = f
-
--- one path, then the others
-module _ {bs : Buffers} (p : List ℕ) (ps : List (List ℕ)) (h : LineHeld) where
-  pub marks-cons : {r : Mentioned} → overPaths (p ∷ []) ≡ false → AddedPaths bs (withMention p h) ps r → AddedPaths bs h (p ∷ ps) r
-  unfolding withPaths withMention
-  marks-cons q (on w s) = on w (short-append (p ∷ []) ps q s)
-  marks-cons q (over f) = over (λ more. line-later (p ∷ []) (ps ++ more) (h .reading) (f more))
 
 pub expanded-same : (a b : Reading) → a .vars ≡ b .vars → (raw : List (List ℕ)) → expanded a raw ≡ expanded b raw
 unfolding expanded

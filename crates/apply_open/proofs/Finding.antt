@@ -13,7 +13,7 @@ use Rattle.spec.specs.Basics.{among}
 use Rattle.spec.specs.Reading.{numberOf}
 use Rattle.spec.specs.Card.{numberAt}
 use Rattle.spec.specs.Bundle.{bundleNames}
-use Rattle.hold_names.proofs.Numbers.{among-none, among-here, among-there, number-here, number-there}
+use Rattle.spec.proofs.Numbers.{among-none, among-here, among-there, number-here, number-there}
 use Rattle.scan_bundle.specs.declared.FoundRecord.the-variants.{At, Missing}
 use Rattle.scan_bundle.specs.Bundles.{LaidBundle, foundRecord}
 use Rattle.scan_bundle.proofs.Lying.{length-names, laid-room}

@@ -15,7 +15,7 @@ use Rattle.spec.specs.Dollars.{expand}
 use Rattle.spec.specs.Reading.{Variables, Reading, fileVar, numberOf}
 use Rattle.spec.specs.Statements.{Block, longerThan, overCounts}
 use Rattle.spec.specs.Manifest.{withOpened, entered, openPath}
-use Rattle.hold_names.proofs.Numbers.{number-below}
+use Rattle.spec.proofs.Numbers.{number-below}
 use Rattle.scan_bundle.specs.declared.FoundRecord.{FoundRecord}
 use Rattle.scan_bundle.specs.declared.FoundRecord.the-variants.{At, Missing}
 use Rattle.scan_bundle.specs.Bundles.{foundRecord}

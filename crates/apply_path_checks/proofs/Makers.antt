@@ -17,7 +17,7 @@ use Rattle.arena.proofs.Laws.{lies-column, lies-read}
 use Rattle.hold_names.specs.declared.FoundName.{FoundName}
 use Rattle.hold_names.specs.declared.FoundName.the-variants.{At, Missing}
 use Rattle.hold_names.specs.Table.{FindsName}
-use Rattle.hold_names.proofs.Numbers.{number-missing}
+use Rattle.spec.proofs.Numbers.{number-missing}
 use Rattle.hold_names.proofs.Laws.{find-at, find-missing}
 use Rattle.hold_columns.specs.Columns.{madeBy, makerIn}
 use Rattle.hold_columns.proofs.Held.{held-makers}

@@ -1,4 +1,5 @@
 // Rule blocks: "`rule NAME`, then indented `key = value` lines: `command` (needed), `description`, `generator`, each at most once, kept unexpanded."
+// Document 02 has one key more: "Accept `depfile`."
 ghost use Rattle.lists.specs.Lent.{Spare, Leaves};
 ghost use Rattle.spec.specs.Statements.{startRule, blockLine};
 ghost use Rattle.spec.specs.Manifest.{close};

@@ -19,8 +19,9 @@ use Rattle.apply_mentions.specs.Asks as mentions
 use Rattle.apply_mentions.specs.Asks.{MentionRoom, MentionsAll}
 use Rattle.apply_files.proofs.Columns.{push-end}
 use Rattle.apply_files.proofs.Limits.{line-later, short-append, mentioned-append, mentioned-none}
-use Rattle.apply_mentions.proofs.Passing.{marks-on, marks-short, marks-over, expanded-same}
-use Rattle.apply_mentions.proofs.Closed.{paths-reading, paths-ends}
+use Rattle.apply_mentions.proofs.Passing.{expanded-same}
+use Rattle.apply_files.proofs.Marks.{marks-on, marks-short, marks-over}
+use Rattle.apply_files.proofs.Closed.{paths-reading, paths-ends}
 use Rattle.apply_step_lists.specs.Lists.{withEnd, withLists, ListsMentioned, on, over, StepListAsks, MentionsList, TwoAsks, Two, FourAsks, Four}
 use Rattle.hold_reading.specs.Buffers.{Buffers, withFiles, withGraph}
 

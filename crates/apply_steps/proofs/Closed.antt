@@ -8,9 +8,9 @@ use Rattle.spec.specs.Basics.{concat}
 use Rattle.spec.specs.Forms.{BuildLine}
 use Rattle.spec.specs.Reading.{Reading, numbersOf, mention}
 use Rattle.spec.specs.Statements.{mentioned, inputsOfLine}
-use Rattle.hold_names.proofs.Numbers.{mention-append}
+use Rattle.spec.proofs.Numbers.{mention-append}
 use Rattle.apply_files.specs.Lines.{LineHeld, withPaths}
-use Rattle.apply_mentions.proofs.Closed.{among-all, numbers-stay, numbers-append, length-numbers, paths-log, paths-phony, paths-ruled, paths-reading, paths-ends, paths-mentions, paths-made}
+use Rattle.apply_files.proofs.Closed.{among-all, numbers-stay, numbers-append, length-numbers, paths-log, paths-phony, paths-ruled, paths-reading, paths-ends, paths-mentions, paths-made}
 use Rattle.apply_step_lists.specs.Lists.{withEnd, withLists, listsOf}
 
 pub lists-log : (pss : List (List (List ℕ))) (h : LineHeld) → withLists pss h .log ≡ h .log

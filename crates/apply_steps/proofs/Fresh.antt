@@ -16,7 +16,7 @@ use Rattle.spec.specs.Basics.{among, isEmpty}
 use Rattle.spec.specs.Reading.{Step, Reading, numberOf, numbersOf, mention, isOutput, isMade}
 use Rattle.spec.specs.Statements.{badPaths, twice}
 use Rattle.spec.specs.Graph.{makers, makersFrom}
-use Rattle.hold_names.proofs.Numbers.{among-cons, number-there, number-mention, mention-none, mention-old, mention-new}
+use Rattle.spec.proofs.Numbers.{among-cons, number-there, number-mention, mention-none, mention-old, mention-new}
 use Rattle.hold_columns.specs.Columns.{makerIn, madeBy, HoldsColumns}
 use Rattle.hold_columns.proofs.Held.{held-makers}
 

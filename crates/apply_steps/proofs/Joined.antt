@@ -25,13 +25,14 @@ use Rattle.hold_reading.specs.Held.{HoldsBound, Ruled, scopeUnit, ruleWithScope
 use Rattle.hold_reading.proofs.Short.{mention-short}
 use Rattle.apply_files.specs.Lines.{Writing}
 use Rattle.apply_files.proofs.Limits.{mention-more}
-use Rattle.apply_mentions.proofs.Closed.{numbers-low, length-numbers}
+use Rattle.apply_files.proofs.Closed.{numbers-low, length-numbers}
 use Rattle.apply_step_lists.specs.Lists.{listsOf}
 use Rattle.apply_step_columns.specs.StepColumns.{setAll, Laid, newestEnd, phonyBit, withStepRule, countedStep}
 use Rattle.apply_steps.proofs.Closed.{endsAfter}
 use Rattle.apply_step_columns.proofs.Making.{length-set-all}
 use Rattle.apply_step_columns.proofs.Numbered.{ruled-bit}
-use Rattle.apply_steps.proofs.Growing.{mentions-more, ends-more, map-more, makes-more}
+use Rattle.hold_columns.proofs.Growing.{mentions-more, ends-more, map-more}
+use Rattle.apply_steps.proofs.Growing.{makes-more}
 use Rattle.apply_steps.proofs.Fresh.{line-fresh}
 use Rattle.apply_steps.proofs.Stepped.{lineOf, pathsOf, filesWith, stepFor, lineAfter, step-mentions, step-ends, outs-among, steps-same, made-long, mentions-low, outs-part}
 use Rattle.hold_reading.specs.Buffers.{Buffers, withFiles}

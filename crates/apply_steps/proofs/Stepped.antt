@@ -20,7 +20,7 @@ use Rattle.hold_reading.specs.declared.Counts.{Counts}
 use Rattle.hold_reading.specs.Held.{Graphed, HoldsReading}
 use Rattle.apply_files.specs.Lines.{LineHeld, Writing}
 use Rattle.apply_files.proofs.Limits.{mention-more}
-use Rattle.apply_mentions.proofs.Closed.{Among, among-all, numbers-append, numbers-low, length-numbers}
+use Rattle.apply_files.proofs.Closed.{Among, among-all, numbers-append, numbers-low, length-numbers}
 use Rattle.apply_step_lists.specs.Lists.{withLists, listsOf}
 use Rattle.apply_step_columns.specs.StepColumns.{StepReady, newestEnd}
 use Rattle.apply_step_lists.proofs.Listing.{lists-reading}

@@ -8,6 +8,7 @@ use lib.ListN.{length}
 use Rattle.lists.specs.Parts.{part, length-part}
 use Rattle.spec.specs.declared.Refusal.{Refusal}
 use Rattle.spec.specs.declared.Refusal.the-variants.{BadOpen}
+use Rattle.spec.specs.Limits.{maxManifest}
 use Rattle.spec.specs.Dollars.{expand}
 use Rattle.spec.specs.Lines.{Line}
 use Rattle.spec.specs.Reading.{Variables, Reading, fileVar}
@@ -15,6 +16,8 @@ use Rattle.spec.specs.Statements.{Block, noBlock, Outcome, goesOn, opens, refus
 use Rattle.spec.specs.Bundle.{bundleNames, bundleTexts}
 use Rattle.spec.specs.Manifest.{andThen, readLine, Opener, opening, readLines, textLines, withOpened, entered, backIn, openPath, opener}
 use Rattle.spec.proofs.Scopes.{Keeps, keeps-same, ended-keeps, inside-kept, inside-there, lines-keep, entered-there, opener-keeps}
+use Rattle.scan_classes.specs.Table.{classes}
+use Rattle.scan_texts.specs.Checks.{ShortBundle}
 use Rattle.scan_bundle.proofs.Lying.{length-names}
 use Rattle.hold_bindings.specs.Log.{Logged}
 use Rattle.hold_reading.specs.declared.Counts.{Counts}
@@ -22,19 +25,19 @@ use Rattle.hold_reading.specs.declared.Open.{Open}
 use Rattle.hold_reading.specs.declared.Open.the-variants.{Nothing}
 use Rattle.hold_reading.specs.declared.LineAnswer.{LineAnswer}
 use Rattle.hold_reading.specs.declared.LineAnswer.the-variants.{Goes, Refused}
-use Rattle.hold_reading.specs.declared.LineTurn.the-variants.{Answered, Opens as TurnOpens}
+use Rattle.hold_reading.specs.declared.LineTurn.the-variants.{Opens as TurnOpens}
 use Rattle.hold_reading.specs.Held.{joined, OpensBlock, nothing, HoldsReading, Agrees, goes, refuses}
 use Rattle.hold_reading.specs.Binds.{Known}
-use Rattle.hold_reading.specs.Buffers.{Buffers, withBindings, SameRoom}
+use Rattle.hold_reading.specs.Buffers.{Buffers, withBindings}
 use Rattle.hold_reading.proofs.Lift.{known, met, lifted, none-bound}
-use Rattle.hold_reading.proofs.Agreement.{agreed-on, agreed-refused, OpensAt, turned-answer, turned-opens}
+use Rattle.hold_reading.proofs.Agreement.{agreed-on, agreed-refused, OpensAt, turned-opens}
 use Rattle.hold_reading.proofs.Opened.{scope-there}
-use Rattle.apply_statements.specs.Asks.{BetweenLines, LineMeets, TurnMeets}
+use Rattle.apply_statements.specs.Asks.{LinesRoom, BetweenLines, LineMeets, TurnMeets}
 use Rattle.apply_statements.proofs.Outcomes.{between-sound, close-none}
 use Rattle.apply_open.specs.declared.OpenedFile.{OpenedFile}
 use Rattle.apply_open.specs.declared.OpenedPath.the-variants.{Found, Refused as NotOpened}
 use Rattle.apply_open.specs.Opens.{OpenAsks, NamesRecord, OpensAs, OpensPath, EnterAsks, Enters, EnteredFrom, LeaveAsks, LeavesScope}
-use Rattle.apply_texts.specs.Texts.{fileOpener, TurnAsk, TextReadAsk, FileAsk}
+use Rattle.apply_texts.specs.Texts.{fileOpener, TextReadAsk, FileAsk}
 use Rattle.scan_texts.proofs.Texts.{laid}
 
 -- ---- the end of a text closes a block
@@ -53,54 +56,40 @@ lines-closed via (l ∷ ls) rd b e = then-closed (opening via (readLine l rd b))
 
 -- ---- a line
 
--- what an answer agrees with opens no file
-opens-none : (via : Opener) {bs : Buffers} {out : Outcome} {r : LineAnswer} → Agrees bs out r → Agrees bs (opening via out) r
-unfolding opening
-opens-none via (goes h p) = goes h p
-opens-none via refuses = refuses
+module _ {l : Line} {bs : Buffers} {c : Counts} {o : Open} {bs′ : Buffers} {d : Counts} {sub : Bool} {from to : ℕ}
+    (m : TurnMeets l bs c o (readLine l) bs′ (TurnOpens d sub from to)) where
+  pub turn-opened : (via : Opener) {bs″ : Buffers} {r : LineAnswer} → LineMeets bs′ d Nothing (λ rd b. via (l .start) sub (part (l .text) from to) rd) bs″ r
+      → LineMeets bs c o (λ rd b. opening via (readLine l rd b)) bs″ r
+  unfolding opening joined
+  turn-opened via k =
+      record {
+        agrees = λ log rd b h p. let g = turned-opens (m .agrees log rd b h p) in rw (g .outcome) (k .agrees (g .log) (g .reading) noBlock (g .holds) nothing);
+      }
 
-module _ (via : Opener) {l : Line} {bs : Buffers} {c : Counts} {o : Open} {bs′ : Buffers} where
-  pub turn-answered : {r : LineAnswer} → TurnMeets l bs c o (readLine l) bs′ (Answered r) → LineMeets bs c o (λ rd b. opening via (readLine l rd b)) bs′ r
-  turn-answered m = record { agrees = λ log rd b h p. opens-none via (turned-answer (m .agrees log rd b h p)) }
+  opened : BetweenLines bs c o → (rd : Reading) × (b : Block) × OpensAt l bs′ d sub from to (readLine l rd b)
+  opened w = (w .reading, w .block, turned-opens (m .agrees (w .log) (w .reading) (w .block) (w .holds) (w .opens)))
 
-  module _ {d : Counts} {sub : Bool} {from to : ℕ} (m : TurnMeets l bs c o (readLine l) bs′ (TurnOpens d sub from to)) where
-    pub turn-opened : {bs″ : Buffers} {r : LineAnswer} → LineMeets bs′ d Nothing (λ rd b. via (l .start) sub (part (l .text) from to) rd) bs″ r
-        → LineMeets bs c o (λ rd b. opening via (readLine l rd b)) bs″ r
-    unfolding opening joined
-    turn-opened k =
-        record {
-          agrees = λ log rd b h p. let g = turned-opens (m .agrees log rd b h p) in rw (g .outcome) (k .agrees (g .log) (g .reading) noBlock (g .holds) nothing);
-        }
+  pub raw-ordered : BetweenLines bs c o → from < to
+  raw-ordered w = opened w .2 .longer
 
-    opened : BetweenLines bs c o → (rd : Reading) × (b : Block) × OpensAt l bs′ d sub from to (readLine l rd b)
-    opened w = (w .reading, w .block, turned-opens (m .agrees (w .log) (w .reading) (w .block) (w .holds) (w .opens)))
+  pub raw-within : BetweenLines bs c o → to ≤ length (l .text)
+  raw-within w = opened w .2 .within
 
-    pub raw-ordered : BetweenLines bs c o → from < to
-    raw-ordered w = opened w .2 .longer
-
-    pub raw-within : BetweenLines bs c o → to ≤ length (l .text)
-    raw-within w = opened w .2 .within
-
-    -- what the file asks
-    pub file-asks : {t s word word′ : List ℕ} → TurnAsk t s (l .start) (l .text) bs word c o → SameRoom bs bs′ → length word′ ≡ length word → FileAsk t s (part (l .text) from to) bs′ word′ d
-    unfolding joined
-    file-asks a e w =
-        let g = opened (a .line .between) .2 in
-        let n : length (part (l .text) from to) ≡ to - from = length-part (l .text) from to (g .within) in
-        let r = a .line .room in
-        record {
-          table = a .line .cut .table;
-          bundle = a .bundle;
-          short = rw n (omega (arith, g .within, a .line .cut .short));
-          dollars = g .sound;
-          room =
-              record {
-                names-room = rw (e .names .long) (r .names-room);
-                scratch = rw (e .graph .long) (r .scratch);
-                word-room = rw w (r .word-room);
-              };
-          between = record { log = g .log; reading = g .reading; block = noBlock; holds = g .holds; opens = nothing };
-        }
+  -- what the file asks
+  pub file-asks : {t s word′ : List ℕ} → t ≡ classes → ShortBundle s → length (l .text) ≤ maxManifest → BetweenLines bs c o → LinesRoom (bs′ .names) (bs′ .graph) word′
+      → FileAsk t s (part (l .text) from to) bs′ word′ d
+  unfolding joined
+  file-asks e s h w r =
+      let g = opened w .2 in
+      let n : length (part (l .text) from to) ≡ to - from = length-part (l .text) from to (g .within) in
+      record {
+        table = e;
+        bundle = s;
+        short = rw n (omega (arith, g .within, h));
+        dollars = g .sound;
+        room = r;
+        between = record { log = g .log; reading = g .reading; block = noBlock; holds = g .holds; opens = nothing };
+      }
 
 -- ---- a file
 

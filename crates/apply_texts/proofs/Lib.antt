@@ -1,4 +1,4 @@
 pub mod Placed
-pub mod Each
 pub mod Turns
 pub mod Files
+pub mod Stretched

@@ -10,7 +10,7 @@ use Rattle.spec.specs.Answers.{baseOf}
 use Rattle.spec.specs.Lines.{At, indent, lineTurn, endsLine, Line, withByte, linesFrom}
 use Rattle.spec.specs.Manifest.{textLines}
 use Rattle.scan_lines.specs.Endings.{linesAt}
-use Rattle.apply_texts.specs.Texts.{placedAt}
+use Rattle.apply_stretch.specs.Stretches.{placedAt}
 
 with-placed : (base at b : ℕ) (ls : List Line) → withByte (base + at) b (map (placedAt base) ls) ≡ map (placedAt base) (withByte at b ls)
 unfolding withByte

@@ -30,18 +30,15 @@ use Rattle.hold_reading.specs.Buffers.{Buffers}
 use Rattle.hold_reading.proofs.Lift.{met, sound}
 use Rattle.hold_reading.proofs.Agreement.{agreed-on, agreed-refused}
 use Rattle.apply_statements.specs.Asks.{BetweenLines, LineMeets}
-use Rattle.apply_texts.specs.Texts.{placedAt, readEach, EachAsk, TextReadAsk}
+use Rattle.apply_stretch.specs.Stretches.{placedAt, linesPlaced, readEach}
+use Rattle.apply_stretch.proofs.Each.{Same, then-same, then-then, append-more, meets-more}
+use Rattle.apply_texts.specs.Texts.{EachAsk, TextReadAsk}
 use Rattle.scan_texts.proofs.Texts.{text-near, text-short}
 use Rattle.apply_texts.proofs.Placed.{text-lines}
-use Rattle.apply_texts.proofs.Each.{Same, then-same, then-then, meets-more, placedIn}
 
 map-more : {A B : Type 0} (f : A → B) (l k : List A) → map f (l ++ k) ≡ map f l ++ map f k
 map-more f [] k = refl
 map-more f (x ∷ l) k = ap (λ j. f x ∷ j) (map-more f l k)
-
-append-more : {A : Type 0} (l k j : List A) → (l ++ k) ++ j ≡ l ++ (k ++ j)
-append-more [] k j = refl
-append-more (x ∷ l) k j = ap (λ r. x ∷ r) (append-more l k j)
 
 -- ---- the lines of a text
 
@@ -126,7 +123,7 @@ found-ask {s = s} {k = k} {m = m} a e h n =
 module _ {via : Opener} {base : ℕ} {m : List ℕ} {bs₀ : Buffers} {c₀ : Counts} {o₀ : Open} {bs : Buffers} {c : Counts} {o : Open} {i : ℕ}
     (w : Reached via base m bs₀ c₀ o₀ bs c o i) {out out′ : List ℕ} {f : Found} (found : LinesFound m i out out′ f) where
   abbrev ls : List Line
-  ls = placedIn base m (take (f .filled) out′)
+  ls = linesPlaced base m (take (f .filled) out′)
 
   -- they are the first of the lines that are left
   left-found : leftFrom base m 0 ≡ (w .done ++ ls) ++ leftFrom base m (f .next)
@@ -161,17 +158,20 @@ module _ {via : Opener} {base : ℕ} {m : List ℕ} {bs₀ : Buffers} {c₀ : Co
       let r = a .room in
       let l : length m ≡ length (getD (bundleTexts s) k []) = ap length e in
       record {
-        table = a .table;
         bundle = a .bundle;
-        short = omega (arith, text-short s (a .bundle) k (a .below));
-        near = omega (arith, text-near s (a .bundle) k (a .below), g);
-        few = rw (length-take-le (f .filled) out′ (found .fits)) (omega (arith, n, found .fits, found .long));
-        bounds = found .bounds;
-        room =
+        lines =
             record {
-              names-room = rw (y .names-same) (r .names-room);
-              scratch = rw (y .graph-same) (r .scratch);
-              word-room = rw (y .word-same) (r .word-room);
+              table = a .table;
+              short = omega (arith, text-short s (a .bundle) k (a .below));
+              near = omega (arith, text-near s (a .bundle) k (a .below), g);
+              few = rw (length-take-le (f .filled) out′ (found .fits)) (omega (arith, n, found .fits, found .long));
+              bounds = found .bounds;
+              room =
+                  record {
+                    names-room = rw (y .names-same) (r .names-room);
+                    scratch = rw (y .graph-same) (r .scratch);
+                    word-room = rw (y .word-same) (r .word-room);
+                  };
+              between = between w (rw z (a .between));
             };
-        between = between w (rw z (a .between));
       }

@@ -1,23 +1,21 @@
 // A text of a bundle: its lines, some at a time, and the files that they open, each read whole before the lines behind.
-ghost use mathlib.Core.List.{map};
 ghost use Rattle.lists.specs.Lent.{Spare, Leaves};
 ghost use Rattle.spec.specs.Bundle.{bundleTexts};
-ghost use Rattle.spec.specs.Manifest.{opening, readLine, readLines, textLines};
-ghost use Rattle.scan_cursor.specs.Spans.{lineOf};
-ghost use Rattle.scan_cursor.specs.Found.{linesIn};
-ghost use Rattle.apply_texts.specs.Texts.{fileOpener, placedAt, readEach, TurnAsk, EachAsk, TextReadAsk, FileAsk};
+ghost use Rattle.spec.specs.Manifest.{readLines, textLines};
+ghost use Rattle.apply_stretch.specs.Stretches.{linesPlaced, readEach};
+ghost use Rattle.apply_texts.specs.Texts.{fileOpener, TurnAsk, LinesMeet, EachAsk, TextReadAsk, FileAsk};
 ghost use Rattle.apply_statements.specs.Asks.{LineMeets};
 ghost use Rattle.hold_reading.specs.Buffers.{SameRoom, buffers};
-use apply_lines::read_line;
 use apply_open::OpenedPath;
 use apply_open::enter;
 use apply_open::leave;
 use apply_open::open_path;
 use apply_rules::close;
+use apply_stretch::FoundPlace;
+use apply_stretch::Stretch;
+use apply_stretch::read_stretch;
 use hold_reading::Counts;
-use hold_reading::Line;
 use hold_reading::LineAnswer;
-use hold_reading::LineTurn;
 use hold_reading::Open;
 use hold_reading::State;
 use scan_bundle::record_text;
@@ -41,11 +39,18 @@ pub struct TextPlace {
     pub more: usize,
 }
 
-// A line by its place among all texts, whether a newline ends it, and how many files more may be open.
-pub struct TextLine {
-    pub start: usize,
-    pub ended: bool,
+// The lines that were found, from a place of their numbers on: where the places of their text begin among those of all texts, and how many files more may
+// be open.
+pub struct TextLines {
+    pub base: usize,
+    pub from: usize,
     pub more: usize,
+}
+
+// Up to which place of the numbers the lines are read, and their answer.
+pub struct LinesTurn {
+    pub next: usize,
+    pub answer: LineAnswer,
 }
 
 // A line that opens a file: its place among all texts, whether in a new scope, and how many files more may be open.
@@ -93,12 +98,13 @@ fn open_file(
     }
 }
 
-// A line, and the file that it opens.
+// Lines up to the first that opens a file, and that file.
 fn read_turn(
     t: &[u8; 256],
     b: &[u8],
-    l: &[u8],
-    line: TextLine,
+    m: &[u8],
+    found: &[u32],
+    lines: TextLines,
     names: &mut [u8],
     index: &mut [u32],
     texts: &mut [u8],
@@ -106,23 +112,41 @@ fn read_turn(
     graph: &mut [u32],
     word: &mut [u8],
     s: State,
-) -> LineAnswer
-    requires { ⌜ TurnAsk (now t) (now b) (line .start) (now l) (buffers (now names) (now index) (now texts) (now bind) (now graph)) (now word) (s .counts) (s .open) ⌝ }
-    ensures { λ r. ⌜ Leaves (SameRoom (buffers (now (names .entry)) (now (index .entry)) (now (texts .entry)) (now (bind .entry)) (now (graph .entry))) (buffers (now (names .exit)) (now (index .exit)) (now (texts .exit)) (now (bind .exit)) (now (graph .exit))) × (Spare (now (word .entry)) (now (word .exit)))) (LineMeets (buffers (now (names .entry)) (now (index .entry)) (now (texts .entry)) (now (bind .entry)) (now (graph .entry))) (s .counts) (s .open) (λ rd k. opening (fileOpener (now (b .entry)) (line .more)) (readLine (lineOf (line .start) (now (l .entry)) (line .ended)) rd k)) (buffers (now (names .exit)) (now (index .exit)) (now (texts .exit)) (now (bind .exit)) (now (graph .exit))) r) ⌝ }
+) -> LinesTurn
+    requires { ⌜ TurnAsk (now t) (now b) (now m) (lines .base) (now found) (lines .from) (buffers (now names) (now index) (now texts) (now bind) (now graph)) (now word) (s .counts) (s .open) ⌝ }
+    ensures { λ r. ⌜ Leaves (SameRoom (buffers (now (names .entry)) (now (index .entry)) (now (texts .entry)) (now (bind .entry)) (now (graph .entry))) (buffers (now (names .exit)) (now (index .exit)) (now (texts .exit)) (now (bind .exit)) (now (graph .exit))) × (Spare (now (word .entry)) (now (word .exit)))) (LinesMeet (fileOpener (now (b .entry)) (lines .more)) (lines .base) (now (m .entry)) (now (found .entry)) (lines .from) (buffers (now (names .entry)) (now (index .entry)) (now (texts .entry)) (now (bind .entry)) (now (graph .entry))) (s .counts) (s .open) (buffers (now (names .exit)) (now (index .exit)) (now (texts .exit)) (now (bind .exit)) (now (graph .exit))) r) ⌝ }
 {
-    let here = Line {
-        start: line.start,
-        ended: line.ended,
+    let place = FoundPlace {
+        base: lines.base,
+        from: lines.from,
     };
-    match read_line(t, here, l, names, index, texts, bind, graph, word, s) {
-        LineTurn::Answered(a) => a,
-        LineTurn::Opens(c, sub, from, to) => {
+    match read_stretch(
+        t,
+        m,
+        found,
+        place,
+        names,
+        index,
+        texts,
+        bind,
+        graph,
+        word,
+        s,
+    ) {
+        Stretch::Answered(a) => LinesTurn {
+            next: found.len(),
+            answer: a,
+        },
+        Stretch::Opens(k, c, sub, from, to) => {
+            let start = at(found, k);
+            let end = at(found, k + 1);
+            let l = &m[start..end];
             let o = OpenLine {
-                start: line.start,
+                start: lines.base + start,
                 sub,
-                more: line.more,
+                more: lines.more,
             };
-            open_file(
+            let answer = open_file(
                 t,
                 b,
                 &l[from..to],
@@ -134,12 +158,16 @@ fn read_turn(
                 graph,
                 word,
                 c,
-            )
+            );
+            LinesTurn {
+                next: k + 2,
+                answer,
+            }
         }
     }
 }
 
-// Reads the lines that were found: each is two numbers, its start and its end. Where a line does not reach to the text's end, a newline ends it.
+// Reads the lines that were found, and the files that they open.
 fn read_each(
     t: &[u8; 256],
     b: &[u8],
@@ -155,7 +183,7 @@ fn read_each(
     s: State,
 ) -> LineAnswer
     requires { ⌜ EachAsk (now t) (now b) (now m) (p .base) (now found) (buffers (now names) (now index) (now texts) (now bind) (now graph)) (now word) (s .counts) (s .open) ⌝ }
-    ensures { λ r. ⌜ Leaves (SameRoom (buffers (now (names .entry)) (now (index .entry)) (now (texts .entry)) (now (bind .entry)) (now (graph .entry))) (buffers (now (names .exit)) (now (index .exit)) (now (texts .exit)) (now (bind .exit)) (now (graph .exit))) × (Spare (now (word .entry)) (now (word .exit)))) (LineMeets (buffers (now (names .entry)) (now (index .entry)) (now (texts .entry)) (now (bind .entry)) (now (graph .entry))) (s .counts) (s .open) (readEach (fileOpener (now (b .entry)) (p .more)) (map (placedAt (p .base)) (linesIn (now (m .entry)) (now (found .entry))))) (buffers (now (names .exit)) (now (index .exit)) (now (texts .exit)) (now (bind .exit)) (now (graph .exit))) r) ⌝ }
+    ensures { λ r. ⌜ Leaves (SameRoom (buffers (now (names .entry)) (now (index .entry)) (now (texts .entry)) (now (bind .entry)) (now (graph .entry))) (buffers (now (names .exit)) (now (index .exit)) (now (texts .exit)) (now (bind .exit)) (now (graph .exit))) × (Spare (now (word .entry)) (now (word .exit)))) (LineMeets (buffers (now (names .entry)) (now (index .entry)) (now (texts .entry)) (now (bind .entry)) (now (graph .entry))) (s .counts) (s .open) (readEach (fileOpener (now (b .entry)) (p .more)) (linesPlaced (p .base) (now (m .entry)) (now (found .entry)))) (buffers (now (names .exit)) (now (index .exit)) (now (texts .exit)) (now (bind .exit)) (now (graph .exit))) r) ⌝ }
 {
     let c = s.counts;
     let block = s.open;
@@ -164,19 +192,18 @@ fn read_each(
     while k < found.len() {
         match a {
             LineAnswer::Goes(counts, open) => {
-                let start = at(found, k);
-                let end = at(found, k + 1);
-                let line = TextLine {
-                    start: p.base + start,
-                    ended: end < m.len(),
+                let lines = TextLines {
+                    base: p.base,
+                    from: k,
                     more: p.more,
                 };
                 let kept = State { counts, open };
-                a = read_turn(
+                let r = read_turn(
                     t,
                     b,
-                    &m[start..end],
-                    line,
+                    m,
+                    found,
+                    lines,
                     names,
                     index,
                     texts,
@@ -185,7 +212,8 @@ fn read_each(
                     word,
                     kept,
                 );
-                k += 2;
+                a = r.answer;
+                k = r.next;
             }
             LineAnswer::Refused(r) => {
                 return LineAnswer::Refused(r);

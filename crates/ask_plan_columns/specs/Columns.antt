@@ -3,32 +3,55 @@ use Prim.Native.Nat.{ℕ, _≤_, _<_}
 use mathlib.Core.List.{List}
 use mathlib.Core.Path.{_≡_}
 use lib.ListN.{length, getD}
+use Rattle.lists.specs.Fill.{zeros}
 use Rattle.spec.specs.declared.PlanAnswer.{PlanAnswer}
-use Rattle.spec.specs.Limits.{leastList}
+use Rattle.spec.specs.Limits.{maxMentions}
 use Rattle.spec.specs.Reading.{Reading}
+use Rattle.spec.specs.Manifest.{readManifest, accepted}
 use Rattle.spec.specs.Answers.{planSays}
-use Rattle.spec.specs.PlanAsk.{Inputs, cardTime, targetFiles, planRooted}
+use Rattle.spec.specs.PlanAsk.{Inputs, targetFiles, planRooted}
 use Rattle.spec.specs.Promises.{PlanMeets}
 use Rattle.hold_bindings.specs.Log.{Logged}
-use Rattle.graph_stale.specs.Judge.{timeAt}
 use Rattle.hold_reading.specs.declared.Counts.{Counts}
-use Rattle.hold_reading.specs.Held.{Graphed}
+use Rattle.hold_reading.specs.Held.{HoldsReading}
+use Rattle.hold_reading.specs.Buffers.{Buffers}
+use Rattle.hold_parts.specs.Parts.{mentionsIn, endsIn, phonyIn, madeIn, defaultsIn, Tabled}
+use Rattle.ask_plan_roots.specs.declared.Roots.{Roots}
+use Rattle.ask_plan_roots.specs.Roots.{RootsFound}
+use Rattle.ask_plan_headers.specs.Headers.{HeadersPlanAsked}
 
--- the columns of the graph hold this reading's steps, files and defaults
-pub record Tabled (graph : List ℕ) (c : Counts) (rd : Reading) : Type 0 where
-  pub log : List Logged
-  pub graphed : Graphed log graph c rd
-  pub files-counted : c .files ≡ length (rd .files)
-  pub steps-counted : c .steps ≡ length (rd .steps)
+-- ---- the choice of the roots
 
-pub record ColumnsAsked (graph : List ℕ) (c : Counts) (times targets list : List ℕ) : Type 0 where
+-- what is found of the roots by these columns
+pub record FoundIn (graph : List ℕ) (c : Counts) (targets out : List ℕ) (r : Roots) : Type 0 where
+  pub found : RootsFound (mentionsIn graph c) (endsIn graph c) (phonyIn graph c) (madeIn graph c) (defaultsIn graph c) targets out r
+
+-- the columns of some reading, targets that are files, and room for the roots
+pub record ChoiceAskedIn (graph : List ℕ) (c : Counts) (targets out : List ℕ) : Type 0 where
   pub reading : Reading
   pub tabled : Tabled graph c reading
-  pub timed : length times ≡ c .files
   pub low : (i : ℕ) → i < length targets → getD targets i 0 < c .files
-  pub room : leastList ≤ length list
+  pub few : length targets ≤ maxMentions
+  pub room : maxMentions ≤ length out
 
--- whatever ask and reading it is, with the card's times and the targets' numbers
-pub record PlansColumns (graph : List ℕ) (c : Counts) (times targets list : List ℕ) (r : PlanAnswer) (exit : List ℕ) : Type 0 where
-  pub plans : (i : Inputs) (rd : Reading) → Tabled graph c rd → ((f : ℕ) → timeAt times f ≡ cardTime (i .card) rd f) → targets ≡ targetFiles (i .targets) rd
-      → PlanMeets (planRooted i rd) list (planSays r) exit
+-- with a mark for each file
+pub record ChoiceSpace (graph : List ℕ) (c : Counts) (targets marks out : List ℕ) : Type 0 where
+  pub asked : ChoiceAskedIn graph c targets out
+  pub blank : marks ≡ zeros (c .files)
+
+-- ---- 13, then the header lists
+
+-- what the plan from the header lists on asks, with the targets for the roots
+pub record ColumnsAsked (t headers card : List ℕ) (bs : Buffers) (c : Counts) (targets list : List ℕ) : Type 0 where
+  pub asked : HeadersPlanAsked t headers card bs c targets list
+  pub few : length targets ≤ maxMentions
+
+-- with room for the roots
+pub record RootsSpaceAsked (t headers card : List ℕ) (bs : Buffers) (c : Counts) (targets out list : List ℕ) : Type 0 where
+  pub asked : ColumnsAsked t headers card bs c targets list
+  pub room : maxMentions ≤ length out
+
+-- whatever ask and reading it is, with the targets' numbers
+pub record PlansColumns (headers card : List ℕ) (bs : Buffers) (c : Counts) (targets list : List ℕ) (r : PlanAnswer) (exit : List ℕ) : Type 0 where
+  pub plans : (i : Inputs) (log : List Logged) (rd : Reading) → i .headers ≡ headers → i .card ≡ card → readManifest (i .manifest) ≡ accepted rd
+      → HoldsReading log bs c rd → targets ≡ targetFiles (i .targets) rd → PlanMeets (planRooted i rd) list (planSays r) exit

@@ -1,4 +1,4 @@
--- The list by the card's times is the ask's.
+-- The list by the times by which steps are judged is the ask's.
 use Prim.Native.Nat.{ℕ}
 use native.Mathlib.Omega.{arith}
 use mathlib.Core.Path.{ap, fun-ext}
@@ -25,7 +25,7 @@ module _ {mentions ends phony made times order list : List ℕ} where
   unfolding planListed PlanMeets planSays
   listed l =
       record {
-        plans = λ i rd s o.
-            let t = rw (fun-ext (s .timed)) at (l (rd .steps) (length (rd .files)) (rootsOf i rd) (s .held) o) in
+        plans = λ i rd h s o.
+            let t = rw (fun-ext (s .timed)) at (l (h .reading .steps) (length (h .reading .files)) (rootsOf i rd) (s .held) o) in
             record { says = ap (says 0) (t .counted); leaves = t .shown };
       }

@@ -1,4 +1,4 @@
--- What the stages of the plan ask behind 12 are given, for whatever ask and reading it is, and what they ask of the lent slices.
+-- What the stages of the plan ask behind the header lists are given, for whatever ask and reading it is, and what they ask of the lent slices.
 use Prim.Native.Nat.{ℕ, _≤_, _<_}
 use mathlib.Core.Path.{_≡_}
 use mathlib.Core.List.{List}
@@ -9,20 +9,21 @@ use Rattle.spec.specs.declared.PlanAnswer.{PlanAnswer}
 use Rattle.spec.specs.Limits.{leastList}
 use Rattle.spec.specs.Reading.{Reading}
 use Rattle.spec.specs.Graph.{before, needed}
+use Rattle.spec.specs.Headers.{HeaderGraph}
 use Rattle.spec.specs.Answers.{planSays}
-use Rattle.spec.specs.PlanAsk.{Inputs, cardTime, rootsOf, planListed}
+use Rattle.spec.specs.PlanAsk.{Inputs, judgedTime, rootsOf, planListed}
 use Rattle.spec.specs.Promises.{PlanMeets}
 use Rattle.hold_columns.specs.Columns.{beforeIn, HoldsColumns, SoundColumns, SortedSteps}
 use Rattle.graph_stale.specs.Judge.{timeAt}
 
--- the columns hold the reading's steps, and the times are the card's
-pub record Staged (i : Inputs) (rd : Reading) (mentions ends phony made times : List ℕ) : Type 0 where
-  pub held : HoldsColumns (rd .steps) (length (rd .files)) mentions ends phony made
-  pub timed : (f : ℕ) → timeAt times f ≡ cardTime (i .card) rd f
+-- the columns hold the steps with their listed inputs, and the times are those by which steps are judged
+pub record Staged (i : Inputs) (h : HeaderGraph) (mentions ends phony made times : List ℕ) : Type 0 where
+  pub held : HoldsColumns (h .reading .steps) (length (h .reading .files)) mentions ends phony made
+  pub timed : (f : ℕ) → timeAt times f ≡ judgedTime i h f
 
 -- behind 14: an order of the steps that the ask needs
-abbrev pub OrderOf : Inputs → Reading → List ℕ → Type 0
-OrderOf i rd order = IsOrder (In (needed (rd .steps) (rootsOf i rd))) (By (before (rd .steps))) order
+abbrev pub OrderOf : Inputs → Reading → HeaderGraph → List ℕ → Type 0
+OrderOf i rd h order = IsOrder (In (needed (h .reading .steps) (rootsOf i rd))) (By (before (h .reading .steps))) order
 
 -- sound columns, a time for each file, and the room that 1 asks for
 pub record StageAsked (mentions ends phony made times list : List ℕ) : Type 0 where
@@ -38,5 +39,5 @@ pub record OrderAsked (mentions ends phony made times order list : List ℕ) : T
 
 -- whatever ask and reading it is, this is the outcome where no check refuses
 pub record PlansListed (mentions ends phony made times order list : List ℕ) (answer : PlanAnswer) (exit : List ℕ) : Type 0 where
-  pub plans : (i : Inputs) (rd : Reading) → Staged i rd mentions ends phony made times → OrderOf i rd order
-      → PlanMeets (planListed i rd) list (planSays answer) exit
+  pub plans : (i : Inputs) (rd : Reading) (h : HeaderGraph) → Staged i h mentions ends phony made times → OrderOf i rd h order
+      → PlanMeets (planListed i rd h) list (planSays answer) exit

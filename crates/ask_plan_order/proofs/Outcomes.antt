@@ -15,6 +15,7 @@ use Rattle.spec.specs.declared.Refusal.the-variants.{Circle}
 use Rattle.spec.specs.declared.PlanAnswer.{PlanAnswer}
 use Rattle.spec.specs.declared.PlanAnswer.the-variants.{Refused}
 use Rattle.spec.specs.Reading.{Reading}
+use Rattle.spec.specs.Headers.{HeaderGraph}
 use Rattle.spec.specs.Graph.{before, needed, hasOrder}
 use Rattle.spec.specs.Answers.{numberOfRefusal, placeOfRefusal, planSays, says}
 use Rattle.spec.specs.PlanAsk.{Inputs, rootsOf, planOrdered}
@@ -43,51 +44,51 @@ module _ (mentions ends made roots order list exit : List ℕ) {n m : ℕ} {o : 
 
 -- ---- what it says of the steps held
 
-module _ {i : Inputs} {rd : Reading} {mentions ends phony made times roots : List ℕ} (s : Staged i rd mentions ends phony made times) (e : roots ≡ rootsOf i rd) where
-  needed-order : {l : List ℕ} → IsOrder (In (neededIn mentions ends made (length phony) roots)) (By (beforeIn mentions ends made)) l → OrderOf i rd l
+module _ {i : Inputs} (rd : Reading) {h : HeaderGraph} {mentions ends phony made times roots : List ℕ} (s : Staged i h mentions ends phony made times) (e : roots ≡ rootsOf i rd) where
+  needed-order : {l : List ℕ} → IsOrder (In (neededIn mentions ends made (length phony) roots)) (By (beforeIn mentions ends made)) l → OrderOf i rd h l
   needed-order o = rw (held-steps (s .held), e, held-needed (s .held) (rootsOf i rd), held-before (s .held)) at o
 
   needed-circle : {c : List ℕ} → IsCircle (In (neededIn mentions ends made (length phony) roots)) (By (beforeIn mentions ends made)) c
-      → IsCircle (In (needed (rd .steps) (rootsOf i rd))) (By (before (rd .steps))) c
+      → IsCircle (In (needed (h .reading .steps) (rootsOf i rd))) (By (before (h .reading .steps))) c
   needed-circle o = rw (held-steps (s .held), e, held-needed (s .held) (rootsOf i rd), held-before (s .held)) at o
 
-module _ {mentions ends phony made times roots list : List ℕ} where
+module _ {wmentions wends mentions ends phony made times roots list : List ℕ} where
   -- 14
   pub circle : {k : ℕ} {exit : List ℕ} → InCircle mentions ends made roots (length phony) k list exit
-      → PlansOrdered mentions ends phony made times roots list (Refused (Circle k)) exit
+      → PlansOrdered wmentions wends mentions ends phony made times roots list (Refused (Circle k)) exit
   unfolding planOrdered hasOrder PlanMeets planSays numberOfRefusal placeOfRefusal
   circle c =
       record {
-        plans = λ i rd s e.
-            let real = needed-circle s e (c .real) in
-            rw (circle-not-whole (needed (rd .steps) (rootsOf i rd)) (before (rd .steps)) real) (record {
+        plans = λ i rd h s w e.
+            let real = needed-circle rd s e (c .real) in
+            rw (circle-not-whole (needed (h .reading .steps) (rootsOf i rd)) (before (h .reading .steps)) real) (record {
               circle = c .circle;
-              real = circle-as (λ t. in-needed (rd .steps) (rootsOf i rd)) (λ t w m. in-before (rd .steps) t) real;
+              real = circle-as (λ t. in-needed (h .reading .steps) (rootsOf i rd)) (λ t x m. in-before (h .reading .steps) t) real;
               shown = record { says = ap (says 14) (c .shown .counted); leaves = c .shown .shown };
             });
       }
 
   -- the list is as it was
   pub goes-on : {order lent exit : List ℕ} {k : ℕ} {answer : PlanAnswer} → InOrder mentions ends made roots (length phony) order k list lent
-      → PlansSources mentions ends phony made times roots (take k order) lent answer exit → PlansOrdered mentions ends phony made times roots list answer exit
+      → PlansSources wmentions wends mentions ends phony made times roots (take k order) lent answer exit → PlansOrdered wmentions wends mentions ends phony made times roots list answer exit
   unfolding planOrdered hasOrder
   goes-on r p =
       record {
-        plans = λ i rd s e.
-            let o = needed-order s e (r .sorted .in-order) in
-            rw (order-whole (needed (rd .steps) (rootsOf i rd)) (before (rd .steps)) o) (rw (r .kept) at (p .plans i rd s e o));
+        plans = λ i rd h s w e.
+            let o = needed-order rd s e (r .sorted .in-order) in
+            rw (order-whole (needed (h .reading .steps) (rootsOf i rd)) (before (h .reading .steps)) o) (rw (r .kept) at (p .plans i rd h s w e o));
       }
 
 -- ---- what the functions called ask
 
-pub ask-sort : {mentions ends phony made times roots order list : List ℕ} → OrderSpaceAsked mentions ends phony made times roots order list → NeededAsked mentions ends made roots order list
+pub ask-sort : {wmentions wends mentions ends phony made times roots order list : List ℕ} → OrderSpaceAsked wmentions wends mentions ends phony made times roots order list → NeededAsked mentions ends made roots order list
 ask-sort q = record {
   sound = rw (q .long) (q .asked .asked .sound);
   files = rw (q .long) (record { low = q .asked .roots-low; makers = q .asked .asked .sound .makers });
   room = omega (arith, q .long, q .asked .asked .sound .few-steps, q .asked .asked .room);
 }
 
-module _ {mentions ends phony made times roots list : List ℕ} (q : RootsAsked mentions ends phony made times roots list) where
+module _ {wmentions wends mentions ends phony made times roots list : List ℕ} (q : RootsAsked wmentions wends mentions ends phony made times roots list) where
   files : FilesMade (length phony) roots made
   files = record { low = q .roots-low; makers = q .asked .sound .makers }
 
@@ -100,12 +101,13 @@ module _ {mentions ends phony made times roots list : List ℕ} (q : RootsAsked 
   order-low {l} o s b = reach-low (beforeIn mentions ends made) (length phony) (makersIn made roots) (o .lists .no-others (getD l s 0) (in-at l s b))
 
   pub ask-sources : {order exit : List ℕ} {k : ℕ} → InOrder mentions ends made roots (length phony) order k list exit
-      → SourcesAsked mentions ends phony made times roots (take k order) exit
+      → SourcesAsked wmentions wends mentions ends phony made times roots (take k order) exit
   ask-sources r = record {
     asked = record {
       asked = record { sound = q .asked .sound; timed = q .asked .timed; room = rw (r .kept) (q .asked .room) };
       sorted = record { once = r .sorted .in-order .lists .once; after = direct-earlier closed (r .sorted .in-order) };
       steps = order-low (r .sorted .in-order);
     };
+    written = q .written;
     roots-low = q .roots-low;
   }

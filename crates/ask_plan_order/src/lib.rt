@@ -10,6 +10,8 @@ use spec::limits::STEPS;
 
 // 14 where the needed steps have no order, with a circle in the list; else 15. `order` is working space.
 fn sort_then_plan(
+    wmentions: &[u32],
+    wends: &[u32],
     mentions: &[u32],
     ends: &[u32],
     phony: &[u32],
@@ -19,11 +21,13 @@ fn sort_then_plan(
     order: &mut [u32],
     list: &mut [u32],
 ) -> PlanAnswer
-    requires { ⌜ OrderSpaceAsked (now mentions) (now ends) (now phony) (now made) (now times) (now roots) (now order) (now list) ⌝ }
-    ensures { λ r. ⌜ Leaves (Spare (now (order .entry)) (now (order .exit))) (PlansOrdered (now (mentions .entry)) (now (ends .entry)) (now (phony .entry)) (now (made .entry)) (now (times .entry)) (now (roots .entry)) (now (list .entry)) r (now (list .exit))) ⌝ }
+    requires { ⌜ OrderSpaceAsked (now wmentions) (now wends) (now mentions) (now ends) (now phony) (now made) (now times) (now roots) (now order) (now list) ⌝ }
+    ensures { λ r. ⌜ Leaves (Spare (now (order .entry)) (now (order .exit))) (PlansOrdered (now (wmentions .entry)) (now (wends .entry)) (now (mentions .entry)) (now (ends .entry)) (now (phony .entry)) (now (made .entry)) (now (times .entry)) (now (roots .entry)) (now (list .entry)) r (now (list .exit))) ⌝ }
 {
     match order_needed(mentions, ends, made, roots, order, list) {
         Sorting::Ordered(k) => plan_sources(
+            wmentions,
+            wends,
             mentions,
             ends,
             phony,
@@ -39,6 +43,8 @@ fn sort_then_plan(
 
 // The same, with the working space.
 pub fn plan_ordered(
+    wmentions: &[u32],
+    wends: &[u32],
     mentions: &[u32],
     ends: &[u32],
     phony: &[u32],
@@ -47,12 +53,14 @@ pub fn plan_ordered(
     roots: &[u32],
     list: &mut [u32],
 ) -> PlanAnswer
-    requires { ⌜ RootsAsked (now mentions) (now ends) (now phony) (now made) (now times) (now roots) (now list) ⌝ }
-    ensures { λ r. ⌜ PlansOrdered (now (mentions .entry)) (now (ends .entry)) (now (phony .entry)) (now (made .entry)) (now (times .entry)) (now (roots .entry)) (now (list .entry)) r (now (list .exit)) ⌝ }
+    requires { ⌜ RootsAsked (now wmentions) (now wends) (now mentions) (now ends) (now phony) (now made) (now times) (now roots) (now list) ⌝ }
+    ensures { λ r. ⌜ PlansOrdered (now (wmentions .entry)) (now (wends .entry)) (now (mentions .entry)) (now (ends .entry)) (now (phony .entry)) (now (made .entry)) (now (times .entry)) (now (roots .entry)) (now (list .entry)) r (now (list .exit)) ⌝ }
 {
     let n = phony.len();
     let mut order = [0u32; STEPS];
     sort_then_plan(
+        wmentions,
+        wends,
         mentions,
         ends,
         phony,

@@ -1,104 +1,71 @@
-// A stage of the plan ask: the choice of the roots and 13, then 14.
+// The choice of the roots, and 13: both go by the written inputs.
 ghost use Rattle.lists.specs.Lent.{Spare, Leaves};
-ghost use Rattle.ask_plan_order.specs.Order.{RootsAsked};
-ghost use Rattle.ask_plan_list.specs.Stages.{StageAsked};
-ghost use Rattle.ask_plan_roots.specs.Roots.{PlansFrom, PlansTops, PlansRooted, RootsSpaceAsked, RootedAsked};
-use ask_plan_order::plan_ordered;
+ghost use Rattle.ask_plan_roots.specs.Roots.{PutAsked, FilesPut, ChoiceAsked, RootsPut, RootsFound};
 use graph_roots::tops;
-use slices::words::zero_words_from;
-use spec::PlanAnswer;
-use spec::Refusal;
-use spec::limits::FILES;
-use spec::limits::MENTIONS;
 
-// 13 where there are steps and no root; else 14.
-fn plan_from(
-    mentions: &[u32],
-    ends: &[u32],
-    phony: &[u32],
-    made: &[u32],
-    times: &[u64],
-    roots: &[u32],
-    list: &mut [u32],
-) -> PlanAnswer
-    requires { ⌜ RootsAsked (now mentions) (now ends) (now phony) (now made) (now times) (now roots) (now list) ⌝ }
-    ensures { λ r. ⌜ PlansFrom (now (mentions .entry)) (now (ends .entry)) (now (phony .entry)) (now (made .entry)) (now (times .entry)) (now (roots .entry)) (now (list .entry)) r (now (list .exit)) ⌝ }
+// How many roots there are; or 13.
+pub enum Roots {
+    From(usize),
+    None,
+}
+
+// Puts these files at the front of `out`; their number.
+fn put_files(fs: &[u32], out: &mut [u32]) -> usize
+    requires { ⌜ PutAsked (now fs) (now out) ⌝ }
+    ensures { λ r. ⌜ FilesPut (now (fs .entry)) (now (out .exit)) r ⌝ }
 {
-    if 0 < roots.len() {
-        return plan_ordered(mentions, ends, phony, made, times, roots, list);
+    let mut i = 0;
+    while i < fs.len() {
+        out[i] = fs[i];
+        i += 1;
     }
-    if phony.len() == 0 {
-        return plan_ordered(mentions, ends, phony, made, times, roots, list);
-    }
-    zero_words_from(list, 0);
-    PlanAnswer::Refused(Refusal::NoRoot)
+    i
 }
 
-// From the outputs that are no step's input; `marks` and `out` are working space to find them.
-fn plan_tops(
+// The targets; without them, the defaults; without these, every output that is no step's input: at the front of `out`, and their number. `marks` is
+// working space.
+fn put_roots(
     mentions: &[u32],
     ends: &[u32],
     phony: &[u32],
     made: &[u32],
-    times: &[u64],
-    marks: &mut [u32],
-    out: &mut [u32],
-    list: &mut [u32],
-) -> PlanAnswer
-    requires { ⌜ RootsSpaceAsked (now mentions) (now ends) (now phony) (now made) (now times) (now marks) (now out) (now list) ⌝ }
-    ensures { λ r. ⌜ Leaves (Spare (now (marks .entry)) (now (marks .exit)) × Spare (now (out .entry)) (now (out .exit))) (PlansTops (now (mentions .entry)) (now (ends .entry)) (now (phony .entry)) (now (made .entry)) (now (times .entry)) (now (list .entry)) r (now (list .exit))) ⌝ }
-{
-    let k = tops(mentions, ends, phony, made, marks, out);
-    plan_from(mentions, ends, phony, made, times, &out[..k], list)
-}
-
-// The same, with the working space.
-fn plan_all(
-    mentions: &[u32],
-    ends: &[u32],
-    phony: &[u32],
-    made: &[u32],
-    times: &[u64],
-    list: &mut [u32],
-) -> PlanAnswer
-    requires { ⌜ StageAsked (now mentions) (now ends) (now phony) (now made) (now times) (now list) ⌝ }
-    ensures { λ r. ⌜ PlansTops (now (mentions .entry)) (now (ends .entry)) (now (phony .entry)) (now (made .entry)) (now (times .entry)) (now (list .entry)) r (now (list .exit)) ⌝ }
-{
-    let n = made.len();
-    let m = mentions.len();
-    let mut marks = [0u32; FILES];
-    let mut out = [0u32; MENTIONS];
-    plan_tops(
-        mentions,
-        ends,
-        phony,
-        made,
-        times,
-        &mut marks[..n],
-        &mut out[..m],
-        list,
-    )
-}
-
-// From the targets; without them, from the defaults; without these, from every output that is no step's input.
-pub fn plan_rooted(
-    mentions: &[u32],
-    ends: &[u32],
-    phony: &[u32],
-    made: &[u32],
-    times: &[u64],
     defaults: &[u32],
     targets: &[u32],
-    list: &mut [u32],
-) -> PlanAnswer
-    requires { ⌜ RootedAsked (now mentions) (now ends) (now phony) (now made) (now times) (now defaults) (now targets) (now list) ⌝ }
-    ensures { λ r. ⌜ PlansRooted (now (mentions .entry)) (now (ends .entry)) (now (phony .entry)) (now (made .entry)) (now (times .entry)) (now (defaults .entry)) (now (targets .entry)) (now (list .entry)) r (now (list .exit)) ⌝ }
+    marks: &mut [u32],
+    out: &mut [u32],
+) -> usize
+    requires { ⌜ ChoiceAsked (now mentions) (now ends) (now phony) (now made) (now defaults) (now targets) (now marks) (now out) ⌝ }
+    ensures { λ r. ⌜ Leaves (Spare (now (marks .entry)) (now (marks .exit))) (RootsPut (now (mentions .entry)) (now (ends .entry)) (now (phony .entry)) (now (made .entry)) (now (defaults .entry)) (now (targets .entry)) (now (out .exit)) r) ⌝ }
 {
     if 0 < targets.len() {
-        return plan_from(mentions, ends, phony, made, times, targets, list);
+        return put_files(targets, out);
     }
     if 0 < defaults.len() {
-        return plan_from(mentions, ends, phony, made, times, defaults, list);
+        return put_files(defaults, out);
     }
-    plan_all(mentions, ends, phony, made, times, list)
+    tops(mentions, ends, phony, made, marks, out)
+}
+
+// 13 where there are steps and no root; else the roots, at the front of `out`. `marks` is working space.
+pub fn find_roots(
+    mentions: &[u32],
+    ends: &[u32],
+    phony: &[u32],
+    made: &[u32],
+    defaults: &[u32],
+    targets: &[u32],
+    marks: &mut [u32],
+    out: &mut [u32],
+) -> Roots
+    requires { ⌜ ChoiceAsked (now mentions) (now ends) (now phony) (now made) (now defaults) (now targets) (now marks) (now out) ⌝ }
+    ensures { λ r. ⌜ Leaves (Spare (now (marks .entry)) (now (marks .exit))) (RootsFound (now (mentions .entry)) (now (ends .entry)) (now (phony .entry)) (now (made .entry)) (now (defaults .entry)) (now (targets .entry)) (now (out .exit)) r) ⌝ }
+{
+    let k = put_roots(mentions, ends, phony, made, defaults, targets, marks, out);
+    if 0 < k {
+        return Roots::From(k);
+    }
+    if phony.len() == 0 {
+        return Roots::From(k);
+    }
+    Roots::None
 }

@@ -16,22 +16,22 @@ use Rattle.ask_plan_list.specs.Stages.{PlansListed}
 use Rattle.ask_plan_sources.specs.Sources.{SourcesAsked, PlansSources}
 use Rattle.ask_plan_sources.proofs.Missing.{missing-found, missing-not}
 
-pub ask-missing : {mentions ends phony made times roots order list : List ℕ} → SourcesAsked mentions ends phony made times roots order list
-    → SourceAsked mentions ends made times roots order
+pub ask-missing : {wmentions wends mentions ends phony made times roots order list : List ℕ} → SourcesAsked wmentions wends mentions ends phony made times roots order list
+    → SourceAsked wmentions wends made times roots order
 ask-missing {order = order} q = record {
-  placed = λ s b. q .asked .asked .sound .placed (getD order s 0) (q .asked .steps s b);
-  low = q .asked .asked .sound .low;
+  placed = λ s b. q .written .placed (getD order s 0) (q .asked .steps s b);
+  low = q .written .low;
   roots-low = q .roots-low;
   timed = q .asked .asked .timed;
 }
 
-module _ {mentions ends phony made times roots order list : List ℕ} {r : ℕ} (m : LowestMissing mentions ends made times roots order (length made) r) {exit : List ℕ} where
+module _ {wmentions wends mentions ends phony made times roots order list : List ℕ} {r : ℕ} (m : LowestMissing wmentions wends made times roots order (length made) r) {exit : List ℕ} where
   -- 15
-  pub missing : r < length made → exit ≡ zeroed list 0 (length list) → PlansSources mentions ends phony made times roots order list (Refused (MissingSource r)) exit
+  pub missing : r < length made → exit ≡ zeroed list 0 (length list) → PlansSources wmentions wends mentions ends phony made times roots order list (Refused (MissingSource r)) exit
   unfolding planSources PlanMeets planSays leftBy numberOfRefusal
-  missing b z = record { plans = λ i rd s e o. rw (missing-found s o (rw e at m) b) (record { says = refl; leaves = z ∙ cleared list }) }
+  missing b z = record { plans = λ i rd h s w e o. rw (missing-found s w o (rw e at m) b) (record { says = refl; leaves = z ∙ cleared list }) }
 
   pub goes-on : length made ≤ r → {answer : PlanAnswer} → PlansListed mentions ends phony made times order list answer exit
-      → PlansSources mentions ends phony made times roots order list answer exit
+      → PlansSources wmentions wends mentions ends phony made times roots order list answer exit
   unfolding planSources
-  goes-on b p = record { plans = λ i rd s e o. rw (missing-not s o (rw e at m) b) (p .plans i rd s o) }
+  goes-on b p = record { plans = λ i rd h s w e o. rw (missing-not s w o (rw e at m) b) (p .plans i rd h s o) }

@@ -14,14 +14,20 @@ use spec::limits::LIST;
 use spec::limits::TEXT;
 use text_batch::TextsAnswer;
 
-// The list of the stale needed command steps for a manifest, a card of file times and a list of targets.
-pub fn plan(manifest: &[u8], card: &[u8], targets: &[u8], list: &mut [u32]) -> PlanAnswer
-    ensures { λ r. ⌜ PlanDemands (inputsOf (now (manifest .entry)) (now (card .entry)) (now (targets .entry))) (now (list .entry)) (planSays r) (now (list .exit)) ⌝ }
+// The list of the stale needed command steps for a manifest, the header lists of its steps, a card of file times and a list of targets.
+pub fn plan(
+    manifest: &[u8],
+    headers: &[u8],
+    card: &[u8],
+    targets: &[u8],
+    list: &mut [u32],
+) -> PlanAnswer
+    ensures { λ r. ⌜ PlanDemands (inputsOf (now (manifest .entry)) (now (card .entry)) (now (targets .entry)) (now (headers .entry))) (now (list .entry)) (planSays r) (now (list .exit)) ⌝ }
 {
     if list.len() < LIST {
         return PlanAnswer::Refused(Refusal::ShortBuffer);
     }
-    plan_buffered(manifest, card, targets, list)
+    plan_buffered(manifest, headers, card, targets, list)
 }
 
 // The text of a step's command or description.

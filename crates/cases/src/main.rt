@@ -52,13 +52,14 @@ fn ask_plan(
     fd: i32,
     answers: usize,
     bundle: &[u8],
+    headers: &[u8],
     card: &[u8],
     targets: &[u8],
     list: &mut [u32],
     bytes: &mut [u8],
 ) -> Met {
     fill_words(list);
-    let n = locate(of_plan(plan(bundle, card, targets, list)), bundle);
+    let n = locate(of_plan(plan(bundle, headers, card, targets, list)), bundle);
     check(fd, answers, n, true, list, bundle, bytes)
 }
 
@@ -87,6 +88,7 @@ fn no_ask() -> Met {
 fn ask_next(
     fd: i32,
     bundle: &[u8],
+    headers: &[u8],
     card: &[u8],
     targets: &[u8],
     list: &mut [u32],
@@ -106,6 +108,7 @@ fn ask_next(
             fd,
             a.answers,
             bundle,
+            headers,
             card,
             targets,
             &mut list[..room],
@@ -179,16 +182,18 @@ fn ask_all(
 {
     let a = h.name;
     let b = h.bundle;
-    let c = h.card;
-    let d = h.targets;
+    let c = h.headers;
+    let d = h.card;
+    let e = h.targets;
     let name = &input[..a];
     let bundle = &input[a..b];
-    let card = &input[b..c];
-    let targets = &input[c..d];
+    let headers = &input[b..c];
+    let card = &input[c..d];
+    let targets = &input[d..e];
     let mut tally = t;
     let mut i = 0;
     while i < h.asks {
-        let m = ask_next(fd, bundle, card, targets, list, buf, bytes);
+        let m = ask_next(fd, bundle, headers, card, targets, list, buf, bytes);
         if !m.whole {
             return cut_off(tally);
         }
@@ -218,14 +223,14 @@ fn case_next(
     bytes: &mut [u8],
 ) -> Tally {
     let h = read_head(fd);
-    let d = h.targets;
+    let end = h.targets;
     if !is_sound(h) {
         return cut_off(t);
     }
-    if d == 0 {
+    if end == 0 {
         return ended(t);
     }
-    if !read_part(fd, input, d) {
+    if !read_part(fd, input, end) {
         return cut_off(t);
     }
     ask_all(fd, h, with_case(t), input, list, buf, bytes)

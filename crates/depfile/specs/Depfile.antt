@@ -1,4 +1,4 @@
--- "the make-style texts the compiler leaves": one rule, as document 02 [4] reads it byte by byte, with readings 12 and 13. Quotations are of [4].
+-- [4] "the make-style texts the compiler leaves": one rule, as document 02 reads it byte by byte, with readings 12 and 13. Quotations are of [4].
 use Prim.Native.Nat.{ℕ}
 use mathlib.Core.Bool.{Bool, true, false, _&&_, _||_}
 use mathlib.Core.List.{List, [], _∷_, _++_}

@@ -3,3 +3,4 @@ pub mod Makers
 pub mod Looking
 pub mod Blank
 pub mod Held
+pub mod Growing

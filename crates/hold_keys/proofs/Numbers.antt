@@ -16,7 +16,7 @@ use Rattle.spec.specs.Basics.{among}
 use Rattle.spec.specs.Reading.{numberOf}
 use Rattle.spec.specs.Statements.{ruleKey}
 use Rattle.spec.specs.Text.{keyName, keyNames, ruleKeys, keyNumber}
-use Rattle.hold_names.proofs.Numbers.{among-none, number-here, number-there, among-here, among-there, number-below, number-missing}
+use Rattle.spec.proofs.Numbers.{among-none, number-here, number-there, among-here, among-there, number-below, number-missing}
 
 -- ---- any list of names
 
@@ -61,13 +61,13 @@ key-at n h = number-at n keyNames h
 pub one-key : (n m : List ℕ) → keyNumber n < ruleKeys → keyNumber n ≡ keyNumber m → n ≡ m
 one-key n m h e = sym (key-at n h) ∙ ap (λ (k : ℕ). getD keyNames k []) e ∙ key-at m (rw (← e) h)
 
--- "`command` (needed), `description`, `generator`"
-pub rule-key : (n : List ℕ) → ruleKey n ≡ ltb (keyNumber n) 3
+-- "`command` (needed), `description`, `generator`", and "Accept `depfile`" (document 02)
+pub rule-key : (n : List ℕ) → ruleKey n ≡ ltb (keyNumber n) 4
 unfolding ruleKey keyNumber keyNames keyName
-rule-key n = number-first n (bytes "command" ∷ bytes "description" ∷ bytes "generator" ∷ []) (bytes "depfile" ∷ bytes "pool" ∷ [])
+rule-key n = number-first n (bytes "command" ∷ bytes "description" ∷ bytes "generator" ∷ bytes "depfile" ∷ []) (bytes "pool" ∷ [])
 
 pub no-key : (n : List ℕ) → ruleKeys ≤ keyNumber n → ruleKey n ≡ false
-no-key n h = rule-key n ∙ le-ltb (keyNumber n) 3 (omega (arith, h))
+no-key n h = rule-key n ∙ le-ltb (keyNumber n) 4 (omega (arith, h))
 
 pub key-low : (key : Key) → keyNumber (keyName key) < ruleKeys
 unfolding keyNumber keyNames keyName numberOf eqBytes

@@ -14,7 +14,7 @@ use Rattle.spec.specs.Basics.{among}
 use Rattle.spec.specs.Reading.{numberOf}
 use Rattle.spec.specs.Limits.{maxFiles}
 use Rattle.hold_names.specs.Table.{buckets, bucketFrom, Summed, bucketOf}
-use Rattle.hold_names.proofs.Numbers.{among-none, among-here, among-there, number-here, number-there}
+use Rattle.spec.proofs.Numbers.{among-none, among-here, among-there, number-here, number-there}
 
 -- ---- the bucket of a path
 

@@ -1,22 +1,18 @@
 -- Where each name is looked for, with no name and with a name more: as the first or the second of its bucket, or sorted among the others.
-use Prim.Native.Nat.{ℕ, suc, _+_, _*_, _-_, _/_, _%_, _≤_, _<_}
-use mathlib.Core.Bool.{true}
+use Prim.Native.Nat.{ℕ, suc, _+_, _*_, _/_, _%_, _≤_, _<_}
 use mathlib.Core.List.{List, [], _∷_, _++_}
 use mathlib.Core.Logic.{inl, inr, ⊎-elim}
-use mathlib.Core.Path.{_≡_, sym, _∙_, ap}
+use mathlib.Core.Path.{_≡_, refl, sym, _∙_, ap}
 use native.Mathlib.Decide.{decLt}
 use native.Mathlib.Nat.{not-suc-le-zero}
 use native.Mathlib.Omega.{arith}
-use lib.ListN.{length, take, drop, getD, set, length-set, length-append, length-take, length-drop, List·getD-append}
-use lib.Seq.{getD-set-same, getD-set-other, getD-drop, drop-set-add, drop-set-lt, take-set-le, take-suc-set, take-at, drop-at, take-append-le, length-take-le, take-take}
-use Rattle.lists.specs.Bytes.{lessBytes}
+use lib.ListN.{length, take, getD, set, length-set, length-append, length-take}
+use lib.Seq.{getD-set-same, getD-set-other, getD-take, ext-getD, take-set-le, take-suc-set}
 use Rattle.lists.specs.Fill.{zeroed, getD-zeroed-in}
-use Rattle.lists.specs.Parts.{part, part-to-end}
 use Rattle.spec.specs.Limits.{maxFiles}
-use Rattle.arena.specs.Inserted.{inserted, Shifted}
-use Rattle.arena.proofs.Inserting.{each-inserted, pairs-inserted, has-inserted, keeps-inserted}
-use Rattle.hold_names.specs.Table.{sortedFrom, headsFrom, maxNumbers, buckets, sparesAt, bucketOf, pairBase, pairAt, firstIn, secondIn, sparesIn, sparesOf, nameAt, Sorted, StandsIn, Placed, Searched, Between, Spared, Entered}
+use Rattle.hold_names.specs.Table.{headsFrom, maxNumbers, buckets, lastAt, blocksFrom, lastBlock, entry, sizeOf, heldTo, Shape, bucketOf, pairBase, pairAt, firstIn, secondIn, nameAt, Sorted, StandsIn, Placed, Searched, Fits, Spared, Entered}
 use Rattle.hold_names.proofs.Buckets.{bucket-small, name-old, name-new}
+use Rattle.hold_names.proofs.Blocks.{Agrees, shape-kept, sorted-kept, fits-kept, in-kept, last-kept, entry-kept, spared-shape, spared-sorted, spared-has, spared-keeps, spared-front, spared-long}
 
 -- ---- no name
 
@@ -27,14 +23,27 @@ module _ (index : List ℕ) (r : maxNumbers ≤ length index) where
   zero-at : (i : ℕ) → headsFrom ≤ i → i < maxNumbers → getD clean i 0 ≡ 0
   zero-at i a b = getD-zeroed-in index headsFrom maxNumbers (omega arith) (omega (arith, r)) i a b
 
-  none-spare : length (sparesOf clean) ≤ 0
-  none-spare = rw (zero-at sparesAt (omega arith) (omega arith)) (omega arith)
+  none-last : lastBlock clean ≡ 0
+  none-last = zero-at lastAt (omega arith) (omega arith)
+
+  none-size : (j : ℕ) → j ≤ lastBlock clean → sizeOf clean j ≡ 0
+  none-size j a = zero-at (blocksFrom + j * 128 + 127) (omega arith) (omega (arith, none-last))
+
+  none-held : heldTo clean 0 ≡ 0
+  unfolding heldTo
+  none-held = none-size 0 (omega arith)
 
   pub searched-none : Searched clean 0 []
   searched-none =
       record {
-        few = omega (arith, zero-at sparesAt (omega arith) (omega arith));
-        sorted = record { below = λ i a. absurd (omega (arith, none-spare)); rising = λ i j a b. absurd (omega (arith, none-spare)) };
+        shape =
+            record {
+              blocks = omega (arith, none-last);
+              few = λ j a. omega (arith, none-size j a);
+              some = λ j a b. absurd (omega (arith, none-last));
+              held = rw none-last (omega (arith, none-held));
+            };
+        sorted = record { below = λ j i a. absurd (omega (arith, none-size j (a .0), a .1)); rising = λ j i k l a b c. absurd (omega (arith, none-size j (a .0), a .1)) };
         first = λ b a. omega (arith, zero-at (headsFrom + b) (omega arith) (omega arith));
         second = λ b a. omega (arith, zero-at (headsFrom + b) (omega arith) (omega arith));
         both = λ b a c. absurd (omega (arith, zero-at (headsFrom + b) (omega arith) (omega arith)));
@@ -43,12 +52,15 @@ module _ (index : List ℕ) (r : maxNumbers ≤ length index) where
 
 -- ---- a name more
 
-pub sorted-old : (files : List (List ℕ)) (p order : List ℕ) → Sorted files order → Sorted (files ++ (p ∷ [])) order
-sorted-old files p order s =
+sorted-old : (files : List (List ℕ)) (p : List ℕ) {index : List ℕ} → Sorted files index → Sorted (files ++ (p ∷ [])) index
+sorted-old files p {index} s =
     record {
-      below = λ i a. omega (arith, s .below i a, length-append files (p ∷ []));
-      rising = λ i j a b. rw (name-old files p (getD order i 0) (s .below i (omega arith)), name-old files p (getD order j 0) (s .below j b)) (s .rising i j a b);
+      below = λ j i a. omega (arith, s .below j i a, length-append files (p ∷ []));
+      rising = λ j i k l a b c. rw (name-old files p (entry index j i) (s .below j i a), name-old files p (entry index k l) (s .below k l b)) (s .rising j i k l a b c);
     }
+
+shape-more : {index : List ℕ} {count : ℕ} → Shape index count → Shape index (count + 1)
+shape-more s = record { blocks = s .blocks; few = s .few; some = s .some; held = omega (arith, s .held) }
 
 module _ {index : List ℕ} {count : ℕ} {files : List (List ℕ)} (x : Searched index count files) (r : maxNumbers ≤ length index) (f : count ≡ length files) (a : count < maxFiles) (p : List ℕ) where
   abbrev more : List (List ℕ)
@@ -77,20 +89,21 @@ module _ {index : List ℕ} {count : ℕ} {files : List (List ℕ)} (x : Searche
     pair-other : (c : ℕ) → (c ≡ b → ⊥) → pairAt now c ≡ pairAt index c
     pair-other c d = other-number (headsFrom + c) (λ (q : headsFrom + c ≡ count). omega (arith, q)) (λ (q : headsFrom + c ≡ headsFrom + b). d (omega arith))
 
-    spares-kept : sparesIn now ≡ sparesIn index
-    spares-kept = other-number sparesAt (λ (q : sparesAt ≡ count). omega (arith, q)) (λ (q : sparesAt ≡ headsFrom + b). omega (arith, q, bucket-small p))
-
-    order-kept : sparesOf now ≡ sparesOf index
-    order-kept =
-        let z : headsFrom + b ≡ sortedFrom + (maxFiles + b) = omega arith in
-        rw (spares-kept, z, drop-set-add sortedFrom (set index count to) (maxFiles + b) v, drop-set-lt sortedFrom index count to (omega arith))
-        (take-set-le (sparesIn index) (drop sortedFrom index) (maxFiles + b) v (omega (arith, x .few)))
+    blocks-kept : Agrees index now
+    blocks-kept =
+        record {
+          same = λ q g. other-number q (λ (e : q ≡ count). omega (arith, e)) (λ (e : q ≡ headsFrom + b). omega (arith, e, bucket-small p));
+        }
 
     pub column-now : take (suc count) now ≡ take count index ++ (to ∷ [])
     column-now = take-set-le (suc count) (set index count to) (headsFrom + b) v (omega arith) ∙ take-suc-set index count to (omega (arith, r))
 
     placed-other : (c k : ℕ) → (c ≡ b → ⊥) → Placed index c k → Placed now c k
-    placed-other c k d q = rw (pair-other c d, order-kept) q
+    placed-other c k d q =
+        rw (pair-other c d)
+        (⊎-elim (λ (e : firstIn index c ≡ suc k). inl e)
+        (⊎-elim (λ (e : secondIn index c ≡ suc k). inr (inl e))
+        (λ (e : (0 < secondIn index c) × StandsIn k index). inr (inr (e .0, in-kept blocks-kept (e .1))))) q)
 
     -- what holds of v and of each number that a bucket had holds of each that one has
     each-pair : (P : ℕ → Type 0) → P v → ((c : ℕ) → c < buckets → P (pairAt index c)) → (c : ℕ) → c < buckets → P (pairAt now c)
@@ -117,8 +130,8 @@ module _ {index : List ℕ} {count : ℕ} {files : List (List ℕ)} (x : Searche
         → ((k : ℕ) → Placed index b k → Placed now b k) → Placed now b count → Searched now (count + 1) more
     searched-head h i j o n =
         record {
-          few = omega (arith, spares-kept, x .few);
-          sorted = rw order-kept (sorted-old files p (sparesOf index) (x .sorted));
+          shape = shape-more (shape-kept blocks-kept (x .shape));
+          sorted = sorted-old files p (sorted-kept blocks-kept (x .sorted));
           first = each-pair (λ (w : ℕ). w % pairBase ≤ count + 1) h (λ c l. omega (arith, x .first c l));
           second = each-pair (λ (w : ℕ). w / pairBase ≤ count + 1) i (λ c l. omega (arith, x .second c l));
           both = each-pair (λ (w : ℕ). 0 < w / pairBase → 0 < w % pairBase) j (x .both);
@@ -132,7 +145,7 @@ module _ {index : List ℕ} {count : ℕ} {files : List (List ℕ)} (x : Searche
   pub searched-first : (to : ℕ) → pairAt index (bucketOf p) ≡ 0 → Searched (set (set index count to) (headsFrom + bucketOf p) (count + 1)) (count + 1) more
   searched-first to e =
       searched-head to (count + 1) (omega arith) (omega arith) (λ l. omega arith)
-      (λ k q. absurd (⊎-elim (λ (c : firstIn index (bucketOf p) ≡ suc k). omega (arith, e)) (⊎-elim (λ (c : secondIn index (bucketOf p) ≡ suc k). omega (arith, e)) (λ (c : (0 < secondIn index (bucketOf p)) × StandsIn k (sparesOf index)). omega (arith, e, c .0))) q))
+      (λ k q. absurd (⊎-elim (λ (c : firstIn index (bucketOf p) ≡ suc k). omega (arith, e)) (⊎-elim (λ (c : secondIn index (bucketOf p) ≡ suc k). omega (arith, e)) (λ (c : (0 < secondIn index (bucketOf p)) × StandsIn k index). omega (arith, e, c .0))) q))
       (inl (omega (arith, pair-now to (count + 1))))
 
   pub searched-second : (to : ℕ) → 0 < pairAt index (bucketOf p) → pairAt index (bucketOf p) < pairBase
@@ -141,154 +154,87 @@ module _ {index : List ℕ} {count : ℕ} {files : List (List ℕ)} (x : Searche
       let v = pairAt index (bucketOf p) + (count + 1) * pairBase in
       searched-head to v (omega (arith, x .first (bucketOf p) (bucket-small p))) (omega arith) (λ l. omega arith)
       (λ k q. ⊎-elim (λ (c : firstIn index (bucketOf p) ≡ suc k). inl (omega (arith, e, c, pair-now to v)))
-      (⊎-elim (λ (c : secondIn index (bucketOf p) ≡ suc k). absurd (omega (arith, e))) (λ (c : (0 < secondIn index (bucketOf p)) × StandsIn k (sparesOf index)). absurd (omega (arith, e, c .0)))) q)
+      (⊎-elim (λ (c : secondIn index (bucketOf p) ≡ suc k). absurd (omega (arith, e))) (λ (c : (0 < secondIn index (bucketOf p)) × StandsIn k index). absurd (omega (arith, e, c .0)))) q)
       (inr (inl (omega (arith, e, pair-now to v))))
 
   -- one of the sorted ones
-  module _ (to : ℕ) {place : ℕ} {index′ : List ℕ} (s : Spared (set index count to) count place index′) (w : place ≤ sparesIn index) (z : Between files (sparesOf index) p place place)
+  module _ (to : ℕ) {j i : ℕ} {index′ : List ℕ} (s : Spared (set index count to) count j i index′) (c : j ≤ lastBlock index) (w : i ≤ sizeOf index j) (z : Fits files index p j i)
       (full : 0 < secondIn index (bucketOf p)) where
-    abbrev order : List ℕ
-    order = sparesOf index
+    abbrev ended : List ℕ
+    ended = set index count to
 
-    end-beyond : (i : ℕ) → sortedFrom ≤ i → getD (set index count to) i 0 ≡ getD index i 0
-    end-beyond i l = getD-set-other index count i to 0 (λ (q : i ≡ count). omega (arith, q))
+    end-beyond : (q : ℕ) → headsFrom ≤ q → getD ended q 0 ≡ getD index q 0
+    end-beyond q l = getD-set-other index count q to 0 (λ (e : q ≡ count). omega (arith, e))
 
-    order-was : sparesOf (set index count to) ≡ order
-    order-was = rw (end-beyond sparesAt (omega arith), drop-set-lt sortedFrom index count to (omega arith))
+    ended-kept : Agrees index ended
+    ended-kept = record { same = λ q l. end-beyond q (omega arith) }
 
-    length-order : length order ≡ sparesIn index
-    length-order = length-take-le (sparesIn index) (drop sortedFrom index) (omega (arith, length-drop sortedFrom index, x .few, r))
+    shape-was : Shape ended count
+    shape-was = shape-kept ended-kept (x .shape)
 
-    order-more : sparesOf index′ ≡ inserted order place count
-    order-more = rw order-was at (s .sorted)
+    block-was : j ≤ lastBlock ended
+    block-was = omega (arith, last-kept ended-kept)
 
-    pair-kept : (c : ℕ) → c < buckets → pairAt index′ c ≡ pairAt index c
-    pair-kept c l = s .heads c l ∙ end-beyond (headsFrom + c) (omega arith)
+    place-was : i ≤ sizeOf ended j
+    place-was = omega (arith, entry-kept ended-kept j 127)
 
-    here : place ≤ length order
-    here = omega (arith, length-order)
+    pair-kept : (b : ℕ) → b < buckets → pairAt index′ b ≡ pairAt index b
+    pair-kept b l = spared-front s shape-was block-was place-was (headsFrom + b) (omega arith) ∙ end-beyond (headsFrom + b) (omega arith)
 
-    spare-placed : (c k : ℕ) → c < buckets → Placed index c k → Placed index′ c k
-    spare-placed c k l q =
-        rw (pair-kept c l, order-more)
-        (⊎-elim (λ (e : firstIn index c ≡ suc k). inl e)
-        (⊎-elim (λ (e : secondIn index c ≡ suc k). inr (inl e))
-        (λ (e : (0 < secondIn index c) × StandsIn k order).
-        let (i, d, g) = e .1 in
-        let (j, m, n) = keeps-inserted order place count 0 here i d in
-        inr (inr (e .0, (j, m, n ∙ g))))) q)
-
-    new-name : nameAt more count ≡ p
-    new-name = rw f (name-new files p)
-
-    old-name : (i : ℕ) → i < length order → nameAt more (getD order i 0) ≡ nameAt files (getD order i 0)
-    old-name i l = name-old files p (getD order i 0) (x .sorted .below i l)
-
-    sorted-more : Sorted more (inserted order place count)
-    sorted-more =
-        record {
-          below = each-inserted order place count 0 here (λ k. k < length more) (omega (arith, f, length-append files (p ∷ []))) (λ i l. omega (arith, x .sorted .below i l, length-append files (p ∷ [])));
-          rising = pairs-inserted order place count 0 here (λ i j. lessBytes (nameAt more i) (nameAt more j) ≡ true)
-              (λ i j l m. rw (old-name i (omega arith), old-name j m) (x .sorted .rising i j l m))
-              (λ i l. rw (old-name i (omega (arith, here)), new-name) (z .before i l))
-              (λ i l m. rw (old-name i m, new-name) (z .after i l m));
-        }
+    spare-placed : (b k : ℕ) → b < buckets → Placed index b k → Placed index′ b k
+    spare-placed b k l q =
+        rw (pair-kept b l)
+        (⊎-elim (λ (e : firstIn index b ≡ suc k). inl e)
+        (⊎-elim (λ (e : secondIn index b ≡ suc k). inr (inl e))
+        (λ (e : (0 < secondIn index b) × StandsIn k index).
+        inr (inr (e .0, spared-keeps s shape-was block-was place-was (in-kept ended-kept (e .1)))))) q)
 
     pub searched-spare : Searched index′ (count + 1) more
     searched-spare =
         record {
-          few = omega (arith, s .counted, end-beyond sparesAt (omega arith), x .few);
-          sorted = rw order-more sorted-more;
-          first = λ c l. rw (pair-kept c l) (omega (arith, x .first c l));
-          second = λ c l. rw (pair-kept c l) (omega (arith, x .second c l));
-          both = λ c l. rw (pair-kept c l) (x .both c l);
+          shape = spared-shape s shape-was block-was place-was a;
+          sorted = spared-sorted s shape-was block-was place-was f (sorted-kept ended-kept (x .sorted)) (fits-kept ended-kept z);
+          first = λ b l. rw (pair-kept b l) (omega (arith, x .first b l));
+          second = λ b l. rw (pair-kept b l) (omega (arith, x .second b l));
+          both = λ b l. rw (pair-kept b l) (x .both b l);
           placed = λ k l. elim (decLt k count) [
             | yes d ↦ rw (old-bucket k d) (spare-placed (bucketOf (nameAt files k)) k (bucket-small (nameAt files k)) (x .placed k d))
             | no d ↦ (let e : k ≡ count = omega arith in
-                rw (e, new-bucket, pair-kept (bucketOf p) (bucket-small p), order-more) (inr (inr (full, has-inserted order place count 0 here))))
+                rw (e, new-bucket, pair-kept (bucketOf p) (bucket-small p)) (inr (inr (full, spared-has s shape-was block-was place-was))))
           ];
         }
 
+    front-same : take (suc count) index′ ≡ take (suc count) ended
+    front-same =
+        ext-getD 0 (take (suc count) index′) (take (suc count) ended)
+        (simp (length-take, spared-long s shape-was block-was place-was) refl)
+        (λ q l.
+        let h : q < suc count = omega (arith, length-take (suc count) index′) in
+        getD-take (suc count) index′ q 0 h ∙ spared-front s shape-was block-was place-was q (omega arith) ∙ sym (getD-take (suc count) ended q 0 h))
+
     pub column-spare : take (suc count) index′ ≡ take count index ++ (to ∷ [])
-    column-spare =
-        sym (take-take (suc count) sortedFrom index′ (omega arith)) ∙ ap (take (suc count)) (s .ends)
-        ∙ take-take (suc count) sortedFrom (set index count to) (omega arith) ∙ take-suc-set index count to (omega (arith, r))
-
--- ---- the sorted part was lent, and comes back as m with a number more
-
-module _ (index : List ℕ) {n place count : ℕ} {m : List ℕ} (r : maxNumbers ≤ length index) (l : n < maxFiles) (e : n ≡ sparesIn index)
-    (x : Shifted (part index sortedFrom (length index)) n place count m) where
-  abbrev rest : List ℕ
-  rest = m ++ drop (length index - sortedFrom) (drop sortedFrom index)
-
-  abbrev back : List ℕ
-  back = take sortedFrom index ++ rest
-
-  long-m : length m ≡ length index - sortedFrom
-  long-m = x .long ∙ simp (length-take, length-drop) (omega (arith, r))
-
-  pub length-back : length back ≡ length index
-  length-back = simp (length-append, length-take, length-drop) (omega (arith, r, long-m))
-
-  front-long : length (take sortedFrom index) ≡ sortedFrom
-  front-long = length-take-le sortedFrom index (omega (arith, r))
-
-  behind : drop sortedFrom back ≡ rest
-  behind = drop-at (take sortedFrom index) rest sortedFrom front-long
-
-  -- what lies behind the sorted names
-  kept : (i : ℕ) → n < i → i < length m → getD back (sortedFrom + i) 0 ≡ getD index (sortedFrom + i) 0
-  kept i a c =
-      let z : n + 1 + (i - (n + 1)) ≡ i = omega arith in
-      sym (getD-drop sortedFrom back i 0) ∙ ap (λ (y : List ℕ). getD y i 0) behind
-      ∙ List·getD-append m (drop (length index - sortedFrom) (drop sortedFrom index)) 0 i c
-      ∙ sym (rw z at (getD-drop (n + 1) m (i - (n + 1)) 0)) ∙ ap (λ (y : List ℕ). getD y (i - (n + 1)) 0) (x .beyond)
-      ∙ (rw z at (getD-drop (n + 1) (part index sortedFrom (length index)) (i - (n + 1)) 0))
-      ∙ ap (λ (y : List ℕ). getD y i 0) (part-to-end index sortedFrom) ∙ getD-drop sortedFrom index i 0
-
-  abbrev lengthened : List ℕ
-  lengthened = set back sparesAt (n + 1)
-
-  counted-now : sparesIn lengthened ≡ n + 1
-  counted-now = getD-set-same back sparesAt (n + 1) 0 (omega (arith, r, length-back))
-
-  order-now : sparesOf lengthened ≡ inserted (sparesOf index) place count
-  order-now =
-      let z : sparesAt ≡ sortedFrom + (maxFiles + buckets) = omega arith in
-      rw (counted-now)
-      (ap (take (n + 1)) (rw z (drop-set-add sortedFrom back (maxFiles + buckets) (n + 1)))
-      ∙ take-set-le (n + 1) (drop sortedFrom back) (maxFiles + buckets) (n + 1) (omega arith)
-      ∙ ap (take (n + 1)) behind
-      ∙ take-append-le (n + 1) m (drop (length index - sortedFrom) (drop sortedFrom index)) (omega (arith, r, long-m))
-      ∙ x .entries
-      ∙ ap (λ (y : List ℕ). inserted (take n y) place count) (part-to-end index sortedFrom)
-      ∙ ap (λ (y : ℕ). inserted (take y (drop sortedFrom index)) place count) e)
-
-  pub spared : Spared index count place lengthened
-  spared =
-      record {
-        long = length-set back sparesAt (n + 1) ∙ length-back;
-        ends = take-set-le sortedFrom back sparesAt (n + 1) (omega arith) ∙ take-at (take sortedFrom index) rest sortedFrom front-long;
-        counted = counted-now ∙ ap (λ (y : ℕ). y + 1) e;
-        sorted = order-now;
-        heads = λ b a.
-            let z : sortedFrom + (maxFiles + b) ≡ headsFrom + b = omega arith in
-            getD-set-other back sparesAt (headsFrom + b) (n + 1) 0 (λ (q : headsFrom + b ≡ sparesAt). omega (arith, q)) ∙ (rw z at (kept (maxFiles + b) (omega arith) (omega (arith, r, long-m))));
-      }
+    column-spare = front-same ∙ take-suc-set index count to (omega (arith, r))
 
 -- ---- the three ways in which a name is entered
 
-pub spare-asked : (index : List ℕ) (to : ℕ) {count place : ℕ} {ended : List ℕ} → ended ≡ set index count to → maxNumbers ≤ length index → count < maxFiles → sparesIn index ≤ count → place ≤ sparesIn index
-    → (maxNumbers ≤ length ended) × (count < maxFiles) × (sparesIn ended ≤ count) × (place ≤ sparesIn ended)
-spare-asked index to {count} m r a l w =
-    let e : sparesIn (set index count to) ≡ sparesIn index = getD-set-other index count sparesAt to 0 (λ (q : sparesAt ≡ count). omega (arith, q)) in
-    rw (m, e, length-set index count to) (r, a, l, w)
+-- the index with an end put down is asked for the same
+module _ (index : List ℕ) (to : ℕ) {count : ℕ} (l : count < maxFiles) {ended : List ℕ} (m : ended ≡ set index count to) where
+  agrees-ended : Agrees index ended
+  agrees-ended = record { same = λ q a. rw m (getD-set-other index count q to 0 (λ (e : q ≡ count). omega (arith, e))) }
+
+  pub spare-asked : {j i : ℕ} → maxNumbers ≤ length index → j ≤ lastBlock index → i ≤ sizeOf index j
+      → (maxNumbers ≤ length ended) × (count < maxFiles) × (j ≤ lastBlock ended) × (i ≤ sizeOf ended j)
+  spare-asked {j} r b w =
+      (rw (m, length-set index count to) r, l, omega (arith, last-kept agrees-ended), omega (arith, entry-kept agrees-ended j 127))
+
+  pub spare-shape : Shape index count → Shape ended count
+  spare-shape = shape-kept agrees-ended
 
 pair-read : (index : List ℕ) (b to count : ℕ) → count < maxFiles → {ended : List ℕ} → ended ≡ set index count to → {pair : ℕ} → pair ≡ getD ended (headsFrom + b) 0 → pair ≡ pairAt index b
 pair-read index b to count a m q = q ∙ rw m (getD-set-other index count (headsFrom + b) to 0 (λ (e : headsFrom + b ≡ count). omega (arith, e)))
 
-module _ (index : List ℕ) (count b to place : ℕ) (a : count < maxFiles) {ended : List ℕ} (m : ended ≡ set index count to) {pair : ℕ} (q : pair ≡ getD ended (headsFrom + b) 0) {after : List ℕ} where
-  pub enter-first : pair ≡ 0 → after ≡ set ended (headsFrom + b) (count + 1) → Entered index count b to place after
+module _ (index : List ℕ) (count b to j i : ℕ) (a : count < maxFiles) {ended : List ℕ} (m : ended ≡ set index count to) {pair : ℕ} (q : pair ≡ getD ended (headsFrom + b) 0) {after : List ℕ} where
+  pub enter-first : pair ≡ 0 → after ≡ set ended (headsFrom + b) (count + 1) → Entered index count b to j i after
   enter-first z e =
       record {
         first = λ _. rw m at e;
@@ -296,7 +242,7 @@ module _ (index : List ℕ) (count b to place : ℕ) (a : count < maxFiles) {end
         spare = λ d. absurd (omega (arith, pair-read index b to count a m q, d));
       }
 
-  pub enter-second : (pair ≡ 0 → ⊥) → pair < pairBase → after ≡ set ended (headsFrom + b) (pair + (count + 1) * pairBase) → Entered index count b to place after
+  pub enter-second : (pair ≡ 0 → ⊥) → pair < pairBase → after ≡ set ended (headsFrom + b) (pair + (count + 1) * pairBase) → Entered index count b to j i after
   enter-second y z e =
       record {
         first = λ d. absurd (y (pair-read index b to count a m q ∙ d));
@@ -304,7 +250,7 @@ module _ (index : List ℕ) (count b to place : ℕ) (a : count < maxFiles) {end
         spare = λ d. absurd (omega (arith, pair-read index b to count a m q, d));
       }
 
-  pub enter-spare : pairBase ≤ pair → Spared ended count place after → Entered index count b to place after
+  pub enter-spare : pairBase ≤ pair → Spared ended count j i after → Entered index count b to j i after
   enter-spare z s =
       record {
         first = λ d. absurd (omega (arith, pair-read index b to count a m q, d));

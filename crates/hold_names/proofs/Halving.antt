@@ -1,5 +1,5 @@
 -- The search among the sorted names: its number of compares, what it knows between two places, and its end.
-use Prim.Native.Nat.{ℕ, zero, suc, _+_, _-_, _/_, _≤_, _<_}
+use Prim.Native.Nat.{ℕ, zero, suc, _+_, _*_, _-_, _/_, _≤_, _<_}
 use mathlib.Core.Bool.{true}
 use mathlib.Core.List.{List}
 use mathlib.Core.Logic.{inl, inr}
@@ -8,15 +8,14 @@ use native.Mathlib.Decide.{decLt}
 use native.Mathlib.Nat.{not-suc-le-zero}
 use native.Mathlib.Omega.{arith}
 use borrow.Author.Tests.{lt-ltb, le-ltb}
-use lib.ListN.{length, drop, getD, length-drop}
-use lib.Seq.{getD-take, getD-drop, length-take-le}
+use lib.ListN.{length, getD}
 use Rattle.lists.specs.Bytes.{lessBytes, less-trans}
 use Rattle.lists.specs.Order.{orderBytes, order-less, order-equal, order-greater}
 use Rattle.lists.specs.declared.Order.{Order}
 use Rattle.lists.specs.declared.Order.the-variants.{Less, Equal, Greater}
 use Rattle.hold_names.specs.declared.Compared.{Compared}
 use Rattle.hold_names.specs.declared.Compared.the-variants.{Before, Same, Behind}
-use Rattle.hold_names.specs.Table.{sortedFrom, sparesIn, sparesOf, nameAt, Between, comparedOf, onOrder, halvings, HoldsNames, SoundNames, NamesFile, ComparesName, Halves}
+use Rattle.hold_names.specs.Table.{nameAt, picked, Between, comparedOf, onOrder, halvings, HoldsNames, SoundNames, NamesFile, ComparesName, PicksNames, Halves}
 use Rattle.hold_names.proofs.Lies.{holds-one}
 
 -- Two answers that differ are never equal.
@@ -69,18 +68,18 @@ pub reach : ℕ → ℕ
 reach zero = 0
 reach (suc w) = suc (reach w + reach w)
 
-module _ (files : List (List ℕ)) (order path : List ℕ) where
+module _ (files : List (List ℕ)) (pick : ℕ → ℕ) (path : List ℕ) (more : ℕ → ℕ) where
   abbrev runs : ℕ → ℕ → ℕ → ℕ
-  runs f low high = halvings f files order path low high
+  runs f low high = halvings f files pick path more low high
 
   abbrev against : ℕ → Order
-  against mid = orderBytes path (nameAt files (getD order mid 0))
+  against mid = orderBytes path (nameAt files (pick mid))
 
-  halvings-zero : (low high : ℕ) → runs 0 low high ≡ 0
+  halvings-zero : (low high : ℕ) → runs 0 low high ≡ more low
   unfolding halvings
   halvings-zero low high = refl
 
-  pub halvings-none : (f low high : ℕ) → high ≤ low → runs f low high ≡ 0
+  pub halvings-none : (f low high : ℕ) → high ≤ low → runs f low high ≡ more low
   unfolding halvings
   halvings-none zero low high h = refl
   halvings-none (suc f) low high h = rw (le-ltb low high h)
@@ -103,7 +102,7 @@ module _ (files : List (List ℕ)) (order path : List ℕ) where
   halvings-higher zero low high a h e = absurd (omega arith)
   halvings-higher (suc f) low high a h e = let z : suc f - 1 ≡ f = omega arith in rw (lt-ltb low high h, e, z)
 
-  -- What can be told apart by w compares takes no more.
+  -- What can be told apart by w compares takes no more, and those that follow.
   few-step : (w f low high : ℕ) → low < high
       → runs f low (middle low high) ≤ w → runs f (middle low high + 1) high ≤ w
       → (o : Order) → against (middle low high) ≡ o → runs (suc f) low high ≤ suc w
@@ -112,156 +111,153 @@ module _ (files : List (List ℕ)) (order path : List ℕ) where
   few-step w f low high h a b Equal e = rw (lt-ltb low high h, e) (omega arith)
   few-step w f low high h a b Greater e = rw (lt-ltb low high h, e) (omega (arith, b))
 
-  pub halvings-few : (w f low high : ℕ) → high - low ≤ reach w → runs f low high ≤ w
+  pub halvings-few : (b w f low high : ℕ) → low ≤ high → ((j : ℕ) → low ≤ j → j ≤ high → more j ≤ b) → high - low ≤ reach w → runs f low high ≤ w + b
   unfolding reach
-  halvings-few zero f low high h = omega (arith, halvings-none f low high (omega arith))
-  halvings-few (suc w) zero low high h = omega (arith, halvings-zero low high)
-  halvings-few (suc w) (suc f) low high h =
+  halvings-few b zero f low high a m h = omega (arith, halvings-none f low high (omega arith), m low (omega arith) a)
+  halvings-few b (suc w) zero low high a m h = omega (arith, halvings-zero low high, m low (omega arith) a)
+  halvings-few b (suc w) (suc f) low high a m h =
       elim (decLt low high) [
-        | yes l ↦
-            few-step w f low high l (halvings-few w f low (middle low high) (omega arith)) (halvings-few w f (middle low high + 1) high (omega arith))
-            (against (middle low high)) refl
-        | no l ↦ omega (arith, halvings-none (suc f) low high (omega arith))
+        | yes l ↦ (
+            let y : runs (suc f) low high ≤ suc (w + b) =
+            few-step (w + b) f low high l (halvings-few b w f low (middle low high) (omega arith) (λ j c d. m j c (omega arith)) (omega arith))
+            (halvings-few b w f (middle low high + 1) high (omega arith) (λ j c d. m j (omega arith) d) (omega arith)) (against (middle low high)) refl in
+            omega (arith, y)
+            )
+        | no l ↦ omega (arith, halvings-none (suc f) low high (omega arith), m low (omega arith) a)
       ]
 
-pub reach-all : reach 14 ≡ 16383
+pub reach-all : reach 7 ≡ 127
 unfolding reach
 reach-all = refl
 
--- ---- the sorted names in the buffer
-
-module _ {names index : List ℕ} {count : ℕ} {files : List (List ℕ)} (h : HoldsNames names index count files) where
-  pub length-spares : length (sparesOf index) ≡ sparesIn index
-  length-spares = length-take-le (sparesIn index) (drop sortedFrom index) (omega (arith, length-drop sortedFrom index, h .search .few, h .few, h .room))
-
-  pub spare-at : (i : ℕ) → i < sparesIn index → getD (sparesOf index) i 0 ≡ getD index (sortedFrom + i) 0
-  spare-at i a = getD-take (sparesIn index) (drop sortedFrom index) i 0 a ∙ getD-drop sortedFrom index i 0
-
-  pub spare-below : {i k : ℕ} → i < sparesIn index → k ≡ getD index (sortedFrom + i) 0 → k < count
-  spare-below {i} a e = omega (arith, e, spare-at i a, h .search .sorted .below i (omega (arith, length-spares)), h .counted)
-
-  pub spares-few : (path : List ℕ) → halvings (sparesIn index) files (sparesOf index) path 0 (sparesIn index) ≤ 14
-  spares-few path = halvings-few files (sparesOf index) path 14 (sparesIn index) 0 (sparesIn index) (omega (arith, reach-all, h .search .few, h .few))
+pub seven : (files : List (List ℕ)) (pick : ℕ → ℕ) (path : List ℕ) (more : ℕ → ℕ) (b many : ℕ) → many ≤ 127 → ((j : ℕ) → j ≤ many → more j ≤ b) → halvings many files pick path more 0 many ≤ 7 + b
+seven files pick path more b many h m =
+    halvings-few files pick path more b 7 many 0 many (omega arith) (λ j c d. m j d) (omega (arith, reach-all))
 
 -- ---- halving
 
-pub record Halving (names index : List ℕ) (count : ℕ) (path : List ℕ) (n made low high : ℕ) : Type 0 where
+pub record Halving (names index : List ℕ) (count from by many : ℕ) (path : List ℕ) (n made low high : ℕ) : Type 0 where
   pub files : List (List ℕ)
   pub holds : HoldsNames names index count files
+  pub picks : PicksNames names index count from by many
   pub ordered : low ≤ high
-  pub within : high ≤ sparesIn index
-  pub between : Between files (sparesOf index) path low high
+  pub within : high ≤ many
+  pub between : Between files (picked index from by) many path low high
   pub fuel : ℕ
   pub enough : high - low ≤ fuel
-  pub counted : made + halvings fuel files (sparesOf index) path low high ≡ n + halvings (sparesIn index) files (sparesOf index) path 0 (sparesIn index)
+  pub counted : (more : ℕ → ℕ) → made + halvings fuel files (picked index from by) path more low high ≡ n + halvings many files (picked index from by) path more 0 many
 
-pub half-begin : {names index : List ℕ} {count : ℕ} {path : List ℕ} {n high : ℕ} → SoundNames names index count → high ≡ sparesIn index → Halving names index count path n n 0 high
-half-begin {index = index} {path = path} {n = n} s e =
+pub half-begin : {names index : List ℕ} {count from by many : ℕ} {path : List ℕ} {n : ℕ} → SoundNames names index count → PicksNames names index count from by many
+    → Halving names index count from by many path n n 0 many
+half-begin {many = many} s p =
     record {
       files = s .files;
       holds = s .holds;
+      picks = p;
       ordered = omega arith;
-      within = omega (arith, e);
-      between = record { before = λ i a. absurd (not-suc-le-zero a); after = λ i a b. absurd (omega (arith, e, length-spares (s .holds))) };
-      fuel = sparesIn index;
-      enough = omega (arith, e);
-      counted = ap (λ (y : ℕ). n + halvings (sparesIn index) (s .files) (sparesOf index) path 0 y) e;
+      within = omega arith;
+      between = record { before = λ i a. absurd (not-suc-le-zero a); after = λ i a b. absurd (omega arith) };
+      fuel = many;
+      enough = omega arith;
+      counted = λ more. refl;
     }
 
-module _ {names index : List ℕ} {count : ℕ} {path : List ℕ} {n made low high : ℕ} (x : Halving names index count path n made low high) where
-  abbrev order : List ℕ
-  order = sparesOf index
+module _ {names index : List ℕ} {count from by many : ℕ} {path : List ℕ} {n made low high : ℕ} (x : Halving names index count from by many path n made low high) where
+  abbrev pick : ℕ → ℕ
+  pick = picked index from by
 
-  pub made-few : n ≤ 2 → made ≤ 16
-  made-few a = omega (arith, x .counted, spares-few (x .holds) path)
+  pub made-few : made ≤ n + 7
+  made-few = omega (arith, x .counted (λ _. 0), seven (x .files) pick path (λ _. 0) 0 many (x .picks .few) (λ j a. omega arith))
 
-  module _ (l : low < high) {k : ℕ} (q : k ≡ getD index (sortedFrom + (low + (high - low) / 2)) 0) where
+  module _ (l : low < high) where
     abbrev mid : ℕ
     mid = low + (high - low) / 2
 
-    mid-within : mid < sparesIn index
+    mid-within : mid < many
     mid-within = omega (arith, x .within)
 
-    pub mid-below : k < count
-    mid-below = spare-below (x .holds) mid-within q
+    pub mid-inside : from + mid * by < length index
+    mid-inside = x .picks .inside mid mid-within
 
-    named : nameAt (x .files) k ≡ nameAt (x .files) (getD order mid 0)
-    named = ap (nameAt (x .files)) (q ∙ sym (spare-at (x .holds) mid mid-within))
+    module _ {k : ℕ} (q : k ≡ getD index (from + (low + (high - low) / 2) * by) 0) where
+      pub mid-below : k < count
+      mid-below = rw q (x .picks .below mid mid-within)
 
-    -- The path was compared with the name in the middle.
-    module _ {r : Compared} (t : ComparesName names index count k path made r) where
-      told : r ≡ comparedOf (made + 1) (orderBytes path (nameAt (x .files) (getD order mid 0)))
-      told = t .answer (x .files) (x .holds) ∙ ap (λ (y : List ℕ). comparedOf (made + 1) (orderBytes path y)) named
+      named : nameAt (x .files) k ≡ nameAt (x .files) (pick mid)
+      named = ap (nameAt (x .files)) q
 
-      in-order : (i j : ℕ) → i < j → j < sparesIn index → lessBytes (nameAt (x .files) (getD order i 0)) (nameAt (x .files) (getD order j 0)) ≡ true
-      in-order i j a b = x .holds .search .sorted .rising i j a (omega (arith, length-spares (x .holds)))
+      -- The path was compared with the name in the middle.
+      module _ {r : Compared} (t : ComparesName names index count k path made r) where
+        abbrev name : List ℕ
+        name = nameAt (x .files) (pick mid)
 
-      pub half-lower : {m : ℕ} → r ≡ Before m → Halving names index count path n m low mid
-      half-lower {m} e =
-          let (o, z) = told-before (made + 1) (orderBytes path (nameAt (x .files) (getD order mid 0))) m (sym e ∙ told) in
-          let s : lessBytes path (nameAt (x .files) (getD order mid 0)) ≡ true = order-less path (nameAt (x .files) (getD order mid 0)) o in
-          record {
-            files = x .files;
-            holds = x .holds;
-            ordered = omega arith;
-            within = omega (arith, x .within);
-            between =
-                record {
-                  before = x .between .before;
-                  after = λ i a b. elim (decLt mid i) [
-                    | yes d ↦
-                        less-trans path (nameAt (x .files) (getD order mid 0)) (nameAt (x .files) (getD order i 0)) s
-                        (in-order mid i d (omega (arith, length-spares (x .holds))))
-                    | no d ↦ (let w : mid ≡ i = omega arith in rw (← w) s)
-                  ];
-                };
-            fuel = x .fuel - 1;
-            enough = omega (arith, x .enough);
-            counted = omega (arith, z, x .counted, halvings-lower (x .files) order path (x .fuel) low high (x .enough) l o);
-          }
+        told : r ≡ comparedOf (made + 1) (orderBytes path name)
+        told = t .answer (x .files) (x .holds) ∙ ap (λ (y : List ℕ). comparedOf (made + 1) (orderBytes path y)) named
 
-      pub half-higher : {m : ℕ} → r ≡ Behind m → Halving names index count path n m (mid + 1) high
-      half-higher {m} e =
-          let (o, z) = told-behind (made + 1) (orderBytes path (nameAt (x .files) (getD order mid 0))) m (sym e ∙ told) in
-          let s : lessBytes (nameAt (x .files) (getD order mid 0)) path ≡ true = order-greater path (nameAt (x .files) (getD order mid 0)) o in
-          record {
-            files = x .files;
-            holds = x .holds;
-            ordered = omega arith;
-            within = x .within;
-            between =
-                record {
-                  before = λ i a. elim (decLt i mid) [
-                    | yes d ↦
-                        less-trans (nameAt (x .files) (getD order i 0)) (nameAt (x .files) (getD order mid 0)) path (in-order i mid d mid-within) s
-                    | no d ↦ (let w : mid ≡ i = omega arith in rw (← w) s)
-                  ];
-                  after = x .between .after;
-                };
-            fuel = x .fuel - 1;
-            enough = omega (arith, x .enough);
-            counted = omega (arith, z, x .counted, halvings-higher (x .files) order path (x .fuel) low high (x .enough) l o);
-          }
+        pub half-lower : {m : ℕ} → r ≡ Before m → Halving names index count from by many path n m low mid
+        half-lower {m} e =
+            let (o, z) = told-before (made + 1) (orderBytes path name) m (sym e ∙ told) in
+            let s : lessBytes path name ≡ true = order-less path name o in
+            record {
+              files = x .files;
+              holds = x .holds;
+              picks = x .picks;
+              ordered = omega arith;
+              within = omega (arith, x .within);
+              between =
+                  record {
+                    before = x .between .before;
+                    after = λ i a b. elim (decLt mid i) [
+                      | yes d ↦ less-trans path name (nameAt (x .files) (pick i)) s (x .picks .rising (x .files) (x .holds) mid i d b)
+                      | no d ↦ (let w : mid ≡ i = omega arith in rw (← w) s)
+                    ];
+                  };
+              fuel = x .fuel - 1;
+              enough = omega (arith, x .enough);
+              counted = λ more. omega (arith, z, x .counted more, halvings-lower (x .files) pick path more (x .fuel) low high (x .enough) l o);
+            }
 
-      pub half-found : {m : ℕ} → r ≡ Same m → Halves names index count path n (record { number = k; compares = m; place = 0 })
-      half-found {m} e =
-          let (o, z) = told-same (made + 1) (orderBytes path (nameAt (x .files) (getD order mid 0))) m (sym e ∙ told) in
-          record {
-            within = omega arith;
-            compares = λ files h.
-                rw (← holds-one (x .holds) h)
-                (omega (arith, z, x .counted, halvings-same (x .files) order path (x .fuel) low high (x .enough) l o));
-            answer = λ files h.
-                rw (← holds-one (x .holds) h)
-                (inl (mid-below, named ∙ sym (order-equal path (nameAt (x .files) (getD order mid 0)) o)));
-          }
+        pub half-higher : {m : ℕ} → r ≡ Behind m → Halving names index count from by many path n m (mid + 1) high
+        half-higher {m} e =
+            let (o, z) = told-behind (made + 1) (orderBytes path name) m (sym e ∙ told) in
+            let s : lessBytes name path ≡ true = order-greater path name o in
+            record {
+              files = x .files;
+              holds = x .holds;
+              picks = x .picks;
+              ordered = omega arith;
+              within = x .within;
+              between =
+                  record {
+                    before = λ i a. elim (decLt i mid) [
+                      | yes d ↦ less-trans (nameAt (x .files) (pick i)) name path (x .picks .rising (x .files) (x .holds) i mid d mid-within) s
+                      | no d ↦ (let w : mid ≡ i = omega arith in rw (← w) s)
+                    ];
+                    after = x .between .after;
+                  };
+              fuel = x .fuel - 1;
+              enough = omega (arith, x .enough);
+              counted = λ more. omega (arith, z, x .counted more, halvings-higher (x .files) pick path more (x .fuel) low high (x .enough) l o);
+            }
 
-  pub half-end : high ≤ low → Halves names index count path n (record { number = count; compares = made; place = low })
+        pub half-found : {m : ℕ} → r ≡ Same m → Halves names index count from by many path n (record { number = k; compares = m; place = 0 })
+        half-found {m} e =
+            let (o, z) = told-same (made + 1) (orderBytes path name) m (sym e ∙ told) in
+            let c : (more : ℕ → ℕ) → m ≡ n + halvings many (x .files) pick path more 0 many =
+            λ more. omega (arith, z, x .counted more, halvings-same (x .files) pick path more (x .fuel) low high (x .enough) l o) in
+            record {
+              within = omega arith;
+              few = omega (arith, c (λ _. 0), seven (x .files) pick path (λ _. 0) 0 many (x .picks .few) (λ j a. omega arith));
+              answer = λ files h. rw (← holds-one (x .holds) h) (inl ((mid-below, named ∙ sym (order-equal path name o)), c));
+            }
+
+  pub half-end : high ≤ low → Halves names index count from by many path n (record { number = count; compares = made; place = low })
   half-end a =
       let z : high ≡ low = omega (arith, x .ordered) in
       record {
         within = omega (arith, x .within);
-        compares = λ files h.
-            rw (← holds-one (x .holds) h) (omega (arith, x .counted, halvings-none (x .files) order path (x .fuel) low high a));
-        answer = λ files h. rw (← holds-one (x .holds) h) (inr (refl, rw z at (x .between)));
+        few = made-few;
+        answer = λ files h.
+            rw (← holds-one (x .holds) h)
+            (inr (refl, rw z at (x .between), (λ more. omega (arith, x .counted more, halvings-none (x .files) pick path more (x .fuel) low high a))));
       }

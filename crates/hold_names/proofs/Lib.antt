@@ -1,5 +1,6 @@
-pub mod Numbers
 pub mod Buckets
+pub mod Blocks
+pub mod Lifting
 pub mod Entering
 pub mod Lies
 pub mod Halving

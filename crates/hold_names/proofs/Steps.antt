@@ -16,8 +16,8 @@ use Rattle.hold_names.specs.declared.FoundName.{FoundName}
 use Rattle.hold_names.specs.declared.FoundName.the-variants.{At, Missing}
 use Rattle.hold_names.specs.declared.Added.the-variants.{Old, New, Full}
 use Rattle.hold_names.specs.declared.Lookup.{Lookup}
-use Rattle.hold_names.specs.Table.{bucketOf, pairBase, pairAt, secondIn, sparesIn, sparesOf, Searched, HoldsNames, found, fits, added, filesAfter, countAfter, FindsName, AddsName, nameStart, Between, SeeksName, Entered}
-use Rattle.hold_names.proofs.Numbers.{number-below, number-missing}
+use Rattle.hold_names.specs.Table.{bucketOf, pairBase, pairAt, secondIn, lastBlock, sizeOf, Searched, HoldsNames, found, fits, added, filesAfter, countAfter, FindsName, AddsName, nameStart, Fits, SeeksName, Entered}
+use Rattle.spec.proofs.Numbers.{number-below, number-missing}
 use Rattle.hold_names.proofs.Entering.{column-now, searched-first, searched-second, searched-spare, column-spare}
 use Rattle.hold_names.proofs.Lies.{holds-more, used-held}
 use Rattle.hold_names.proofs.Halving.{clash}
@@ -104,10 +104,10 @@ module _ {names index : List ℕ} {count : ℕ} {p : List ℕ} {r : FoundName} (
             }
 
 -- The index with the name more, whichever room it found.
-searched-more : {names index : List ℕ} {count : ℕ} {files : List (List ℕ)} → HoldsNames names index count files → count < maxFiles → (p : List ℕ) → {to place : ℕ} {index′ : List ℕ}
-    → Entered index count (bucketOf p) to place index′ → place ≤ sparesIn index → (0 < secondIn index (bucketOf p) → Between files (sparesOf index) p place place)
+searched-more : {names index : List ℕ} {count : ℕ} {files : List (List ℕ)} → HoldsNames names index count files → count < maxFiles → (p : List ℕ) → {to j i : ℕ} {index′ : List ℕ}
+    → Entered index count (bucketOf p) to j i index′ → j ≤ lastBlock index → i ≤ sizeOf index j → (0 < secondIn index (bucketOf p) → Fits files index p j i)
     → Searched index′ (count + 1) (files ++ (p ∷ [])) × (take (suc count) index′ ≡ take count index ++ (to ∷ []))
-searched-more {index = index} {count = count} h a p {to = to} g w z =
+searched-more {index = index} {count = count} h a p {to = to} g b w z =
     elim (decLt 0 (pairAt index (bucketOf p))) [
       | no d ↦ (
           let e : pairAt index (bucketOf p) ≡ 0 = omega arith in
@@ -119,20 +119,20 @@ searched-more {index = index} {count = count} h a p {to = to} g w z =
         | no e ↦ (
             let k : pairBase ≤ pairAt index (bucketOf p) = omega arith in
             let y : 0 < secondIn index (bucketOf p) = omega arith in
-            (searched-spare (h .search) (h .room) (h .counted) a p to (g .spare k) w (z y) y, column-spare (h .search) (h .room) (h .counted) a p to (g .spare k) w (z y) y)
+            (searched-spare (h .search) (h .room) (h .counted) a p to (g .spare k) b w (z y) y, column-spare (h .search) (h .room) (h .counted) a p to (g .spare k) b w (z y) y)
             )
       ]
     ]
 
 module _ {names index : List ℕ} {count : ℕ} {p : List ℕ} {r : Lookup} (f : SeeksName names index count p r) (m : FindsName names index count p Missing) (a : count < maxFiles) {from : ℕ}
     (s : from ≡ nameStart index count) (l : length p ≤ length names - from) {index′ : List ℕ}
-    (g : Entered index count (r .bucket) (from + length p) (r .place) index′) (y : length index′ ≡ length index) where
+    (g : Entered index count (r .bucket) (from + length p) (r .block) (r .place) index′) (y : length index′ ≡ length index) where
   entered : (files : List (List ℕ)) → HoldsNames names index count files → HoldsNames (paste names from p (length p)) index′ (count + 1) (files ++ (p ∷ []))
   entered files h =
       let u : from ≡ length (concat files) = s ∙ used-held h in
       let q : among p files ≡ false = absent m refl files h in
       let w : length (concat files) + length p ≤ length names = omega (arith, used-held h, h .within, s) in
-      let (t, c) = searched-more h a p (rw (u, f .home) at g) (f .within) (f .place files h q) in
+      let (t, c) = searched-more h a p (rw (u, f .home) at g) (f .block) (f .within) (f .place files h q) in
       rw u (holds-more p h a q w y c t)
 
   pub add-new : AddsName names index count p (paste names from p (length p)) index′ (New count)

@@ -1,12 +1,11 @@
 // The table of file names: a number for each path, by first mention. The bytes of the names lie end to end in `names`. `index` has where each ends;
-// then, sorted, the numbers of those that found no room in their bucket; then for each bucket two names, as one number.
+// then for each bucket two names, as one number; then, sorted and in blocks, the numbers of those that found no room in their bucket.
 ghost use mathlib.Core.Path.{_≡_};
 ghost use Prim.Native.Nat.{_+_, _-_, _^_, _≤_, _<_};
 ghost use lib.ListN.{length, drop};
 ghost use Rattle.lists.specs.Fill.{zeroed};
 ghost use Rattle.spec.specs.Limits.{maxFiles};
-ghost use Rattle.hold_names.specs.Table.{buckets, bucketFrom, Summed, bucketOf, headsFrom, maxNumbers, sparesIn, SoundNames, FindsName, AddsName, NamesFile, nameStart, comparedOf, ComparesName, MatchesName, Halves, SeeksSecond, SeeksName, Spared, Entered};
-use arena::insert;
+ghost use Rattle.hold_names.specs.Table.{buckets, bucketFrom, Summed, bucketOf, headsFrom, maxNumbers, maxBlocks, lastBlock, sizeOf, Shape, SoundNames, FindsName, AddsName, NamesFile, nameStart, comparedOf, ComparesName, MatchesName, PicksNames, Halves, SeeksSorted, SeeksSecond, SeeksName, Lifted, PutIn, Parted, Spared, Entered};
 use arena::put;
 use byteorder::compare;
 use byteorder::equal;
@@ -17,16 +16,17 @@ use slices::words::at;
 use slices::words::zero_words_in;
 use spec::limits::FILES;
 
-// The numbers lie in three parts: where each name ends, the sorted names, the names of each bucket.
-const SORTED: usize = FILES;
-
-const HEADS: usize = SORTED + FILES;
+// The numbers lie in three parts: where each name ends, the names of each bucket, the sorted names.
+const HEADS: usize = FILES;
 
 const BUCKETS: usize = FILES - 1;
-// the last number: how many names are sorted
-const SPARES: usize = HEADS + BUCKETS;
+// behind the buckets: the number of the last block
+const LAST: usize = HEADS + BUCKETS;
 
-pub const NUMBERS: usize = HEADS + FILES;
+const BLOCKS: usize = HEADS + FILES;
+
+// Each block but a lone one has 63 names or more.
+pub const NUMBERS: usize = BLOCKS + FILES / 63 * 128;
 
 // A bucket's number has its first name below this, its second above.
 const PAIR: usize = 65536;
@@ -58,10 +58,18 @@ pub struct Matched {
     pub compares: usize,
 }
 
-// The end of a search: the number of the path, or the count of names; how many compares were made; the place of a new path among the sorted ones.
+// The end of halving: the number of the path, or the count of names; how many compares were made; how many of those looked at are less than the path.
+pub struct Halved {
+    pub number: usize,
+    pub compares: usize,
+    pub place: usize,
+}
+
+// The same of all sorted names, with the block of a new path and its place there.
 pub struct Sought {
     pub number: usize,
     pub compares: usize,
+    pub block: usize,
     pub place: usize,
 }
 
@@ -70,6 +78,7 @@ pub struct Lookup {
     pub bucket: usize,
     pub number: usize,
     pub compares: usize,
+    pub block: usize,
     pub place: usize,
 }
 
@@ -191,18 +200,28 @@ fn match_entry(
     match_name(names, index, count, entry - 1, path, n)
 }
 
-// The path among the sorted names, by halving.
-fn halve(names: &[u8], index: &[u32], count: usize, path: &[u8], n: usize) -> Sought
+// The path among so many sorted names, by halving: their numbers stand from place `from` on, each `by` places behind the one before.
+fn halve(
+    names: &[u8],
+    index: &[u32],
+    count: usize,
+    from: usize,
+    by: usize,
+    many: usize,
+    path: &[u8],
+    n: usize,
+) -> Halved
     requires { ⌜ SoundNames (now names) (now index) count ⌝ }
-    requires { ⌜ n ≤ 2 ⌝ }
-    ensures { λ r. ⌜ Halves (now (names .entry)) (now (index .entry)) count (now (path .entry)) n r ⌝ }
+    requires { ⌜ PicksNames (now names) (now index) count from by many ⌝ }
+    requires { ⌜ n ≤ 9 ⌝ }
+    ensures { λ r. ⌜ Halves (now (names .entry)) (now (index .entry)) count from by many (now (path .entry)) n r ⌝ }
 {
     let mut made = n;
     let mut low = 0;
-    let mut high = at(index, SPARES);
+    let mut high = many;
     while low < high {
         let mid = low + (high - low) / 2;
-        let k = at(index, SORTED + mid);
+        let k = at(index, from + mid * by);
         match step(names, index, count, k, path, made) {
             Compared::Before(m) => {
                 high = mid;
@@ -213,7 +232,7 @@ fn halve(names: &[u8], index: &[u32], count: usize, path: &[u8], n: usize) -> So
                 made = m;
             }
             Compared::Same(m) => {
-                return Sought {
+                return Halved {
                     number: k,
                     compares: m,
                     place: 0,
@@ -221,10 +240,45 @@ fn halve(names: &[u8], index: &[u32], count: usize, path: &[u8], n: usize) -> So
             }
         }
     }
-    Sought {
+    Halved {
         number: count,
         compares: made,
         place: low,
+    }
+}
+
+// The path among the sorted names: the first names of all blocks but the first block tell which block it belongs to.
+fn seek_sorted(names: &[u8], index: &[u32], count: usize, path: &[u8], n: usize) -> Sought
+    requires { ⌜ SoundNames (now names) (now index) count ⌝ }
+    requires { ⌜ n ≤ 2 ⌝ }
+    ensures { λ r. ⌜ SeeksSorted (now (names .entry)) (now (index .entry)) count (now (path .entry)) n r ⌝ }
+{
+    let last = at(index, LAST);
+    let b = halve(names, index, count, BLOCKS + 128, 128, last, path, n);
+    if b.number < count {
+        return Sought {
+            number: b.number,
+            compares: b.compares,
+            block: 0,
+            place: 0,
+        };
+    }
+    let from = BLOCKS + b.place * 128;
+    let h = halve(
+        names,
+        index,
+        count,
+        from,
+        1,
+        at(index, from + 127),
+        path,
+        b.compares,
+    );
+    Sought {
+        number: h.number,
+        compares: h.compares,
+        block: b.place,
+        place: h.place,
     }
 }
 
@@ -245,6 +299,7 @@ fn seek_second(
         return Sought {
             number: count,
             compares: n,
+            block: 0,
             place: 0,
         };
     }
@@ -253,10 +308,11 @@ fn seek_second(
         return Sought {
             number: second - 1,
             compares: m.compares,
+            block: 0,
             place: 0,
         };
     }
-    halve(names, index, count, path, m.compares)
+    seek_sorted(names, index, count, path, m.compares)
 }
 
 // The lookup of a path: the two names of its bucket, then the sorted ones.
@@ -273,6 +329,7 @@ fn seek(names: &[u8], index: &[u32], count: usize, path: &[u8]) -> Lookup
             bucket: b,
             number: count,
             compares: 0,
+            block: 0,
             place: 0,
         };
     }
@@ -282,6 +339,7 @@ fn seek(names: &[u8], index: &[u32], count: usize, path: &[u8]) -> Lookup
             bucket: b,
             number: first - 1,
             compares: m.compares,
+            block: 0,
             place: 0,
         };
     }
@@ -290,6 +348,7 @@ fn seek(names: &[u8], index: &[u32], count: usize, path: &[u8]) -> Lookup
         bucket: b,
         number: s.number,
         compares: s.compares,
+        block: s.block,
         place: s.place,
     }
 }
@@ -306,20 +365,61 @@ pub fn find_name(names: &[u8], index: &[u32], count: usize, path: &[u8]) -> Foun
     FoundName::Missing
 }
 
-// A name more among the sorted ones.
-fn spare(index: &mut [u32], count: usize, place: usize)
-    requires { ⌜ (maxNumbers ≤ length (now index)) × (count < maxFiles) × (sparesIn (now index) ≤ count) × (place ≤ sparesIn (now index)) ⌝ }
-    ensures { λ _. ⌜ Spared (now (index .entry)) count place (now (index .exit)) ⌝ }
+// Moves the numbers between two places up, the last one first.
+fn lift(index: &mut [u32], from: usize, to: usize, by: usize)
+    requires { ⌜ (from ≤ to) × (to + by ≤ length (now index)) ⌝ }
+    ensures { λ _. ⌜ Lifted (now (index .entry)) from to by (now (index .exit)) ⌝ }
 {
-    let n = at(index, SPARES);
-    insert(&mut index[SORTED..], n, place, count);
-    put(index, SPARES, n + 1);
+    let mut i = to;
+    while from < i {
+        i -= 1;
+        index[i + by] = index[i];
+    }
+}
+
+// A name more in a block. How many there are then.
+fn put_in(index: &mut [u32], count: usize, block: usize, place: usize) -> usize
+    requires { ⌜ (maxNumbers ≤ length (now index)) × (count < maxFiles) × (block < maxBlocks) × (place ≤ sizeOf (now index) block) × (sizeOf (now index) block ≤ 126) ⌝ }
+    ensures { λ r. ⌜ (r ≡ sizeOf (now (index .entry)) block + 1) × PutIn (now (index .entry)) count block place (now (index .exit)) ⌝ }
+{
+    let from = BLOCKS + block * 128;
+    let n = at(index, from + 127);
+    lift(index, from + place, from + n, 1);
+    put(index, from + place, count);
+    put(index, from + 127, n + 1);
+    n + 1
+}
+
+// Parts a block of 127 names: the last 63 of them are the next block, and those behind it move up by one.
+fn part_block(index: &mut [u32], block: usize)
+    requires { ⌜ (maxNumbers ≤ length (now index)) × (lastBlock (now index) + 1 < maxBlocks) × (block ≤ lastBlock (now index)) ⌝ }
+    ensures { λ _. ⌜ Parted (now (index .entry)) block (now (index .exit)) ⌝ }
+{
+    let last = at(index, LAST);
+    let next = BLOCKS + (block + 1) * 128;
+    lift(index, next, BLOCKS + (last + 1) * 128, 128);
+    lift(index, next - 64, next - 1, 64);
+    put(index, next - 1, 64);
+    put(index, next + 127, 63);
+    put(index, LAST, last + 1);
+}
+
+// A name more among the sorted ones.
+fn spare(index: &mut [u32], count: usize, block: usize, place: usize)
+    requires { ⌜ (maxNumbers ≤ length (now index)) × (count < maxFiles) × (block ≤ lastBlock (now index)) × (place ≤ sizeOf (now index) block) ⌝ }
+    requires { ⌜ Shape (now index) count ⌝ }
+    ensures { λ _. ⌜ Spared (now (index .entry)) count block place (now (index .exit)) ⌝ }
+{
+    if put_in(index, count, block, place) == 127 {
+        part_block(index, block);
+    }
 }
 
 // Puts down the numbers of a name more.
-fn enter(index: &mut [u32], count: usize, b: usize, to: usize, place: usize)
-    requires { ⌜ (maxNumbers ≤ length (now index)) × (count < maxFiles) × (b < buckets) × (to < 2 ^ 32) × (sparesIn (now index) ≤ count) × (place ≤ sparesIn (now index)) ⌝ }
-    ensures { λ _. ⌜ Entered (now (index .entry)) count b to place (now (index .exit)) ⌝ }
+fn enter(index: &mut [u32], count: usize, b: usize, to: usize, block: usize, place: usize)
+    requires { ⌜ (maxNumbers ≤ length (now index)) × (count < maxFiles) × (b < buckets) × (to < 2 ^ 32) × (block ≤ lastBlock (now index)) × (place ≤ sizeOf (now index) block) ⌝ }
+    requires { ⌜ Shape (now index) count ⌝ }
+    ensures { λ _. ⌜ Entered (now (index .entry)) count b to block place (now (index .exit)) ⌝ }
 {
     put(index, count, to);
     let pair = at(index, HEADS + b);
@@ -331,7 +431,7 @@ fn enter(index: &mut [u32], count: usize, b: usize, to: usize, place: usize)
         put(index, HEADS + b, pair + (count + 1) * PAIR);
         return;
     }
-    spare(index, count, place);
+    spare(index, count, block, place);
 }
 
 // The number of a path, which is added where it is not there yet.
@@ -351,8 +451,30 @@ pub fn add(names: &mut [u8], index: &mut [u32], count: usize, path: &[u8]) -> Ad
         return Added::Full;
     }
     copy_at(names, from, path);
-    enter(index, count, s.bucket, from + path.len(), s.place);
+    enter(index, count, s.bucket, from + path.len(), s.block, s.place);
     Added::New(count)
+}
+
+// The same for names that header lists bring. It stands by itself for speed: `add` is built into what calls it, and that into the reader's function for a
+// path, only while each of them is called from one place.
+pub fn add_listed_name(names: &mut [u8], index: &mut [u32], files: usize, path: &[u8]) -> Added
+    requires { ⌜ SoundNames (now names) (now index) files ⌝ }
+    ensures { λ r. ⌜ AddsName (now (names .entry)) (now (index .entry)) files (now (path .entry)) (now (names .exit)) (now (index .exit)) r ⌝ }
+{
+    let s = seek(names, index, files, path);
+    if s.number < files {
+        return Added::Old(s.number);
+    }
+    if FILES <= files {
+        return Added::Full;
+    }
+    let from = start(index, files);
+    if names.len() - from < path.len() {
+        return Added::Full;
+    }
+    copy_at(names, from, path);
+    enter(index, files, s.bucket, from + path.len(), s.block, s.place);
+    Added::New(files)
 }
 
 // The path of a number, as a part of the names.

@@ -12,7 +12,7 @@ use Rattle.spec.specs.Basics.{among}
 use Rattle.spec.specs.Limits.{maxPath}
 use Rattle.spec.specs.Reading.{mention}
 use Rattle.spec.specs.Statements.{longerThan, overPaths}
-use Rattle.hold_names.proofs.Numbers.{among-none, among-there}
+use Rattle.spec.proofs.Numbers.{among-none, among-there}
 
 module _ (p : List ℕ) (ps : List (List ℕ)) (h : overPaths (p ∷ ps) ≡ false) where
   first-short : longerThan maxPath p ≡ false

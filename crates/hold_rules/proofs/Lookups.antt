@@ -49,4 +49,4 @@ all-among p n (m ∷ l) a h =
 
 pub key-short : (n : List ℕ) → ruleKey n ≡ true → length n ≤ maxName
 unfolding ruleKey keyNames keyName all
-key-short n h = leb-true (length n) maxName (all-among (λ m. leb (length m) maxName) n (take 3 keyNames) refl h)
+key-short n h = leb-true (length n) maxName (all-among (λ m. leb (length m) maxName) n (take 4 keyNames) refl h)

@@ -14,8 +14,8 @@ use hold_bindings::newest;
 use hold_keys::key_number;
 use hold_reading::Counts;
 
-// The keys of this edition are the first three: "`command` (needed), `description`, `generator`".
-const EDITION: usize = 3;
+// The keys of this edition are the first four: "`command` (needed), `description`, `generator`", and "Accept `depfile`" (document 02).
+const EDITION: usize = 4;
 
 // Whether an owner has a line of this name.
 fn has_line(texts: &[u8], bind: &[u32], count: usize, owner: usize, name: &[u8]) -> bool

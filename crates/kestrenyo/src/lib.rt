@@ -49,13 +49,14 @@ fn outside(n: Numbers) -> Placed
 #[no_mangle]
 pub extern "C" fn kestrenyo_plan(
     bundle: &[u8],
+    headers: &[u8],
     card: &[u8],
     targets: &[u8],
     list: &mut [u32],
 ) -> Placed
-    ensures { λ r. ⌜ Tells (bundleTexts (now (bundle .entry))) (λ said. PlanDemands (inputsOf (now (bundle .entry)) (now (card .entry)) (now (targets .entry))) (now (list .entry)) said (now (list .exit))) r ⌝ }
+    ensures { λ r. ⌜ Tells (bundleTexts (now (bundle .entry))) (λ said. PlanDemands (inputsOf (now (bundle .entry)) (now (card .entry)) (now (targets .entry)) (now (headers .entry))) (now (list .entry)) said (now (list .exit))) r ⌝ }
 {
-    locate(of_plan(plan(bundle, card, targets, list)), bundle)
+    locate(of_plan(plan(bundle, headers, card, targets, list)), bundle)
 }
 
 // What a number asks for.

@@ -1,4 +1,4 @@
--- Only a circle is refused with 14: reading refuses with 2 to 10 and 19, and what comes after it with 11, 12, 13 and 15.
+-- Only a circle is refused with 14: reading refuses with 2 to 10 and 19, and the checks around it with 1, 11, 12, 13, 15, 16, 17 and 20.
 use Prim.Native.Nat.{ℕ}
 use native.Mathlib.Omega.{arith}
 use mathlib.Core.Path.{_≡_}
@@ -6,6 +6,7 @@ use Rattle.spec.specs.declared.Refusal.{Refusal}
 use Rattle.spec.specs.Answers.{numberOfRefusal}
 use Rattle.spec.specs.PlanAsk.{Inputs, noPlan, planAsk}
 use Rattle.spec.proofs.Manifests.{of-reading}
+use Rattle.spec.proofs.Demands.{header-number}
 use Rattle.spec.proofs.Outcomes.{Not14, of-read}
 use Rattle.answer_places.proofs.Outcomes.{PlanRefusals, plan-refuses}
 
@@ -17,6 +18,7 @@ no-circle =
       card = λ e. omega arith;
       target = λ p e. omega arith;
       root = λ e. omega arith;
+      headers = λ r o e. omega (arith, header-number o, e);
       source = λ f e. omega arith;
     }
 

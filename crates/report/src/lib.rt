@@ -1,4 +1,5 @@
 // What the program writes: document 01's section "Gauges on the bench", from the lent bytes to lines in a lent buffer.
+ghost use Rattle.spec.specs.Bundle.{noLists};
 ghost use Rattle.spec.specs.PlanAsk.{inputsOf};
 ghost use Rattle.answers.specs.Numbers.{said};
 ghost use Rattle.report.specs.Begins.{listOpening, planOpening, OpensHolding, Rooms, ListRooms, Planned, BeginsReport};
@@ -9,6 +10,7 @@ use answers::of_refusal;
 use asks::plan;
 use asks::texts;
 use printing::say_no_work;
+use report_bundle::no_lists;
 use report_lines::text_lines;
 use report_output::Begun;
 use report_output::refuse;
@@ -113,7 +115,7 @@ fn begin_planned(
     refuse(line, bundle, n)
 }
 
-// Asks for the plan and checks all texts. The output is whole in the line, or the line of each listed step is to be written.
+// Asks for the plan, with no header lists, and checks all texts. The output is whole in the line, or the line of each listed step is to be written.
 pub fn begin(
     bundle: &[u8],
     card: &[u8],
@@ -124,9 +126,10 @@ pub fn begin(
     ends: &mut [u32],
 ) -> Begun
     requires { ⌜ Rooms (now list) (now line) (now bytes) (now ends) ⌝ }
-    ensures { λ r. ⌜ BeginsReport (inputsOf (now (bundle .entry)) (now (card .entry)) (now (targets .entry))) (now (list .entry)) (now (line .entry)) r (now (list .exit)) (now (line .exit)) (now (bytes .exit)) (now (ends .exit)) ⌝ }
+    ensures { λ r. ⌜ BeginsReport (inputsOf (now (bundle .entry)) (now (card .entry)) (now (targets .entry)) noLists) (now (list .entry)) (now (line .entry)) r (now (list .exit)) (now (line .exit)) (now (bytes .exit)) (now (ends .exit)) ⌝ }
 {
-    let n = of_plan(plan(bundle, card, targets, list));
+    let lists = no_lists();
+    let n = of_plan(plan(bundle, &lists, card, targets, list));
     begin_planned(bundle, n, list, line, bytes, ends)
 }
 

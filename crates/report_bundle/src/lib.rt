@@ -1,6 +1,8 @@
-// What the program lends for a manifest: the bundle of `build.ninja` alone.
+// What the program lends: the bundle of `build.ninja` alone, and no header lists.
 ghost use Prim.Native.Nat.{_≤_};
+ghost use mathlib.Core.Path.{_≡_};
 ghost use lib.ListN.{length};
+ghost use Rattle.spec.specs.Bundle.{noLists};
 ghost use Rattle.report_bundle.specs.Lends.{aloneRoom, LendsAlone};
 use scan_bundle::wrap;
 use spec::limits::MANIFEST;
@@ -14,4 +16,11 @@ pub fn lend_alone(manifest: &[u8], bundle: &mut [u8]) -> usize
         return wrap(b"build.ninja", manifest, bundle);
     }
     wrap(b"build.ninja", &manifest[..MANIFEST + 1], bundle)
+}
+
+// "(the program lends none)": a bundle has four numbers at its start, and this one nothing else.
+pub fn no_lists() -> [u8; 16]
+    ensures { λ r. ⌜ r ≡ noLists ⌝ }
+{
+    [0, 0, 0, 0, 16, 0, 0, 0, 16, 0, 0, 0, 16, 0, 0, 0]
 }

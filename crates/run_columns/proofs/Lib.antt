@@ -1,3 +1,5 @@
+pub mod Answers
 pub mod Changes
 pub mod Gathered
+pub mod Made
 pub mod Tables

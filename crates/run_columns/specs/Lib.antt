@@ -1,2 +1,4 @@
 pub mod Columns
 pub mod Changes
+pub mod Chosen
+pub mod Fresh

@@ -43,7 +43,8 @@ use Rattle.run_rules.proofs.Job.Laws as T′
 use Rattle.run_rules.specs.Runner.{turned}
 use Rattle.run_columns.specs.declared.Change.{Change}
 use Rattle.run_columns.proofs.Change as Ch
-use Rattle.run_columns.specs.Columns.{blank, noteAt, gathered}
+use Rattle.run_core.specs.Numbers.{noJob}
+use Rattle.run_columns.specs.Columns.{noteAt, gathered}
 use Rattle.run_columns.specs.Changes.{turnedAt, finishedIn}
 use Rattle.run_columns.proofs.Tables.{note-length, noted-length}
 use Rattle.run_columns.proofs.note as note
@@ -260,7 +261,7 @@ module _ {M : Type 1} (𝓤 : URA M) (H : Heap 𝓤) (A : Atoms 𝓤) (W : Given
         fsplit ! $ fsplit ! $ move ! (1 ∷ []) $ feqL ! (λ _. rewrite ! 0 (λ (l : List Job). ‵ (finally T.the-row (z .1) l)) e refl $
         -- [the table's last list; true; the token and the result; what was kept]
         move ! (2 ∷ []) $ split ! $ move ! (1 ∷ []) $ feqL ! (λ d. split ! $ lft-end ! tt $
-        move ! (0 ∷ 4 ∷ 2 ∷ []) $ use3 W (later (Jobs (length ys) (turnedAt ys i w))) (comes-back T.the-row κ (z .0 ∷ []) q γ b o 𝓤 H A W (named 0) (named 0) ys (z .1) (turnedAt ys i w) gn (length-set ys i (turned w (getD ys i blank)))) $ await ! tt $
+        move ! (0 ∷ 4 ∷ 2 ∷ []) $ use3 W (later (Jobs (length ys) (turnedAt ys i w))) (comes-back T.the-row κ (z .0 ∷ []) q γ b o 𝓤 H A W (named 0) (named 0) ys (z .1) (turnedAt ys i w) gn (length-set ys i (turned w (getD ys i noJob)))) $ await ! tt $
         at-once ! $ check ! (ap only d) $ keep ! (0 ∷ []) $ done !)))))
 
   -- ---- finish_change. m is the machine's count

@@ -38,9 +38,6 @@ pub fn later_keyword(w: &[u8]) -> bool
 pub fn later_key(w: &[u8]) -> bool
     ensures { λ r. ⌜ r ≡ laterKey (now (w .entry)) ⌝ }
 {
-    if equal(w, b"depfile") {
-        return true;
-    }
     if equal(w, b"deps") {
         return true;
     }

@@ -8,23 +8,23 @@ use borrow.Author.Tests.{le-leb, lt-leb}
 use mathlib.Core.Path.{_≡_, refl}
 use mathlib.Core.List.{List, [], _∷_, map}
 use Rattle.spec.specs.declared.Refusal.{Refusal}
-use Rattle.spec.specs.declared.Refusal.the-variants.{ShortBuffer, LongManifest, BadByte, BadLine, BadDollar, NotYet, BadRule, BadPath, OverLimit, BadVersion, BadCard, BadTarget, NoRoot, Circle, MissingSource, EndlessText, LongText, NoCommand, BadBundle, BadOpen}
+use Rattle.spec.specs.declared.Refusal.the-variants.{ShortBuffer, LongManifest, BadByte, BadLine, BadDollar, NotYet, BadRule, BadPath, OverLimit, BadVersion, BadCard, BadTarget, NoRoot, Circle, MissingSource, EndlessText, LongText, NoCommand, BadBundle, BadOpen, BadHeaders}
 use Rattle.spec.specs.Answers.{numberOfRefusal, placeOfRefusal, refusalSays, inText, spot, baseOf, placed}
 
 abbrev rows : ℕ → List Refusal
 rows p =
-    ShortBuffer ∷ LongManifest ∷ BadByte p ∷ BadLine p ∷ BadDollar p ∷ NotYet p ∷ BadRule p ∷ BadPath p ∷ OverLimit p ∷ BadVersion p ∷ BadCard ∷ BadTarget p ∷ NoRoot ∷ Circle p ∷ MissingSource p ∷ EndlessText p ∷ LongText p ∷ NoCommand p ∷ []
+    ShortBuffer ∷ LongManifest ∷ BadByte p ∷ BadLine p ∷ BadDollar p ∷ NotYet p ∷ BadRule p ∷ BadPath p ∷ OverLimit p ∷ BadVersion p ∷ BadCard ∷ BadTarget p ∷ NoRoot ∷ Circle p ∷ MissingSource p ∷ EndlessText p ∷ LongText p ∷ NoCommand p ∷ BadBundle ∷ BadOpen p ∷ BadHeaders p ∷ []
 
-pub numbers : (p : ℕ) → map numberOfRefusal (rows p) ≡ 1 ∷ 2 ∷ 3 ∷ 4 ∷ 5 ∷ 6 ∷ 7 ∷ 8 ∷ 9 ∷ 10 ∷ 11 ∷ 12 ∷ 13 ∷ 14 ∷ 15 ∷ 16 ∷ 17 ∷ 18 ∷ []
+pub numbers : (p : ℕ) → map numberOfRefusal (rows p) ≡ 1 ∷ 2 ∷ 3 ∷ 4 ∷ 5 ∷ 6 ∷ 7 ∷ 8 ∷ 9 ∷ 10 ∷ 11 ∷ 12 ∷ 13 ∷ 14 ∷ 15 ∷ 16 ∷ 17 ∷ 18 ∷ 19 ∷ 19 ∷ 20 ∷ []
 unfolding numberOfRefusal
 numbers p = refl
 
-pub places : (p : ℕ) → map placeOfRefusal (rows p) ≡ 0 ∷ 0 ∷ p ∷ p ∷ p ∷ p ∷ p ∷ p ∷ p ∷ p ∷ 0 ∷ p ∷ 0 ∷ p ∷ p ∷ p ∷ p ∷ p ∷ []
+pub places : (p : ℕ) → map placeOfRefusal (rows p) ≡ 0 ∷ 0 ∷ p ∷ p ∷ p ∷ p ∷ p ∷ p ∷ p ∷ p ∷ 0 ∷ p ∷ 0 ∷ p ∷ p ∷ p ∷ p ∷ p ∷ 0 ∷ p ∷ p ∷ []
 unfolding placeOfRefusal
 places p = refl
 
 pub in-texts : (p : ℕ) → map (λ (r : Refusal). refusalSays r .text) (rows p) ≡
-    false ∷ false ∷ true ∷ true ∷ true ∷ true ∷ true ∷ true ∷ true ∷ true ∷ false ∷ false ∷ false ∷ false ∷ false ∷ false ∷ false ∷ false ∷ []
+    false ∷ false ∷ true ∷ true ∷ true ∷ true ∷ true ∷ true ∷ true ∷ true ∷ false ∷ false ∷ false ∷ false ∷ false ∷ false ∷ false ∷ false ∷ false ∷ true ∷ false ∷ []
 unfolding refusalSays
 in-texts p = refl
 
@@ -65,3 +65,4 @@ refusal-not-0 (LongText s) e = omega arith
 refusal-not-0 (NoCommand s) e = omega arith
 refusal-not-0 BadBundle e = omega arith
 refusal-not-0 (BadOpen p) e = omega arith
+refusal-not-0 (BadHeaders s) e = omega arith

@@ -6,7 +6,7 @@ use mathlib.Core.Path.{_≡_, refl}
 use Rattle.lists.specs.Text.{bytes}
 use Rattle.spec.specs.declared.Wanted.the-variants.{Description}
 use Rattle.spec.specs.Answers.{numberOfRefusal, placeOfRefusal}
-use Rattle.spec.specs.Bundle.{alone}
+use Rattle.spec.specs.Bundle.{alone, noLists}
 use Rattle.spec.specs.PlanAsk.{PlanOutcome, inputsOf, planAsk, listed, circular, noPlan}
 use Rattle.spec.specs.TextAsk.{TextOutcome, textAsk, text, noText}
 use Rattle.spec.specs.Marked.{on, plan, command}
@@ -22,7 +22,7 @@ unfolding numberOfRefusal placeOfRefusal
 shownText (text t) = 0 ∷ t
 shownText (noText r) = numberOfRefusal r ∷ placeOfRefusal r ∷ []
 
-limit-list-buffer-511 : shownPlan (planAsk (inputsOf (alone (bytes "")) (0 ∷ 0 ∷ 0 ∷ 0 ∷ 16 ∷ 0 ∷ 0 ∷ 0 ∷ 16 ∷ 0 ∷ 0 ∷ 0 ∷ 16 ∷ 0 ∷ 0 ∷ 0 ∷ []) (bytes "")) 511) ≡ 1 ∷ 0 ∷ []
+limit-list-buffer-511 : shownPlan (planAsk (inputsOf (alone (bytes "")) (0 ∷ 0 ∷ 0 ∷ 0 ∷ 16 ∷ 0 ∷ 0 ∷ 0 ∷ 16 ∷ 0 ∷ 0 ∷ 0 ∷ 16 ∷ 0 ∷ 0 ∷ 0 ∷ []) (bytes "") noLists) 511) ≡ 1 ∷ 0 ∷ []
 unfolding shownPlan planAsk alone
 limit-list-buffer-511 = refl
 
@@ -86,7 +86,7 @@ keyword-as-rule-of-build-pool : shownPlan (plan (bytes "build a: pool\n") [] "")
 unfolding shownPlan planAsk alone
 keyword-as-rule-of-build-pool = refl
 
-not-yet-without-equals : shownPlan (plan (bytes "depfile x\n") [] "") ≡ 6 ∷ 0 ∷ []
+not-yet-without-equals : shownPlan (plan (bytes "deps x\n") [] "") ≡ 6 ∷ 0 ∷ []
 unfolding shownPlan planAsk alone
 not-yet-without-equals = refl
 
@@ -134,7 +134,7 @@ card-names-prefix : shownPlan (plan (bytes "") (on "a" 5 ∷ on "ab" 5 ∷ on "a
 unfolding shownPlan planAsk alone
 card-names-prefix = refl
 
-card-name-offset-gap : shownPlan (planAsk (inputsOf (alone (bytes "")) (2 ∷ 0 ∷ 0 ∷ 0 ∷ 16 ∷ 0 ∷ 0 ∷ 0 ∷ 48 ∷ 0 ∷ 0 ∷ 0 ∷ 51 ∷ 0 ∷ 0 ∷ 0 ∷ 0 ∷ 0 ∷ 0 ∷ 0 ∷ 1 ∷ 0 ∷ 0 ∷ 0 ∷ 5 ∷ 0 ∷ 0 ∷ 0 ∷ 0 ∷ 0 ∷ 0 ∷ 0 ∷ 2 ∷ 0 ∷ 0 ∷ 0 ∷ 1 ∷ 0 ∷ 0 ∷ 0 ∷ 5 ∷ 0 ∷ 0 ∷ 0 ∷ 0 ∷ 0 ∷ 0 ∷ 0 ∷ 97 ∷ 120 ∷ 98 ∷ []) (bytes "")) 512) ≡ 11 ∷ 0 ∷ []
+card-name-offset-gap : shownPlan (planAsk (inputsOf (alone (bytes "")) (2 ∷ 0 ∷ 0 ∷ 0 ∷ 16 ∷ 0 ∷ 0 ∷ 0 ∷ 48 ∷ 0 ∷ 0 ∷ 0 ∷ 51 ∷ 0 ∷ 0 ∷ 0 ∷ 0 ∷ 0 ∷ 0 ∷ 0 ∷ 1 ∷ 0 ∷ 0 ∷ 0 ∷ 5 ∷ 0 ∷ 0 ∷ 0 ∷ 0 ∷ 0 ∷ 0 ∷ 0 ∷ 2 ∷ 0 ∷ 0 ∷ 0 ∷ 1 ∷ 0 ∷ 0 ∷ 0 ∷ 5 ∷ 0 ∷ 0 ∷ 0 ∷ 0 ∷ 0 ∷ 0 ∷ 0 ∷ 97 ∷ 120 ∷ 98 ∷ []) (bytes "") noLists) 512) ≡ 11 ∷ 0 ∷ []
 unfolding shownPlan planAsk alone
 card-name-offset-gap = refl
 

@@ -1,9 +1,14 @@
 pub mod Quotes
+pub mod Numbers
+pub mod Makers
 pub mod Cases
+pub mod HeaderCases
 pub mod Graph
 pub mod Stale
 pub mod Sources
 pub mod StaleWords
+pub mod Judged
+pub mod Headers
 pub mod GraphWords
 pub mod Promises
 pub mod Marked
@@ -16,3 +21,5 @@ pub mod Scopes
 pub mod Outcomes
 pub mod Demands
 pub mod Demand3
+pub mod NoLists
+pub mod Grown

@@ -9,7 +9,7 @@ use Rattle.lists.specs.Members.{_∈_, here, there, Once, once-head}
 use Rattle.spec.specs.declared.PlanAnswer.{PlanAnswer}
 use Rattle.spec.specs.Answers.{Said, planSays, says}
 use Rattle.spec.specs.Card.{soundCard, cardEntries, timeIn}
-use Rattle.spec.specs.Bundle.{alone}
+use Rattle.spec.specs.Bundle.{alone, noLists}
 use Rattle.spec.specs.PlanAsk.{inputsOf, planAsk, circular}
 use Rattle.spec.specs.TextAsk.{textAsk}
 use Rattle.spec.specs.Words.{Needed}
@@ -30,15 +30,15 @@ shows-zero lent exit said p =
     lowest : {s : ℕ} → Needed (phonyStepOf 0 (0 ∷ []) ∷ []) (0 ∷ []) s → s ≡ 0
     lowest n = let b = needed-low n in omega arith
 
-m7-circular : planAsk (inputsOf (alone (bytes "build a: phony a\n")) (cardOf []) (bytes "a\n")) 512 ≡ circular (phonyStepOf 0 (0 ∷ []) ∷ []) (0 ∷ [])
+m7-circular : planAsk (inputsOf (alone (bytes "build a: phony a\n")) (cardOf []) (bytes "a\n") noLists) 512 ≡ circular (phonyStepOf 0 (0 ∷ []) ∷ []) (0 ∷ [])
 unfolding planAsk alone
 m7-circular = refl
 
 m7-right : (lent : List ℕ) (answer : PlanAnswer) (exit : List ℕ) → length lent ≡ 512
-    → PlanPromise (inputsOf (alone (bytes "build a: phony a\n")) (cardOf []) (bytes "a\n")) lent answer exit → AnswerIs (planSays answer) exit (says 14 1) (filled (0 ∷ []) lent)
+    → PlanPromise (inputsOf (alone (bytes "build a: phony a\n")) (cardOf []) (bytes "a\n") noLists) lent answer exit → AnswerIs (planSays answer) exit (says 14 1) (filled (0 ∷ []) lent)
 unfolding PlanMeets
 m7-right lent answer exit room p =
-    let e : planAsk (inputsOf (alone (bytes "build a: phony a\n")) (cardOf []) (bytes "a\n")) (length lent) ≡ circular (phonyStepOf 0 (0 ∷ []) ∷ []) (0 ∷ []) = rw room m7-circular in
+    let e : planAsk (inputsOf (alone (bytes "build a: phony a\n")) (cardOf []) (bytes "a\n") noLists) (length lent) ≡ circular (phonyStepOf 0 (0 ∷ []) ∷ []) (0 ∷ []) = rw room m7-circular in
     shows-zero lent exit (planSays answer) (rw e at p)
 
 pub marked : Marked

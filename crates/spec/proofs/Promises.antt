@@ -12,7 +12,7 @@ use Rattle.spec.specs.Basics.{orElse}
 use Rattle.lists.specs.Fill.{zeroed, zeroed-all}
 use Rattle.orders.specs.Circle.{circleOf}
 use Rattle.spec.specs.declared.Refusal.{Refusal}
-use Rattle.spec.specs.declared.Refusal.the-variants.{BadCard, BadTarget, NoRoot, Circle, MissingSource}
+use Rattle.spec.specs.declared.Refusal.the-variants.{BadCard, BadTarget, NoRoot, Circle, MissingSource, BadHeaders}
 use Rattle.spec.specs.declared.PlanAnswer.{PlanAnswer}
 use Rattle.spec.specs.declared.PlanAnswer.the-variants.{Listed, Refused as PlanRefused}
 use Rattle.spec.specs.declared.TextAnswer.{TextAnswer}
@@ -24,7 +24,8 @@ use Rattle.spec.specs.Manifest.{Read, accepted, refusedWith, readManifes
 use Rattle.spec.specs.Card.{soundCard}
 use Rattle.spec.specs.Targets.{badTarget}
 use Rattle.spec.specs.Graph.{before, needed, hasOrder, noRoot}
-use Rattle.spec.specs.PlanAsk.{Inputs, PlanOutcome, listed, circular, noPlan, rootsOf, targetFiles, missingSource, planListed, planSources, planOrdered, planRooted, planTargets, planRead, planManifest, planAsk}
+use Rattle.spec.specs.PlanAsk.{Inputs, PlanOutcome, listed, circular, noPlan, rootsOf, targetFiles, missingSource, planListed, planSources, planOrdered, planHeaders, planRooted, planTargets, planRead, planManifest, badHeaders, planAsk}
+use Rattle.spec.specs.Headers.{HeaderGraph, Heading, headed, headless, onHeaded, withHeaders}
 use Rattle.spec.specs.TextAsk.{TextOutcome, text, noText, textAsk}
 use Rattle.spec.specs.Answers.{Said, planSays, textSays}
 use Rattle.spec.specs.Promises.{filled, leftBy, AnswerIs, PlanMeets, PlanPromise, TextMeets, TextPromise}
@@ -51,22 +52,27 @@ after-place none r f s = s
 after-place (some p) r f s = tt
 
 module _ (i : Inputs) (rd : Reading) where
-  sources-sound : Sound (planSources i rd)
+  sources-sound : (h : HeaderGraph) → Sound (planSources i rd h)
   unfolding planSources planListed
-  sources-sound = after-place (missingSource (i .card) rd (rootsOf i rd)) MissingSource (λ _. planListed i rd) tt
+  sources-sound h = after-place (missingSource (i .card) (rd .steps) (h .reading) (rootsOf i rd)) MissingSource (λ _. planListed i rd h) tt
 
-  ordered-sound : Sound (planOrdered i rd)
+  ordered-sound : (h : HeaderGraph) → Sound (planOrdered i rd h)
   unfolding planOrdered
-  ordered-sound =
-      split (hasOrder (rd .steps) (rootsOf i rd)) (λ (e : hasOrder (rd .steps) (rootsOf i rd) ≡ true). rw e sources-sound)
-      (λ (e : hasOrder (rd .steps) (rootsOf i rd) ≡ false). rw e e)
+  ordered-sound h =
+      let o = hasOrder (h .reading .steps) (rootsOf i rd) in
+      split o (λ (e : o ≡ true). rw e (sources-sound h)) (λ (e : o ≡ false). rw e e)
+
+  headed-sound : (x : Heading) → Sound (onHeaded x noPlan (planOrdered i rd))
+  unfolding onHeaded
+  headed-sound (headed h) = ordered-sound h
+  headed-sound (headless r) = tt
 
   read-sound : Sound (planRead i rd)
-  unfolding planRead planTargets planRooted
+  unfolding planRead planTargets planRooted planHeaders
   read-sound =
       after-test (not (soundCard (i .card))) BadCard (λ _. planTargets i rd)
       (after-place (badTarget (rd .files) (i .targets)) BadTarget (λ _. planRooted i rd)
-      (after-test (noRoot rd (targetFiles (i .targets) rd)) NoRoot (λ _. planOrdered i rd) ordered-sound))
+      (after-test (noRoot rd (targetFiles (i .targets) rd)) NoRoot (λ _. planHeaders i rd) (headed-sound (withHeaders (i .headers) rd))))
 
 manifest-sound : (i : Inputs) (r : Read) → Sound (planManifest i r)
 unfolding planManifest
@@ -77,7 +83,7 @@ ask-sound : (i : Inputs) (room : ℕ) → Sound (planAsk i room)
 unfolding planAsk
 ask-sound i room =
     split (ltb room leastList) (λ (e : ltb room leastList ≡ true). rw e tt)
-    (λ (e : ltb room leastList ≡ false). rw e (manifest-sound i (readManifest (i .manifest))))
+    (λ (e : ltb room leastList ≡ false). rw e (after-test (badHeaders i) (BadHeaders 0) (λ _. planManifest i (readManifest (i .manifest))) (manifest-sound i (readManifest (i .manifest)))))
 
 plan-kept : (o : PlanOutcome) (lent : List ℕ) → Sound o → (answer : PlanAnswer) × (exit : List ℕ) × PlanMeets o lent (planSays answer) exit
 unfolding PlanMeets planSays

@@ -13,6 +13,7 @@ use Rattle.lists.specs.Members.{_∈_, not-in-nil, has, has-true, in-has, any, 
 use Rattle.spec.specs.Basics.{isEmpty}
 use Rattle.spec.specs.Reading.{Step, Reading}
 use Rattle.spec.specs.Graph.{inputs, stepAt, makers, needed, isNeededSource}
+use Rattle.spec.specs.Headers.{HeaderGraph}
 use Rattle.spec.specs.PlanAsk.{Inputs, rootsOf, cardTime, missingSource}
 use Rattle.spec.specs.Words.{NeededSource}
 use Rattle.spec.specs.Demands.{MissingIn}
@@ -33,11 +34,11 @@ pub or-right : (a b : Bool) → b ≡ true → (a || b) ≡ true
 or-right true b e = refl
 or-right false b e = e
 
-module _ (steps : List Step) (roots : List ℕ) (f : ℕ) where
+module _ (written steps : List Step) (roots : List ℕ) (f : ℕ) where
   takes : ℕ → Bool
-  takes s = has f (inputs (stepAt steps s))
+  takes s = has f (inputs (stepAt written s))
 
-  pub in-source : (isNeededSource steps roots f ≡ true) ↔ NeededSource steps roots f
+  pub in-source : (isNeededSource written steps roots f ≡ true) ↔ NeededSource written steps roots f
   unfolding isNeededSource takes
   in-source = (
     λ e. let a = and-left (isEmpty (makers steps f)) (has f roots || any takes (needed steps roots)) e in
@@ -46,7 +47,7 @@ module _ (steps : List Step) (roots : List ℕ) (f : ℕ) where
           no-maker = λ m w. empty-none (makers steps f) a m (in-makers steps f .1 w);
           needed = elim (or-true (has f roots) (any takes (needed steps roots)) b) [
             | inl p ↦ inl (has-true f roots p)
-            | inr q ↦ (let (s, h, i) = any-true takes (needed steps roots) q in inr (s, in-needed steps roots .0 h, has-true f (inputs (stepAt steps s)) i))
+            | inr q ↦ (let (s, h, i) = any-true takes (needed steps roots) q in inr (s, in-needed steps roots .0 h, has-true f (inputs (stepAt written s)) i))
           ];
         },
     λ w. and-true (isEmpty (makers steps f)) (has f roots || any takes (needed steps roots))
@@ -57,34 +58,34 @@ module _ (steps : List Step) (roots : List ℕ) (f : ℕ) where
         ]),
   )
 
-module _ (i : Inputs) (rd : Reading) where
+module _ (i : Inputs) (rd : Reading) (h : HeaderGraph) where
   test : ℕ → Bool
-  test f = eqb (cardTime (i .card) rd f) 0 && isNeededSource (rd .steps) (rootsOf i rd) f
+  test f = eqb (cardTime (i .card) (h .reading) f) 0 && isNeededSource (rd .steps) (h .reading .steps) (rootsOf i rd) f
 
-  missing-test : {f : ℕ} → MissingIn i rd f → test f ≡ true
+  missing-test : {f : ℕ} → MissingIn i rd h f → test f ≡ true
   unfolding test
   missing-test {f} w =
-      and-true (eqb (cardTime (i .card) rd f) 0) (isNeededSource (rd .steps) (rootsOf i rd) f) (eq-eqb (cardTime (i .card) rd f) 0 (w .absent)) (in-source (rd .steps) (rootsOf i rd) f .1 (w .source))
+      and-true (eqb (cardTime (i .card) (h .reading) f) 0) (isNeededSource (rd .steps) (h .reading .steps) (rootsOf i rd) f) (eq-eqb (cardTime (i .card) (h .reading) f) 0 (w .absent)) (in-source (rd .steps) (h .reading .steps) (rootsOf i rd) f .1 (w .source))
 
   -- "a needed source is missing": "lowest file number"
-  pub missing-lowest : {f : ℕ} → missingSource (i .card) rd (rootsOf i rd) ≡ some f → MissingIn i rd f × ((g : ℕ) → MissingIn i rd g → f ≤ g)
+  pub missing-lowest : {f : ℕ} → missingSource (i .card) (rd .steps) (h .reading) (rootsOf i rd) ≡ some f → MissingIn i rd h f × ((g : ℕ) → MissingIn i rd h g → f ≤ g)
   unfolding missingSource test
   missing-lowest {f} e =
-      let (h, t) = find-some test (upTo (length (rd .files))) e in
-      let a = and-left (eqb (cardTime (i .card) rd f) 0) (isNeededSource (rd .steps) (rootsOf i rd) f) t in
-      let b = and-right (eqb (cardTime (i .card) rd f) 0) (isNeededSource (rd .steps) (rootsOf i rd) f) t in (
-        record { file = in-upTo (length (rd .files)) h; absent = eqb-true (cardTime (i .card) rd f) 0 a; source = in-source (rd .steps) (rootsOf i rd) f .0 b },
-        λ g w. find-least test (upTo (length (rd .files))) (rising-upTo (length (rd .files))) e (upTo-in (length (rd .files)) (w .file)) (missing-test w),
+      let (k, t) = find-some test (upTo (length (h .reading .files))) e in
+      let a = and-left (eqb (cardTime (i .card) (h .reading) f) 0) (isNeededSource (rd .steps) (h .reading .steps) (rootsOf i rd) f) t in
+      let b = and-right (eqb (cardTime (i .card) (h .reading) f) 0) (isNeededSource (rd .steps) (h .reading .steps) (rootsOf i rd) f) t in (
+        record { file = in-upTo (length (h .reading .files)) k; absent = eqb-true (cardTime (i .card) (h .reading) f) 0 a; source = in-source (rd .steps) (h .reading .steps) (rootsOf i rd) f .0 b },
+        λ g w. find-least test (upTo (length (h .reading .files))) (rising-upTo (length (h .reading .files))) e (upTo-in (length (h .reading .files)) (w .file)) (missing-test w),
       )
 
-  pub none-missing : missingSource (i .card) rd (rootsOf i rd) ≡ none → (f : ℕ) → ¬ MissingIn i rd f
+  pub none-missing : missingSource (i .card) (rd .steps) (h .reading) (rootsOf i rd) ≡ none → (f : ℕ) → ¬ MissingIn i rd h f
   unfolding missingSource test
   none-missing e f w =
-      true≢false (sym (missing-test w) ∙ find-none test (upTo (length (rd .files))) e (upTo-in (length (rd .files)) (w .file)))
+      true≢false (sym (missing-test w) ∙ find-none test (upTo (length (h .reading .files))) e (upTo-in (length (h .reading .files)) (w .file)))
 
-  pub missing-none : ((f : ℕ) → ¬ MissingIn i rd f) → missingSource (i .card) rd (rootsOf i rd) ≡ none
-  missing-none n = go (missingSource (i .card) rd (rootsOf i rd)) refl
+  pub missing-none : ((f : ℕ) → ¬ MissingIn i rd h f) → missingSource (i .card) (rd .steps) (h .reading) (rootsOf i rd) ≡ none
+  missing-none n = go (missingSource (i .card) (rd .steps) (h .reading) (rootsOf i rd)) refl
     where
-      go : (o : Option ℕ) → missingSource (i .card) rd (rootsOf i rd) ≡ o → o ≡ none
+      go : (o : Option ℕ) → missingSource (i .card) (rd .steps) (h .reading) (rootsOf i rd) ≡ o → o ≡ none
       go none e = refl
       go (some f) e = absurd (n f (missing-lowest e .0))

@@ -1,4 +1,5 @@
--- Stale and time: a step's verdict rests on those of the makers of its inputs alone, so the verdicts do not depend on the order taken.
+-- Stale and time: a step's verdict rests on those of the makers of its inputs alone, so the verdicts do not depend on the order taken. Likewise the
+-- verdict that has the step's depfile among its reasons.
 use Prim.Native.Nat.{ℕ}
 use mathlib.Core.Path.{_≡_, refl, ap, ap₂}
 use mathlib.Core.Logic.{inl, inr}
@@ -9,20 +10,29 @@ use Rattle.lists.specs.Members.{_∈_, here, there, in-left, in-right, in-appen
 use Rattle.orders.specs.Along.{Local}
 use Rattle.spec.specs.Reading.{Step}
 use Rattle.spec.specs.Graph.{inputs, nonOrderOnly, stepAt, makers, makersOf, before}
-use Rattle.spec.specs.Stale.{Verdict, phonyStep, madeTime, timeOf, greatest, newestInput, makerStale, verdict}
+use Rattle.spec.specs.Stale.{Verdict, phonyStep, madeTime, timeOf, greatest, newestInput, makerStale, stalePhony, staleCommand, verdict}
+use Rattle.spec.specs.Headers.{Listed, forced}
 use Rattle.spec.proofs.Graph.{in-makers, in-makersOf, makersOf-in}
 
-any-same : (p q : ℕ → Bool) (l : List ℕ) → ((x : ℕ) → x ∈ l → p x ≡ q x) → any p l ≡ any q l
+-- what is told of a step by document 01's sentences and document 02's about its depfile
+unfoldable pub toldVerdict : List Step → (ℕ → ℕ) → List Listed → (ℕ → Verdict) → ℕ → Verdict
+unfolding phonyStep stalePhony staleCommand forced newestInput
+toldVerdict steps card ls known s = record {
+  stale = ifB (phonyStep steps s) (λ _. stalePhony steps card known s) (λ _. staleCommand steps card known s || forced steps card ls s);
+  time = newestInput steps card known s;
+}
+
+pub any-same : (p q : ℕ → Bool) (l : List ℕ) → ((x : ℕ) → x ∈ l → p x ≡ q x) → any p l ≡ any q l
 unfolding any
 any-same p q [] e = refl
 any-same p q (x ∷ l) e = ap₂ (λ (a b : Bool). a || b) (e x (here refl)) (any-same p q l (λ y h. e y (there h)))
 
-map-same : (p q : ℕ → ℕ) (l : List ℕ) → ((x : ℕ) → x ∈ l → p x ≡ q x) → map p l ≡ map q l
+pub map-same : (p q : ℕ → ℕ) (l : List ℕ) → ((x : ℕ) → x ∈ l → p x ≡ q x) → map p l ≡ map q l
 map-same p q [] e = refl
 map-same p q (x ∷ l) e = ap₂ (λ (a : ℕ) (b : List ℕ). a ∷ b) (e x (here refl)) (map-same p q l (λ y h. e y (there h)))
 
 -- an input that is not order-only is an input
-counted-input : (s : Step) {f : ℕ} → f ∈ nonOrderOnly s → f ∈ inputs s
+pub counted-input : (s : Step) {f : ℕ} → f ∈ nonOrderOnly s → f ∈ inputs s
 unfolding nonOrderOnly inputs
 counted-input s h = elim (in-append (s .ins) h) [
   | inl a ↦ in-left (s .implicit ++ s .orderOnly) a
@@ -57,5 +67,12 @@ module _ (steps : List Step) (card : ℕ → ℕ) (g h : ℕ → Verdict) (s : �
   unfolding verdict
   verdict-same = simp (maker-same, newest-same)
 
+  told-same : (ls : List Listed) → toldVerdict steps card ls g s ≡ toldVerdict steps card ls h s
+  unfolding toldVerdict
+  told-same ls = simp (maker-same, newest-same)
+
 pub verdict-local : (steps : List Step) (card : ℕ → ℕ) → Local (verdict steps card) (before steps)
 verdict-local steps card g h s same = verdict-same steps card g h s same
+
+pub told-local : (steps : List Step) (card : ℕ → ℕ) (ls : List Listed) → Local (toldVerdict steps card ls) (before steps)
+told-local steps card ls g h s same = told-same steps card g h s same ls

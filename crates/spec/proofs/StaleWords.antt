@@ -1,4 +1,5 @@
--- What `verdict` computes of a step is what document 01's sentences about stale and time say, and nothing else is.
+-- What `toldVerdict` computes of a step is what document 01's sentences about stale and time say, with document 02's about its depfile, and nothing
+-- else is.
 use Prim.Native.Nat.{ℕ, max, _≤_, _<_}
 use native.Mathlib.Omega.{arith}
 use mathlib.Core.Path.{_≡_, refl, sym, ap, ap₂, subst, _∙_}
@@ -12,10 +13,12 @@ use Rattle.lists.specs.Members.{_∈_, here, there, not-in-nil, any, any-true, 
 use Rattle.spec.specs.Basics.{isEmpty}
 use Rattle.spec.specs.Reading.{Step}
 use Rattle.spec.specs.Graph.{inputs, nonOrderOnly, stepAt, makers, makersOf}
-use Rattle.spec.specs.Stale.{Verdict, phonyStep, madeTime, timeOf, greatest, newestInput, makerStale, outputMissing, staleCommand, stalePhony, verdict}
-use Rattle.spec.specs.Words.{TimeIs, by-maker, by-card, InputTime, Greatest, MakerStale, OutputMissing, CommandStale, maker-stale, missing, below, PhonyStale, such-maker, no-inputs, Sentences}
-use Rattle.spec.proofs.Graph.{in-makersOf, makersOf-in, maker-first, no-maker, maker-once}
+use Rattle.spec.specs.Stale.{Verdict, phonyStep, madeTime, timeOf, greatest, newestInput, makerStale, outputMissing, staleCommand, stalePhony}
+use Rattle.spec.specs.Headers.{Listed, listedOf, forced}
+use Rattle.spec.specs.Words.{TimeIs, by-maker, by-card, InputTime, Greatest, MakerStale, OutputMissing, OutputBelow, CommandStale, maker-stale, missing, below, by-depfile, StaleByDepfile, depfile-missing, listed-missing, PhonyStale, such-maker, no-inputs, Sentences}
+use Rattle.spec.proofs.Graph.{in-makers, in-makersOf, makersOf-in, maker-first, no-maker, maker-once}
 use Rattle.spec.proofs.Sources.{empty-none, none-empty, or-left, or-right}
+use Rattle.spec.proofs.Stale.{toldVerdict}
 
 -- ------------------------------------------------------------------ the greatest of some numbers
 
@@ -64,7 +67,7 @@ same-test {a} {b} f g =
 abbrev told-of : Bool → ℕ → Verdict
 told-of b t = record { stale = b; time = t }
 
-module _ (steps : List Step) (card : ℕ → ℕ) (v : ℕ → Verdict) where
+module _ (steps : List Step) (card : ℕ → ℕ) (ls : List Listed) (v : ℕ → Verdict) where
   -- ------------------------------------------------------------------ the time of a file
 
   made-time : (f : ℕ) → card f ≡ 0 → (ms : List ℕ) → makers steps f ≡ ms → TimeIs steps card v f (madeTime steps v ms)
@@ -142,7 +145,7 @@ module _ (steps : List Step) (card : ℕ → ℕ) (v : ℕ → Verdict) where
     older : ℕ → Bool
     older f = ltb (card f) (newestInput steps card v s)
 
-    older-stale : {f : ℕ} → f ∈ stepAt steps s .outs → card f < newestInput steps card v s → CommandStale steps card v s
+    older-stale : {f : ℕ} → f ∈ stepAt steps s .outs → card f < newestInput steps card v s → CommandStale steps card ls v s
     older-stale {f} h l =
         split (eqb (card f) 0)
         (λ (e : eqb (card f) 0 ≡ true). missing (record { file = f; output = h; absent = eqb-true (card f) 0 e }))
@@ -157,13 +160,32 @@ module _ (steps : List Step) (card : ℕ → ℕ) (v : ℕ → Verdict) where
         or-left (makerStale steps v s || outputMissing steps card s) (any older (stepAt steps s .outs))
         (or-right (makerStale steps v s) (outputMissing steps card s) (missing-words .1 w))
 
-    command-test : CommandStale steps card v s → (makerStale steps v s || outputMissing steps card s || any older (stepAt steps s .outs)) ≡ true
+    -- "A missing depfile makes its step stale; so does a missing listed file without a maker"
+    lost : ℕ → Bool
+    lost f = isEmpty (makers steps f) && eqb (card f) 0
+
+    depfile-words : (forced steps card ls s ≡ true) ↔ StaleByDepfile steps card ls s
+    unfolding forced lost
+    depfile-words = (
+      λ e. elim (or-true (listedOf ls s .missing) (any lost (listedOf ls s .files)) e) [
+        | inl p ↦ depfile-missing p
+        | inr q ↦ (let (f, h, t) = any-true lost (listedOf ls s .files) q in
+            listed-missing f h (eqb-true (card f) 0 (and-right (isEmpty (makers steps f)) (eqb (card f) 0) t))
+            (λ m w. empty-none (makers steps f) (and-left (isEmpty (makers steps f)) (eqb (card f) 0) t) m (in-makers steps f .1 w)))
+      ],
+      depfile-test,
+    )
+      where
+        depfile-test : StaleByDepfile steps card ls s → (listedOf ls s .missing || any lost (listedOf ls s .files)) ≡ true
+        depfile-test (depfile-missing e) = or-left (listedOf ls s .missing) (any lost (listedOf ls s .files)) e
+        depfile-test (listed-missing f h e n) =
+            or-right (listedOf ls s .missing) (any lost (listedOf ls s .files))
+            (true-any lost (listedOf ls s .files) h
+            (and-true (isEmpty (makers steps f)) (eqb (card f) 0) (none-empty (makers steps f) (λ m i. n m (in-makers steps f .0 i))) (eq-eqb (card f) 0 e)))
+
+    below-test : OutputBelow steps card v s → (makerStale steps v s || outputMissing steps card s || any older (stepAt steps s .outs)) ≡ true
     unfolding older
-    command-test (maker-stale w) =
-        or-left (makerStale steps v s || outputMissing steps card s) (any older (stepAt steps s .outs))
-        (or-left (makerStale steps v s) (outputMissing steps card s) (maker-words .1 w))
-    command-test (missing w) = missing-test w
-    command-test (below w) =
+    below-test w =
         let f : ℕ = w .file in
         split (eqb (card f) 0)
         (λ (e : eqb (card f) 0 ≡ true). missing-test (record { file = f; output = w .output; absent = eqb-true (card f) 0 e }))
@@ -173,15 +195,31 @@ module _ (steps : List Step) (card : ℕ → ℕ) (v : ℕ → Verdict) where
         or-right (makerStale steps v s || outputMissing steps card s) (any older (stepAt steps s .outs))
         (true-any older (stepAt steps s .outs) (w .output) (lt-ltb (card f) (newestInput steps card v s) (omega (arith, q, l, w .below)))))
 
-    command-words : (staleCommand steps card v s ≡ true) ↔ CommandStale steps card v s
+    command-test : CommandStale steps card ls v s → (staleCommand steps card v s || forced steps card ls s) ≡ true
     unfolding staleCommand older
+    command-test (maker-stale w) =
+        or-left (staleCommand steps card v s) (forced steps card ls s)
+        (or-left (makerStale steps v s || outputMissing steps card s) (any older (stepAt steps s .outs))
+        (or-left (makerStale steps v s) (outputMissing steps card s) (maker-words .1 w)))
+    command-test (missing w) = or-left (staleCommand steps card v s) (forced steps card ls s) (missing-test w)
+    command-test (below w) = or-left (staleCommand steps card v s) (forced steps card ls s) (below-test w)
+    command-test (by-depfile w) = or-right (staleCommand steps card v s) (forced steps card ls s) (depfile-words .1 w)
+
+    computed-stale : staleCommand steps card v s ≡ true → CommandStale steps card ls v s
+    unfolding staleCommand older
+    computed-stale e = elim (or-true (makerStale steps v s || outputMissing steps card s) (any older (stepAt steps s .outs)) e) [
+      | inl a ↦ elim (or-true (makerStale steps v s) (outputMissing steps card s) a) [
+        | inl p ↦ maker-stale (maker-words .0 p)
+        | inr q ↦ missing (missing-words .0 q)
+      ]
+      | inr b ↦ (let (f, h, q) = any-true older (stepAt steps s .outs) b in older-stale h (ltb-true (card f) (newestInput steps card v s) q))
+    ]
+
+    command-words : ((staleCommand steps card v s || forced steps card ls s) ≡ true) ↔ CommandStale steps card ls v s
     command-words = (
-      λ e. elim (or-true (makerStale steps v s || outputMissing steps card s) (any older (stepAt steps s .outs)) e) [
-        | inl a ↦ elim (or-true (makerStale steps v s) (outputMissing steps card s) a) [
-          | inl p ↦ maker-stale (maker-words .0 p)
-          | inr q ↦ missing (missing-words .0 q)
-        ]
-        | inr b ↦ (let (f, h, q) = any-true older (stepAt steps s .outs) b in older-stale h (ltb-true (card f) (newestInput steps card v s) q))
+      λ e. elim (or-true (staleCommand steps card v s) (forced steps card ls s) e) [
+        | inl a ↦ computed-stale a
+        | inr b ↦ by-depfile (depfile-words .0 b)
       ],
       command-test,
     )
@@ -206,22 +244,22 @@ module _ (steps : List Step) (card : ℕ → ℕ) (v : ℕ → Verdict) where
 
     -- ------------------------------------------------------------------ the law
 
-    of-command : phonyStep steps s ≡ false → verdict steps card v s .stale ≡ staleCommand steps card v s
-    unfolding verdict
+    of-command : phonyStep steps s ≡ false → toldVerdict steps card ls v s .stale ≡ (staleCommand steps card v s || forced steps card ls s)
+    unfolding toldVerdict
     of-command p = rw p
 
-    of-phony : phonyStep steps s ≡ true → verdict steps card v s .stale ≡ stalePhony steps card v s
-    unfolding verdict
+    of-phony : phonyStep steps s ≡ true → toldVerdict steps card ls v s .stale ≡ stalePhony steps card v s
+    unfolding toldVerdict
     of-phony p = rw p
 
-    of-time : verdict steps card v s .time ≡ newestInput steps card v s
-    unfolding verdict
+    of-time : toldVerdict steps card ls v s .time ≡ newestInput steps card v s
+    unfolding toldVerdict
     of-time = refl
 
-    computed-words : v s ≡ verdict steps card v s → Sentences steps card v s
+    computed-words : v s ≡ toldVerdict steps card ls v s → Sentences steps card ls v s
     computed-words e = record {
       command = λ p.
-          let q : v s .stale ≡ staleCommand steps card v s = ap (λ (x : Verdict). x .stale) e ∙ of-command p in
+          let q : v s .stale ≡ (staleCommand steps card v s || forced steps card ls s) = ap (λ (x : Verdict). x .stale) e ∙ of-command p in
           (λ h. command-words .0 (sym q ∙ h), λ w. q ∙ command-words .1 w);
       phony = λ p.
           let q : v s .stale ≡ stalePhony steps card v s = ap (λ (x : Verdict). x .stale) e ∙ of-phony p in
@@ -229,13 +267,13 @@ module _ (steps : List Step) (card : ℕ → ℕ) (v : ℕ → Verdict) where
       time = subst (λ (t : ℕ). Greatest (InputTime steps card v s) t) (sym (ap (λ (x : Verdict). x .time) e ∙ of-time)) newest-words;
     }
 
-    words-computed : Sentences steps card v s → v s ≡ verdict steps card v s
+    words-computed : Sentences steps card ls v s → v s ≡ toldVerdict steps card ls v s
     words-computed w =
-        let a : v s .stale ≡ verdict steps card v s .stale =
+        let a : v s .stale ≡ toldVerdict steps card ls v s .stale =
         split (phonyStep steps s) (λ (p : phonyStep steps s ≡ true). same-test (w .phony p) phony-words ∙ sym (of-phony p))
         (λ (p : phonyStep steps s ≡ false). same-test (w .command p) command-words ∙ sym (of-command p)) in
-        let b : v s .time ≡ verdict steps card v s .time = greatest-once (w .time) newest-words ∙ sym of-time in
+        let b : v s .time ≡ toldVerdict steps card ls v s .time = greatest-once (w .time) newest-words ∙ sym of-time in
         ap₂ told-of a b
 
-    pub verdict-words : (v s ≡ verdict steps card v s) ↔ Sentences steps card v s
+    pub verdict-words : (v s ≡ toldVerdict steps card ls v s) ↔ Sentences steps card ls v s
     verdict-words = (computed-words, words-computed)

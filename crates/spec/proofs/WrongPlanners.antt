@@ -6,18 +6,18 @@ use mathlib.Core.List.{List, [], _∷_}
 use lib.ListN.{length, getD}
 use Rattle.lists.specs.Text.{bytes}
 use Rattle.spec.specs.declared.Refusal.{Refusal}
-use Rattle.spec.specs.declared.Refusal.the-variants.{ShortBuffer, LongManifest, BadByte, BadLine, BadDollar, NotYet, BadRule, BadPath, OverLimit, BadVersion, BadCard, BadTarget, NoRoot, Circle, MissingSource, EndlessText, LongText, NoCommand, BadBundle, BadOpen}
 use Rattle.spec.specs.declared.PlanAnswer.{PlanAnswer}
 use Rattle.spec.specs.declared.PlanAnswer.the-variants.{Listed, Refused}
 use Rattle.spec.specs.declared.TextAnswer.{TextAnswer}
 use Rattle.spec.specs.declared.TextAnswer.the-variants.{Refused as TextRefused}
 use Rattle.spec.specs.declared.Wanted.the-variants.{Command}
 use Rattle.spec.specs.Answers.{numberOfRefusal, Said, planSays, textSays, says}
-use Rattle.spec.specs.Bundle.{alone}
+use Rattle.spec.specs.Bundle.{alone, noLists}
 use Rattle.spec.specs.PlanAsk.{PlanOutcome, inputsOf, planAsk, listed}
 use Rattle.spec.specs.TextAsk.{TextOutcome, textAsk, text}
 use Rattle.spec.specs.Promises.{filled, AnswerIs, PlanMeets, PlanPromise, TextMeets, TextPromise}
 use Rattle.spec.specs.Marked.{on, cardOf, bench}
+use Rattle.spec.proofs.Answers.{refusal-not-0}
 use Rattle.spec.proofs.Marked.{marked}
 
 -- the bench's card, on which steps 0 and 1 of three are stale, and the card of M1, on which only step 1 is
@@ -32,70 +32,46 @@ says-list : (o : PlanOutcome) (lent exit l : List ℕ) (said : Said) → o ≡ l
 unfolding PlanMeets
 says-list o lent exit l said e p = rw e at p
 
--- no refusal has the number 0
-refusal-number : (r : Refusal) → ¬ (numberOfRefusal r ≡ 0)
-unfolding numberOfRefusal
-refusal-number ShortBuffer e = omega arith
-refusal-number LongManifest e = omega arith
-refusal-number (BadByte p) e = omega arith
-refusal-number (BadLine p) e = omega arith
-refusal-number (BadDollar p) e = omega arith
-refusal-number (NotYet p) e = omega arith
-refusal-number (BadRule p) e = omega arith
-refusal-number (BadPath p) e = omega arith
-refusal-number (OverLimit p) e = omega arith
-refusal-number (BadVersion p) e = omega arith
-refusal-number BadCard e = omega arith
-refusal-number (BadTarget p) e = omega arith
-refusal-number NoRoot e = omega arith
-refusal-number (Circle n) e = omega arith
-refusal-number (MissingSource f) e = omega arith
-refusal-number (EndlessText s) e = omega arith
-refusal-number (LongText s) e = omega arith
-refusal-number (NoCommand s) e = omega arith
-refusal-number BadBundle e = omega arith
-refusal-number (BadOpen p) e = omega arith
-
 module _ (lent : List ℕ) (room : length lent ≡ 512) where
-  bench-both : planAsk (inputsOf (alone bench) bothStale []) (length lent) ≡ listed (0 ∷ 1 ∷ [])
+  bench-both : planAsk (inputsOf (alone bench) bothStale [] noLists) (length lent) ≡ listed (0 ∷ 1 ∷ [])
   bench-both = rw room (marked .m0)
 
-  bench-one : planAsk (inputsOf (alone bench) oneStale []) (length lent) ≡ listed (1 ∷ [])
+  bench-one : planAsk (inputsOf (alone bench) oneStale [] noLists) (length lent) ≡ listed (1 ∷ [])
   bench-one = rw room (marked .m1)
 
-  both-said : (answer : PlanAnswer) (exit : List ℕ) → PlanPromise (inputsOf (alone bench) bothStale []) lent answer exit → planSays answer ≡ says 0 2
-  both-said answer exit p = says-list (planAsk (inputsOf (alone bench) bothStale []) (length lent)) lent exit (0 ∷ 1 ∷ []) (planSays answer) bench-both p .says
+  both-said : (answer : PlanAnswer) (exit : List ℕ) → PlanPromise (inputsOf (alone bench) bothStale [] noLists) lent answer exit → planSays answer ≡ says 0 2
+  both-said answer exit p = says-list (planAsk (inputsOf (alone bench) bothStale [] noLists) (length lent)) lent exit (0 ∷ 1 ∷ []) (planSays answer) bench-both p .says
 
   -- one that refuses everything, whatever the refusal; so also one that shows an invented circle
-  pub refuses : (r : Refusal) (exit : List ℕ) → PlanPromise (inputsOf (alone bench) bothStale []) lent (Refused r) exit → ⊥
+  pub refuses : (r : Refusal) (exit : List ℕ) → PlanPromise (inputsOf (alone bench) bothStale [] noLists) lent (Refused r) exit → ⊥
   unfolding planSays numberOfRefusal
-  refuses r exit p = refusal-number r (ap (λ (s : Said). s .number) (both-said (Refused r) exit p))
+  refuses r exit p = refusal-not-0 r (ap (λ (s : Said). s .number) (both-said (Refused r) exit p))
 
   -- an invented list length
-  pub length-fixed : (n : ℕ) (exit : List ℕ) → PlanPromise (inputsOf (alone bench) bothStale []) lent (Listed n) exit → n ≡ 2
+  pub length-fixed : (n : ℕ) (exit : List ℕ) → PlanPromise (inputsOf (alone bench) bothStale [] noLists) lent (Listed n) exit → n ≡ 2
   unfolding planSays
   length-fixed n exit p = ap (λ (s : Said). s .value) (both-said (Listed n) exit p)
 
   -- one that lists none
-  pub lists-none : (exit : List ℕ) → PlanPromise (inputsOf (alone bench) bothStale []) lent (Listed 0) exit → ⊥
+  pub lists-none : (exit : List ℕ) → PlanPromise (inputsOf (alone bench) bothStale [] noLists) lent (Listed 0) exit → ⊥
   lists-none exit p = let e = length-fixed 0 exit p in omega arith
 
   -- a reader that returns an empty graph: what is right for the empty manifest is wrong for the bench
-  empty-said : planAsk (inputsOf (alone []) bothStale []) (length lent) ≡ listed []
+  empty-said : planAsk (inputsOf (alone []) bothStale [] noLists) (length lent) ≡ listed []
   unfolding planAsk alone
   empty-said = rw room
 
-  pub empty-graph : (answer : PlanAnswer) (exit : List ℕ) → PlanPromise (inputsOf (alone []) bothStale []) lent answer exit → PlanPromise (inputsOf (alone bench) bothStale []) lent answer exit → ⊥
+  pub empty-graph : (answer : PlanAnswer) (exit : List ℕ) → PlanPromise (inputsOf (alone []) bothStale [] noLists) lent answer exit → PlanPromise (inputsOf (alone bench) bothStale [] noLists) lent answer exit → ⊥
   empty-graph answer exit p q =
-      let a = says-list (planAsk (inputsOf (alone []) bothStale []) (length lent)) lent exit [] (planSays answer) empty-said p .says in
+      let a = says-list (planAsk (inputsOf (alone []) bothStale [] noLists) (length lent)) lent exit [] (planSays answer) empty-said p .says in
       let z : _≡_ {A = ℕ} 0 2 = ap (λ (s : Said). s .value) (sym a ∙ both-said answer exit q) in
       omega arith
 
   -- one that lists all steps, whatever the card: all commands, or all three steps
-  pub lists-all : (n : ℕ) (exit : List ℕ) → 1 < n → PlanPromise (inputsOf (alone bench) oneStale []) lent (Listed n) exit → ⊥
+  pub lists-all : (n : ℕ) (exit : List ℕ) → 1 < n → PlanPromise (inputsOf (alone bench) oneStale [] noLists) lent (Listed n) exit → ⊥
   unfolding planSays
   lists-all n exit h p =
-      let e : n ≡ 1 = ap (λ (s : Said). s .value) (says-list (planAsk (inputsOf (alone bench) oneStale []) (length lent)) lent exit (1 ∷ []) (planSays (Listed n)) bench-one p .says) in
+      let e : n ≡ 1 = ap (λ (s : Said). s .value) (says-list (planAsk (inputsOf (alone bench) oneStale [] noLists) (length lent)) lent exit (1 ∷ []) (planSays (Listed n)) bench-one p .says) in
       omega arith
 
 says-text : (o : TextOutcome) (lent exit t : List ℕ) (said : Said) → o ≡ text t → TextMeets o lent said exit → AnswerIs said exit (says 0 (length t)) (filled t lent)
@@ -112,7 +88,7 @@ module _ (lent : List ℕ) (room : length lent ≡ 8192) where
   -- a text ask that refuses everything
   pub refuses-text : (r : Refusal) (exit : List ℕ) → TextPromise (alone bench) 0 Command lent (TextRefused r) exit → ⊥
   unfolding textSays numberOfRefusal
-  refuses-text r exit p = refusal-number r (ap (λ (s : Said). s .number) (bench-says (TextRefused r) exit p .says))
+  refuses-text r exit p = refusal-not-0 r (ap (λ (s : Said). s .number) (bench-says (TextRefused r) exit p .says))
 
   -- one that copies the rule unexpanded
   pub copies : (answer : TextAnswer) → TextPromise (alone bench) 0 Command lent answer (filled (bytes "cc $cflags -c $in -o $out") lent) → ⊥

@@ -10,7 +10,7 @@ use Rattle.spec.specs.declared.PlanAnswer.the-variants.{Listed, Refused 
 use Rattle.spec.specs.declared.TextAnswer.{TextAnswer}
 use Rattle.spec.specs.declared.TextAnswer.the-variants.{Written, Refused as TextRefused}
 use Rattle.spec.specs.declared.Refusal.{Refusal}
-use Rattle.spec.specs.declared.Refusal.the-variants.{ShortBuffer, LongManifest, BadByte, BadLine, BadDollar, NotYet, BadRule, BadPath, OverLimit, BadVersion, BadCard, BadTarget, NoRoot, Circle, MissingSource, EndlessText, LongText, NoCommand, BadBundle, BadOpen}
+use Rattle.spec.specs.declared.Refusal.the-variants.{ShortBuffer, LongManifest, BadByte, BadLine, BadDollar, NotYet, BadRule, BadPath, OverLimit, BadVersion, BadCard, BadTarget, NoRoot, Circle, MissingSource, EndlessText, LongText, NoCommand, BadBundle, BadOpen, BadHeaders}
 
 -- what an answer says: a refusal's number with its place, and whether that stands in a text; or 0 with the count that a plan or a text gives
 pub record Said : Type 0 where
@@ -46,8 +46,12 @@ refusalSays (MissingSource f) = says 15 f
 refusalSays (EndlessText s) = says 16 s
 refusalSays (LongText s) = says 17 s
 refusalSays (NoCommand s) = says 18 s
+-- [1] at 0
 refusalSays BadBundle = says 19 0
+-- [1] at a line
 refusalSays (BadOpen p) = saysAt 19 p
+-- [4] at a step, or at 0
+refusalSays (BadHeaders s) = says 20 s
 
 unfoldable pub numberOfRefusal : Refusal → ℕ
 unfolding refusalSays
@@ -83,7 +87,7 @@ unfoldable pub spot : List (List ℕ) → ℕ → Place
 spot [] p = plain p
 spot (t ∷ ts) p = ifB (leb p (length t)) (λ _. inText 0 p) (λ _. nextText (spot ts (p - suc (length t))))
 
--- where text k begins among them
+-- [1] where text k begins among them
 unfoldable pub baseOf : List (List ℕ) → ℕ → ℕ
 baseOf [] k = 0
 baseOf (t ∷ ts) zero = 0

@@ -1,4 +1,4 @@
--- A lent bundle: texts by name, in the card's layout.
+-- [1] A lent bundle: texts by name, in the card's layout.
 use Prim.Native.Nat.{ℕ, zero, suc, _+_, _*_}
 use mathlib.Core.List.{List, [], _∷_, _++_, map}
 use mathlib.Core.Bool.{Bool, false, not, _&&_}
@@ -108,3 +108,7 @@ bundled rs =
 unfoldable pub alone : List ℕ → List ℕ
 unfolding bundled
 alone text = bundled (record { name = bytes "build.ninja"; bytes = text } ∷ [])
+
+-- "(the program lends none)": the bundle of no header list
+abbrev pub noLists : List ℕ
+noLists = bundled []

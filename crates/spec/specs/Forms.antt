@@ -58,12 +58,13 @@ unfoldable pub laterKeyword : List ℕ → Bool
 unfolding eqBytes
 laterKeyword w = eqBytes w (bytes "pool")
 
--- "the names `depfile deps dyndep msvc_deps_prefix pool restat rspfile rspfile_content` on the left of any `=`"
+-- "the names `depfile deps dyndep msvc_deps_prefix pool restat rspfile rspfile_content` on the left of any `=`", where document 02 says "Accept
+-- `depfile`"
 unfoldable pub laterKey : List ℕ → Bool
 unfolding among
 laterKey w =
     among w
-    (bytes "depfile" ∷ bytes "deps" ∷ bytes "dyndep" ∷ bytes "msvc_deps_prefix" ∷ bytes "pool" ∷ bytes "restat" ∷ bytes "rspfile" ∷ bytes "rspfile_content" ∷ [])
+    (bytes "deps" ∷ bytes "dyndep" ∷ bytes "msvc_deps_prefix" ∷ bytes "pool" ∷ bytes "restat" ∷ bytes "rspfile" ∷ bytes "rspfile_content" ∷ [])
 
 -- a word where a rule is named; it is not empty and no keyword
 unfoldable pub ruleWord : List ℕ → Cut (List ℕ)
@@ -139,6 +140,7 @@ pub data Form : Type 0 where
   buildForm : BuildLine → Form
   defaultForm : List (List ℕ) → Form
   -- `subninja PATH` or else `include PATH`, the path raw
+  -- [1] in a new scope or not, and the raw path
   openForm : Bool → List ℕ → Form
   -- `NAME = value` at file level or in a block, the value raw
   bindingForm : List ℕ → List ℕ → Form
@@ -188,7 +190,7 @@ unfolding then paths
 cutDefault s =
     then (paths s) λ p. ifB (isEmpty (p .raw) || not (isEmpty (p .rest))) (λ _. fails noForm) (λ _. fits (defaultForm (p .raw)))
 
--- "`include PATH` and `subninja PATH`": one path and nothing behind it (reading 02.3)
+-- [1] "`include PATH` and `subninja PATH`": one path and nothing behind it (reading 02.3)
 unfoldable pub cutOpen : Bool → List ℕ → Cut Form
 unfolding gap pathBegins checked badIn pathStop rawPath
 cutOpen sub s =

@@ -75,11 +75,12 @@ unfoldable pub needed : List Step → List ℕ → List ℕ
 unfolding reach before makersOf
 needed steps rs = reach (before steps) (length steps) (makersOf steps rs)
 
--- "A needed source is a file without a maker that is a target or an input of a needed step."
-unfoldable pub isNeededSource : List Step → List ℕ → ℕ → Bool
+-- "A needed source is a file without a maker that is a target or an input of a needed step." The inputs are those of the steps as written: "a missing
+-- listed file .. by itself is no needed source" (document 02).
+unfoldable pub isNeededSource : List Step → List Step → List ℕ → ℕ → Bool
 unfolding makers has any needed inputs
-isNeededSource steps rs f =
-    isEmpty (makers steps f) && (has f rs || any (λ s. has f (inputs (stepAt steps s))) (needed steps rs))
+isNeededSource written steps rs f =
+    isEmpty (makers steps f) && (has f rs || any (λ s. has f (inputs (stepAt written s))) (needed steps rs))
 
 -- an order of the needed steps with each one after the makers of all its inputs, where there is one
 unfoldable pub neededOrder : List Step → List ℕ → List ℕ

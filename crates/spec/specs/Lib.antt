@@ -15,10 +15,11 @@ pub mod Bundle
 pub mod Targets
 pub mod Graph
 pub mod Stale
-pub mod Words
 pub mod Answers
-pub mod PlanAsk
 pub mod TextAsk
+pub mod Headers
+pub mod Words
+pub mod PlanAsk
 pub mod Promises
 pub mod Demands
 pub mod Marked

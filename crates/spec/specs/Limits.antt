@@ -34,16 +34,21 @@ maxWritten = 60000
 abbrev pub maxManifest : ℕ
 maxManifest = 49152
 
--- "a lent bundle .. 1 to 64 records" (document 02)
+-- [1] "a lent bundle .. 1 to 64 records"
 abbrev pub maxBundle : ℕ
 maxBundle = 64
 
--- "At most eight files are open and 64 opened in all, the top one counted" (document 02)
+-- [1] "At most eight files are open and 64 opened in all, the top one counted"
 abbrev pub maxOpen : ℕ
 maxOpen = 8
 
+-- [1] and in all
 abbrev pub maxOpened : ℕ
 maxOpened = 64
+
+-- [4] "read the make-style texts .., lent in such a bundle, 0 to 512 by path"
+abbrev pub maxHeaders : ℕ
+maxHeaders = 512
 
 -- the highest place in texts of so many bytes together, 64 of them at most, laid end to end with one place between two
 abbrev pub maxPlace : ℕ

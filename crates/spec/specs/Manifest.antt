@@ -97,11 +97,11 @@ readLine l rd b =
     ifB (isBlank (l .text)) (λ _. close rd b) λ _.
     ifB (isIndented (l .text)) (λ _. readIndented l rd b) λ _. andThen (close rd b) (readStatement l)
 
--- what is made of a line that opens a file: where it starts, whether in a new scope, its raw path, what has been read before it
+-- [1] what is made of a line that opens a file: where it starts, whether in a new scope, its raw path, what has been read before it
 abbrev pub Opener : Type 0
 Opener = ℕ → Bool → List ℕ → Reading → Outcome
 
--- a file that is opened is read before the lines behind
+-- [1] a file that is opened is read before the lines behind
 unfoldable pub opening : Opener → Outcome → Outcome
 opening via (goesOn rd b) = goesOn rd b
 opening via (opens start sub raw rd) = via start sub raw rd
@@ -115,28 +115,28 @@ readLines via (l ∷ ls) rd b = andThen (opening via (readLine l rd b)) (readLin
 
 -- ------------------------------------------------------------------ files that are opened
 
--- the lines of a text; its places are those among all texts
+-- [1] the lines of a text; its places are those among all texts
 unfoldable pub textLines : List (List ℕ) → ℕ → List Line
 unfolding linesFrom baseOf
 textLines texts k = linesFrom indent (baseOf texts k) (getD texts k [])
 
--- one file more is opened, by a path of so many bytes
+-- [1] one file more is opened, by a path of so many bytes
 unfoldable pub withOpened : ℕ → Variables → Reading → Reading
 withOpened n vars rd =
     record { rules = rd .rules; vars = vars; files = rd .files; steps = rd .steps; defaults = rd .defaults; bindings = rd .bindings; mentions = rd .mentions; written = rd .written + n; opened = suc (rd .opened) }
 
--- "`include` reads in the same scope, `subninja` in a new one that sees the parent's variables"
+-- [1] "`include` reads in the same scope, `subninja` in a new one that sees the parent's variables"
 unfoldable pub entered : Bool → Variables → Variables
 entered false vars = vars
 entered true vars =
     record { scopes = vars .scopes ++ (record { outer = vars .current ∷ scopeAt (vars .scopes) (vars .current) .outer; own = [] } ∷ []); current = length (vars .scopes) }
 
--- back in the scope k, with no block open
+-- [1] back in the scope k, with no block open
 unfoldable pub backIn : ℕ → Reading → Block → Outcome
 backIn k rd b =
     goesOn (record { rules = rd .rules; vars = record { scopes = rd .vars .scopes; current = k }; files = rd .files; steps = rd .steps; defaults = rd .defaults; bindings = rd .bindings; mentions = rd .mentions; written = rd .written; opened = rd .opened }) noBlock
 
--- The path of a line that opens a file: its 8 and 9, where it is measured as any path and is no mention; "one more, or a name not in the bundle, is
+-- [1] The path of a line that opens a file: its 8 and 9, where it is measured as any path and is no mention; "one more, or a name not in the bundle, is
 -- refusal 19 at that line, after 10". The record of that name is read by what is given.
 unfoldable pub openPath : List (List ℕ) → (ℕ → Reading → Outcome) → ℕ → Bool → List ℕ → Reading → Outcome
 unfolding longerThan overCounts among numberOf withOpened entered
@@ -146,7 +146,7 @@ openPath names reads start sub p rd =
     ifB (longerThan maxPath p || overCounts after) (λ _. refused (OverLimit start)) λ _.
     ifB (not (among p names) || leb maxOpened (rd .opened)) (λ _. refused (BadOpen start)) λ _. reads (numberOf p names) after
 
--- A line that opens a file, where so many more may be open.
+-- [1] A line that opens a file, where so many more may be open.
 unfoldable pub opener : List (List ℕ) → List (List ℕ) → ℕ → Opener
 unfolding openPath expand varFrom andThen readLines textLines backIn
 opener names texts zero start sub raw rd = openPath names (λ k after. refused (BadOpen start)) start sub (expand (fileVar (rd .vars)) raw) rd
@@ -165,7 +165,7 @@ readOf (goesOn rd b) = accepted rd
 readOf (opens start sub raw rd) = refusedWith (BadOpen start)
 readOf (refused r) = refusedWith r
 
--- "3 takes them in order": the first text with a 3, whose place is one among all texts
+-- [1] "3 takes them in order": the first text with a 3, whose place is one among all texts
 unfoldable pub badByteIn : ℕ → List (List ℕ) → Option ℕ
 unfolding badByte
 badByteIn at [] = none

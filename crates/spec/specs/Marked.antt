@@ -9,7 +9,7 @@ use Rattle.lists.specs.Text.{bytes}
 use Rattle.spec.specs.declared.Wanted.the-variants.{Command}
 use Rattle.spec.specs.Reading.{Step}
 use Rattle.spec.specs.Card.{inBytes, Entry, soundCard, cardEntries, timeIn}
-use Rattle.spec.specs.Bundle.{alone}
+use Rattle.spec.specs.Bundle.{alone, noLists}
 use Rattle.spec.specs.declared.PlanAnswer.{PlanAnswer}
 use Rattle.spec.specs.Answers.{planSays, says}
 use Rattle.spec.specs.Promises.{AnswerIs, filled, PlanPromise}
@@ -38,7 +38,7 @@ bench =
     "cflags = -O1\nrule cc\n  command = cc $cflags -c $in -o $out\nbuild b.o: cc b.c\nbuild a.o: cc a.c | t.h\n  cflags = -O2\nbuild axis: phony a.o b.o\ndefault axis\n"
 
 abbrev pub plan : List ℕ → List Entry → String → PlanOutcome
-plan manifest card targets = planAsk (inputsOf (alone manifest) (cardOf card) (bytes targets)) 512
+plan manifest card targets = planAsk (inputsOf (alone manifest) (cardOf card) (bytes targets) noLists) 512
 
 abbrev pub command : List ℕ → ℕ → TextOutcome
 command manifest s = textAsk (alone manifest) s Command 8192
@@ -72,7 +72,7 @@ pub record Marked : Type 0 where
   pub m6 : command (bytes "v = 1\nrule r\n  command = x $v\nbuild a: r\nv = 2\n") 0 ≡ text (bytes "x 2")
   -- (M7) `build a: phony a`, target a: 14, circle 0: whatever answers must say so, and write that circle
   pub m7 : (lent : List ℕ) (answer : PlanAnswer) (exit : List ℕ) → length lent ≡ 512
-      → PlanPromise (inputsOf (alone (bytes "build a: phony a\n")) (cardOf []) (bytes "a\n")) lent answer exit → AnswerIs (planSays answer) exit (says 14 1) (filled (0 ∷ []) lent)
+      → PlanPromise (inputsOf (alone (bytes "build a: phony a\n")) (cardOf []) (bytes "a\n") noLists) lent answer exit → AnswerIs (planSays answer) exit (says 14 1) (filled (0 ∷ []) lent)
   -- (M8) a circle no target reaches: no 14
   pub m8 : plan (bytes "build a: phony a\nbuild b: phony\n") [] "b\n" ≡ listed []
   -- (M9) order-only input newer: fresh

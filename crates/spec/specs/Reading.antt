@@ -20,20 +20,22 @@ pub record Rule : Type 0 where
   pub name : List ℕ
   pub keys : List Bound
 
--- A scope: the scopes around it, the nearest first, and its own variables, newest first. The top file has one; each
+-- [1] A scope: the scopes around it, the nearest first, and its own variables, newest first. The top file has one; each
 -- `subninja` enters "a new one that sees the parent's variables and changes none".
 pub record Scope : Type 0 where
   pub outer : List ℕ
   pub own : List Bound
 
--- file variables: the scopes by number, as they were entered, and the one that is read in
+-- [1] file variables: the scopes by number, as they were entered, and the one that is read in
 pub record Variables : Type 0 where
   pub scopes : List Scope
   pub current : ℕ
 
+-- [1] for a number that none has
 abbrev pub noScope : Scope
 noScope = record { outer = []; own = [] }
 
+-- [1] by its number
 abbrev pub scopeAt : List Scope → ℕ → Scope
 scopeAt scopes k = getD scopes k noScope
 
@@ -45,6 +47,7 @@ pub record Step : Type 0 where
   pub orderOnly : List ℕ
   pub rule : List ℕ
   pub block : List Bound
+  -- [1] where its line stands
   pub scope : ℕ
 
 -- what a manifest has said so far: rules newest first, file variables; "Steps are numbered from 0 as written, files from 0 by first
@@ -59,6 +62,7 @@ pub record Reading : Type 0 where
   pub bindings : ℕ
   pub mentions : ℕ
   pub written : ℕ
+  -- [1] files that were opened
   pub opened : ℕ
 
 abbrev pub nothingRead : Reading
@@ -70,12 +74,12 @@ unfolding eqBytes
 boundTo n [] = none
 boundTo n (b ∷ l) = ifB (eqBytes n (b .name)) (λ _. some (b .value)) (λ _. boundTo n l)
 
--- the variables of these scopes, one scope after another
+-- [1] the variables of these scopes, one scope after another
 unfoldable pub ownVars : List Scope → List ℕ → List Bound
 ownVars scopes [] = []
 ownVars scopes (k ∷ ks) = scopeAt scopes k .own ++ ownVars scopes ks
 
--- what is seen from a scope: its own variables, then those of the scopes around it
+-- [1] what is seen from a scope: its own variables, then those of the scopes around it
 unfoldable pub seenFrom : List Scope → ℕ → List Bound
 unfolding ownVars
 seenFrom scopes k = ownVars scopes (k ∷ scopeAt scopes k .outer)
@@ -89,7 +93,7 @@ varFrom scopes k n = orElse (boundTo n (seenFrom scopes k)) (λ v. v) λ _. []
 abbrev pub fileVar : Variables → List ℕ → List ℕ
 fileVar vars = varFrom (vars .scopes) (vars .current)
 
--- one binding more in a scope
+-- [1] one binding more in a scope
 unfoldable pub bindIn : ℕ → Bound → List Scope → List Scope
 bindIn k b [] = []
 bindIn zero b (s ∷ l) = record { outer = s .outer; own = b ∷ s .own } ∷ l

@@ -1,4 +1,4 @@
--- What every rule of a reading is: the keys are among the three, and their texts have no bad `$`.
+-- What every rule of a reading is: the keys are among the four, and their texts have no bad `$`.
 use Prim.Native.Nat.{ℕ}
 use mathlib.Core.List.{List}
 use mathlib.Core.Option.{none, some}

@@ -27,6 +27,7 @@ pub data Block : Type 0 where
 -- before it; or a refusal
 pub data Outcome : Type 0 where
   goesOn : Reading → Block → Outcome
+  -- [1] a line that opens a file
   opens : ℕ → Bool → List ℕ → Reading → Outcome
   refused : Refusal → Outcome
 
@@ -50,10 +51,10 @@ startRule start n rd =
     ifB (longerThan maxName n || leb maxRules (length (rd .rules))) (λ _. refused (OverLimit start)) λ _.
     goesOn rd (ruleBlock start (record { name = n; keys = [] }))
 
--- "indented `key = value` lines: `command` (needed), `description`, `generator`, each at most once"
+-- "indented `key = value` lines: `command` (needed), `description`, `generator`, each at most once"; "Accept `depfile`" (document 02)
 unfoldable pub ruleKey : List ℕ → Bool
 unfolding among
-ruleKey n = among n (bytes "command" ∷ bytes "description" ∷ bytes "generator" ∷ [])
+ruleKey n = among n (bytes "command" ∷ bytes "description" ∷ bytes "generator" ∷ bytes "depfile" ∷ [])
 
 -- a binding line more, with so many bytes
 unfoldable pub countBinding : ℕ → Reading → Reading
@@ -135,7 +136,7 @@ addToBlock start s n v rd =
     (buildBlock
     (record { outs = s .outs; ins = s .ins; implicit = s .implicit; orderOnly = s .orderOnly; rule = s .rule; block = record { name = n; value = v } ∷ s .block; scope = s .scope }))
 
--- a binding more in the scope that is read in
+-- [1] a binding more in the scope that is read in
 abbrev pub bound : Bound → Variables → Variables
 bound b vars = record { scopes = bindIn (vars .current) b (vars .scopes); current = vars .current }
 

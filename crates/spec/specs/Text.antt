@@ -22,7 +22,7 @@ use Rattle.spec.specs.Reading.{Step, Reading, boundTo, varFrom, keysOf, 
 
 -- ------------------------------------------------------------------ a rule's keys
 
--- a rule's key by its bytes
+-- [4] a rule's key by its bytes
 unfoldable pub keyName : Key → List ℕ
 keyName Command = bytes "command"
 keyName Description = bytes "description"
@@ -46,20 +46,21 @@ keyNumber n = numberOf n keyNames
 
 -- ------------------------------------------------------------------ names in a text (document 02, [2])
 
+-- [2] the single quote
 abbrev pub quote : ℕ
 quote = 39
 
--- "letters, digits and `_ + - . /`"
+-- [2] "letters, digits and `_ + - . /`"
 unfoldable pub safeByte : ℕ → Bool
 unfolding letter digit has
 safeByte b = letter b || digit b || has b (bytes "_+-./")
 
--- "each single quote inside written as quote, backslash, quote, quote"
+-- [2] "each single quote inside written as quote, backslash, quote, quote"
 unfoldable pub insideQuotes : List ℕ → List ℕ
 insideQuotes [] = []
 insideQuotes (b ∷ n) = ifB (eqb b quote) (λ _. bytes "'\\''" ++ insideQuotes n) (λ _. b ∷ insideQuotes n)
 
--- "a name of only letters, digits and `_ + - . /` stays; any other stands in single quotes"
+-- [2] "a name of only letters, digits and `_ + - . /` stays; any other stands in single quotes"
 unfoldable pub quoted : List ℕ → List ℕ
 unfolding all safeByte insideQuotes
 quoted n = ifB (all safeByte n) (λ _. n) (λ _. quote ∷ (insideQuotes n ++ (quote ∷ [])))
@@ -101,7 +102,7 @@ lookupBy spell rd s n =
     orElse (boundTo n (s .block)) asIs λ _.
     orElse (boundTo n (keysOf (s .rule) (rd .rules))) ofRule λ _. asIs (varFrom (rd .vars .scopes) (s .scope) n)
 
--- names hold their quotes in every text that is looked up for a step (reading 02.10)
+-- names hold their quotes in every text that is looked up for a step but a depfile's name (reading 02.10)
 abbrev pub lookup : Reading → Step → List ℕ → Found
 lookup = lookupBy quoted
 
@@ -129,16 +130,23 @@ unfolding lookupBy expand
 textBy spell rd s zero n = []
 textBy spell rd s (suc k) n = onFound (lookupBy spell rd s n) (λ v. v) (λ raw. expand (textBy spell rd s k) raw)
 
-abbrev pub textOf : Reading → Step → ℕ → List ℕ → List ℕ
-textOf = textBy quoted
+-- [4] plain or quoted
+abbrev pub spelledBy : Bool → Spelling
+spelledBy true n = n
+spelledBy false n = quoted n
+
+-- [4] "its depfile name (unquoted ..)": a path, that no shell reads
+unfoldable pub spellingFor : List ℕ → Spelling
+unfolding eqBytes keyName quoted
+spellingFor n = spelledBy (eqBytes n (keyName Depfile))
 
 -- the text of a name, for a step by its number
 abbrev pub nameText : Reading → ℕ → List ℕ → List ℕ
-nameText rd s n = textOf rd (stepAt (rd .steps) s) deep n
+nameText rd s n = textBy (spellingFor n) rd (stepAt (rd .steps) s) deep n
 
 -- "16, 17 for a text": what the text of a name is refused with
 unfoldable pub nameRefusal : Reading → ℕ → List ℕ → Option Refusal
-unfolding leadsBack textBy
+unfolding leadsBack textBy spellingFor
 nameRefusal rd s n =
     ifB (leadsBack rd (stepAt (rd .steps) s) deep [] n) (λ _. some (EndlessText s)) λ _.
     ifB (ltb maxText (length (nameText rd s n))) (λ _. some (LongText s)) λ _. none

@@ -17,7 +17,7 @@ use Rattle.spec.specs.Limits.{maxText}
 use Rattle.spec.specs.Reading.{Reading, isPhony}
 use Rattle.spec.specs.Manifest.{Read, accepted, refusedWith, readManifest}
 use Rattle.spec.specs.Graph.{stepAt}
-use Rattle.spec.specs.Text.{quoted, textBy, nameText, nameRefusal}
+use Rattle.spec.specs.Text.{textBy, spellingFor, nameText, nameRefusal}
 
 pub data TextOutcome : Type 0 where
   text : List ℕ → TextOutcome
@@ -35,7 +35,7 @@ wantedKey Description = descriptionKey
 
 -- the text of a name of a command step, or what refuses it
 unfoldable pub nameOutcome : ℕ → List ℕ → Reading → TextOutcome
-unfolding nameRefusal textBy
+unfolding nameRefusal textBy spellingFor
 nameOutcome s n rd = orElse (nameRefusal rd s n) noText (λ _. text (nameText rd s n))
 
 -- "18, 16, 17 for a text"
@@ -51,6 +51,6 @@ textRead s n (accepted rd) = textOfStep s n rd
 
 -- the outcome for this manifest, step number, name wanted and length of the lent buffer
 unfoldable pub textAsk : List ℕ → ℕ → Wanted → ℕ → TextOutcome
-unfolding textRead wantedName readManifest quoted
+unfolding textRead wantedName readManifest
 textAsk manifest s wanted room =
     ifB (ltb room maxText) (λ _. noText ShortBuffer) λ _. textRead s (wantedName wanted) (readManifest manifest)

@@ -1,6 +1,7 @@
 -- Document 01's words about the graph of steps as statements that need not be computed: maker, needed, upstream, order,
--- circle, stale, time, list. The laws show that the computed definitions meet them. `roots` are the targets by file
--- number, or what stands for them where there is none.
+-- circle, stale, time, list. The laws show that the computed definitions meet them. `steps` are those of the manifest
+-- with the listed inputs added (document 02), `roots` the targets by file number, or what stands for them where there
+-- is none.
 use Prim.Native.Nat.{ℕ, _≤_, _<_}
 use mathlib.Core.List.{List}
 use mathlib.Core.Bool.{true, false}
@@ -12,6 +13,7 @@ use Rattle.orders.specs.Order.{IsOrder, IsCircle, IsLeast}
 use Rattle.spec.specs.Reading.{Step}
 use Rattle.spec.specs.Graph.{stepAt, inputs, nonOrderOnly}
 use Rattle.spec.specs.Stale.{Verdict, phonyStep}
+use Rattle.spec.specs.Headers.{Listed, listedOf}
 
 -- step m makes file f
 pub record Makes (steps : List Step) (m f : ℕ) : Type 0 where
@@ -29,16 +31,17 @@ pub data Needed (steps : List Step) (roots : List ℕ) : ℕ → Type 0 where
   root : {m f : ℕ} → f ∈ roots → Makes steps m f → Needed steps roots m
   input : {m s : ℕ} → Needed steps roots s → Feeds steps m s → Needed steps roots m
 
--- "A needed source is a file without a maker that is a target or an input of a needed step."
-pub record NeededSource (steps : List Step) (roots : List ℕ) (f : ℕ) : Type 0 where
+-- "A needed source is a file without a maker that is a target or an input of a needed step", the input being one that the
+-- manifest has: a listed file "by itself is no needed source". `written` are the steps without the listed inputs.
+pub record NeededSource (written steps : List Step) (roots : List ℕ) (f : ℕ) : Type 0 where
   pub no-maker : (m : ℕ) → ¬ Makes steps m f
-  pub needed : (f ∈ roots) ⊎ ((s : ℕ) × Needed steps roots s × (f ∈ inputs (stepAt steps s)))
+  pub needed : (f ∈ roots) ⊎ ((s : ℕ) × Needed steps roots s × (f ∈ inputs (stepAt written s)))
 
 -- "a needed source is missing", where `card` gives the times of the files
-pub record Missing (steps : List Step) (card : ℕ → ℕ) (files : ℕ) (roots : List ℕ) (f : ℕ) : Type 0 where
+pub record Missing (written steps : List Step) (card : ℕ → ℕ) (files : ℕ) (roots : List ℕ) (f : ℕ) : Type 0 where
   pub file : f < files
   pub absent : card f ≡ 0
-  pub source : NeededSource steps roots f
+  pub source : NeededSource written steps roots f
 
 -- "Upstream of a step are the makers of its inputs, of any kind, and whatever is upstream of those, through fresh and phony steps too."
 pub data Upstream (steps : List Step) (m : ℕ) : ℕ → Type 0 where
@@ -109,12 +112,19 @@ pub record OutputBelow (steps : List Step) (card : ℕ → ℕ) (v : ℕ → Ver
   pub input : InputTime steps card v s new
   pub below : old < new
 
+-- "A missing depfile makes its step stale; so does a missing listed file without a maker" (document 02), where `lists` has
+-- what the depfile of each step tells
+pub data StaleByDepfile (steps : List Step) (card : ℕ → ℕ) (lists : List Listed) (s : ℕ) : Type 0 where
+  depfile-missing : listedOf lists s .missing ≡ true → StaleByDepfile steps card lists s
+  listed-missing : (f : ℕ) → f ∈ listedOf lists s .files → card f ≡ 0 → ((m : ℕ) → ¬ Makes steps m f) → StaleByDepfile steps card lists s
+
 -- "a non-order-only input's maker is stale, an output is missing, or an output's time is below the time of some
--- non-order-only input"
-pub data CommandStale (steps : List Step) (card : ℕ → ℕ) (v : ℕ → Verdict) (s : ℕ) : Type 0 where
-  maker-stale : MakerStale steps v s → CommandStale steps card v s
-  missing : OutputMissing steps card s → CommandStale steps card v s
-  below : OutputBelow steps card v s → CommandStale steps card v s
+-- non-order-only input", or a depfile makes it stale
+pub data CommandStale (steps : List Step) (card : ℕ → ℕ) (lists : List Listed) (v : ℕ → Verdict) (s : ℕ) : Type 0 where
+  maker-stale : MakerStale steps v s → CommandStale steps card lists v s
+  missing : OutputMissing steps card s → CommandStale steps card lists v s
+  below : OutputBelow steps card v s → CommandStale steps card lists v s
+  by-depfile : StaleByDepfile steps card lists s → CommandStale steps card lists v s
 
 -- "such a maker is stale, or .. it has no inputs at all and an output is missing"
 pub data PhonyStale (steps : List Step) (card : ℕ → ℕ) (v : ℕ → Verdict) (s : ℕ) : Type 0 where
@@ -122,10 +132,10 @@ pub data PhonyStale (steps : List Step) (card : ℕ → ℕ) (v : ℕ → Verdic
   no-inputs : ((f : ℕ) → ¬ (f ∈ inputs (stepAt steps s))) → OutputMissing steps card s → PhonyStale steps card v s
 
 -- what document 01 says of step s, given what v tells of the others
-pub record Sentences (steps : List Step) (card : ℕ → ℕ) (v : ℕ → Verdict) (s : ℕ) : Type 0 where
+pub record Sentences (steps : List Step) (card : ℕ → ℕ) (lists : List Listed) (v : ℕ → Verdict) (s : ℕ) : Type 0 where
   -- "A command step is stale if a non-order-only input's maker is stale, an output is missing, or an output's time is
-  -- below the time of some non-order-only input. Equal times are fresh."
-  pub command : phonyStep steps s ≡ false → (v s .stale ≡ true) ↔ CommandStale steps card v s
+  -- below the time of some non-order-only input. Equal times are fresh." Document 02 adds its depfile.
+  pub command : phonyStep steps s ≡ false → (v s .stale ≡ true) ↔ CommandStale steps card lists v s
   -- "A phony step is stale if such a maker is stale, or if it has no inputs at all and an output is missing."
   pub phony : phonyStep steps s ≡ true → (v s .stale ≡ true) ↔ PhonyStale steps card v s
   -- "A phony output that is missing has the greatest time of the step's non-order-only inputs, 0 if none." It is told
@@ -133,8 +143,8 @@ pub record Sentences (steps : List Step) (card : ℕ → ℕ) (v : ℕ → Verdi
   pub time : Greatest (InputTime steps card v s) (v s .time)
 
 -- "Stale and fresh are told of needed steps": v tells of each needed one what document 01 says
-abbrev pub RightVerdicts : List Step → (ℕ → ℕ) → List ℕ → (ℕ → Verdict) → Type 0
-RightVerdicts steps card roots v = (s : ℕ) → Needed steps roots s → Sentences steps card v s
+abbrev pub RightVerdicts : List Step → (ℕ → ℕ) → List Listed → List ℕ → (ℕ → Verdict) → Type 0
+RightVerdicts steps card lists roots v = (s : ℕ) → Needed steps roots s → Sentences steps card lists v s
 
 -- "the stale, needed command steps"
 pub record Stale (steps : List Step) (roots : List ℕ) (v : ℕ → Verdict) (s : ℕ) : Type 0 where

@@ -44,6 +44,8 @@ pub enum Refusal {
     BadBundle,
     // 19: a file that cannot be opened
     BadOpen(usize),
+    // 20: a step's header list, by the step, or the bundle of header lists, at 0
+    BadHeaders(usize),
 }
 
 // What the plan ask answers: the number of steps listed, or a refusal.

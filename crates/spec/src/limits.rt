@@ -25,6 +25,8 @@ pub const BUNDLE: usize = 64;
 pub const OPEN: usize = 8;
 
 pub const OPENED: usize = 64;
+// the records of a bundle of header lists
+pub const HEADERS: usize = 512;
 
 pub const RECORDS: usize = 1024;
 

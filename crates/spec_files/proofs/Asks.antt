@@ -9,20 +9,23 @@ use lib.ListN.{length, set}
 use Rattle.lists.specs.Tests.{ifB}
 use Rattle.lists.specs.Members.{_∉_}
 use Rattle.spec.specs.declared.Refusal.{Refusal}
-use Rattle.spec.specs.declared.Refusal.the-variants.{ShortBuffer, BadCard, BadTarget, NoRoot, MissingSource, EndlessText, LongText, NoCommand}
+use Rattle.spec.specs.declared.Refusal.the-variants.{ShortBuffer, BadCard, BadTarget, NoRoot, MissingSource, EndlessText, LongText, NoCommand, BadHeaders}
 use Rattle.spec.specs.Basics.{orElse}
-use Rattle.spec.specs.Limits.{leastList, maxText}
+use Rattle.spec.specs.Limits.{leastList, maxText, maxBundle}
 use Rattle.spec.specs.Answers.{refusalSays, placed}
-use Rattle.spec.specs.Bundle.{bundleNames, bundleTexts, BundleRecord, recordNames, recordTexts, bodyOf, bundled}
+use Rattle.spec.specs.Bundle.{soundBundle, bundleNames, bundleTexts, BundleRecord, recordNames, recordTexts, bodyOf, bundled}
 use Rattle.spec.specs.Card.{soundCard}
 use Rattle.spec.specs.Targets.{badTarget}
 use Rattle.spec.specs.Graph.{noRoot, hasOrder, stepAt}
 use Rattle.spec.specs.Reading.{Reading, isPhony}
 use Rattle.spec.specs.Manifest.{Read}
 use Rattle.spec.specs.Text.{leadsBack, deep, nameText, nameRefusal}
-use Rattle.spec.specs.PlanAsk.{inputsOf, PlanOutcome, noPlan, targetFiles, missingSource, rootsOf, planListed, planSources, planOrdered, planRooted, planTargets, planRead, planManifest, planAsk}
+use Rattle.spec.specs.Headers.{HeaderGraph, Heading, headed, headless, onHeaded, withHeaders, soundHeaders}
+use Rattle.spec.specs.PlanAsk.{inputsOf, PlanOutcome, noPlan, targetFiles, missingSource, rootsOf, planListed, planSources, planOrdered, planHeaders, planRooted, planTargets, planRead, planManifest, badHeaders, planAsk}
 use Rattle.spec.specs.TextAsk.{TextOutcome, text, noText, wantedName, nameOutcome, textOfStep, textRead, textAsk}
 use Rattle.spec.proofs.Bundle.{names-back, texts-back}
+use Rattle.spec.proofs.Headers.{OfHeaders, of-bad, headers-off}
+use Rattle.answer_places.proofs.Siting.{headers-outside}
 use Rattle.spec_files.specs.Opened.{openedRecords, PassesBytes, SameRefusal, SameRead, both-accepted, both-refused, ReadAlike, SamePlan, both-listed, both-circular, no-plan, SameText, both-texts, no-text, AnsweredAlike}
 use Rattle.spec_files.proofs.Unopened.{unopened-changes-nothing}
 
@@ -70,21 +73,44 @@ module _ (texts texts′ : List (List ℕ)) where
   unfolding placed refusalSays
   plain-command s = record { number = refl; place = refl }
 
-  -- behind the reading, a plan is made of the card and the targets alone
-  plan-behind : (s s′ card targets : List ℕ) (rd : Reading) → SamePlan texts texts′ (planRead (inputsOf s card targets) rd) (planRead (inputsOf s′ card targets) rd)
-  unfolding planRead planTargets planRooted planOrdered planSources planListed
-  plan-behind s s′ card targets rd =
-      let rs = rootsOf (inputsOf s card targets) rd in
-      plan-either (not (soundCard card)) (no-plan plain-card)
-      (plan-or (badTarget (rd .files) targets) BadTarget plain-target
-      (plan-either (noRoot rd (targetFiles targets rd)) (no-plan plain-root)
-      (plan-either (hasOrder (rd .steps) rs) (plan-or (missingSource card rd rs) MissingSource plain-source both-listed) both-circular)))
+  plain-headers : (r : Refusal) → OfHeaders r → SameRefusal texts texts′ r r
+  unfolding placed
+  plain-headers r o = record { number = refl; place = rw (headers-outside r o) refl }
 
-  plan-alike : (s s′ card targets : List ℕ) {x x′ : Read} → SameRead texts texts′ x x′
-      → SamePlan texts texts′ (planManifest (inputsOf s card targets) x) (planManifest (inputsOf s′ card targets) x′)
-  unfolding planManifest
-  plan-alike s s′ card targets (both-accepted {rd}) = plan-behind s s′ card targets rd
-  plan-alike s s′ card targets (both-refused h) = no-plan h
+  module _ (s s′ card targets headers : List ℕ) where
+    ordered-behind : (rd : Reading) (g : HeaderGraph)
+        → SamePlan texts texts′ (planOrdered (inputsOf s card targets headers) rd g) (planOrdered (inputsOf s′ card targets headers) rd g)
+    unfolding planOrdered planSources planListed
+    ordered-behind rd g =
+        let rs = rootsOf (inputsOf s card targets headers) rd in
+        plan-either (hasOrder (g .reading .steps) rs) (plan-or (missingSource card (rd .steps) (g .reading) rs) MissingSource plain-source both-listed) both-circular
+
+    headed-behind : (rd : Reading) (x : Heading) → withHeaders headers rd ≡ x
+        → SamePlan texts texts′ (onHeaded x noPlan (planOrdered (inputsOf s card targets headers) rd)) (onHeaded x noPlan (planOrdered (inputsOf s′ card targets headers) rd))
+    unfolding onHeaded
+    headed-behind rd (headed g) e = ordered-behind rd g
+    headed-behind rd (headless r) e = no-plan (plain-headers r (headers-off headers rd r e))
+
+    -- behind the reading, a plan is made of the card, the targets and the header lists alone
+    plan-behind : (rd : Reading) → SamePlan texts texts′ (planRead (inputsOf s card targets headers) rd) (planRead (inputsOf s′ card targets headers) rd)
+    unfolding planRead planTargets planRooted planHeaders
+    plan-behind rd =
+        plan-either (not (soundCard card)) (no-plan plain-card)
+        (plan-or (badTarget (rd .files) targets) BadTarget plain-target
+        (plan-either (noRoot rd (targetFiles targets rd)) (no-plan plain-root) (headed-behind rd (withHeaders headers rd) refl)))
+
+    plan-alike : {x x′ : Read} → SameRead texts texts′ x x′
+        → SamePlan texts texts′ (planManifest (inputsOf s card targets headers) x) (planManifest (inputsOf s′ card targets headers) x′)
+    unfolding planManifest
+    plan-alike (both-accepted {rd}) = plan-behind rd
+    plan-alike (both-refused h) = no-plan h
+
+    -- sound bundles both: 20 at 0 is of the header lists alone
+    headers-alike : soundBundle 1 maxBundle s ≡ true → soundBundle 1 maxBundle s′ ≡ true → {y y′ : PlanOutcome} → SamePlan texts texts′ y y′
+        → SamePlan texts texts′ (ifB (badHeaders (inputsOf s card targets headers)) (λ _. noPlan (BadHeaders 0)) (λ _. y))
+        (ifB (badHeaders (inputsOf s′ card targets headers)) (λ _. noPlan (BadHeaders 0)) (λ _. y′))
+    unfolding badHeaders
+    headers-alike e e′ h = rw (e, e′) (plan-either (not (soundHeaders headers)) (no-plan (plain-headers (BadHeaders 0) (of-bad 0))) h)
 
   text-either : {x x′ y y′ : TextOutcome} (o : Bool) → SameText texts texts′ x x′ → SameText texts texts′ y y′
       → SameText texts texts′ (ifB o (λ _. x) (λ _. y)) (ifB o (λ _. x′) (λ _. y′))
@@ -105,20 +131,22 @@ module _ (texts texts′ : List (List ℕ)) where
       (nameText rd step name) (plain-endless step) (plain-long step))
   text-alike step name (both-refused h) = no-text h
 
-pub answered-alike : (s s′ : List ℕ) → ReadAlike s s′ → AnsweredAlike s s′
+pub answered-alike : (s s′ : List ℕ) → PassesBytes s → PassesBytes s′ → ReadAlike s s′ → AnsweredAlike s s′
 unfolding planAsk textAsk
-answered-alike s s′ h =
+answered-alike s s′ p p′ h =
     let ts = bundleTexts s in
     let ts′ = bundleTexts s′ in
     record {
-      plans = λ card targets room. plan-either ts ts′ (ltb room leastList) (no-plan (plain-short ts ts′)) (plan-alike ts ts′ s s′ card targets h);
+      plans = λ card targets headers room.
+          plan-either ts ts′ (ltb room leastList) (no-plan (plain-short ts ts′))
+          (headers-alike ts ts′ s s′ card targets headers (p .sound) (p′ .sound) (plan-alike ts ts′ s s′ card targets headers h));
       texts = λ step wanted room. text-either ts ts′ (ltb room maxText) (no-text (plain-short ts ts′)) (text-alike ts ts′ step (wantedName wanted) h);
     }
 
 -- A record that is opened by nobody changes no answer, where 2 and 3 let the bundle pass.
 pub unopened-changes-no-answer : (s s′ : List ℕ) (j : ℕ) (other : List ℕ) → PassesBytes s → PassesBytes s′ → bundleNames s′ ≡ bundleNames s
     → bundleTexts s′ ≡ set (bundleTexts s) j other → j ∉ openedRecords s → AnsweredAlike s s′
-unopened-changes-no-answer s s′ j other p p′ n t h = answered-alike s s′ (unopened-changes-nothing s s′ j other p p′ n t h)
+unopened-changes-no-answer s s′ j other p p′ n t h = answered-alike s s′ p p′ (unopened-changes-nothing s s′ j other p p′ n t h)
 
 -- ---- a bundle that is written
 

@@ -95,5 +95,6 @@ pub data SameText (texts texts′ : List (List ℕ)) : TextOutcome → TextOutco
 
 -- Whatever is asked of the two bundles, the answers are the same.
 pub record AnsweredAlike (s s′ : List ℕ) : Type 0 where
-  pub plans : (card targets : List ℕ) (room : ℕ) → SamePlan (bundleTexts s) (bundleTexts s′) (planAsk (inputsOf s card targets) room) (planAsk (inputsOf s′ card targets) room)
+  pub plans : (card targets headers : List ℕ) (room : ℕ)
+      → SamePlan (bundleTexts s) (bundleTexts s′) (planAsk (inputsOf s card targets headers) room) (planAsk (inputsOf s′ card targets headers) room)
   pub texts : (step : ℕ) (wanted : Wanted) (room : ℕ) → SameText (bundleTexts s) (bundleTexts s′) (textAsk s step wanted room) (textAsk s′ step wanted room)

@@ -35,10 +35,11 @@ pub struct Ask {
     pub whole: bool,
 }
 
-// Where a case's name, bundle, card and target list end that lie one behind another, and how many asks follow them.
+// Where a case's name, bundle, header lists, card and target list end that lie one behind another, and how many asks follow them.
 pub struct CaseHead {
     pub name: usize,
     pub bundle: usize,
+    pub headers: usize,
     pub card: usize,
     pub targets: usize,
     pub asks: usize,
@@ -197,14 +198,15 @@ pub fn read_ask(fd: i32) -> Ask {
 }
 
 pub fn read_head(fd: i32) -> CaseHead {
-    let mut head = [0u8; 20];
-    let whole = read_part(fd, &mut head, 20);
+    let mut head = [0u8; 24];
+    let whole = read_part(fd, &mut head, 24);
     CaseHead {
         name: word(&head, 0),
         bundle: word(&head, 4),
-        card: word(&head, 8),
-        targets: word(&head, 12),
-        asks: word(&head, 16),
+        headers: word(&head, 8),
+        card: word(&head, 12),
+        targets: word(&head, 16),
+        asks: word(&head, 20),
         whole,
     }
 }
@@ -216,7 +218,10 @@ pub fn is_sound(h: CaseHead) -> bool
     if h.bundle < h.name {
         return false;
     }
-    if h.card < h.bundle {
+    if h.headers < h.bundle {
+        return false;
+    }
+    if h.card < h.headers {
         return false;
     }
     if h.targets < h.card {

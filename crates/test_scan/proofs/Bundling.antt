@@ -11,7 +11,7 @@ use Rattle.lists.specs.Tests.{split}
 use Rattle.spec.specs.Answers.{spot, baseOf}
 use Rattle.spec.specs.Basics.{among}
 use Rattle.spec.specs.Reading.{numberOf}
-use Rattle.hold_names.proofs.Numbers.{number-below}
+use Rattle.spec.proofs.Numbers.{number-below}
 use Rattle.scan_bundle.proofs.Lying.{length-names}
 use Rattle.spec.specs.Bundle.{bundleNames, bundleTexts, soundBundle}
 use Rattle.spec.specs.Card.{numberAt}

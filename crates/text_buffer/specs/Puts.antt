@@ -4,7 +4,7 @@ use mathlib.Core.List.{List, [], _∷_, _++_, map}
 use mathlib.Core.Path.{_≡_}
 use lib.ListN.{length, take, getD}
 use Rattle.spec.specs.Limits.{maxText}
-use Rattle.spec.specs.Text.{quote, insideQuotes, quoted}
+use Rattle.spec.specs.Text.{quote, insideQuotes, Spelling}
 use Rattle.hold_names.specs.Table.{SoundNames}
 
 -- the buffer has room for a longest text, which is written up to this place
@@ -30,9 +30,9 @@ pub record PutsText (before : List ℕ) (place : ℕ) (s after : List ℕ) (r : 
 abbrev pub toClose : List ℕ → List ℕ
 toClose n = insideQuotes n ++ (quote ∷ [])
 
--- the names of files by their numbers, as a text has them
-abbrev pub namesIn : List (List ℕ) → List ℕ → List (List ℕ)
-namesIn files fs = map (λ (f : ℕ). quoted (getD files f [])) fs
+-- the names of files by their numbers, as a text spells them
+abbrev pub namesIn : Spelling → List (List ℕ) → List ℕ → List (List ℕ)
+namesIn spell files fs = map (λ (f : ℕ). spell (getD files f [])) fs
 
 -- name i of a list with its separator before it
 unfoldable pub headed : ℕ → ℕ → List ℕ → List ℕ

@@ -4,7 +4,7 @@ ghost use mathlib.Core.List.{List, [], _∷_};
 ghost use Prim.Native.Nat.{ℕ, _<_};
 ghost use mathlib.Core.Path.{_≡_};
 ghost use lib.ListN.{length, getD};
-ghost use Rattle.spec.specs.Text.{quote, safeByte, insideQuotes, quoted, joinedBy};
+ghost use Rattle.spec.specs.Text.{quote, safeByte, insideQuotes, quoted, joinedBy, spelledBy};
 ghost use Rattle.hold_names.specs.Table.{HoldsNames};
 ghost use Rattle.text_buffer.specs.Puts.{OpenText, PutsText, FileNameAsk, FileNamesAsk, headed, namesIn, toClose};
 use hold_names::file_name;
@@ -115,19 +115,24 @@ fn put_quoted(buffer: &mut [u8], place: usize, name: &[u8]) -> usize
     place + i
 }
 
-// Writes a file's name.
+// Writes a file's name: as it is in a text that no shell reads, else quoted.
 fn put_name(
     names: &[u8],
     index: &[u32],
     count: usize,
     f: usize,
+    plain: bool,
     buffer: &mut [u8],
     place: usize,
 ) -> usize
     requires { ⌜ FileNameAsk (now names) (now index) count f (now buffer) place ⌝ }
-    ensures { λ r. ⌜ ((files : List (List ℕ)) → HoldsNames (now (names .entry)) (now (index .entry)) count files → PutsText (now (buffer .entry)) place (quoted (getD files f [])) (now (buffer .exit)) r) ⌝ }
+    ensures { λ r. ⌜ ((files : List (List ℕ)) → HoldsNames (now (names .entry)) (now (index .entry)) count files → PutsText (now (buffer .entry)) place (spelledBy plain (getD files f [])) (now (buffer .exit)) r) ⌝ }
 {
-    put_quoted(buffer, place, file_name(names, index, count, f))
+    let name = file_name(names, index, count, f);
+    if plain {
+        return put_bytes(buffer, place, name);
+    }
+    put_quoted(buffer, place, name)
 }
 
 // Writes the name of file i of a list, behind the separator unless it is the first.
@@ -138,40 +143,42 @@ fn put_next(
     fs: &[u32],
     i: usize,
     separator: u8,
+    plain: bool,
     buffer: &mut [u8],
     place: usize,
 ) -> usize
     requires { ⌜ (i < length (now fs)) × FileNamesAsk (now names) (now index) count (now fs) (now buffer) place ⌝ }
-    ensures { λ r. ⌜ ((files : List (List ℕ)) → HoldsNames (now (names .entry)) (now (index .entry)) count files → PutsText (now (buffer .entry)) place (headed separator i (quoted (getD files (getD (now (fs .entry)) i 0) []))) (now (buffer .exit)) r) ⌝ }
+    ensures { λ r. ⌜ ((files : List (List ℕ)) → HoldsNames (now (names .entry)) (now (index .entry)) count files → PutsText (now (buffer .entry)) place (headed separator i (spelledBy plain (getD files (getD (now (fs .entry)) i 0) []))) (now (buffer .exit)) r) ⌝ }
 {
     let f = at(fs, i);
     if i == 0 {
-        return put_name(names, index, count, f, buffer, place);
+        return put_name(names, index, count, f, plain, buffer, place);
     }
     let n = put_byte(buffer, place, separator);
     if TEXT < n {
         return n;
     }
-    put_name(names, index, count, f, buffer, n)
+    put_name(names, index, count, f, plain, buffer, n)
 }
 
-// Writes the names of files, "joined by one space (`$in_newline` by a newline)", each as `quoted` spells it.
+// Writes the names of files, "joined by one space (`$in_newline` by a newline)", each plain or quoted.
 pub fn put_files(
     names: &[u8],
     index: &[u32],
     count: usize,
     fs: &[u32],
     separator: u8,
+    plain: bool,
     buffer: &mut [u8],
     place: usize,
 ) -> usize
     requires { ⌜ FileNamesAsk (now names) (now index) count (now fs) (now buffer) place ⌝ }
-    ensures { λ r. ⌜ ((files : List (List ℕ)) → HoldsNames (now (names .entry)) (now (index .entry)) count files → PutsText (now (buffer .entry)) place (joinedBy separator (namesIn files (now (fs .entry)))) (now (buffer .exit)) r) ⌝ }
+    ensures { λ r. ⌜ ((files : List (List ℕ)) → HoldsNames (now (names .entry)) (now (index .entry)) count files → PutsText (now (buffer .entry)) place (joinedBy separator (namesIn (spelledBy plain) files (now (fs .entry)))) (now (buffer .exit)) r) ⌝ }
 {
     let mut n = place;
     let mut i = 0;
     while i < fs.len() {
-        n = put_next(names, index, count, fs, i, separator, buffer, n);
+        n = put_next(names, index, count, fs, i, separator, plain, buffer, n);
         if TEXT < n {
             return n;
         }

@@ -9,7 +9,6 @@ use Rattle.lists.specs.Parts.{part}
 use Rattle.spec.specs.Limits.{maxText}
 use Rattle.spec.specs.Dollars.{ref, fill, expand, refs}
 use Rattle.spec.specs.Reading.{Step, Reading}
-use Rattle.spec.specs.Text.{textOf, deep}
 use Rattle.scan_raw.proofs.Pieces.{pieces-end}
 use Rattle.hold_bindings.specs.Log.{Logged}
 use Rattle.text_references.specs.Begins.{ReferencesReady, plainly, PiecesStand}
@@ -23,7 +22,7 @@ use Rattle.text_memo.specs.declared.Draft.{Draft}
 use Rattle.text_memo.specs.Draft.{Remembers, Drafted, WritesDraft}
 use Rattle.text_memo.proofs.Spans.{drafted-none, drafted-then, drafted-over}
 use Rattle.text_expansion.specs.Here.{Here}
-use Rattle.text_expansion.specs.Asks.{RawTextAsk, WritesText, NameTextAsk, WritesName}
+use Rattle.text_expansion.specs.Asks.{textIn, RawTextAsk, WritesText, NameTextAsk, WritesName}
 use Rattle.hold_reading.specs.Buffers.{Buffers}
 
 expand-none : (look : List ℕ → List ℕ) → expand look [] ≡ []
@@ -31,11 +30,11 @@ unfolding expand fill
 expand-none look = ap (fill look) pieces-end
 
 -- A part is written, and what is left ends in the whole.
-pub record Progress (rd : Reading) (s : Step) (raw : List ℕ) (depth : ℕ) (before : List ℕ) (d : Draft) (now : List ℕ) (x : Draft) (i : ℕ) : Type 0 where
+pub record Progress (rd : Reading) (s : Step) (raw : List ℕ) (a : Asked) (before : List ℕ) (d : Draft) (now : List ℕ) (x : Draft) (i : ℕ) : Type 0 where
   pub part : List ℕ
-  pub adds : part ++ expand (textOf rd s deep) (drop i raw) ≡ expand (textOf rd s deep) raw
-  pub drafted : Drafted (textOf rd s deep) before d part now x
-  pub shallow : any (goesDeep rd s depth) (refs (drop i raw)) ≡ false
+  pub adds : part ++ expand (textIn a rd s) (drop i raw) ≡ expand (textIn a rd s) raw
+  pub drafted : Drafted (textIn a rd s) before d part now x
+  pub shallow : any (goesDeep rd s (a .depth)) (refs (drop i raw)) ≡ false
 
 pub record Writing (t : List ℕ) (bs : Buffers) (a : Asked) (raw before : List ℕ) (d : Draft) (now : List ℕ) (x : Draft) (i : ℕ) : Type 0 where
   pub ask : RawTextAsk t bs a raw before d
@@ -43,7 +42,7 @@ pub record Writing (t : List ℕ) (bs : Buffers) (a : Asked) (raw before : List 
   pub free : OpenText now (x .at)
   pub long : length now ≡ length before
   pub done : (log : List Logged) (rd : Reading) (s : Step) → Here bs a log rd s → any (goesDeep rd s (a .depth)) (refs raw) ≡ false
-      → Remembers (textOf rd s deep) before d → Progress rd s raw (a .depth) before d now x i
+      → Remembers (textIn a rd s) before d → Progress rd s raw a before d now x i
 
 pub write-begin : {t : List ℕ} {bs : Buffers} {raw before : List ℕ} {a : Asked} {d : Draft} → RawTextAsk t bs a raw before d
     → Writing t bs a raw before d before d 0
@@ -58,16 +57,16 @@ write-begin w =
 
 module _ {t : List ℕ} {bs : Buffers} {raw before now : List ℕ} {a : Asked} {i : ℕ} {d x : Draft} (w : Writing t bs a raw before d now x i) where
   -- the reading that the ask speaks of
-  asked : Progress (w .ask .asking .reading) (w .ask .asking .step) raw (a .depth) before d now x i
+  asked : Progress (w .ask .asking .reading) (w .ask .asking .step) raw a before d now x i
   asked = let q = w .ask .asking in w .done (q .log) (q .reading) (q .step) (q .here) (w .ask .shallow) (q .remembers)
 
   module _ {next : ℕ} {after : List ℕ} {r : Draft} (ready : ReferencesReady t raw next) (u : Reading → Step → List ℕ)
-      (e : (rd : Reading) (s : Step) → expand (textOf rd s deep) (drop i raw) ≡ u rd s ++ expand (textOf rd s deep) (drop next raw))
+      (e : (rd : Reading) (s : Step) → expand (textIn a rd s) (drop i raw) ≡ u rd s ++ expand (textIn a rd s) (drop next raw))
       (f : (log : List Logged) (rd : Reading) (s : Step) → Here bs a log rd s → any (goesDeep rd s (a .depth)) (refs (drop i raw)) ≡ false
-      → Remembers (textOf rd s deep) now x → Drafted (textOf rd s deep) now x (u rd s) after r)
+      → Remembers (textIn a rd s) now x → Drafted (textIn a rd s) now x (u rd s) after r)
       (g : (rd : Reading) (s : Step) → any (goesDeep rd s (a .depth)) (refs (drop i raw)) ≡ false → any (goesDeep rd s (a .depth)) (refs (drop next raw)) ≡ false) where
-    turn : (log : List Logged) (rd : Reading) (s : Step) → Here bs a log rd s → Progress rd s raw (a .depth) before d now x i → Remembers (textOf rd s deep) before d
-        → Drafted (textOf rd s deep) now x (u rd s) after r
+    turn : (log : List Logged) (rd : Reading) (s : Step) → Here bs a log rd s → Progress rd s raw a before d now x i → Remembers (textIn a rd s) before d
+        → Drafted (textIn a rd s) now x (u rd s) after r
     turn log rd s h p k = f log rd s h (p .shallow) (p .drafted .remembers (w .free .low))
 
     turn-on : r .at ≤ maxText → Writing t bs a raw before d after r next
@@ -83,7 +82,7 @@ module _ {t : List ℕ} {bs : Buffers} {raw before now : List ℕ} {a : Asked} {
               let p = w .done log rd s h c k in
               record {
                 part = p .part ++ u rd s;
-                adds = append-assoc (p .part) (u rd s) (expand (textOf rd s deep) (drop next raw)) ∙ rw (← (e rd s)) (p .adds);
+                adds = append-assoc (p .part) (u rd s) (expand (textIn a rd s) (drop next raw)) ∙ rw (← (e rd s)) (p .adds);
                 drafted = drafted-then k (p .drafted) (w .free .low) (turn log rd s h p k);
                 shallow = g rd s (p .shallow);
               };
@@ -94,9 +93,9 @@ module _ {t : List ℕ} {bs : Buffers} {raw before now : List ℕ} {a : Asked} {
         record {
           writes = λ log rd s h c k.
               let p = w .done log rd s h c k in
-              let z : (p .part ++ u rd s) ++ expand (textOf rd s deep) (drop next raw) ≡ expand (textOf rd s deep) raw =
-              append-assoc (p .part) (u rd s) (expand (textOf rd s deep) (drop next raw)) ∙ rw (← (e rd s)) (p .adds) in
-              rw (← z) (drafted-over k (drafted-then k (p .drafted) (w .free .low) (turn log rd s h p k)) b (expand (textOf rd s deep) (drop next raw)));
+              let z : (p .part ++ u rd s) ++ expand (textIn a rd s) (drop next raw) ≡ expand (textIn a rd s) raw =
+              append-assoc (p .part) (u rd s) (expand (textIn a rd s) (drop next raw)) ∙ rw (← (e rd s)) (p .adds) in
+              rw (← z) (drafted-over k (drafted-then k (p .drafted) (w .free .low) (turn log rd s h p k)) b (expand (textIn a rd s) (drop next raw)));
         }
 
   module _ {from to next : ℕ} where
@@ -105,12 +104,12 @@ module _ {t : List ℕ} {bs : Buffers} {raw before now : List ℕ} {a : Asked} {
     module _ (b : PiecesStand raw i from to next (plainly (part raw from to))) {after : List ℕ} {r : Draft} (p : WritesDraft now x (part raw from to) after r) where
       pub bytes-on : r .at ≤ maxText → Writing t bs a raw before d after r next
       bytes-on =
-          turn-on (ready-on (w .ready) b) (λ rd s. part raw from to) (λ rd s. expand-bytes b (textOf rd s deep)) (λ log rd s h c k. p .drafts (textOf rd s deep) k)
+          turn-on (ready-on (w .ready) b) (λ rd s. part raw from to) (λ rd s. expand-bytes b (textIn a rd s)) (λ log rd s h c k. p .drafts (textIn a rd s) k)
           (λ rd s c. rw (refs-bytes b) at c)
 
       pub bytes-over : maxText < r .at → WritesText bs a raw before d after r
       bytes-over =
-          turn-over (ready-on (w .ready) b) (λ rd s. part raw from to) (λ rd s. expand-bytes b (textOf rd s deep)) (λ log rd s h c k. p .drafts (textOf rd s deep) k)
+          turn-over (ready-on (w .ready) b) (λ rd s. part raw from to) (λ rd s. expand-bytes b (textIn a rd s)) (λ log rd s h c k. p .drafts (textIn a rd s) k)
           (λ rd s c. rw (refs-bytes b) at c)
 
     -- ---- a name
@@ -135,18 +134,18 @@ module _ {t : List ℕ} {bs : Buffers} {raw before now : List ℕ} {a : Asked} {
       module _ {after : List ℕ} {r : Draft} (p : WritesName bs a (part raw from to) now x after r) where
         pub name-on : r .at ≤ maxText → Writing t bs a raw before d after r next
         name-on =
-            turn-on (ready-on (w .ready) b) (λ rd s. textOf rd s deep (part raw from to)) (λ rd s. expand-name b (textOf rd s deep)) (λ log rd s h c k. p .writes log rd s h (first rd s c) k) later
+            turn-on (ready-on (w .ready) b) (λ rd s. textIn a rd s (part raw from to)) (λ rd s. expand-name b (textIn a rd s)) (λ log rd s h c k. p .writes log rd s h (first rd s c) k) later
 
         pub name-over : maxText < r .at → WritesText bs a raw before d after r
         name-over =
-            turn-over (ready-on (w .ready) b) (λ rd s. textOf rd s deep (part raw from to)) (λ rd s. expand-name b (textOf rd s deep)) (λ log rd s h c k. p .writes log rd s h (first rd s c) k) later
+            turn-over (ready-on (w .ready) b) (λ rd s. textIn a rd s (part raw from to)) (λ rd s. expand-name b (textIn a rd s)) (λ log rd s h c k. p .writes log rd s h (first rd s c) k) later
 
   pub write-end : length raw ≤ i → WritesText bs a raw before d now x
   write-end b =
       record {
         writes = λ log rd s h c k.
             let p = w .done log rd s h c k in
-            let z : p .part ≡ expand (textOf rd s deep) raw =
-            sym (append-nil (p .part)) ∙ rw (drop-of-length-le raw {i = i} b, expand-none (textOf rd s deep)) at (p .adds) in
+            let z : p .part ≡ expand (textIn a rd s) raw =
+            sym (append-nil (p .part)) ∙ rw (drop-of-length-le raw {i = i} b, expand-none (textIn a rd s)) at (p .adds) in
             rw (← z) (p .drafted);
       }

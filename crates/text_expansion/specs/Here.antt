@@ -1,5 +1,6 @@
 -- What the lent buffers hold of the step that is asked for.
 use Prim.Native.Nat.{ℕ, _≤_, _<_}
+use mathlib.Core.Bool.{Bool}
 use mathlib.Core.List.{List}
 use mathlib.Core.Path.{_≡_}
 use lib.ListN.{length, getD}
@@ -10,6 +11,11 @@ use Rattle.hold_bindings.specs.Log.{Logged}
 use Rattle.text_lookup.specs.declared.Asked.{Asked}
 use Rattle.text_lookup.specs.Scope.{StepScope}
 use Rattle.hold_reading.specs.Buffers.{Buffers}
+
+-- the same step, with names spelt another way, and so many rule texts deep
+abbrev pub askedAs : Asked → Bool → ℕ → Asked
+askedAs a plain depth =
+    record { step = a .step; rule = a .rule; scope = a .scope; entries = a .entries; files = a .files; outs = a .outs; ins = a .ins; rest = a .rest; depth = depth; plain = plain }
 
 -- its files: outputs, and behind them the explicit inputs, in the column of mentions that begins the graph
 pub record StepFiles (names index graph : List ℕ) (a : Asked) (rd : Reading) (s : Step) : Type 0 where

@@ -6,7 +6,7 @@ ghost use Rattle.spec.specs.Text.{joinedBy};
 ghost use Rattle.hold_names.specs.Table.{HoldsNames};
 ghost use Rattle.text_buffer.specs.Puts.{namesIn};
 ghost use Rattle.text_memo.specs.Draft.{WritesDraft};
-ghost use Rattle.text_expansion.specs.Asks.{StepFilesAsk, PlainAsk, WritesPlain};
+ghost use Rattle.text_expansion.specs.Asks.{spelling, StepFilesAsk, PlainAsk, WritesPlain};
 ghost use Rattle.hold_reading.specs.Buffers.{buffers};
 use hold_bindings::value;
 use text_buffer::put_files;
@@ -29,7 +29,7 @@ fn write_files(
     d: Draft,
 ) -> Draft
     requires { ⌜ StepFilesAsk (now names) (now index) (now graph) a from to (now buffer) d ⌝ }
-    ensures { λ r. ⌜ ((files : List (List ℕ)) → HoldsNames (now (names .entry)) (now (index .entry)) (a .files) files → WritesDraft (now (buffer .entry)) d (joinedBy separator (namesIn files (part (now (graph .entry)) from to))) (now (buffer .exit)) r) ⌝ }
+    ensures { λ r. ⌜ ((files : List (List ℕ)) → HoldsNames (now (names .entry)) (now (index .entry)) (a .files) files → WritesDraft (now (buffer .entry)) d (joinedBy separator (namesIn (spelling a) files (part (now (graph .entry)) from to))) (now (buffer .exit)) r) ⌝ }
 {
     let n = put_files(
         names,
@@ -37,6 +37,7 @@ fn write_files(
         a.files,
         &graph[from..to],
         separator,
+        a.plain,
         buffer,
         d.at,
     );

@@ -10,7 +10,7 @@ use Rattle.lists.specs.Text.{bytes}
 use Rattle.lists.specs.Bytes.{eqBytes}
 use Rattle.spec.specs.Basics.{orElse}
 use Rattle.spec.specs.Reading.{Step, Reading, Variables, boundTo, varFrom}
-use Rattle.spec.specs.Text.{asIs, ofRule, ofStep, lookupBy, lookup}
+use Rattle.spec.specs.Text.{asIs, ofRule, ofStep, lookupBy}
 use Rattle.hold_bindings.specs.declared.FoundEntry.{FoundEntry}
 use Rattle.hold_bindings.specs.declared.FoundEntry.the-variants.{At, Missing}
 use Rattle.hold_bindings.specs.Log.{Logged, ofKeys, ofBlock, entryAt, newest, newestFrom, valueOf, boundBy, variablesOf}
@@ -55,58 +55,58 @@ module _ (n : List ℕ) {texts bind : List ℕ} {a : Asked} {f : FoundEntry} whe
         ∙ var-newest log (c .bound .scopes) (a .scope) (c .scope-low) n
         ∙ ap (λ (g : FoundEntry). orEmpty (valueOf g log)) (sym (q log (c .bound)))
 
-    pub file-found : {k : ℕ} → InScope texts bind a → f ≡ At k → LooksUp texts bind a (fromFile n) (Value k)
+    pub file-found : {k : ℕ} → InScope texts bind a → f ≡ At k → LooksUp texts bind a (λ spell. fromFile n) (Value k)
     unfolding meaning valueOf
     file-found {k} w e =
         record {
-          means = λ log rd s c. ap asIs (seen-value c ∙ ap (λ (g : FoundEntry). orEmpty (valueOf g log)) e);
+          means = λ spell log rd s c. ap asIs (seen-value c ∙ ap (λ (g : FoundEntry). orEmpty (valueOf g log)) e);
           value = λ j d. let z : k ≡ j = cc in rw (← z) (seen-there w e);
           text = λ j d. let z : _≡_ {A = ℕ} 0 1 = cc in absurd (omega arith);
         }
 
-    pub file-unset : f ≡ Missing → LooksUp texts bind a (fromFile n) Unset
+    pub file-unset : f ≡ Missing → LooksUp texts bind a (λ spell. fromFile n) Unset
     unfolding meaning valueOf
     file-unset e =
         record {
-          means = λ log rd s c. ap asIs (seen-value c ∙ ap (λ (g : FoundEntry). orEmpty (valueOf g log)) e);
+          means = λ spell log rd s c. ap asIs (seen-value c ∙ ap (λ (g : FoundEntry). orEmpty (valueOf g log)) e);
           value = λ j d. let z : _≡_ {A = ℕ} 0 1 = cc in absurd (omega arith);
           text = λ j d. let z : _≡_ {A = ℕ} 0 1 = cc in absurd (omega arith);
         }
 
   module _ (q : (log : List Logged) → HoldsBindings log texts bind (a .entries) → f ≡ newest (ofKeys (a .rule)) n log) where
-    pub rule-found : {k : ℕ} → InScope texts bind a → f ≡ At k → LooksUp texts bind a (fromRule n) (Text k)
+    pub rule-found : {k : ℕ} → InScope texts bind a → f ≡ At k → LooksUp texts bind a (λ spell. fromRule n) (Text k)
     unfolding meaning
     rule-found {k} w e =
         record {
-          means = λ log rd s c. ap (λ (o : Option (List ℕ)). orElse o ofRule λ _. fromFile n rd s) (ap (boundTo n) (c .keys) ∙ entry-found (ofKeys (a .rule)) n a q log (c .bound) e);
+          means = λ spell log rd s c. ap (λ (o : Option (List ℕ)). orElse o ofRule λ _. fromFile n rd s) (ap (boundTo n) (c .keys) ∙ entry-found (ofKeys (a .rule)) n a q log (c .bound) e);
           value = λ j d. let z : _≡_ {A = ℕ} 0 1 = cc in absurd (omega arith);
           text = λ j d. let z : k ≡ j = cc in rw (← z) (entry-there (ofKeys (a .rule)) n a q w e);
         }
 
-    pub rule-missing : {r : Source} → f ≡ Missing → LooksUp texts bind a (fromFile n) r → LooksUp texts bind a (fromRule n) r
+    pub rule-missing : {r : Source} → f ≡ Missing → LooksUp texts bind a (λ spell. fromFile n) r → LooksUp texts bind a (λ spell. fromRule n) r
     rule-missing {r} e l =
         record {
-          means = λ log rd s c.
-              ap (λ (o : Option (List ℕ)). orElse o ofRule λ _. fromFile n rd s) (ap (boundTo n) (c .keys) ∙ entry-missing (ofKeys (a .rule)) n a q log (c .bound) e) ∙ l .means log rd s c;
+          means = λ spell log rd s c.
+              ap (λ (o : Option (List ℕ)). orElse o ofRule λ _. fromFile n rd s) (ap (boundTo n) (c .keys) ∙ entry-missing (ofKeys (a .rule)) n a q log (c .bound) e) ∙ l .means spell log rd s c;
           value = l .value;
           text = l .text;
         }
 
   module _ (q : (log : List Logged) → HoldsBindings log texts bind (a .entries) → f ≡ newest (ofBlock (a .step)) n log) where
-    pub block-found : {k : ℕ} → InScope texts bind a → f ≡ At k → LooksUp texts bind a (fromBlock n) (Value k)
+    pub block-found : {k : ℕ} → InScope texts bind a → f ≡ At k → LooksUp texts bind a (λ spell. fromBlock n) (Value k)
     unfolding meaning
     block-found {k} w e =
         record {
-          means = λ log rd s c. ap (λ (o : Option (List ℕ)). orElse o asIs λ _. fromRule n rd s) (ap (boundTo n) (c .block) ∙ entry-found (ofBlock (a .step)) n a q log (c .bound) e);
+          means = λ spell log rd s c. ap (λ (o : Option (List ℕ)). orElse o asIs λ _. fromRule n rd s) (ap (boundTo n) (c .block) ∙ entry-found (ofBlock (a .step)) n a q log (c .bound) e);
           value = λ j d. let z : k ≡ j = cc in rw (← z) (entry-there (ofBlock (a .step)) n a q w e);
           text = λ j d. let z : _≡_ {A = ℕ} 0 1 = cc in absurd (omega arith);
         }
 
-    pub block-missing : {r : Source} → f ≡ Missing → LooksUp texts bind a (fromRule n) r → LooksUp texts bind a (fromBlock n) r
+    pub block-missing : {r : Source} → f ≡ Missing → LooksUp texts bind a (λ spell. fromRule n) r → LooksUp texts bind a (λ spell. fromBlock n) r
     block-missing {r} e l =
         record {
-          means = λ log rd s c.
-              ap (λ (o : Option (List ℕ)). orElse o asIs λ _. fromRule n rd s) (ap (boundTo n) (c .block) ∙ entry-missing (ofBlock (a .step)) n a q log (c .bound) e) ∙ l .means log rd s c;
+          means = λ spell log rd s c.
+              ap (λ (o : Option (List ℕ)). orElse o asIs λ _. fromRule n rd s) (ap (boundTo n) (c .block) ∙ entry-missing (ofBlock (a .step)) n a q log (c .bound) e) ∙ l .means spell log rd s c;
           value = l .value;
           text = l .text;
         }
@@ -114,40 +114,40 @@ module _ (n : List ℕ) {texts bind : List ℕ} {a : Asked} {f : FoundEntry} whe
 -- ---- the step's own names
 
 module _ (n : List ℕ) {texts bind : List ℕ} (a : Asked) where
-  pub looks-inputs : eqBytes n (bytes "in") ≡ true → LooksUp texts bind a (λ rd s. lookup rd s n) Inputs
+  pub looks-inputs : eqBytes n (bytes "in") ≡ true → LooksUp texts bind a (λ spell rd s. lookupBy spell rd s n) Inputs
   unfolding lookupBy ofStep meaning
   looks-inputs e =
       record {
-        means = λ log rd s c. rw e;
+        means = λ spell log rd s c. rw e;
         value = λ j d. let z : _≡_ {A = ℕ} 0 1 = cc in absurd (omega arith);
         text = λ j d. let z : _≡_ {A = ℕ} 0 1 = cc in absurd (omega arith);
       }
 
   module _ (p : eqBytes n (bytes "in") ≡ false) where
-    pub looks-lines : eqBytes n (bytes "in_newline") ≡ true → LooksUp texts bind a (λ rd s. lookup rd s n) InputLines
+    pub looks-lines : eqBytes n (bytes "in_newline") ≡ true → LooksUp texts bind a (λ spell rd s. lookupBy spell rd s n) InputLines
     unfolding lookupBy ofStep meaning
     looks-lines e =
         record {
-          means = λ log rd s c. rw (p, e);
+          means = λ spell log rd s c. rw (p, e);
           value = λ j d. let z : _≡_ {A = ℕ} 0 1 = cc in absurd (omega arith);
           text = λ j d. let z : _≡_ {A = ℕ} 0 1 = cc in absurd (omega arith);
         }
 
     module _ (q : eqBytes n (bytes "in_newline") ≡ false) where
-      pub looks-outputs : eqBytes n (bytes "out") ≡ true → LooksUp texts bind a (λ rd s. lookup rd s n) Outputs
+      pub looks-outputs : eqBytes n (bytes "out") ≡ true → LooksUp texts bind a (λ spell rd s. lookupBy spell rd s n) Outputs
       unfolding lookupBy ofStep meaning
       looks-outputs e =
           record {
-            means = λ log rd s c. rw (p, q, e);
+            means = λ spell log rd s c. rw (p, q, e);
             value = λ j d. let z : _≡_ {A = ℕ} 0 1 = cc in absurd (omega arith);
             text = λ j d. let z : _≡_ {A = ℕ} 0 1 = cc in absurd (omega arith);
           }
 
-      pub looks-on : {r : Source} → eqBytes n (bytes "out") ≡ false → LooksUp texts bind a (fromBlock n) r → LooksUp texts bind a (λ rd s. lookup rd s n) r
+      pub looks-on : {r : Source} → eqBytes n (bytes "out") ≡ false → LooksUp texts bind a (λ spell. fromBlock n) r → LooksUp texts bind a (λ spell rd s. lookupBy spell rd s n) r
       unfolding lookupBy ofStep
       looks-on e l =
           record {
-            means = λ log rd s c. rw (p, q, e) (l .means log rd s c);
+            means = λ spell log rd s c. rw (p, q, e) (l .means spell log rd s c);
             value = l .value;
             text = l .text;
           }

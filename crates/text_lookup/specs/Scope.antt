@@ -8,7 +8,7 @@ use Rattle.spec.specs.Limits.{maxSteps}
 use Rattle.spec.specs.Basics.{orElse}
 use Rattle.spec.specs.Reading.{Step, Reading, boundTo, varFrom, keysOf}
 use Rattle.spec.specs.Sound.{SoundKeys}
-use Rattle.spec.specs.Text.{quoted, joinedBy, namesOf, Found, asIs, ofRule}
+use Rattle.spec.specs.Text.{Spelling, joinedBy, namesOf, Found, asIs, ofRule}
 use Rattle.hold_bindings.specs.Log.{Logged, ofKeys, ofBlock, entryAt, boundBy, scopingOf, variablesOf}
 use Rattle.hold_bindings.specs.Held.{maxEntries, HoldsBindings, HasEntry}
 use Rattle.text_lookup.specs.declared.Asked.{Asked}
@@ -34,15 +34,15 @@ pub record InScope (texts bind : List ℕ) (a : Asked) : Type 0 where
   pub step : Step
   pub scope : StepScope texts bind a log reading step
 
--- what an answer means
-unfoldable pub meaning : Reading → Step → List Logged → Source → Found
+-- what an answer means, by how names of files are spelt
+unfoldable pub meaning : Spelling → Reading → Step → List Logged → Source → Found
 unfolding joinedBy namesOf entryAt
-meaning rd s log Inputs = asIs (joinedBy space (namesOf quoted rd (s .ins)))
-meaning rd s log InputLines = asIs (joinedBy newline (namesOf quoted rd (s .ins)))
-meaning rd s log Outputs = asIs (joinedBy space (namesOf quoted rd (s .outs)))
-meaning rd s log (Value k) = asIs (entryAt k log .value)
-meaning rd s log (Text k) = ofRule (entryAt k log .value)
-meaning rd s log Unset = asIs []
+meaning spell rd s log Inputs = asIs (joinedBy space (namesOf spell rd (s .ins)))
+meaning spell rd s log InputLines = asIs (joinedBy newline (namesOf spell rd (s .ins)))
+meaning spell rd s log Outputs = asIs (joinedBy space (namesOf spell rd (s .outs)))
+meaning spell rd s log (Value k) = asIs (entryAt k log .value)
+meaning spell rd s log (Text k) = ofRule (entryAt k log .value)
+meaning spell rd s log Unset = asIs []
 
 -- the lookup's later parts
 abbrev pub fromFile : List ℕ → Reading → Step → Found
@@ -59,8 +59,8 @@ pub record There (texts bind : List ℕ) (a : Asked) (k : ℕ) : Type 0 where
   pub entry : HasEntry texts bind k
   pub low : k < a .entries
 
--- The answer means what is found, whatever scope is held, and its entry is there.
-pub record LooksUp (texts bind : List ℕ) (a : Asked) (found : Reading → Step → Found) (r : Source) : Type 0 where
-  pub means : (log : List Logged) (rd : Reading) (s : Step) → StepScope texts bind a log rd s → found rd s ≡ meaning rd s log r
+-- The answer means what is found, whatever scope is held and however names are spelt, and its entry is there.
+pub record LooksUp (texts bind : List ℕ) (a : Asked) (found : Spelling → Reading → Step → Found) (r : Source) : Type 0 where
+  pub means : (spell : Spelling) (log : List Logged) (rd : Reading) (s : Step) → StepScope texts bind a log rd s → found spell rd s ≡ meaning spell rd s log r
   pub value : (k : ℕ) → r ≡ Value k → There texts bind a k
   pub text : (k : ℕ) → r ≡ Text k → There texts bind a k

@@ -8,7 +8,8 @@ use Rattle.lists.specs.Members.{any}
 use Rattle.lists.specs.Tests.{differ, or-left, or-right, or-false}
 use Rattle.spec.specs.Dollars.{Piece, byte, ref, pieces, fill, expand, refsOf, refs}
 use Rattle.spec.specs.Reading.{Step, Reading}
-use Rattle.spec.specs.Text.{ruleKeys, Found, asIs, ofRule, lookup, textBy, textOf, deep}
+use Rattle.spec.specs.Text.{Spelling, quoted, ruleKeys, Found, asIs, ofRule, lookupBy, lookup, textBy, deep}
+use Rattle.text_lookup.proofs.Standing.{found-rule}
 use Rattle.text_recursion.specs.Depth.{leadsTo, goesDeep}
 
 -- none of the names: not the first, and none of the others
@@ -69,31 +70,33 @@ module _ (rd : Reading) (s : Step) where
       let z : k ≡ suc (k - 1) = omega arith in
       text-below (k - 1) n raw (ap (λ (j : ℕ). goesDeep rd s j n) (sym z) ∙ h) e
 
-  found-stable : (k j : ℕ) (n : List ℕ) (f : Found) → lookup rd s n ≡ f → ((m : List ℕ) → goesDeep rd s k m ≡ false → textOf rd s j m ≡ textOf rd s k m)
-      → goesDeep rd s (suc k) n ≡ false → textOf rd s (suc j) n ≡ textOf rd s (suc k) n
-  unfolding textBy
-  found-stable k j n (asIs v) e q h = rw e
-  found-stable k j n (ofRule raw) e q h = rw e (expand-same (goesDeep rd s k) (textOf rd s j) (textOf rd s k) q raw (text-below k n raw h e))
+  -- however names are spelt
+  module _ (spell : Spelling) where
+    found-stable : (k j : ℕ) (n : List ℕ) (f : Found) → lookupBy spell rd s n ≡ f → ((m : List ℕ) → goesDeep rd s k m ≡ false → textBy spell rd s j m ≡ textBy spell rd s k m)
+        → goesDeep rd s (suc k) n ≡ false → textBy spell rd s (suc j) n ≡ textBy spell rd s (suc k) n
+    unfolding textBy
+    found-stable k j n (asIs v) e q h = rw e
+    found-stable k j n (ofRule raw) e q h = rw e (expand-same (goesDeep rd s k) (textBy spell rd s j) (textBy spell rd s k) q raw (text-below k n raw h (found-rule rd s n spell quoted raw e)))
 
-  pub text-stable : (k j : ℕ) (n : List ℕ) → goesDeep rd s k n ≡ false → k ≤ j → textOf rd s j n ≡ textOf rd s k n
-  text-stable zero j n h b = absurd (not-zero zero n h refl)
-  text-stable (suc k) zero n h b = absurd (omega arith)
-  text-stable (suc k) (suc j) n h b = found-stable k j n (lookup rd s n) refl (λ m g. text-stable k j m g (omega arith)) h
+    pub text-stable : (k j : ℕ) (n : List ℕ) → goesDeep rd s k n ≡ false → k ≤ j → textBy spell rd s j n ≡ textBy spell rd s k n
+    text-stable zero j n h b = absurd (not-zero zero n h refl)
+    text-stable (suc k) zero n h b = absurd (omega arith)
+    text-stable (suc k) (suc j) n h b = found-stable k j n (lookupBy spell rd s n) refl (λ m g. text-stable k j m g (omega arith)) h
 
-  once : (k : ℕ) (n raw : List ℕ) → lookup rd s n ≡ ofRule raw → textOf rd s (suc k) n ≡ expand (textOf rd s k) raw
-  unfolding textBy
-  once k n raw e = rw e
+    once : (k : ℕ) (n raw : List ℕ) → lookupBy spell rd s n ≡ ofRule raw → textBy spell rd s (suc k) n ≡ expand (textBy spell rd s k) raw
+    unfolding textBy
+    once k n raw e = rw e
 
-  whole-below : (k : ℕ) (n raw : List ℕ) → goesDeep rd s (suc k) n ≡ false → suc k ≤ deep → lookup rd s n ≡ ofRule raw → textOf rd s deep n ≡ expand (textOf rd s deep) raw
-  whole-below k n raw h b e =
-      once ruleKeys n raw e
-      ∙ expand-same (goesDeep rd s k) (textOf rd s ruleKeys) (textOf rd s deep) (λ m g. text-stable k ruleKeys m g (omega arith) ∙ sym (text-stable k deep m g (omega arith))) raw (text-below k n raw h e)
+    whole-below : (k : ℕ) (n raw : List ℕ) → goesDeep rd s (suc k) n ≡ false → suc k ≤ deep → lookupBy spell rd s n ≡ ofRule raw → textBy spell rd s deep n ≡ expand (textBy spell rd s deep) raw
+    whole-below k n raw h b e =
+        once ruleKeys n raw e
+        ∙ expand-same (goesDeep rd s k) (textBy spell rd s ruleKeys) (textBy spell rd s deep) (λ m g. text-stable k ruleKeys m g (omega arith) ∙ sym (text-stable k deep m g (omega arith))) raw (text-below k n raw h (found-rule rd s n spell quoted raw e))
 
-  -- "the rule, whose text is expanded by this same order"
-  pub text-whole : (k : ℕ) (n raw : List ℕ) → goesDeep rd s k n ≡ false → k ≤ deep → lookup rd s n ≡ ofRule raw → textOf rd s deep n ≡ expand (textOf rd s deep) raw
-  text-whole zero n raw h b e = absurd (not-zero zero n h refl)
-  text-whole (suc k) n raw h b e = whole-below k n raw h b e
+    -- "the rule, whose text is expanded by this same order"
+    pub text-whole : (k : ℕ) (n raw : List ℕ) → goesDeep rd s k n ≡ false → k ≤ deep → lookupBy spell rd s n ≡ ofRule raw → textBy spell rd s deep n ≡ expand (textBy spell rd s deep) raw
+    text-whole zero n raw h b e = absurd (not-zero zero n h refl)
+    text-whole (suc k) n raw h b e = whole-below k n raw h b e
 
-  pub text-as-is : (n v : List ℕ) → lookup rd s n ≡ asIs v → textOf rd s deep n ≡ v
-  unfolding textBy
-  text-as-is n v e = rw e
+    pub text-as-is : (n v : List ℕ) → lookupBy spell rd s n ≡ asIs v → textBy spell rd s deep n ≡ v
+    unfolding textBy
+    text-as-is n v e = rw e

@@ -15,7 +15,7 @@ use Rattle.spec.specs.Basics.{among}
 use Rattle.spec.specs.Dollars.{refs}
 use Rattle.spec.specs.Reading.{Step, Reading, keysOf}
 use Rattle.spec.specs.Sound.{SoundKeys}
-use Rattle.spec.specs.Text.{ruleKeys, keyNumber, Found, asIs, ofRule, lookup, leadsBack, textOf, deep}
+use Rattle.spec.specs.Text.{Spelling, ruleKeys, keyNumber, Found, asIs, ofRule, lookup, leadsBack, textBy, deep}
 use Rattle.hold_keys.proofs.Numbers.{one-key, no-key}
 use Rattle.text_lookup.proofs.Standing.{found-key}
 use Rattle.text_recursion.proofs.Circles.{among-here, among-more, leads-back-deep}
@@ -84,6 +84,6 @@ module _ (rd : Reading) (s : Step) (sound : SoundKeys (keysOf (s .rule) (rd .rul
       ap (λ (i : ℕ). leadsBack rd s i [] n) z)
       (λ (e : ltb j deep ≡ false). let b = ltb-false j deep e in deeper-same j b n ∙ back-more j [] n none-under (omega (arith, b)))
 
-  -- and so is a text
-  pub text-same : (j : ℕ) → deep ≤ j → (n : List ℕ) → leadsBack rd s deep [] n ≡ false → textOf rd s j n ≡ textOf rd s deep n
-  text-same j h n e = text-stable rd s deep j n (sym (leads-back-deep rd s n) ∙ e) h
+  -- and so is a text, however names are spelt
+  pub text-same : (spell : Spelling) (j : ℕ) → deep ≤ j → (n : List ℕ) → leadsBack rd s deep [] n ≡ false → textBy spell rd s j n ≡ textBy spell rd s deep n
+  text-same spell j h n e = text-stable rd s spell deep j n (sym (leads-back-deep rd s n) ∙ e) h

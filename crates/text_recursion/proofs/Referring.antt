@@ -8,7 +8,7 @@ use Rattle.lists.specs.Members.{any}
 use Rattle.lists.specs.Parts.{part}
 use Rattle.spec.specs.Dollars.{ref, refs, refsOf}
 use Rattle.spec.specs.Reading.{Step, Reading}
-use Rattle.spec.specs.Text.{asIs, lookup}
+use Rattle.spec.specs.Text.{quoted, asIs, lookupBy, lookup}
 use Rattle.scan_raw.proofs.Pieces.{pieces-end}
 use Rattle.hold_bindings.specs.Log.{Logged}
 use Rattle.text_references.specs.Begins.{ReferencesReady, plainly, PiecesStand}
@@ -53,7 +53,7 @@ module _ {t raw : List ℕ} {p : List ℕ → Bool} {i : ℕ} (x : Referring t r
 
 -- ---- what a name leads to
 
-module _ {texts bind : List ℕ} {a : Asked} (n : List ℕ) {r : Source} (l : LooksUp texts bind a (λ rd s. lookup rd s n) r) (p : List ℕ → Bool) where
+module _ {texts bind : List ℕ} {a : Asked} (n : List ℕ) {r : Source} (l : LooksUp texts bind a (λ spell rd s. lookupBy spell rd s n) r) (p : List ℕ → Bool) where
   nowhere : (rd : Reading) (s : Step) {v : List ℕ} → lookup rd s n ≡ asIs v → false ≡ leadsTo rd s p n
   unfolding leadsTo
   nowhere rd s e = sym (rw e)
@@ -65,12 +65,12 @@ module _ {texts bind : List ℕ} {a : Asked} (n : List ℕ) {r : Source} (l : Lo
 
   no-text : {log : List Logged} {rd : Reading} {s : Step} → StepScope texts bind a log rd s → (x : Source) → r ≡ x → ((k : ℕ) → r ≡ Text k → ⊥) → false ≡ leadsTo rd s p n
   unfolding meaning
-  no-text {log} {rd} {s} c Inputs e g = nowhere rd s (l .means log rd s c ∙ ap (meaning rd s log) e)
-  no-text {log} {rd} {s} c InputLines e g = nowhere rd s (l .means log rd s c ∙ ap (meaning rd s log) e)
-  no-text {log} {rd} {s} c Outputs e g = nowhere rd s (l .means log rd s c ∙ ap (meaning rd s log) e)
-  no-text {log} {rd} {s} c (Value k) e g = nowhere rd s (l .means log rd s c ∙ ap (meaning rd s log) e)
+  no-text {log} {rd} {s} c Inputs e g = nowhere rd s (l .means quoted log rd s c ∙ ap (meaning quoted rd s log) e)
+  no-text {log} {rd} {s} c InputLines e g = nowhere rd s (l .means quoted log rd s c ∙ ap (meaning quoted rd s log) e)
+  no-text {log} {rd} {s} c Outputs e g = nowhere rd s (l .means quoted log rd s c ∙ ap (meaning quoted rd s log) e)
+  no-text {log} {rd} {s} c (Value k) e g = nowhere rd s (l .means quoted log rd s c ∙ ap (meaning quoted rd s log) e)
   no-text {log} {rd} {s} c (Text k) e g = absurd (g k e)
-  no-text {log} {rd} {s} c Unset e g = nowhere rd s (l .means log rd s c ∙ ap (meaning rd s log) e)
+  no-text {log} {rd} {s} c Unset e g = nowhere rd s (l .means quoted log rd s c ∙ ap (meaning quoted rd s log) e)
 
   -- a name that stands for no rule's text leads nowhere
   pub leads-not : {x : Source} → r ≡ x → ((k : ℕ) → x ≡ Text k → ⊥) → (log : List Logged) (rd : Reading) (s : Step) → StepScope texts bind a log rd s → false ≡ leadsTo rd s p n

@@ -2,12 +2,12 @@
 use Prim.Native.Nat.{ℕ, _-_, _≤_, _<_}
 use mathlib.Core.List.{List, [], _++_, append-nil}
 use mathlib.Core.Bool.{Bool, true, false, _||_}
-use mathlib.Core.Path.{_≡_, refl, sym, _∙_, subst}
+use mathlib.Core.Path.{_≡_, refl, sym, _∙_, ap, subst}
 use native.Mathlib.Omega.{arith}
 use borrow.Author.Tests.{lt-ltb, le-ltb, lt-leb}
 use lib.Dec.{ltb, leb}
-use lib.ListN.{length, take}
-use lib.Seq.{drop-length}
+use lib.ListN.{length, take, length-append}
+use lib.Seq.{drop-length, take-append-seam}
 use Rattle.lists.specs.Fill.{zeros, zeroed, zeroed-all}
 use Rattle.spec.specs.declared.Refusal.the-variants.{EndlessText, LongText, NoCommand}
 use Rattle.spec.specs.declared.TextAnswer.{TextAnswer}
@@ -20,7 +20,7 @@ use Rattle.spec.specs.Answers.{numberOfRefusal, placeOfRefusal, refusalSays, te
 use Rattle.spec.specs.Promises.{filled, leftBy, TextMeets}
 use Rattle.spec.specs.Reading.{Step, Reading, isPhony}
 use Rattle.spec.specs.Graph.{stepAt}
-use Rattle.spec.specs.Text.{keyName, leadsBack, textOf, deep, nameRefusal}
+use Rattle.spec.specs.Text.{keyName, leadsBack, spellingFor, deep, nameText, nameRefusal}
 use Rattle.spec.specs.TextAsk.{text, noText, wantedKey, wantedName, nameOutcome, textOfStep}
 use Rattle.spec.specs.Sound.{SoundRules}
 use Rattle.hold_bindings.specs.Log.{Logged}
@@ -32,7 +32,7 @@ use Rattle.text_buffer.specs.Puts.{PutsText}
 use Rattle.text_expansion.specs.Here.{Here}
 use Rattle.text_step.specs.Steps.{Picks, ReadingHeld}
 use Rattle.text_step.proofs.One.{sound-any}
-use Rattle.text_step.specs.Asks.{StepAsk, WholeAsk, WritesWhole, TextAt, TextAsk, TextOf}
+use Rattle.text_step.specs.Asks.{StepAsk, WholeAsk, WritesWhole, TextStands, AnswersText, TextAt, TextAsk, TextOf}
 use Rattle.hold_reading.specs.Buffers.{Buffers}
 
 -- ---- the buffer
@@ -70,42 +70,62 @@ meets-text {before} {after} {exit} {s} {n} p h e =
     let c : n ≡ length s = f .count ∙ omega arith in
     record { says = rw c; leaves = zero-beyond before after exit s n (p .long) c (f .bytes) e }
 
+-- the text is what lies before the zeros
+stands : {before after exit s : List ℕ} {n : ℕ} → PutsText before 0 s after n → n ≤ maxText → exit ≡ zeroed after n (length after) → TextStands (text s) n exit
+unfolding filled
+stands {before} {after} {exit} {s} {n} p h e =
+    let f = p .fits h in
+    let c : n ≡ length s = f .count ∙ omega arith in
+    let z = zero-beyond before after exit s n (p .long) c (f .bytes) e in
+    record {
+      is = ap text (sym (ap (take n) z ∙ ap (λ (k : ℕ). take k (s ++ zeros (length before - length s))) c ∙ take-append-seam s (zeros (length before - length s))));
+      within = rw z (let l = length-append s (zeros (length before - length s)) in omega (arith, l, c));
+    }
+
 -- ---- one step
 
 module _ {t : List ℕ} {bs : Buffers} {before : List ℕ} {a : Asked} (key : Key) (w : StepAsk t bs a before) {b : Bool}
     (q : (log : List Logged) (rd : Reading) (s : Step) → StepScope (bs .texts) (bs .bind) a log rd s → b ≡ leadsBack rd s deep [] (keyName key)) where
   pub in-endless : {exit : List ℕ} → b ≡ true → exit ≡ zeroed before 0 (length before) → TextAt bs a key before exit (Refused (EndlessText (a .step)))
-  unfolding nameOutcome nameRefusal
-  in-endless {exit} e z = record { meets = λ log rd h. rw (sym (q log rd (stepAt (rd .steps) (a .step)) (h .scope)) ∙ e) (meets-endless (a .step) before before refl z) }
+  unfolding nameOutcome nameRefusal AnswersText
+  in-endless {exit} e z =
+      record {
+        meets = λ log rd h. rw (sym (q log rd (stepAt (rd .steps) (a .step)) (h .scope)) ∙ e) (meets-endless (a .step) before before refl z);
+        answers = λ log rd h. rw (sym (q log rd (stepAt (rd .steps) (a .step)) (h .scope)) ∙ e);
+      }
 
   module _ (e : b ≡ false) where
     pub wants : WholeAsk t bs a (keyName key) before
     wants = record { asked = w; ended = sym (q (w .log) (w .reading) (w .step) (w .here .scope)) ∙ e }
 
-    module _ {after : List ℕ} {n : ℕ} (p : WritesWhole bs a (keyName key) before after n) {exit : List ℕ} where
-      pub in-long : maxText < n → exit ≡ zeroed after 0 (length after) → TextAt bs a key before exit (Refused (LongText (a .step)))
-      unfolding nameOutcome nameRefusal
+    ends : {log : List Logged} {rd : Reading} → Here bs a log rd (stepAt (rd .steps) (a .step)) → leadsBack rd (stepAt (rd .steps) (a .step)) deep [] (keyName key) ≡ false
+    ends {log} {rd} y = sym (q log rd (stepAt (rd .steps) (a .step)) (y .scope)) ∙ e
+
+    module _ {after : List ℕ} {n : ℕ} (p : WritesWhole bs a (spellingFor (keyName key)) (keyName key) before after n) where
+      -- what is written of a reading's text
+      writes-key : {log : List Logged} {rd : Reading} → Here bs a log rd (stepAt (rd .steps) (a .step)) → PutsText before 0 (nameText rd (a .step) (keyName key)) after n
+      writes-key {log} {rd} y = p .writes log rd (stepAt (rd .steps) (a .step)) y (ends y)
+
+      is-long : {log : List Logged} {rd : Reading} → maxText < n → Here bs a log rd (stepAt (rd .steps) (a .step)) → ltb maxText (length (nameText rd (a .step) (keyName key))) ≡ true
+      is-long {rd = rd} h y = let x = writes-key y in lt-ltb maxText (length (nameText rd (a .step) (keyName key))) (omega (arith, x .over h))
+
+      is-short : {log : List Logged} {rd : Reading} → n ≤ maxText → Here bs a log rd (stepAt (rd .steps) (a .step)) → ltb maxText (length (nameText rd (a .step) (keyName key))) ≡ false
+      is-short {rd = rd} h y = let c = writes-key y .fits h .count in le-ltb maxText (length (nameText rd (a .step) (keyName key))) (omega arith)
+
+      pub in-long : {exit : List ℕ} → maxText < n → exit ≡ zeroed after 0 (length after) → TextAt bs a key before exit (Refused (LongText (a .step)))
+      unfolding nameOutcome nameRefusal AnswersText
       in-long h z =
           record {
-            meets = λ log rd y.
-                let s = stepAt (rd .steps) (a .step) in
-                let f : leadsBack rd s deep [] (keyName key) ≡ false = sym (q log rd s (y .scope)) ∙ e in
-                let x = p .writes log rd s y f in
-                let g : ltb maxText (length (textOf rd s deep (keyName key))) ≡ true = lt-ltb maxText (length (textOf rd s deep (keyName key))) (omega (arith, x .over h)) in
-                rw (f, g) (meets-long (a .step) before after (x .long) z);
+            meets = λ log rd y. rw (ends y, is-long h y) (meets-long (a .step) before after (writes-key y .long) z);
+            answers = λ log rd y. rw (ends y, is-long h y);
           }
 
-      pub in-text : n ≤ maxText → exit ≡ zeroed after n (length after) → TextAt bs a key before exit (Written n)
-      unfolding nameOutcome nameRefusal
+      pub in-text : {exit : List ℕ} → n ≤ maxText → exit ≡ zeroed after n (length after) → TextAt bs a key before exit (Written n)
+      unfolding nameOutcome nameRefusal AnswersText
       in-text h z =
           record {
-            meets = λ log rd y.
-                let s = stepAt (rd .steps) (a .step) in
-                let f : leadsBack rd s deep [] (keyName key) ≡ false = sym (q log rd s (y .scope)) ∙ e in
-                let x = p .writes log rd s y f in
-                let c = x .fits h .count in
-                let g : ltb maxText (length (textOf rd s deep (keyName key))) ≡ false = le-ltb maxText (length (textOf rd s deep (keyName key))) (omega arith) in
-                rw (f, g) (meets-text x h z);
+            meets = λ log rd y. rw (ends y, is-short h y) (meets-text (writes-key y) h z);
+            answers = λ log rd y. rw (ends y, is-short h y) (stands (writes-key y) h z);
           }
 
 -- ---- the ask

@@ -202,7 +202,7 @@ module _ {texts bind graph : List ℕ} {c : Counts} {step k scope : ℕ} (w : Pi
       unfolding keysAt
       keys-found = rw (b .rules) (keys-newest (stepAt (rd .steps) step .rule) log ∙ rw rule-found)
 
-      one : Picked graph c step (record { step = step; rule = rule; scope = scope; entries = c .entries; files = c .files; outs = outs; ins = ins; rest = rest; depth = deep }) log rd
+      one : Picked graph c step (record { step = step; rule = rule; scope = scope; entries = c .entries; files = c .files; outs = outs; ins = ins; rest = rest; depth = deep; plain = false }) log rd
       one =
           let h = w .there in
           let p = held-sound (g .tables) .placed step (there b g h) in
@@ -229,7 +229,7 @@ module _ {texts bind graph : List ℕ} {c : Counts} {step k scope : ℕ} (w : Pi
             low = λ j l r. mention-low b g j (omega arith);
           }
 
-    pub picks : Picks texts bind graph c step (record { step = step; rule = rule; scope = scope; entries = c .entries; files = c .files; outs = outs; ins = ins; rest = rest; depth = deep })
+    pub picks : Picks texts bind graph c step (record { step = step; rule = rule; scope = scope; entries = c .entries; files = c .files; outs = outs; ins = ins; rest = rest; depth = deep; plain = false })
     picks = record { picked = λ log rd b g. one b g }
 
 -- ---- by the answer

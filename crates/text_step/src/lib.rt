@@ -1,7 +1,8 @@
 // The text of a step from what a manifest was read into: 18, 16, 17, or the text.
 ghost use mathlib.Core.Path.{_≡_};
-ghost use Rattle.spec.specs.Text.{keyName};
+ghost use Rattle.spec.specs.Text.{keyName, spelledBy, spellingFor};
 ghost use Rattle.spec.specs.TextAsk.{wantedKey};
+ghost use Rattle.text_expansion.specs.Asks.{spelling};
 ghost use Rattle.text_step.specs.Asks.{StepAsk, WholeAsk, WritesWhole, TextAt, TextAsk, TextOf};
 ghost use Rattle.hold_reading.specs.Buffers.{buffers};
 use hold_keys::key_name;
@@ -47,11 +48,24 @@ fn write_whole(
     buffer: &mut [u8],
 ) -> usize
     requires { ⌜ WholeAsk (now t) (buffers (now names) (now index) (now texts) (now bind) (now graph)) a (now name) (now buffer) ⌝ }
-    ensures { λ r. ⌜ WritesWhole (buffers (now (names .entry)) (now (index .entry)) (now (texts .entry)) (now (bind .entry)) (now (graph .entry))) a (now (name .entry)) (now (buffer .entry)) (now (buffer .exit)) r ⌝ }
+    ensures { λ r. ⌜ WritesWhole (buffers (now (names .entry)) (now (index .entry)) (now (texts .entry)) (now (bind .entry)) (now (graph .entry))) a (spelling a) (now (name .entry)) (now (buffer .entry)) (now (buffer .exit)) r ⌝ }
 {
     let d = blank();
     let x = write_name(t, names, index, texts, bind, graph, a, name, buffer, d);
     x.at
+}
+
+// "its depfile name (unquoted ..)": the one text that no shell reads.
+fn is_plain(key: Key) -> bool
+    ensures { λ r. ⌜ spelledBy r ≡ spellingFor (keyName key) ⌝ }
+{
+    match key {
+        Key::Command => false,
+        Key::Description => false,
+        Key::Generator => false,
+        Key::Depfile => true,
+        Key::Pool => false,
+    }
 }
 
 // Writes the text of a key.
@@ -67,10 +81,12 @@ fn write_key(
     buffer: &mut [u8],
 ) -> usize
     requires { ⌜ WholeAsk (now t) (buffers (now names) (now index) (now texts) (now bind) (now graph)) a (keyName key) (now buffer) ⌝ }
-    ensures { λ r. ⌜ WritesWhole (buffers (now (names .entry)) (now (index .entry)) (now (texts .entry)) (now (bind .entry)) (now (graph .entry))) a (keyName key) (now (buffer .entry)) (now (buffer .exit)) r ⌝ }
+    ensures { λ r. ⌜ WritesWhole (buffers (now (names .entry)) (now (index .entry)) (now (texts .entry)) (now (bind .entry)) (now (graph .entry))) a (spellingFor (keyName key)) (keyName key) (now (buffer .entry)) (now (buffer .exit)) r ⌝ }
 {
     let keys = key_names();
     let k = number_of(key);
+    let plain = is_plain(key);
+    let spelt = Asked { plain, ..a };
     write_whole(
         t,
         names,
@@ -78,7 +94,7 @@ fn write_key(
         texts,
         bind,
         graph,
-        a,
+        spelt,
         key_name(&keys, k),
         buffer,
     )

@@ -65,6 +65,7 @@ fn picked(
         ins,
         rest,
         depth: DEEP,
+        plain: false,
     }
 }
 

@@ -82,6 +82,8 @@ pub enum Fault {
     EmptyCircle,
     /// A place that no refusal of this number has.
     Place(Refusal),
+    /// `\@` in a header list.
+    MarkInList,
     /// Behind the last byte of the bundle.
     Beyond(usize),
     /// A number of a card or a bundle with another width than 1, 4 or 8 bytes.
@@ -112,10 +114,13 @@ impl Display for Fault {
             Fault::Expected(what) => write!(f, "expected {what}"),
             Fault::Number(word) => write!(f, "`{word}` is not a number that fits here"),
             Fault::NoEarlierCase(name) => write!(f, "no earlier case {name} in this file"),
-            Fault::StrayPiece => f.write_str("a piece outside `manifest`, `file` and `prints`"),
+            Fault::StrayPiece => {
+                f.write_str("a piece outside `manifest`, `file`, `depfile` and `prints`")
+            }
             Fault::NoMark => f.write_str("no `\\@` before this line"),
             Fault::EmptyCircle => f.write_str("a circle has one step at least"),
             Fault::Place(refusal) => write!(f, "`{refusal}` is at no place that it can have"),
+            Fault::MarkInList => f.write_str("no refusal has its place in a header list"),
             Fault::Beyond(at) => write!(f, "{at} is beyond the bundle's bytes"),
             Fault::Width(width) => write!(f, "a number has 1, 4 or 8 bytes, not {width}"),
             Fault::TooWide { value, width } => write!(f, "{value} does not fit into {width} bytes"),

@@ -2,8 +2,8 @@
 //! texts ask has two lent buffers and is not packed: `compare/` puts it to the library.
 //! Every number has four bytes, the lowest first:
 //!
-//! - a case: where its name, bundle, card and target list end that follow one behind another, how
-//!   many asks follow, those bytes, and the asks; the last one has only zeros
+//! - a case: where its name, bundle, header lists, card and target list end that follow one behind
+//!   another, how many asks follow, those bytes, and the asks; the last one has only zeros
 //! - an ask: 0 for a plan, 1 for a command, 2 for a description; the step, in two numbers; the
 //!   length of the lent buffer; how many answers are right, and these
 //! - an answer: its number, 0 or a refusal's; 0 where its value is a number by itself (a count, or a
@@ -18,7 +18,7 @@ use std::fmt::{self, Display, Formatter};
 /// All cases, packed.
 pub fn pack(cases: &[Case]) -> Result<Vec<u8>, TooGreat> {
     let mut packed = cases.iter().map(packed_case).collect::<Result<Vec<_>, _>>()?.concat();
-    packed.extend([0; 20]);
+    packed.extend([0; 24]);
     Ok(packed)
 }
 
@@ -118,8 +118,8 @@ fn packed_case(case: &Case) -> Result<Vec<u8>, TooGreat> {
     if asks.is_empty() {
         return Ok(Vec::new());
     }
-    let Lent { bundle, card, targets } = &case.lent;
-    let parts = [case.name.as_bytes(), bundle, card, targets];
+    let Lent { bundle, headers, card, targets } = &case.lent;
+    let parts = [case.name.as_bytes(), bundle, headers, card, targets];
     let ends = parts.iter().scan(0, |end, part| {
         *end += part.len();
         Some(*end)

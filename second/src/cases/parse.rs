@@ -62,11 +62,36 @@ impl Reader {
 /// What is written piece by piece.
 #[derive(Clone, Copy)]
 enum Block {
-    Text,
+    Text(Which),
     Prints,
 }
 
-/// Where the bundle comes from.
+/// Which of the two lent bundles.
+#[derive(Clone, Copy, PartialEq, Eq)]
+enum Which {
+    Manifests,
+    Headers,
+}
+
+impl Which {
+    /// What a case may have once.
+    fn once(self) -> Fault {
+        Fault::Second(match self {
+            Which::Manifests => "manifest",
+            Which::Headers => "headers",
+        })
+    }
+
+    /// The forms in which a bundle's bytes are given.
+    fn forms(self) -> Fault {
+        Fault::Expected(match self {
+            Which::Manifests => "`bundle raw`, `bundle cut` or `bundle put`",
+            Which::Headers => "`headers raw`, `headers cut` or `headers put`",
+        })
+    }
+}
+
+/// Where a bundle comes from.
 enum Source {
     None,
     /// Names and texts: one manifest, or files by name.
@@ -83,9 +108,18 @@ impl Source {
             Source::None | Source::Bytes(_) => None,
             Source::Manifest(text) => Some((0, text)),
             Source::Files(files) => {
-                let record = files.len() - 1;
+                let record = files.len().checked_sub(1)?;
                 files.last_mut().map(|(_, text)| (record, text))
             }
+        }
+    }
+
+    /// Whether nothing of it is given yet; no header lists are no records.
+    fn is_new(&self) -> bool {
+        match self {
+            Source::None => true,
+            Source::Files(files) => files.is_empty(),
+            Source::Manifest(_) | Source::Bytes(_) => false,
         }
     }
 
@@ -107,6 +141,7 @@ impl Source {
 struct Draft {
     case: Case,
     source: Source,
+    headers: Source,
     /// The lengths of the lent buffers, which may be given after the asks.
     list_len: usize,
     buf_len: usize,
@@ -129,6 +164,7 @@ impl Draft {
         Draft {
             case,
             source: Source::None,
+            headers: Source::Files(Vec::new()),
             list_len: limits::LIST,
             buf_len: limits::TEXT,
             ends_len: limits::STEPS,
@@ -149,9 +185,12 @@ impl Draft {
             "says" => self.case.says.push(rest.to_string()),
             "reading" | "manual" => self.case.says.push(format!("{word} {rest}")),
             "manifest" => self.manifest(rest, earlier)?,
-            "file" => self.file(rest)?,
-            "files" => self.files(rest)?,
-            "bundle" => self.bundle(rest)?,
+            "file" => self.file(Which::Manifests, rest)?,
+            "files" => self.files(Which::Manifests, rest)?,
+            "bundle" => self.bundle(Which::Manifests, rest)?,
+            "depfile" => self.file(Which::Headers, rest)?,
+            "depfiles" => self.files(Which::Headers, rest)?,
+            "headers" => self.bundle(Which::Headers, rest)?,
             "card" => self.case.lent.card = self.card(rest)?,
             "targets" => self.case.lent.targets = self.targets(rest)?,
             "list-buffer" => self.list_len = number(rest)?,
@@ -196,10 +235,11 @@ impl Draft {
         }
         let mut case = self.case;
         case.lent.bundle = self.source.bundle();
+        case.lent.headers = self.headers.bundle();
         let missing = if matches!(self.source, Source::None) {
             "manifest"
         } else if case.prints.is_some() && case.manifest_alone().is_none() {
-            "manifest that the program would lend: `build.ninja` alone"
+            "manifest that the program would lend: `build.ninja` alone, without header lists"
         } else if case.says.is_empty() {
             "`says`, `reading` or `manual`"
         } else if case.asks.is_empty() && case.prints.is_none() {
@@ -211,12 +251,12 @@ impl Draft {
     }
 
     fn manifest(&mut self, rest: &str, earlier: &[Case]) -> Result<(), Fault> {
-        if !matches!(self.source, Source::None) {
-            return Err(Fault::Second("manifest"));
+        if !self.source.is_new() {
+            return Err(Which::Manifests.once());
         }
         if rest.is_empty() {
             self.source = Source::Manifest(Vec::new());
-            self.open = Some(Block::Text);
+            self.open = Some(Block::Text(Which::Manifests));
             return Ok(());
         }
         let name = rest.strip_prefix("of ");
@@ -227,45 +267,52 @@ impl Draft {
         Ok(())
     }
 
+    fn source(&mut self, which: Which) -> &mut Source {
+        match which {
+            Which::Manifests => &mut self.source,
+            Which::Headers => &mut self.headers,
+        }
+    }
+
     /// The next record, by its name; its text follows.
-    fn file(&mut self, name: &str) -> Result<(), Fault> {
+    fn file(&mut self, which: Which, name: &str) -> Result<(), Fault> {
         let name = self.expanded(name, Place::Number)?.bytes;
-        self.record(name)?;
-        self.open = Some(Block::Text);
+        self.record(which, name)?;
+        self.open = Some(Block::Text(which));
         Ok(())
     }
 
     /// Records without bytes, by their names.
-    fn files(&mut self, names: &str) -> Result<(), Fault> {
+    fn files(&mut self, which: Which, names: &str) -> Result<(), Fault> {
         let names = self.expanded(names, Place::Number)?;
-        names.words(b' ').into_iter().try_for_each(|name| self.record(name.to_vec()))
+        names.words(b' ').into_iter().try_for_each(|name| self.record(which, name.to_vec()))
     }
 
-    fn record(&mut self, name: Vec<u8>) -> Result<(), Fault> {
+    fn record(&mut self, which: Which, name: Vec<u8>) -> Result<(), Fault> {
         let record = (name, Vec::new());
-        match &mut self.source {
-            Source::None => self.source = Source::Files(vec![record]),
+        match self.source(which) {
+            source @ Source::None => *source = Source::Files(vec![record]),
             Source::Files(files) => files.push(record),
-            Source::Manifest(_) | Source::Bytes(_) => return Err(Fault::Second("manifest")),
+            Source::Manifest(_) | Source::Bytes(_) => return Err(which.once()),
         }
         Ok(())
     }
 
-    /// All bytes of the bundle, or what becomes of those that the texts before it make.
-    fn bundle(&mut self, rest: &str) -> Result<(), Fault> {
+    /// All bytes of a bundle, or what becomes of those that the texts before it make.
+    fn bundle(&mut self, which: Which, rest: &str) -> Result<(), Fault> {
         let (word, rest) = rest.split_once(' ').unwrap_or((rest, ""));
-        let mut bundle = self.source.bundle();
-        match (word, &self.source) {
-            ("raw", Source::None) => {
+        let mut bundle = self.source(which).bundle();
+        match word {
+            "raw" if self.source(which).is_new() => {
                 bundle = pieces::bytes(&self.expanded(rest, Place::Number)?)?;
             }
-            ("raw", _) => return Err(Fault::Second("manifest")),
-            ("cut", _) => {
+            "raw" => return Err(which.once()),
+            "cut" => {
                 let count: usize = number(rest)?;
                 let left = bundle.len().checked_sub(count).ok_or(Fault::Beyond(count))?;
                 bundle.truncate(left);
             }
-            ("put", _) => {
+            "put" => {
                 let (at, put) = rest.split_once(' ').unwrap_or((rest, ""));
                 let at = if at == "end" { bundle.len() } else { number(at)? };
                 let put = pieces::bytes(&self.expanded(put, Place::Number)?)?;
@@ -275,16 +322,17 @@ impl Draft {
                 let end = (at + put.len()).min(bundle.len());
                 bundle.splice(at..end, put);
             }
-            _ => return Err(Fault::Expected("`bundle raw`, `bundle cut` or `bundle put`")),
+            _ => return Err(which.forms()),
         }
-        self.source = Source::Bytes(bundle);
+        *self.source(which) = Source::Bytes(bundle);
         Ok(())
     }
 
     fn piece(&mut self, source: &str, is_line: bool) -> Result<(), Fault> {
         let mut piece = expand(source)?;
         let (record, whole) = match self.open.ok_or(Fault::StrayPiece)? {
-            Block::Text => self.source.last().ok_or(Fault::StrayPiece)?,
+            Block::Text(Which::Headers) if piece.mark.is_some() => return Err(Fault::MarkInList),
+            Block::Text(which) => self.source(which).last().ok_or(Fault::StrayPiece)?,
             Block::Prints => (0, self.case.prints.get_or_insert_default()),
         };
         let start = whole.len();

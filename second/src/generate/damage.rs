@@ -1,9 +1,8 @@
 //! What surrounds a manifest in an ask, sound or damaged: time cards, target lists, edited bytes.
 
-use crate::card;
-use crate::limits;
-use crate::manifest;
+use crate::headers::Headers;
 use crate::rng::Rng;
+use crate::{card, limits, manifest};
 
 /// Names to fall back on where a manifest can't be read.
 const NAMES: &[&str] = &["a", "b", "c", "o0", "o1", "f0", "f1"];
@@ -21,12 +20,15 @@ struct File {
     made: bool,
 }
 
-/// The files that the manifests of a bundle mention, if they can be read.
-fn files(bundle: &[u8]) -> Vec<File> {
-    let Ok(manifest) = manifest::read(bundle) else {
+/// The files that the manifests of a bundle mention, if they can be read, and behind them those that
+/// header lists name.
+fn files(bundle: &[u8], headers: &[u8]) -> Vec<File> {
+    let Ok(mut manifest) = manifest::read(bundle) else {
         let known = |name: &&str| File { name: name.as_bytes().to_vec(), made: false };
         return NAMES.iter().map(known).collect();
     };
+    // where a list is refused, those before it have been added
+    let _ = Headers::read(headers).and_then(|headers| headers.add_to(&mut manifest));
     let makers = manifest.graph.makers();
     let names = manifest.files.names.iter().zip(makers);
     names.map(|(name, maker)| File { name: name.to_vec(), made: maker.is_some() }).collect()
@@ -34,6 +36,11 @@ fn files(bundle: &[u8]) -> Vec<File> {
 
 /// Edits the bytes of a manifest in a few places.
 pub fn edit(rng: &mut Rng, manifest: &mut Vec<u8>) {
+    edit_by(rng, manifest, SCRAPS);
+}
+
+/// Edits the bytes of a text in a few places, by what gets into it.
+pub fn edit_by(rng: &mut Rng, manifest: &mut Vec<u8>, scraps: &[&'static str]) {
     for _ in 0..rng.between(1, 3) {
         let at = rng.below(manifest.len() + 1);
         let end = (at + rng.below(3)).min(manifest.len());
@@ -46,7 +53,7 @@ pub fn edit(rng: &mut Rng, manifest: &mut Vec<u8>) {
                 manifest.splice(at..at, line.iter().copied());
             }
             _ => {
-                let scrap = rng.pick(SCRAPS);
+                let scrap = rng.pick(scraps);
                 let end = if rng.chance(50) { at } else { end };
                 manifest.splice(at..end, scrap.bytes());
             }
@@ -66,12 +73,12 @@ pub fn step(rng: &mut Rng, bundle: &[u8]) -> usize {
 }
 
 /// A time card that lists most of the files mentioned; one in twelve is damaged.
-pub fn card(rng: &mut Rng, bundle: &[u8]) -> Vec<u8> {
+pub fn card(rng: &mut Rng, bundle: &[u8], headers: &[u8]) -> Vec<u8> {
     let missing_outputs = rng.below(4) * 25;
     let missing_sources = rng.below(4) * 6;
     let latest = rng.between(1, 4);
     let mut records: Vec<(Vec<u8>, u64)> = Vec::new();
-    for file in files(bundle) {
+    for file in files(bundle, headers) {
         let missing = if file.made { missing_outputs } else { missing_sources };
         if !rng.chance(missing) && records.len() < limits::RECORDS {
             records.push((file.name, rng.between(1, latest) as u64));
@@ -130,8 +137,9 @@ fn damage_card(rng: &mut Rng, card: &mut Vec<u8>) {
 }
 
 /// A target list: none, or some of the files mentioned; one in ten is damaged.
-pub fn targets(rng: &mut Rng, bundle: &[u8]) -> Vec<u8> {
-    let files = files(bundle);
+pub fn targets(rng: &mut Rng, bundle: &[u8], headers: &[u8]) -> Vec<u8> {
+    // what only a list names is no target
+    let files = files(bundle, if rng.chance(5) { headers } else { &[] });
     let mut targets = Vec::new();
     let count = if files.is_empty() { 0 } else { [0, 0, 1, 1, 2, 3][rng.below(6)] };
     for _ in 0..count {

@@ -5,8 +5,10 @@ use crate::bundle;
 use crate::rng::Rng;
 
 const RULES: &[&str] = &["cc", "ld", "r.1", "depfile", "in"];
-const VARIABLES: &[&str] =
-    &["a", "b", "v", "x.y", "in", "out", "in_newline", "command", "description", "generator"];
+const VARIABLES: &[&str] = &[
+    "a", "b", "v", "x.y", "in", "out", "in_newline", "command", "description", "generator",
+    "depfile",
+];
 const PATHS: &[&str] =
     &["a", "b", "c", "d.o", "x/y", "s$ p", "k$:", "i$v", "${v}/z", "=", "#{}", "$$"];
 /// Paths that a shell would read in another way if they had no quotes, and some that look so.
@@ -19,14 +21,19 @@ const WILD_PATHS: &[&str] = &["$u", "$v", "$.", "${}", "${v", "$", "${v$\n}", "$
 const VALUES: &[&str] = &[
     "x", "-O2", " ", "# =", ":|", "{}", "$$", "$ ", "$:", "$\n   ", "$\n", "$a", "${b}", "$v",
     "${x.y}", "$in", "$out", "$out.d", "${in_newline}", "$u", "$description", "$generator",
+    "$depfile",
 ];
 /// Pieces of values that lead from text to text.
 const LEADING_VALUES: &[&str] = &[
     "x", "$description", "${generator}", "$description.", "$generator", "$command", "$in", "$out",
-    "$a", "${b}", "${in_newline}", "$v", " ", "$$", "$\n  ",
+    "$a", "${b}", "${in_newline}", "$v", " ", "$$", "$\n  ", "$depfile",
+];
+/// What a depfile is mostly named.
+const DEPFILES: &[&str] = &[
+    "$out.d", "$out.d", "$out.d", "${out}d", "$in.d", "d/$out", "x.d", "$a.d", "$description", "",
 ];
 const WILD_VALUES: &[&str] = &["$.", "${", "${}", "${a$\n}", "$#", "${a.b", "$\t"];
-const KEYS: &[&str] = &["command", "description", "generator"];
+const KEYS: &[&str] = &["command", "description", "generator", "depfile"];
 const WILD_WORDS: &[&str] = &[
     "rule", "build", "default", "pool", "include", "subninja", "depfile", "deps", "restat",
     "rspfile", "dyndep", "msvc_deps_prefix", "rspfile_content", "phony", "unknown", "", "$", "$\n",
@@ -305,7 +312,12 @@ impl<'r> Draft<'r> {
         let indent = if self.is_wild() { "" } else { self.rng.pick(&["  ", "  ", " ", "    "]) };
         self.push(indent);
         self.push(key);
-        self.value();
+        if key == "depfile" && self.rng.chance(80) {
+            let depfile = self.rng.pick(DEPFILES);
+            self.push(&format!(" = {depfile}\n"));
+        } else {
+            self.value();
+        }
     }
 
     fn build(&mut self) {

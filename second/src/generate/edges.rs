@@ -5,12 +5,12 @@ use crate::rng::Rng;
 use crate::text::quoted;
 
 /// Variables `a` and `b` of 16 and 128 bytes, by which [`long`] writes long values shortly.
-const UNITS: &str = "a=xxxxxxxxxxxxxxxx\nb=$a$a$a$a$a$a$a$a\n";
+pub(super) const UNITS: &str = "a=xxxxxxxxxxxxxxxx\nb=$a$a$a$a$a$a$a$a\n";
 /// The bytes of the values in [`UNITS`].
-const UNITS_TOGETHER: usize = 16 + 128;
+pub(super) const UNITS_TOGETHER: usize = 16 + 128;
 
 /// Raw bytes that expand to that many after [`UNITS`].
-fn long(length: usize) -> String {
+pub(super) fn long(length: usize) -> String {
     "x".repeat(length % 16) + &"$b".repeat(length / 128) + &"$a".repeat(length % 128 / 16)
 }
 
@@ -50,7 +50,7 @@ pub fn full(rng: &mut Rng) -> Vec<u8> {
 }
 
 /// The pattern so many times, each with its number for `#`.
-fn numbered(pattern: &str, count: usize) -> String {
+pub(super) fn numbered(pattern: &str, count: usize) -> String {
     (0..count).map(|number| pattern.replace('#', &number.to_string())).collect()
 }
 

@@ -1,6 +1,8 @@
 //! Random small graphs with times, targets and defaults: circles, phony chains, order-only chains,
-//! several outputs, missing files, inputs mentioned twice, inputs that are own outputs.
+//! several outputs, missing files, inputs mentioned twice, inputs that are own outputs, header lists.
 
+use super::headers::written;
+use super::split::Files;
 use crate::graph::{Graph, Start, Step};
 use crate::rng::Rng;
 
@@ -31,13 +33,21 @@ pub fn graph_ask(rng: &mut Rng, most_steps: usize) -> GraphAsk {
     GraphAsk { graph, start: Start { times, targets, defaults } }
 }
 
-/// The manifest of a graph, file `n` being named `fn`.
+/// The manifest of a graph, file `n` being named `fn`. The depfile of a step that has a list, or
+/// lacks one, is named as its outputs and `.d`.
 pub fn manifest(rng: &mut Rng, ask: &GraphAsk) -> Vec<u8> {
     let paths =
         |files: &[u32]| -> String { files.iter().map(|file| format!(" f{file}")).collect() };
     let mut text = String::from("rule cc\n  command = cc $in -o $out\n");
+    if ask.graph.steps.iter().any(has_depfile) {
+        text += "rule ch\n  command = ch\n  depfile = $out.d\n";
+    }
     for step in &ask.graph.steps {
-        let rule = if step.phony { "phony" } else { "cc" };
+        let rule = match step.phony {
+            true => "phony",
+            false if has_depfile(step) => "ch",
+            false => "cc",
+        };
         text += &format!("build{}: {rule}{}", paths(&step.outputs), paths(&step.explicit));
         for (bar, inputs) in [(" |", &step.implicit), (" ||", &step.order_only)] {
             if !inputs.is_empty() || rng.chance(5) {
@@ -52,6 +62,25 @@ pub fn manifest(rng: &mut Rng, ask: &GraphAsk) -> Vec<u8> {
         text += &format!("default{}\n", paths(defaults));
     }
     text.into_bytes()
+}
+
+fn has_depfile(step: &Step) -> bool {
+    step.lacks_list || !step.listed.is_empty()
+}
+
+/// The header lists of a graph that is written as [`manifest`] does it, in no order.
+pub fn lists(rng: &mut Rng, ask: &GraphAsk) -> Files {
+    let name = |file: &u32| format!("f{file}");
+    let mut lists = Files::new();
+    for step in ask.graph.steps.iter().filter(|step| !step.listed.is_empty()) {
+        let outputs: Vec<String> = step.outputs.iter().map(name).collect();
+        let inputs: Vec<String> = step.listed.iter().map(name).collect();
+        let inputs: Vec<&[u8]> = inputs.iter().map(String::as_bytes).collect();
+        let text = written(rng, outputs[0].as_bytes(), &inputs);
+        let path = format!("{}.d", outputs.join(" ")).into_bytes();
+        lists.insert(rng.below(lists.len() + 1), (path, text));
+    }
+    lists
 }
 
 /// Outputs for each step and a few sources, then inputs at random. The maker of an input ranks
@@ -78,7 +107,7 @@ fn add_inputs(rng: &mut Rng, graph: &mut Graph) {
     let ranks = ranks(rng, graph.steps.len());
     let circles = if rng.chance(25) { 60 } else { 0 };
     let (phony, order_only) = (rng.below(4) * 20, rng.below(4) * 20);
-    let most_inputs = rng.between(1, 5);
+    let (most_inputs, listed) = (rng.between(1, 5), rng.below(3) * 25);
     for (number, step) in graph.steps.iter_mut().enumerate() {
         step.phony = rng.chance(phony);
         for _ in 0..rng.below(most_inputs + 1) {
@@ -86,6 +115,7 @@ fn add_inputs(rng: &mut Rng, graph: &mut Graph) {
             let forward = makers[file].is_none_or(|maker| ranks[maker as usize] < ranks[number]);
             if forward || rng.chance(circles) {
                 let kind = match rng.below(100) {
+                    _ if !step.phony && rng.chance(listed) => &mut step.listed,
                     roll if roll < order_only => &mut step.order_only,
                     roll if roll % 3 == 0 => &mut step.implicit,
                     _ => &mut step.explicit,
@@ -93,6 +123,7 @@ fn add_inputs(rng: &mut Rng, graph: &mut Graph) {
                 kind.push(file as u32);
             }
         }
+        step.lacks_list = !step.phony && step.listed.is_empty() && rng.chance(listed / 5);
     }
 }
 

@@ -79,7 +79,7 @@ fn keyword(rng: &mut Rng) -> &'static str {
     rng.pick(&["include", "subninja"])
 }
 
-fn named(name: &str, text: String) -> (Vec<u8>, Vec<u8>) {
+pub(super) fn named(name: &str, text: String) -> (Vec<u8>, Vec<u8>) {
     (name.as_bytes().to_vec(), text.into_bytes())
 }
 
@@ -200,7 +200,8 @@ fn damage_files(rng: &mut Rng, files: &mut Files) {
     }
 }
 
-fn damage(rng: &mut Rng, bundle: &mut Vec<u8>) {
+/// Damages the bytes of a bundle.
+pub(super) fn damage(rng: &mut Rng, bundle: &mut Vec<u8>) {
     let at = rng.below(bundle.len());
     match rng.below(6) {
         0 => bundle.truncate(at),

@@ -125,6 +125,12 @@ enum-known-r-15 c = search needs
 told-requires-20 : tie.Need-told-requires-20
 told-requires-20 c κs = search needs
 
+enum-known-r-16 : tie.Need-enum-known-r-16
+enum-known-r-16 c = search needs
+
+told-requires-21 : tie.Need-told-requires-21
+told-requires-21 c κs = search needs
+
 returns : tie.Need-returns
 unfolding refusalSays numberOfRefusal placeOfRefusal
 returns c = c .told .ensures ∙ ap refusalSays (sym (c .before .enum-told .given .1))
@@ -205,6 +211,10 @@ returns-20 : tie.Need-returns-20
 unfolding refusalSays numberOfRefusal placeOfRefusal
 returns-20 c = c .told20 .ensures ∙ ap refusalSays (sym (c .before .before .r15 .given .1))
 
+returns-21 : tie.Need-returns-21
+unfolding refusalSays numberOfRefusal placeOfRefusal
+returns-21 c = c .told21 .ensures ∙ ap refusalSays (sym (c .before .before .r16 .given .1))
+
 pub of-refusal-spec : {M : Type 1} → statement M
 of-refusal-spec =
     tie.close
@@ -249,6 +259,8 @@ of-refusal-spec =
     told-requires-19
     enum-known-r-15
     told-requires-20
+    enum-known-r-16
+    told-requires-21
     returns
     returns-2
     returns-3
@@ -268,4 +280,5 @@ of-refusal-spec =
     returns-17
     returns-18
     returns-19
-    returns-20)
+    returns-20
+    returns-21)

@@ -7,10 +7,11 @@ use Rattle.spec.specs.Bundle.{bundleTexts}
 use Rattle.hold_reading.specs.Buffers.{buffers}
 use Rattle.apply_texts.specs.Texts.{fileOpener}
 use Rattle.scan_texts.proofs.Texts.{laid}
-use Rattle.apply_texts.proofs.Each.{Same, same-begin, EachFrom, each-begin, each-end, each-refused, each-pair, each-forward, each-within, each-asks, each-on}
+use Rattle.apply_stretch.proofs.Each.{Same, same-begin, EachFrom, each-begin, each-joins, each-end, each-refused, answered-stretch, opened-stretch}
+use Rattle.apply_stretch.proofs.read_stretch.Reads as read-stretch-reads
 use Rattle.apply_texts.proofs.Turns.{Reached, turn-begin, found-ask, turn-asks, turn-on, turn-refused, turn-sound, turn-end}
-use Rattle.apply_texts.proofs.Files.{turn-answered, turn-opened, raw-ordered, raw-within, file-asks, path-asks, not-opened, all-open, enter-asks, text-asks, file-stopped, leave-asks, file-read}
-use borrow.Author.Needs.{needs}
+use Rattle.apply_texts.proofs.Files.{path-asks, not-opened, all-open, enter-asks, text-asks, file-stopped, leave-asks, file-read}
+use Rattle.apply_texts.proofs.Stretched.{all-done, opens-two, opens-forward, opens-within, path-ordered, path-within, opens-asks, opens-done, turn-asked}
 use Prim.Native.Nat.{ℕ, _+_, _*_, _-_, _<_}
 use borrow.Fn.Kinds.{In}
 use borrow.Fn.PlainCycle.{Measures, is, falls, and}
@@ -26,7 +27,6 @@ use Rattle.apply_texts.proofs.+open_file+read_each+read_text+read_turn.
 use Rattle.apply_texts.proofs.read_turn.Reads as read-turn
 use Rattle.apply_texts.proofs.read_turn.Kinds as read-turn-kinds
 use Rattle.apply_texts.proofs.+open_file+read_each+read_text+read_turn.Lts-read_turn as read-turn-lts
-use Rattle.apply_lines.proofs.read_line.Reads as read-line-reads
 use Rattle.apply_open.proofs.enter.Reads as enter-reads
 use Rattle.apply_open.proofs.leave.Reads as leave-reads
 use Rattle.apply_open.proofs.open_path.Reads as open-path-reads
@@ -47,8 +47,8 @@ abbrev μ-read-each : Measures 10 read-each-kinds.ps ℕ
 abbrev μ-read-text : Measures 8 read-text-kinds.ps ℕ
 μ-read-text κs a = 4 * a .1 .1 .0 .more + 3
 
-abbrev μ-read-turn : Measures 9 read-turn-kinds.ps ℕ
-μ-read-turn κs a = 4 * a .1 .1 .1 .0 .more + 1
+abbrev μ-read-turn : Measures 10 read-turn-kinds.ps ℕ
+μ-read-turn κs a = 4 * a .1 .1 .1 .1 .0 .more + 1
 
 abbrev open-file-at : ℕ → In 9 open-file-kinds.ps
 open-file-at t = and 9 open-file-kinds.ps (is 9 open-file-kinds.ps μ-open-file t) open-file.Pre
@@ -71,14 +71,13 @@ abbrev read-text-below : ℕ → In 8 read-text-kinds.ps
 read-text-below t =
     and 8 read-text-kinds.ps (falls 8 read-text-kinds.ps _<_ μ-read-text t) read-text.Pre
 
-abbrev read-turn-at : ℕ → In 9 read-turn-kinds.ps
-read-turn-at t = and 9 read-turn-kinds.ps (is 9 read-turn-kinds.ps μ-read-turn t) read-turn.Pre
+abbrev read-turn-at : ℕ → In 10 read-turn-kinds.ps
+read-turn-at t = and 10 read-turn-kinds.ps (is 10 read-turn-kinds.ps μ-read-turn t) read-turn.Pre
 
-abbrev read-turn-below : ℕ → In 9 read-turn-kinds.ps
+abbrev read-turn-below : ℕ → In 10 read-turn-kinds.ps
 read-turn-below t =
-    and 9 read-turn-kinds.ps (falls 9 read-turn-kinds.ps _<_ μ-read-turn t) read-turn.Pre
+    and 10 read-turn-kinds.ps (falls 10 read-turn-kinds.ps _<_ μ-read-turn t) read-turn.Pre
 
--- src/lib.rt:75:11
 open-file-open-path-requires : (t : ℕ) → open-file-lts.Need-open-path-requires (
   open-path-reads.Asked,
   open-path-reads.Learnt,
@@ -91,7 +90,6 @@ open-file-open-path-requires : (t : ℕ) → open-file-lts.Need-open-path-requir
 ) (open-file-at t) open-file.Post
 open-file-open-path-requires t c κs = path-asks (c .before .before .before .before .before .before .before .before .before .before .before .pre .1)
 
--- src/lib.rt:76:27
 open-file-enum-known-k : (t : ℕ) → open-file-lts.Need-enum-known-k (
   open-path-reads.Asked,
   open-path-reads.Learnt,
@@ -104,7 +102,6 @@ open-file-enum-known-k : (t : ℕ) → open-file-lts.Need-enum-known-k (
 ) (open-file-at t) open-file.Post
 open-file-enum-known-k t c = c .match .keys1
 
--- src/lib.rt:78:17
 open-file-same-length : (t : ℕ) → open-file-lts.Need-same-length (
   open-path-reads.Asked,
   open-path-reads.Learnt,
@@ -117,7 +114,6 @@ open-file-same-length : (t : ℕ) → open-file-lts.Need-same-length (
 ) (open-file-at t) open-file.Post
 open-file-same-length t c = refl
 
--- src/lib.rt:78:17
 open-file-same-length-2 : (t : ℕ) → open-file-lts.Need-same-length-2 (
   open-path-reads.Asked,
   open-path-reads.Learnt,
@@ -130,7 +126,6 @@ open-file-same-length-2 : (t : ℕ) → open-file-lts.Need-same-length-2 (
 ) (open-file-at t) open-file.Post
 open-file-same-length-2 t c = refl
 
--- src/lib.rt:78:17
 open-file-same-length-3 : (t : ℕ) → open-file-lts.Need-same-length-3 (
   open-path-reads.Asked,
   open-path-reads.Learnt,
@@ -143,7 +138,6 @@ open-file-same-length-3 : (t : ℕ) → open-file-lts.Need-same-length-3 (
 ) (open-file-at t) open-file.Post
 open-file-same-length-3 t c = c .before .before .before .before .before .before .before .open-path .kept .1 .1 .1 .1 .1 .0
 
--- src/lib.rt:78:17
 open-file-returns : (t : ℕ) → open-file-lts.Need-returns (
   open-path-reads.Asked,
   open-path-reads.Learnt,
@@ -156,7 +150,6 @@ open-file-returns : (t : ℕ) → open-file-lts.Need-returns (
 ) (open-file-at t) open-file.Post
 open-file-returns t c = record { space = (record { names = record { long = refl }; index = record { long = refl }; texts = record { long = refl }; bind = record { long = refl }; graph = record { long = refl } }, record { long = open-file-same-length-3 t c }); promise = all-open (now (c .before .before .before .before .before .before .before .before .before .before .before .before .before .before .before .before .before .before .before .args .b)) (c .before .before .before .before .before .before .before .before .before .before .before .before .before .before .before .before .before .before .before .args .l .start) (c .before .before .before .before .before .before .before .before .before .before .before .before .before .before .before .before .before .before .before .args .l .sub) (now (c .before .before .before .before .before .before .before .before .before .before .before .before .before .before .before .before .before .before .before .args .raw)) _ (rw (c .before .before .before .k .given .1) at (c .before .before .before .before .before .before .before .open-path .ensures .promise)) (c .if1 .taken) }
 
--- src/lib.rt:80:17
 open-file-enter-requires : (t : ℕ) → open-file-lts.Need-enter-requires (
   open-path-reads.Asked,
   open-path-reads.Learnt,
@@ -169,7 +162,6 @@ open-file-enter-requires : (t : ℕ) → open-file-lts.Need-enter-requires (
 ) (open-file-at t) open-file.Post
 open-file-enter-requires t c κs = enter-asks (now (c .before .before .before .before .before .before .before .before .before .before .before .before .before .before .before .before .before .before .before .before .before .args .b)) (c .before .before .before .before .before .before .before .before .before .before .before .before .before .before .before .before .before .before .before .before .before .args .l .start) (c .before .before .before .before .before .before .before .before .before .before .before .before .before .before .before .before .before .before .before .before .before .args .l .sub) (now (c .before .before .before .before .before .before .before .before .before .before .before .before .before .before .before .before .before .before .before .before .before .args .raw)) _ (rw (c .before .before .before .before .before .k .given .1) at (c .before .before .before .before .before .before .before .before .before .open-path .ensures .promise)) (c .before .before .before .before .before .before .before .before .before .before .before .before .before .before .before .before .before .before .before .before .before .pre .1 .between)
 
--- src/lib.rt:83:23
 open-file-sub-t33 : (t : ℕ) → open-file-lts.Need-sub-t33 (
   open-path-reads.Asked,
   open-path-reads.Learnt,
@@ -182,7 +174,6 @@ open-file-sub-t33 : (t : ℕ) → open-file-lts.Need-sub-t33 (
 ) (open-file-at t) open-file.Post
 open-file-sub-t33 t c = omega (arith, c .before .before .before .before .before .before .before .before .if1 .left)
 
--- src/lib.rt:85:19
 open-file-read-text-requires : (t : ℕ) → open-file-lts.Need-read-text-requires (
   open-path-reads.Asked,
   open-path-reads.Learnt,
@@ -195,7 +186,6 @@ open-file-read-text-requires : (t : ℕ) → open-file-lts.Need-read-text-requir
 ) (open-file-at t) open-file.Post
 open-file-read-text-requires t c κs = (omega (arith, c .before .before .before .before .before .before .before .before .before .before .before .before .before .before .before .before .before .before .before .before .before .before .before .before .before .before .before .before .before .before .before .before .before .pre .0, c .before .before .before .before .before .before .before .before .before .before .before .before .before .before .if1 .left), text-asks (now (c .before .before .before .before .before .before .before .before .before .before .before .before .before .before .before .before .before .before .before .before .before .before .before .before .before .before .before .before .before .before .before .before .before .args .b)) (c .before .before .before .before .before .before .before .before .before .before .before .before .before .before .before .before .before .before .before .before .before .before .before .before .before .before .before .before .before .before .before .before .before .args .l .start) (c .before .before .before .before .before .before .before .before .before .before .before .before .before .before .before .before .before .before .before .before .before .before .before .before .before .before .before .before .before .before .before .before .before .args .l .sub) (now (c .before .before .before .before .before .before .before .before .before .before .before .before .before .before .before .before .before .before .before .before .before .before .before .before .before .before .before .before .before .before .before .before .before .args .raw)) _ (rw (c .before .before .before .before .before .before .before .before .before .before .before .before .before .before .before .before .before .k .given .1) at (c .before .before .before .before .before .before .before .before .before .before .before .before .before .before .before .before .before .before .before .before .before .open-path .ensures .promise)) (c .before .before .before .before .before .before .before .before .before .before .before .enter .ensures .promise) (c .before .before .before .before .before .before .before .before .before .before .before .before .before .before .before .before .before .before .before .before .before .before .before .before .before .before .before .before .before .before .before .before .before .pre .1) (c .before .before .before .before .before .before .before .before .before .before .before .before .before .before .before .before .before .before .before .before .before .open-path .ensures .space .long))
 
--- src/lib.rt:86:34
 open-file-enum-known-d : (t : ℕ) → open-file-lts.Need-enum-known-d (
   open-path-reads.Asked,
   open-path-reads.Learnt,
@@ -208,7 +198,6 @@ open-file-enum-known-d : (t : ℕ) → open-file-lts.Need-enum-known-d (
 ) (open-file-at t) open-file.Post
 open-file-enum-known-d t c = c .match2 .keys1
 
--- src/lib.rt:87:38
 open-file-leave-requires : (t : ℕ) → open-file-lts.Need-leave-requires (
   open-path-reads.Asked,
   open-path-reads.Learnt,
@@ -221,7 +210,6 @@ open-file-leave-requires : (t : ℕ) → open-file-lts.Need-leave-requires (
 ) (open-file-at t) open-file.Post
 open-file-leave-requires t c κs = leave-asks (now (c .before .before .before .before .before .before .before .before .before .before .before .before .before .before .before .before .before .before .before .before .before .before .before .before .before .before .before .before .before .before .before .before .before .before .before .before .before .before .before .before .before .before .before .before .before .before .before .before .before .before .before .args .b)) (c .before .before .before .before .before .before .before .before .before .before .before .before .before .before .before .before .before .before .before .before .before .before .before .before .before .before .before .before .before .before .before .before .before .before .before .before .before .before .before .before .before .before .before .before .before .before .before .before .before .before .before .args .l .start) (c .before .before .before .before .before .before .before .before .before .before .before .before .before .before .before .before .before .before .before .before .before .before .before .before .before .before .before .before .before .before .before .before .before .before .before .before .before .before .before .before .before .before .before .before .before .before .before .before .before .before .before .args .l .sub) (now (c .before .before .before .before .before .before .before .before .before .before .before .before .before .before .before .before .before .before .before .before .before .before .before .before .before .before .before .before .before .before .before .before .before .before .before .before .before .before .before .before .before .before .before .before .before .before .before .before .before .before .before .args .raw)) _ (rw (c .before .before .before .before .before .before .before .before .before .before .before .before .before .before .before .before .before .before .before .before .before .before .before .before .before .before .before .before .before .before .before .before .before .before .before .k .given .1) at (c .before .before .before .before .before .before .before .before .before .before .before .before .before .before .before .before .before .before .before .before .before .before .before .before .before .before .before .before .before .before .before .before .before .before .before .before .before .before .before .open-path .ensures .promise)) (c .before .before .before .before .before .before .before .before .before .before .before .before .before .before .before .before .before .before .before .before .before .before .before .before .before .before .before .before .before .enter .ensures .promise) (c .before .before .before .before .before .before .before .before .before .before .before .before .before .before .before .before .before .before .before .before .before .before .before .before .before .before .before .before .before .before .before .before .if1 .left) (rw (c .before .before .before .d .given .1) at (c .before .before .before .before .before .before .before .before .before .before .before .before .before .before .before .before .before .read-text .ensures .promise)) (c .before .before .before .before .before .before .before .before .before .before .before .before .before .before .before .before .before .before .before .before .before .before .before .before .before .before .before .before .before .before .before .before .before .before .before .before .before .before .before .before .before .before .before .before .before .before .before .before .before .before .before .pre .1 .between)
 
--- src/lib.rt:89:37
 open-file-enum-known-r : (t : ℕ) → open-file-lts.Need-enum-known-r (
   open-path-reads.Asked,
   open-path-reads.Learnt,
@@ -234,7 +222,6 @@ open-file-enum-known-r : (t : ℕ) → open-file-lts.Need-enum-known-r (
 ) (open-file-at t) open-file.Post
 open-file-enum-known-r t c = c .match2 .keys2
 
--- src/lib.rt:92:29
 open-file-enum-known-r-2 : (t : ℕ) → open-file-lts.Need-enum-known-r-2 (
   open-path-reads.Asked,
   open-path-reads.Learnt,
@@ -247,7 +234,6 @@ open-file-enum-known-r-2 : (t : ℕ) → open-file-lts.Need-enum-known-r-2 (
 ) (open-file-at t) open-file.Post
 open-file-enum-known-r-2 t c = c .match .keys2
 
--- src/lib.rt:59:1
 open-file-same-length-4 : (t : ℕ) → open-file-lts.Need-same-length-4 (
   open-path-reads.Asked,
   open-path-reads.Learnt,
@@ -260,7 +246,6 @@ open-file-same-length-4 : (t : ℕ) → open-file-lts.Need-same-length-4 (
 ) (open-file-at t) open-file.Post
 open-file-same-length-4 t c = c .before .before .before .before .before .before .before .before .before .before .before .before .before .before .before .before .before .before .before .before .before .before .read-text .kept .1 .1 .1 .0
 
--- src/lib.rt:59:1
 open-file-same-length-5 : (t : ℕ) → open-file-lts.Need-same-length-5 (
   open-path-reads.Asked,
   open-path-reads.Learnt,
@@ -273,7 +258,6 @@ open-file-same-length-5 : (t : ℕ) → open-file-lts.Need-same-length-5 (
 ) (open-file-at t) open-file.Post
 open-file-same-length-5 t c = c .before .before .before .before .before .before .before .before .before .before .before .before .before .before .before .before .before .before .before .before .before .before .read-text .kept .1 .1 .1 .1 .0
 
--- src/lib.rt:59:1
 open-file-same-length-6 : (t : ℕ) → open-file-lts.Need-same-length-6 (
   open-path-reads.Asked,
   open-path-reads.Learnt,
@@ -286,7 +270,6 @@ open-file-same-length-6 : (t : ℕ) → open-file-lts.Need-same-length-6 (
 ) (open-file-at t) open-file.Post
 open-file-same-length-6 t c = c .before .before .before .before .leave .kept .1 .0 ∙ c .before .before .before .before .before .before .before .before .before .before .before .before .before .before .before .before .before .before .before .before .before .before .read-text .kept .1 .1 .1 .1 .1 .0 ∙ c .before .before .before .before .before .before .before .before .before .before .before .before .before .before .before .before .before .before .before .before .before .before .before .before .before .before .before .before .before .before .before .before .before .before .enter .kept .1 .0
 
--- src/lib.rt:59:1
 open-file-same-length-7 : (t : ℕ) → open-file-lts.Need-same-length-7 (
   open-path-reads.Asked,
   open-path-reads.Learnt,
@@ -299,7 +282,6 @@ open-file-same-length-7 : (t : ℕ) → open-file-lts.Need-same-length-7 (
 ) (open-file-at t) open-file.Post
 open-file-same-length-7 t c = c .before .before .before .before .leave .kept .1 .1 .0 ∙ c .before .before .before .before .before .before .before .before .before .before .before .before .before .before .before .before .before .before .before .before .before .before .read-text .kept .1 .1 .1 .1 .1 .1 .0 ∙ c .before .before .before .before .before .before .before .before .before .before .before .before .before .before .before .before .before .before .before .before .before .before .before .before .before .before .before .before .before .before .before .before .before .before .enter .kept .1 .1 .0
 
--- src/lib.rt:59:1
 open-file-same-length-8 : (t : ℕ) → open-file-lts.Need-same-length-8 (
   open-path-reads.Asked,
   open-path-reads.Learnt,
@@ -312,7 +294,6 @@ open-file-same-length-8 : (t : ℕ) → open-file-lts.Need-same-length-8 (
 ) (open-file-at t) open-file.Post
 open-file-same-length-8 t c = c .before .before .before .before .before .before .before .before .before .before .before .before .before .before .before .before .before .before .before .before .before .before .read-text .kept .1 .1 .1 .1 .1 .1 .1 .0
 
--- src/lib.rt:59:1
 open-file-same-length-9 : (t : ℕ) → open-file-lts.Need-same-length-9 (
   open-path-reads.Asked,
   open-path-reads.Learnt,
@@ -325,7 +306,6 @@ open-file-same-length-9 : (t : ℕ) → open-file-lts.Need-same-length-9 (
 ) (open-file-at t) open-file.Post
 open-file-same-length-9 t c = c .before .before .before .before .before .before .before .before .before .before .before .before .before .before .before .before .before .before .before .before .before .before .read-text .kept .1 .1 .1 .1 .1 .1 .1 .1 .0 ∙ c .before .before .before .before .before .before .before .before .before .before .before .before .before .before .before .before .before .before .before .before .before .before .before .before .before .before .before .before .before .before .before .before .before .before .before .before .before .before .before .before .before .before .before .before .open-path .kept .1 .1 .1 .1 .1 .0
 
--- src/lib.rt:59:1
 open-file-returns-2 : (t : ℕ) → open-file-lts.Need-returns-2 (
   open-path-reads.Asked,
   open-path-reads.Learnt,
@@ -338,7 +318,6 @@ open-file-returns-2 : (t : ℕ) → open-file-lts.Need-returns-2 (
 ) (open-file-at t) open-file.Post
 open-file-returns-2 t c = record { space = (record { names = record { long = open-file-same-length-4 t c }; index = record { long = open-file-same-length-5 t c }; texts = record { long = open-file-same-length-6 t c }; bind = record { long = open-file-same-length-7 t c }; graph = record { long = open-file-same-length-8 t c } }, record { long = open-file-same-length-9 t c }); promise = file-read (now (c .before .before .before .before .before .before .before .before .before .before .before .before .before .before .before .before .before .before .before .before .before .before .before .before .before .before .before .before .before .before .before .before .before .before .before .before .before .before .before .before .before .before .before .before .before .before .before .before .before .before .before .before .before .before .before .before .args .b)) (c .before .before .before .before .before .before .before .before .before .before .before .before .before .before .before .before .before .before .before .before .before .before .before .before .before .before .before .before .before .before .before .before .before .before .before .before .before .before .before .before .before .before .before .before .before .before .before .before .before .before .before .before .before .before .before .before .args .l .start) (c .before .before .before .before .before .before .before .before .before .before .before .before .before .before .before .before .before .before .before .before .before .before .before .before .before .before .before .before .before .before .before .before .before .before .before .before .before .before .before .before .before .before .before .before .before .before .before .before .before .before .before .before .before .before .before .before .args .l .sub) (now (c .before .before .before .before .before .before .before .before .before .before .before .before .before .before .before .before .before .before .before .before .before .before .before .before .before .before .before .before .before .before .before .before .before .before .before .before .before .before .before .before .before .before .before .before .before .before .before .before .before .before .before .before .before .before .before .before .args .raw)) _ (rw (c .before .before .before .before .before .before .before .before .before .before .before .before .before .before .before .before .before .before .before .before .before .before .before .before .before .before .before .before .before .before .before .before .before .before .before .before .before .before .before .before .k .given .1) at (c .before .before .before .before .before .before .before .before .before .before .before .before .before .before .before .before .before .before .before .before .before .before .before .before .before .before .before .before .before .before .before .before .before .before .before .before .before .before .before .before .before .before .before .before .open-path .ensures .promise)) (c .before .before .before .before .before .before .before .before .before .before .before .before .before .before .before .before .before .before .before .before .before .before .before .before .before .before .before .before .before .before .before .before .before .before .enter .ensures .promise) (c .before .before .before .before .before .before .before .before .before .before .before .before .before .before .before .before .before .before .before .before .before .before .before .before .before .before .before .before .before .before .before .before .before .before .before .before .before .if1 .left) (rw (c .before .before .before .before .before .before .before .before .d .given .1) at (c .before .before .before .before .before .before .before .before .before .before .before .before .before .before .before .before .before .before .before .before .before .before .read-text .ensures .promise)) (c .before .before .before .before .leave .ensures .promise) }
 
--- src/lib.rt:59:1
 open-file-same-length-10 : (t : ℕ) → open-file-lts.Need-same-length-10 (
   open-path-reads.Asked,
   open-path-reads.Learnt,
@@ -351,7 +330,6 @@ open-file-same-length-10 : (t : ℕ) → open-file-lts.Need-same-length-10 (
 ) (open-file-at t) open-file.Post
 open-file-same-length-10 t c = c .before .before .before .before .before .before .before .before .before .before .before .before .before .before .before .read-text .kept .1 .1 .1 .0
 
--- src/lib.rt:59:1
 open-file-same-length-11 : (t : ℕ) → open-file-lts.Need-same-length-11 (
   open-path-reads.Asked,
   open-path-reads.Learnt,
@@ -364,7 +342,6 @@ open-file-same-length-11 : (t : ℕ) → open-file-lts.Need-same-length-11 (
 ) (open-file-at t) open-file.Post
 open-file-same-length-11 t c = c .before .before .before .before .before .before .before .before .before .before .before .before .before .before .before .read-text .kept .1 .1 .1 .1 .0
 
--- src/lib.rt:59:1
 open-file-same-length-12 : (t : ℕ) → open-file-lts.Need-same-length-12 (
   open-path-reads.Asked,
   open-path-reads.Learnt,
@@ -377,7 +354,6 @@ open-file-same-length-12 : (t : ℕ) → open-file-lts.Need-same-length-12 (
 ) (open-file-at t) open-file.Post
 open-file-same-length-12 t c = c .before .before .before .before .before .before .before .before .before .before .before .before .before .before .before .read-text .kept .1 .1 .1 .1 .1 .0 ∙ c .before .before .before .before .before .before .before .before .before .before .before .before .before .before .before .before .before .before .before .before .before .before .before .before .before .before .before .enter .kept .1 .0
 
--- src/lib.rt:59:1
 open-file-same-length-13 : (t : ℕ) → open-file-lts.Need-same-length-13 (
   open-path-reads.Asked,
   open-path-reads.Learnt,
@@ -390,7 +366,6 @@ open-file-same-length-13 : (t : ℕ) → open-file-lts.Need-same-length-13 (
 ) (open-file-at t) open-file.Post
 open-file-same-length-13 t c = c .before .before .before .before .before .before .before .before .before .before .before .before .before .before .before .read-text .kept .1 .1 .1 .1 .1 .1 .0 ∙ c .before .before .before .before .before .before .before .before .before .before .before .before .before .before .before .before .before .before .before .before .before .before .before .before .before .before .before .enter .kept .1 .1 .0
 
--- src/lib.rt:59:1
 open-file-same-length-14 : (t : ℕ) → open-file-lts.Need-same-length-14 (
   open-path-reads.Asked,
   open-path-reads.Learnt,
@@ -403,7 +378,6 @@ open-file-same-length-14 : (t : ℕ) → open-file-lts.Need-same-length-14 (
 ) (open-file-at t) open-file.Post
 open-file-same-length-14 t c = c .before .before .before .before .before .before .before .before .before .before .before .before .before .before .before .read-text .kept .1 .1 .1 .1 .1 .1 .1 .0
 
--- src/lib.rt:59:1
 open-file-same-length-15 : (t : ℕ) → open-file-lts.Need-same-length-15 (
   open-path-reads.Asked,
   open-path-reads.Learnt,
@@ -416,7 +390,6 @@ open-file-same-length-15 : (t : ℕ) → open-file-lts.Need-same-length-15 (
 ) (open-file-at t) open-file.Post
 open-file-same-length-15 t c = c .before .before .before .before .before .before .before .before .before .before .before .before .before .before .before .read-text .kept .1 .1 .1 .1 .1 .1 .1 .1 .0 ∙ c .before .before .before .before .before .before .before .before .before .before .before .before .before .before .before .before .before .before .before .before .before .before .before .before .before .before .before .before .before .before .before .before .before .before .before .before .before .open-path .kept .1 .1 .1 .1 .1 .0
 
--- src/lib.rt:59:1
 open-file-returns-3 : (t : ℕ) → open-file-lts.Need-returns-3 (
   open-path-reads.Asked,
   open-path-reads.Learnt,
@@ -429,7 +402,6 @@ open-file-returns-3 : (t : ℕ) → open-file-lts.Need-returns-3 (
 ) (open-file-at t) open-file.Post
 open-file-returns-3 t c = record { space = (record { names = record { long = open-file-same-length-10 t c }; index = record { long = open-file-same-length-11 t c }; texts = record { long = open-file-same-length-12 t c }; bind = record { long = open-file-same-length-13 t c }; graph = record { long = open-file-same-length-14 t c } }, record { long = open-file-same-length-15 t c }); promise = file-stopped (now (c .before .before .before .before .before .before .before .before .before .before .before .before .before .before .before .before .before .before .before .before .before .before .before .before .before .before .before .before .before .before .before .before .before .before .before .before .before .before .before .before .before .before .before .before .before .before .before .before .before .args .b)) (c .before .before .before .before .before .before .before .before .before .before .before .before .before .before .before .before .before .before .before .before .before .before .before .before .before .before .before .before .before .before .before .before .before .before .before .before .before .before .before .before .before .before .before .before .before .before .before .before .before .args .l .start) (c .before .before .before .before .before .before .before .before .before .before .before .before .before .before .before .before .before .before .before .before .before .before .before .before .before .before .before .before .before .before .before .before .before .before .before .before .before .before .before .before .before .before .before .before .before .before .before .before .before .args .l .sub) (now (c .before .before .before .before .before .before .before .before .before .before .before .before .before .before .before .before .before .before .before .before .before .before .before .before .before .before .before .before .before .before .before .before .before .before .before .before .before .before .before .before .before .before .before .before .before .before .before .before .before .args .raw)) _ (rw (c .before .before .before .before .before .before .before .before .before .before .before .before .before .before .before .before .before .before .before .before .before .before .before .before .before .before .before .before .before .before .before .before .before .k .given .1) at (c .before .before .before .before .before .before .before .before .before .before .before .before .before .before .before .before .before .before .before .before .before .before .before .before .before .before .before .before .before .before .before .before .before .before .before .before .before .open-path .ensures .promise)) (c .before .before .before .before .before .before .before .before .before .before .before .before .before .before .before .before .before .before .before .before .before .before .before .before .before .before .before .enter .ensures .promise) (c .before .before .before .before .before .before .before .before .before .before .before .before .before .before .before .before .before .before .before .before .before .before .before .before .before .before .before .before .before .before .if1 .left) (rw (c .before .r .given .1) at (c .before .before .before .before .before .before .before .before .before .before .before .before .before .before .before .read-text .ensures .promise)) }
 
--- src/lib.rt:59:1
 open-file-same-length-16 : (t : ℕ) → open-file-lts.Need-same-length-16 (
   open-path-reads.Asked,
   open-path-reads.Learnt,
@@ -442,7 +414,6 @@ open-file-same-length-16 : (t : ℕ) → open-file-lts.Need-same-length-16 (
 ) (open-file-at t) open-file.Post
 open-file-same-length-16 t c = refl
 
--- src/lib.rt:59:1
 open-file-same-length-17 : (t : ℕ) → open-file-lts.Need-same-length-17 (
   open-path-reads.Asked,
   open-path-reads.Learnt,
@@ -455,7 +426,6 @@ open-file-same-length-17 : (t : ℕ) → open-file-lts.Need-same-length-17 (
 ) (open-file-at t) open-file.Post
 open-file-same-length-17 t c = refl
 
--- src/lib.rt:59:1
 open-file-same-length-18 : (t : ℕ) → open-file-lts.Need-same-length-18 (
   open-path-reads.Asked,
   open-path-reads.Learnt,
@@ -468,7 +438,6 @@ open-file-same-length-18 : (t : ℕ) → open-file-lts.Need-same-length-18 (
 ) (open-file-at t) open-file.Post
 open-file-same-length-18 t c = c .before .before .before .before .before .open-path .kept .1 .1 .1 .1 .1 .0
 
--- src/lib.rt:59:1
 open-file-returns-4 : (t : ℕ) → open-file-lts.Need-returns-4 (
   open-path-reads.Asked,
   open-path-reads.Learnt,
@@ -483,266 +452,74 @@ open-file-returns-4 t c = record { space = (record { names = record { long = ref
 
 abbrev read-each-Inv-loop : read-each-lts.InvT-loop
 read-each-Inv-loop t b m found p names₀ index₀ texts₀ bind₀ graph₀ word₀ a₀ k₀ names index texts bind graph word a k =
-    Same (buffers names₀ index₀ texts₀ bind₀ graph₀) word₀ (buffers names index texts bind graph) word × EachFrom (fileOpener b (p .more)) (p .base) m found (buffers names₀ index₀ texts₀ bind₀ graph₀) a₀ (buffers names index texts bind graph) a k
+    Same (buffers names₀ index₀ texts₀ bind₀ graph₀) word₀ (buffers names index texts bind graph) word × EachFrom (fileOpener b (p .more)) (p .base) m found 0 (buffers names₀ index₀ texts₀ bind₀ graph₀) a₀ (buffers names index texts bind graph) a k
 
 abbrev read-each-μ-loop : read-each-lts.MeasureT-loop
 read-each-μ-loop t b m found p names₀ index₀ texts₀ bind₀ graph₀ word₀ a₀ k₀ names index texts bind graph word a k = length found - k
 
--- src/lib.rt:165:5
-read-each-loop-holds : (t : ℕ) → read-each-lts.Need-loop-holds (
-  at-reads.Asked,
-  at-reads.Learnt,
-  read-turn-below t,
-  read-turn.Post,
-) (read-each-at t) read-each.Post read-each-Inv-loop read-each-μ-loop
-read-each-loop-holds t c = (same-begin, each-begin (fileOpener (now (c .before .before .before .before .before .before .before .before .before .before .args .b)) (c .before .before .before .before .before .before .before .before .before .before .args .p .more)) (c .before .before .before .before .before .before .before .before .before .before .pre .1))
+read-each-loop-holds : (t : ℕ) → read-each-lts.Need-loop-holds (read-turn-below t, read-turn.Post) (read-each-at t) read-each.Post read-each-Inv-loop read-each-μ-loop
+read-each-loop-holds t c = (same-begin, each-begin (fileOpener (now (c .before .before .before .before .before .before .before .before .before .before .args .b)) (c .before .before .before .before .before .before .before .before .before .before .args .p .more)) (c .before .before .before .before .before .before .before .before .before .before .pre .1 .lines))
 
--- src/lib.rt:167:30
-read-each-enum-known-a : (t : ℕ) → read-each-lts.Need-enum-known-a (
-  at-reads.Asked,
-  at-reads.Learnt,
-  read-turn-below t,
-  read-turn.Post,
-) (read-each-at t) read-each.Post read-each-Inv-loop read-each-μ-loop
+read-each-enum-known-a : (t : ℕ) → read-each-lts.Need-enum-known-a (read-turn-below t, read-turn.Post) (read-each-at t) read-each.Post read-each-Inv-loop read-each-μ-loop
 read-each-enum-known-a t c = c .match .keys1
 
--- src/lib.rt:168:21
-read-each-at-requires : (t : ℕ) → read-each-lts.Need-at-requires (
-  at-reads.Asked,
-  at-reads.Learnt,
-  read-turn-below t,
-  read-turn.Post,
-) (read-each-at t) read-each.Post read-each-Inv-loop read-each-μ-loop
-read-each-at-requires t c κs = c .before .before .before .loop-test .taken
+read-each-read-turn-requires : (t : ℕ) → read-each-lts.Need-read-turn-requires (read-turn-below t, read-turn.Post) (read-each-at t) read-each.Post read-each-Inv-loop read-each-μ-loop
+read-each-read-turn-requires t c κs = (omega (arith, c .before .before .before .before .before .before .before .before .before .before .before .before .before .before .before .before .before .before .before .before .before .pre .0), turn-asked (c .before .before .before .before .before .before .before .before .before .before .loop .inv .1) (c .before .before .before .before .before .before .before .before .before .before .before .before .before .before .before .before .before .before .before .before .before .pre .1) (c .before .before .before .before .before .before .before .before .before .loop-test .taken) (c .before .before .before .before .before .before .before .a .given .1) (c .before .before .before .before .before .before .before .before .before .before .loop .inv .0))
 
--- src/lib.rt:169:37
-read-each-add-at : (t : ℕ) → read-each-lts.Need-add-at (
-  at-reads.Asked,
-  at-reads.Learnt,
-  read-turn-below t,
-  read-turn.Post,
-) (read-each-at t) read-each.Post read-each-Inv-loop read-each-μ-loop
-read-each-add-at t c = search needs
+read-each-loop-less : (t : ℕ) → read-each-lts.Need-loop-less (read-turn-below t, read-turn.Post) (read-each-at t) read-each.Post read-each-Inv-loop read-each-μ-loop
+read-each-loop-less t c = omega (arith, c .before .before .before .before .before .before .before .before .before .before .before .before .before .before .before .before .before .before .before .before .before .before .loop-test .taken, c .before .before .before .before .before .before .before .before .before .before .before .before .read-turn .ensures .promise .forward)
 
--- src/lib.rt:169:21
-read-each-at-requires-2 : (t : ℕ) → read-each-lts.Need-at-requires-2 (
-  at-reads.Asked,
-  at-reads.Learnt,
-  read-turn-below t,
-  read-turn.Post,
-) (read-each-at t) read-each.Post read-each-Inv-loop read-each-μ-loop
-read-each-at-requires-2 t c κs = each-pair (c .before .before .before .before .before .loop .inv .1) (c .before .before .before .before .loop-test .taken) .two
-
--- src/lib.rt:171:28
-read-each-add-read-turn : (t : ℕ) → read-each-lts.Need-add-read-turn (
-  at-reads.Asked,
-  at-reads.Learnt,
-  read-turn-below t,
-  read-turn.Post,
-) (read-each-at t) read-each.Post read-each-Inv-loop read-each-μ-loop
-read-each-add-read-turn t c = omega (arith, each-forward (c .before .before .before .before .before .before .before .loop .inv .1) (c .before .before .before .before .before .before .loop-test .taken) (c .before .before .at .ensures) (c .before .at2 .ensures), each-within (c .before .before .before .before .before .before .before .loop .inv .1) (c .before .before .before .before .before .before .loop-test .taken) (c .before .before .at .ensures) (c .before .at2 .ensures), c .before .before .before .before .before .before .before .before .before .before .before .before .before .before .before .before .before .before .pre .1 .near)
-
--- src/lib.rt:179:21
-read-each-sub-read-turn : (t : ℕ) → read-each-lts.Need-sub-read-turn (
-  at-reads.Asked,
-  at-reads.Learnt,
-  read-turn-below t,
-  read-turn.Post,
-) (read-each-at t) read-each.Post read-each-Inv-loop read-each-μ-loop
-read-each-sub-read-turn t c = omega (arith, each-forward (c .before .before .before .before .before .before .before .loop .inv .1) (c .before .before .before .before .before .before .loop-test .taken) (c .before .before .at .ensures) (c .before .at2 .ensures))
-
--- src/lib.rt:179:21
-read-each-part-read-turn-start : (t : ℕ) → read-each-lts.Need-part-read-turn-start (
-  at-reads.Asked,
-  at-reads.Learnt,
-  read-turn-below t,
-  read-turn.Post,
-) (read-each-at t) read-each.Post read-each-Inv-loop read-each-μ-loop
-read-each-part-read-turn-start t c = omega (arith, each-forward (c .before .before .before .before .before .before .before .loop .inv .1) (c .before .before .before .before .before .before .loop-test .taken) (c .before .before .at .ensures) (c .before .at2 .ensures))
-
--- src/lib.rt:179:21
-read-each-part-read-turn-end : (t : ℕ) → read-each-lts.Need-part-read-turn-end (
-  at-reads.Asked,
-  at-reads.Learnt,
-  read-turn-below t,
-  read-turn.Post,
-) (read-each-at t) read-each.Post read-each-Inv-loop read-each-μ-loop
-read-each-part-read-turn-end t c = omega (arith, each-within (c .before .before .before .before .before .before .before .loop .inv .1) (c .before .before .before .before .before .before .loop-test .taken) (c .before .before .at .ensures) (c .before .at2 .ensures))
-
--- src/lib.rt:176:17
-read-each-read-turn-requires : (t : ℕ) → read-each-lts.Need-read-turn-requires (
-  at-reads.Asked,
-  at-reads.Learnt,
-  read-turn-below t,
-  read-turn.Post,
-) (read-each-at t) read-each.Post read-each-Inv-loop read-each-μ-loop
-read-each-read-turn-requires t c κs = (omega (arith, c .before .before .before .before .before .before .before .before .before .before .before .before .before .before .before .before .before .before .before .before .before .before .before .before .before .pre .0), each-asks (c .before .before .before .before .before .before .before .before .before .before .before .before .before .before .loop .inv .1) (c .before .before .before .before .before .before .before .before .before .before .before .before .before .loop-test .taken) (c .before .before .before .before .before .before .before .before .before .at .ensures) (c .before .before .before .before .before .before .before .before .at2 .ensures) (c .before .before .before .before .before .before .before .before .before .before .before .a .given .1) (c .before .before .before .before .before .before .before .before .before .before .before .before .before .before .before .before .before .before .before .before .before .before .before .before .before .pre .1) (c .before .before .before .before .before .before .before .before .before .before .before .before .before .before .loop .inv .0))
-
--- src/lib.rt:189:17
-read-each-add-k : (t : ℕ) → read-each-lts.Need-add-k (
-  at-reads.Asked,
-  at-reads.Learnt,
-  read-turn-below t,
-  read-turn.Post,
-) (read-each-at t) read-each.Post read-each-Inv-loop read-each-μ-loop
-read-each-add-k t c = omega (arith, each-pair (c .before .before .before .before .before .before .before .before .before .before .before .before .before .before .before .before .before .before .before .before .before .before .before .before .before .before .before .loop .inv .1) (c .before .before .before .before .before .before .before .before .before .before .before .before .before .before .before .before .before .before .before .before .before .before .before .before .before .before .loop-test .taken) .two, c .before .before .before .before .before .before .before .before .before .before .before .before .before .before .before .before .before .before .before .before .before .before .before .before .before .before .before .before .before .before .before .before .before .before .before .before .before .before .pre .1 .few)
-
--- src/lib.rt:165:5
-read-each-loop-less : (t : ℕ) → read-each-lts.Need-loop-less (
-  at-reads.Asked,
-  at-reads.Learnt,
-  read-turn-below t,
-  read-turn.Post,
-) (read-each-at t) read-each.Post read-each-Inv-loop read-each-μ-loop
-read-each-loop-less t c = omega (arith, c .before .before .before .before .before .before .before .before .before .before .before .before .before .before .before .before .before .before .before .before .before .before .before .before .before .before .loop-test .taken)
-
--- src/lib.rt:165:5
-read-each-loop-again : (t : ℕ) → read-each-lts.Need-loop-again (
-  at-reads.Asked,
-  at-reads.Learnt,
-  read-turn-below t,
-  read-turn.Post,
-) (read-each-at t) read-each.Post read-each-Inv-loop read-each-μ-loop
+read-each-loop-again : (t : ℕ) → read-each-lts.Need-loop-again (read-turn-below t, read-turn.Post) (read-each-at t) read-each.Post read-each-Inv-loop read-each-μ-loop
 read-each-loop-again t c =
     let k = c .before .before .before .before .before .before .before .before .before .before .before .before .read-turn .kept in
-    let e = c .before .before .before .before .before .before .before .before .before .before .before .before .before .before .before .before .before .before .before .before .before .before .before .before .before .before .before .loop .inv .0 in (
+    let e = c .before .before .before .before .before .before .before .before .before .before .before .before .before .before .before .before .before .before .before .before .before .before .before .loop .inv .0 in (
       record { names-same = omega (arith, k, e .names-same); ends-same = omega (arith, k, e .ends-same); texts-same = omega (arith, k, e .texts-same); bind-same = omega (arith, k, e .bind-same); graph-same = omega (arith, k, e .graph-same); word-same = omega (arith, k, e .word-same) },
-      each-on (c .before .before .before .before .before .before .before .before .before .before .before .before .before .before .before .before .before .before .before .before .before .before .before .before .before .before .before .loop .inv .1) (c .before .before .before .before .before .before .before .before .before .before .before .before .before .before .before .before .before .before .before .before .before .before .before .before .before .before .loop-test .taken) (c .before .before .before .before .before .before .before .before .before .before .before .before .before .before .before .before .before .before .before .before .before .before .at .ensures) (c .before .before .before .before .before .before .before .before .before .before .before .before .before .before .before .before .before .before .before .before .before .at2 .ensures) (c .before .before .before .before .before .before .before .before .before .before .before .before .before .before .before .before .before .before .before .before .before .before .before .before .a .given .1) (c .before .before .before .before .before .before .before .before .before .before .before .before .read-turn .ensures .promise),
+      each-joins (c .before .before .before .before .before .before .before .before .before .before .before .before .before .before .before .before .before .before .before .before .before .before .before .loop .inv .1) (c .before .before .before .before .before .before .before .before .before .before .before .before .before .before .before .before .before .before .before .before .a .given .1) (c .before .before .before .before .before .before .before .before .before .before .before .before .read-turn .ensures .promise .done),
     )
 
--- src/lib.rt:191:33
-read-each-enum-known-a-2 : (t : ℕ) → read-each-lts.Need-enum-known-a-2 (
-  at-reads.Asked,
-  at-reads.Learnt,
-  read-turn-below t,
-  read-turn.Post,
-) (read-each-at t) read-each.Post read-each-Inv-loop read-each-μ-loop
+read-each-enum-known-a-2 : (t : ℕ) → read-each-lts.Need-enum-known-a-2 (read-turn-below t, read-turn.Post) (read-each-at t) read-each.Post read-each-Inv-loop read-each-μ-loop
 read-each-enum-known-a-2 t c = c .match .keys2
 
--- src/lib.rt:192:17
-read-each-same-length : (t : ℕ) → read-each-lts.Need-same-length (
-  at-reads.Asked,
-  at-reads.Learnt,
-  read-turn-below t,
-  read-turn.Post,
-) (read-each-at t) read-each.Post read-each-Inv-loop read-each-μ-loop
+read-each-same-length : (t : ℕ) → read-each-lts.Need-same-length (read-turn-below t, read-turn.Post) (read-each-at t) read-each.Post read-each-Inv-loop read-each-μ-loop
 read-each-same-length t c = c .before .before .before .before .loop .inv .0 .names-same
 
--- src/lib.rt:192:17
-read-each-same-length-2 : (t : ℕ) → read-each-lts.Need-same-length-2 (
-  at-reads.Asked,
-  at-reads.Learnt,
-  read-turn-below t,
-  read-turn.Post,
-) (read-each-at t) read-each.Post read-each-Inv-loop read-each-μ-loop
+read-each-same-length-2 : (t : ℕ) → read-each-lts.Need-same-length-2 (read-turn-below t, read-turn.Post) (read-each-at t) read-each.Post read-each-Inv-loop read-each-μ-loop
 read-each-same-length-2 t c = c .before .before .before .before .loop .inv .0 .ends-same
 
--- src/lib.rt:192:17
-read-each-same-length-3 : (t : ℕ) → read-each-lts.Need-same-length-3 (
-  at-reads.Asked,
-  at-reads.Learnt,
-  read-turn-below t,
-  read-turn.Post,
-) (read-each-at t) read-each.Post read-each-Inv-loop read-each-μ-loop
+read-each-same-length-3 : (t : ℕ) → read-each-lts.Need-same-length-3 (read-turn-below t, read-turn.Post) (read-each-at t) read-each.Post read-each-Inv-loop read-each-μ-loop
 read-each-same-length-3 t c = c .before .before .before .before .loop .inv .0 .texts-same
 
--- src/lib.rt:192:17
-read-each-same-length-4 : (t : ℕ) → read-each-lts.Need-same-length-4 (
-  at-reads.Asked,
-  at-reads.Learnt,
-  read-turn-below t,
-  read-turn.Post,
-) (read-each-at t) read-each.Post read-each-Inv-loop read-each-μ-loop
+read-each-same-length-4 : (t : ℕ) → read-each-lts.Need-same-length-4 (read-turn-below t, read-turn.Post) (read-each-at t) read-each.Post read-each-Inv-loop read-each-μ-loop
 read-each-same-length-4 t c = c .before .before .before .before .loop .inv .0 .bind-same
 
--- src/lib.rt:192:17
-read-each-same-length-5 : (t : ℕ) → read-each-lts.Need-same-length-5 (
-  at-reads.Asked,
-  at-reads.Learnt,
-  read-turn-below t,
-  read-turn.Post,
-) (read-each-at t) read-each.Post read-each-Inv-loop read-each-μ-loop
+read-each-same-length-5 : (t : ℕ) → read-each-lts.Need-same-length-5 (read-turn-below t, read-turn.Post) (read-each-at t) read-each.Post read-each-Inv-loop read-each-μ-loop
 read-each-same-length-5 t c = c .before .before .before .before .loop .inv .0 .graph-same
 
--- src/lib.rt:192:17
-read-each-same-length-6 : (t : ℕ) → read-each-lts.Need-same-length-6 (
-  at-reads.Asked,
-  at-reads.Learnt,
-  read-turn-below t,
-  read-turn.Post,
-) (read-each-at t) read-each.Post read-each-Inv-loop read-each-μ-loop
+read-each-same-length-6 : (t : ℕ) → read-each-lts.Need-same-length-6 (read-turn-below t, read-turn.Post) (read-each-at t) read-each.Post read-each-Inv-loop read-each-μ-loop
 read-each-same-length-6 t c = c .before .before .before .before .loop .inv .0 .word-same
 
--- src/lib.rt:192:17
-read-each-returns : (t : ℕ) → read-each-lts.Need-returns (
-  at-reads.Asked,
-  at-reads.Learnt,
-  read-turn-below t,
-  read-turn.Post,
-) (read-each-at t) read-each.Post read-each-Inv-loop read-each-μ-loop
+read-each-returns : (t : ℕ) → read-each-lts.Need-returns (read-turn-below t, read-turn.Post) (read-each-at t) read-each.Post read-each-Inv-loop read-each-μ-loop
 read-each-returns t c = record { space = (record { names = record { long = read-each-same-length t c }; index = record { long = read-each-same-length-2 t c }; texts = record { long = read-each-same-length-3 t c }; bind = record { long = read-each-same-length-4 t c }; graph = record { long = read-each-same-length-5 t c } }, record { long = read-each-same-length-6 t c }); promise = each-refused (c .before .before .before .before .loop .inv .1) (c .before .a2 .given .1) }
 
--- src/lib.rt:144:1
-read-each-same-length-7 : (t : ℕ) → read-each-lts.Need-same-length-7 (
-  at-reads.Asked,
-  at-reads.Learnt,
-  read-turn-below t,
-  read-turn.Post,
-) (read-each-at t) read-each.Post read-each-Inv-loop read-each-μ-loop
+read-each-same-length-7 : (t : ℕ) → read-each-lts.Need-same-length-7 (read-turn-below t, read-turn.Post) (read-each-at t) read-each.Post read-each-Inv-loop read-each-μ-loop
 read-each-same-length-7 t c = c .before .loop .inv .0 .names-same
 
--- src/lib.rt:144:1
-read-each-same-length-8 : (t : ℕ) → read-each-lts.Need-same-length-8 (
-  at-reads.Asked,
-  at-reads.Learnt,
-  read-turn-below t,
-  read-turn.Post,
-) (read-each-at t) read-each.Post read-each-Inv-loop read-each-μ-loop
+read-each-same-length-8 : (t : ℕ) → read-each-lts.Need-same-length-8 (read-turn-below t, read-turn.Post) (read-each-at t) read-each.Post read-each-Inv-loop read-each-μ-loop
 read-each-same-length-8 t c = c .before .loop .inv .0 .ends-same
 
--- src/lib.rt:144:1
-read-each-same-length-9 : (t : ℕ) → read-each-lts.Need-same-length-9 (
-  at-reads.Asked,
-  at-reads.Learnt,
-  read-turn-below t,
-  read-turn.Post,
-) (read-each-at t) read-each.Post read-each-Inv-loop read-each-μ-loop
+read-each-same-length-9 : (t : ℕ) → read-each-lts.Need-same-length-9 (read-turn-below t, read-turn.Post) (read-each-at t) read-each.Post read-each-Inv-loop read-each-μ-loop
 read-each-same-length-9 t c = c .before .loop .inv .0 .texts-same
 
--- src/lib.rt:144:1
-read-each-same-length-10 : (t : ℕ) → read-each-lts.Need-same-length-10 (
-  at-reads.Asked,
-  at-reads.Learnt,
-  read-turn-below t,
-  read-turn.Post,
-) (read-each-at t) read-each.Post read-each-Inv-loop read-each-μ-loop
+read-each-same-length-10 : (t : ℕ) → read-each-lts.Need-same-length-10 (read-turn-below t, read-turn.Post) (read-each-at t) read-each.Post read-each-Inv-loop read-each-μ-loop
 read-each-same-length-10 t c = c .before .loop .inv .0 .bind-same
 
--- src/lib.rt:144:1
-read-each-same-length-11 : (t : ℕ) → read-each-lts.Need-same-length-11 (
-  at-reads.Asked,
-  at-reads.Learnt,
-  read-turn-below t,
-  read-turn.Post,
-) (read-each-at t) read-each.Post read-each-Inv-loop read-each-μ-loop
+read-each-same-length-11 : (t : ℕ) → read-each-lts.Need-same-length-11 (read-turn-below t, read-turn.Post) (read-each-at t) read-each.Post read-each-Inv-loop read-each-μ-loop
 read-each-same-length-11 t c = c .before .loop .inv .0 .graph-same
 
--- src/lib.rt:144:1
-read-each-same-length-12 : (t : ℕ) → read-each-lts.Need-same-length-12 (
-  at-reads.Asked,
-  at-reads.Learnt,
-  read-turn-below t,
-  read-turn.Post,
-) (read-each-at t) read-each.Post read-each-Inv-loop read-each-μ-loop
+read-each-same-length-12 : (t : ℕ) → read-each-lts.Need-same-length-12 (read-turn-below t, read-turn.Post) (read-each-at t) read-each.Post read-each-Inv-loop read-each-μ-loop
 read-each-same-length-12 t c = c .before .loop .inv .0 .word-same
 
--- src/lib.rt:144:1
-read-each-returns-2 : (t : ℕ) → read-each-lts.Need-returns-2 (
-  at-reads.Asked,
-  at-reads.Learnt,
-  read-turn-below t,
-  read-turn.Post,
-) (read-each-at t) read-each.Post read-each-Inv-loop read-each-μ-loop
+read-each-returns-2 : (t : ℕ) → read-each-lts.Need-returns-2 (read-turn-below t, read-turn.Post) (read-each-at t) read-each.Post read-each-Inv-loop read-each-μ-loop
 read-each-returns-2 t c = record { space = (record { names = record { long = read-each-same-length-7 t c }; index = record { long = read-each-same-length-8 t c }; texts = record { long = read-each-same-length-9 t c }; bind = record { long = read-each-same-length-10 t c }; graph = record { long = read-each-same-length-11 t c } }, record { long = read-each-same-length-12 t c }); promise = each-end (c .before .loop .inv .1) (c .loop-test .left) }
 
 abbrev read-text-Inv-loop : read-text-lts.InvT-loop
@@ -752,7 +529,6 @@ read-text-Inv-loop t b names₀ index₀ texts₀ bind₀ graph₀ word₀ m p f
 abbrev read-text-μ-loop : read-text-lts.MeasureT-loop
 read-text-μ-loop t b names₀ index₀ texts₀ bind₀ graph₀ word₀ m p found₀ counts₀ block₀ from₀ names index texts bind graph word found counts block from = length m - from
 
--- src/lib.rt:215:9
 read-text-record-text-requires : (t : ℕ) → read-text-lts.Need-record-text-requires (
   record-text-reads.Asked,
   record-text-reads.Learnt,
@@ -767,7 +543,6 @@ read-text-record-text-requires : (t : ℕ) → read-text-lts.Need-record-text-re
 ) (read-text-at t) read-text.Post read-text-Inv-loop read-text-μ-loop
 read-text-record-text-requires t c κs = (laid _ (c .before .before .before .before .before .before .before .pre .1 .bundle .sound), c .before .before .before .before .before .before .before .pre .1 .below)
 
--- src/lib.rt:217:15
 read-text-text-base-requires : (t : ℕ) → read-text-lts.Need-text-base-requires (
   record-text-reads.Asked,
   record-text-reads.Learnt,
@@ -782,7 +557,6 @@ read-text-text-base-requires : (t : ℕ) → read-text-lts.Need-text-base-requir
 ) (read-text-at t) read-text.Post read-text-Inv-loop read-text-μ-loop
 read-text-text-base-requires t c κs = (laid _ (c .before .before .before .before .before .before .before .before .pre .1 .bundle .sound), c .before .before .before .before .before .before .before .before .pre .1 .below)
 
--- src/lib.rt:224:5
 read-text-loop-holds : (t : ℕ) → read-text-lts.Need-loop-holds (
   record-text-reads.Asked,
   record-text-reads.Learnt,
@@ -797,7 +571,6 @@ read-text-loop-holds : (t : ℕ) → read-text-lts.Need-loop-holds (
 ) (read-text-at t) read-text.Post read-text-Inv-loop read-text-μ-loop
 read-text-loop-holds t c = (same-begin, length-replicate {A = ℕ} 64 0, turn-begin _ _ _)
 
--- src/lib.rt:225:40
 read-text-slice-aggregate-lines-from : (t : ℕ) → read-text-lts.Need-slice-aggregate-lines-from (
   record-text-reads.Asked,
   record-text-reads.Learnt,
@@ -812,7 +585,6 @@ read-text-slice-aggregate-lines-from : (t : ℕ) → read-text-lts.Need-slice-ag
 ) (read-text-at t) read-text.Post read-text-Inv-loop read-text-μ-loop
 read-text-slice-aggregate-lines-from t c = sym (c .before .before .loop .inv .1)
 
--- src/lib.rt:225:13
 read-text-lines-from-requires : (t : ℕ) → read-text-lts.Need-lines-from-requires (
   record-text-reads.Asked,
   record-text-reads.Learnt,
@@ -827,7 +599,6 @@ read-text-lines-from-requires : (t : ℕ) → read-text-lts.Need-lines-from-requ
 ) (read-text-at t) read-text.Post read-text-Inv-loop read-text-μ-loop
 read-text-lines-from-requires t c κs = found-ask (c .before .before .before .before .before .before .before .before .before .before .before .before .pre .1) (c .before .before .before .before .record-text .ensures) (c .before .before .loop .inv .2 .within) (c .before .before .loop .inv .1)
 
--- src/lib.rt:234:13
 read-text-array-share-prefix-found : (t : ℕ) → read-text-lts.Need-array-share-prefix-found (
   record-text-reads.Asked,
   record-text-reads.Learnt,
@@ -842,7 +613,6 @@ read-text-array-share-prefix-found : (t : ℕ) → read-text-lts.Need-array-shar
 ) (read-text-at t) read-text.Post read-text-Inv-loop read-text-μ-loop
 read-text-array-share-prefix-found t c = omega (arith, c .before .before .before .before .loop .inv .1, c .before .lines-from .ensures .fits, c .before .lines-from .ensures .long)
 
--- src/lib.rt:234:13
 read-text-slice-aggregate-read-each : (t : ℕ) → read-text-lts.Need-slice-aggregate-read-each (
   record-text-reads.Asked,
   record-text-reads.Learnt,
@@ -857,7 +627,6 @@ read-text-slice-aggregate-read-each : (t : ℕ) → read-text-lts.Need-slice-agg
 ) (read-text-at t) read-text.Post read-text-Inv-loop read-text-μ-loop
 read-text-slice-aggregate-read-each t c = sym (length-take-le _ _ (c .before .before .lines-from .ensures .fits))
 
--- src/lib.rt:230:15
 read-text-read-each-requires : (t : ℕ) → read-text-lts.Need-read-each-requires (
   record-text-reads.Asked,
   record-text-reads.Learnt,
@@ -872,7 +641,6 @@ read-text-read-each-requires : (t : ℕ) → read-text-lts.Need-read-each-requir
 ) (read-text-at t) read-text.Post read-text-Inv-loop read-text-μ-loop
 read-text-read-each-requires t c κs = (omega (arith, c .before .before .before .before .before .before .before .before .before .before .before .before .before .before .before .before .before .before .before .before .before .pre .0), turn-asks (c .before .before .before .before .before .before .before .before .before .before .before .loop .inv .2) (c .before .before .before .before .before .before .before .before .lines-from .ensures) (c .before .before .before .before .before .before .before .before .before .before .before .before .before .before .before .before .before .before .before .before .before .pre .1) refl (c .before .before .before .before .before .before .before .before .before .before .before .before .before .record-text .ensures) (c .before .before .before .before .before .before .before .before .before .before .before .before .text-base .ensures) (c .before .before .before .before .before .before .before .before .before .before .before .loop .inv .1) (c .before .before .before .before .before .before .before .before .before .before .before .loop .inv .0))
 
--- src/lib.rt:244:30
 read-text-enum-known-d : (t : ℕ) → read-text-lts.Need-enum-known-d (
   record-text-reads.Asked,
   record-text-reads.Learnt,
@@ -887,7 +655,6 @@ read-text-enum-known-d : (t : ℕ) → read-text-lts.Need-enum-known-d (
 ) (read-text-at t) read-text.Post read-text-Inv-loop read-text-μ-loop
 read-text-enum-known-d t c = c .match .keys1
 
--- src/lib.rt:224:5
 read-text-loop-less : (t : ℕ) → read-text-lts.Need-loop-less (
   record-text-reads.Asked,
   record-text-reads.Learnt,
@@ -902,7 +669,6 @@ read-text-loop-less : (t : ℕ) → read-text-lts.Need-loop-less (
 ) (read-text-at t) read-text.Post read-text-Inv-loop read-text-μ-loop
 read-text-loop-less t c = omega (arith, c .before .before .before .before .before .before .before .before .before .before .before .before .before .before .before .before .before .before .before .before .before .before .before .before .before .before .loop-test .taken, c .before .before .before .before .before .before .before .before .before .before .before .before .before .before .before .before .before .before .before .before .before .before .before .before .lines-from .ensures .on (c .before .before .before .before .before .before .before .before .before .before .before .before .before .before .before .before .before .before .before .before .before .before .before .before .before .before .loop-test .taken), c .before .before .before .before .before .before .before .before .before .before .before .before .before .before .before .before .before .before .before .before .before .before .before .before .lines-from .ensures .within)
 
--- src/lib.rt:224:5
 read-text-loop-again : (t : ℕ) → read-text-lts.Need-loop-again (
   record-text-reads.Asked,
   record-text-reads.Learnt,
@@ -923,7 +689,6 @@ read-text-loop-again t c =
       turn-on (c .before .before .before .before .before .before .before .before .before .before .before .before .before .before .before .before .before .before .before .before .before .before .before .before .before .before .before .loop .inv .2) (c .before .before .before .before .before .before .before .before .before .before .before .before .before .before .before .before .before .before .before .before .before .before .before .before .lines-from .ensures) (rw (c .before .d .given .1) at (c .before .before .before .before .before .before .before .before .before .before .before .before .before .before .before .read-each .ensures .promise)),
     )
 
--- src/lib.rt:249:33
 read-text-enum-known-r : (t : ℕ) → read-text-lts.Need-enum-known-r (
   record-text-reads.Asked,
   record-text-reads.Learnt,
@@ -938,7 +703,6 @@ read-text-enum-known-r : (t : ℕ) → read-text-lts.Need-enum-known-r (
 ) (read-text-at t) read-text.Post read-text-Inv-loop read-text-μ-loop
 read-text-enum-known-r t c = c .match .keys2
 
--- src/lib.rt:250:17
 read-text-same-length : (t : ℕ) → read-text-lts.Need-same-length (
   record-text-reads.Asked,
   record-text-reads.Learnt,
@@ -953,7 +717,6 @@ read-text-same-length : (t : ℕ) → read-text-lts.Need-same-length (
 ) (read-text-at t) read-text.Post read-text-Inv-loop read-text-μ-loop
 read-text-same-length t c = omega (arith, c .before .before .before .before .before .before .before .before .before .before .before .before .before .before .before .read-each .kept, c .before .before .before .before .before .before .before .before .before .before .before .before .before .before .before .before .before .before .before .before .before .before .before .before .before .before .before .loop .inv .0 .names-same)
 
--- src/lib.rt:250:17
 read-text-same-length-2 : (t : ℕ) → read-text-lts.Need-same-length-2 (
   record-text-reads.Asked,
   record-text-reads.Learnt,
@@ -968,7 +731,6 @@ read-text-same-length-2 : (t : ℕ) → read-text-lts.Need-same-length-2 (
 ) (read-text-at t) read-text.Post read-text-Inv-loop read-text-μ-loop
 read-text-same-length-2 t c = omega (arith, c .before .before .before .before .before .before .before .before .before .before .before .before .before .before .before .read-each .kept, c .before .before .before .before .before .before .before .before .before .before .before .before .before .before .before .before .before .before .before .before .before .before .before .before .before .before .before .loop .inv .0 .ends-same)
 
--- src/lib.rt:250:17
 read-text-same-length-3 : (t : ℕ) → read-text-lts.Need-same-length-3 (
   record-text-reads.Asked,
   record-text-reads.Learnt,
@@ -983,7 +745,6 @@ read-text-same-length-3 : (t : ℕ) → read-text-lts.Need-same-length-3 (
 ) (read-text-at t) read-text.Post read-text-Inv-loop read-text-μ-loop
 read-text-same-length-3 t c = omega (arith, c .before .before .before .before .before .before .before .before .before .before .before .before .before .before .before .read-each .kept, c .before .before .before .before .before .before .before .before .before .before .before .before .before .before .before .before .before .before .before .before .before .before .before .before .before .before .before .loop .inv .0 .texts-same)
 
--- src/lib.rt:250:17
 read-text-same-length-4 : (t : ℕ) → read-text-lts.Need-same-length-4 (
   record-text-reads.Asked,
   record-text-reads.Learnt,
@@ -998,7 +759,6 @@ read-text-same-length-4 : (t : ℕ) → read-text-lts.Need-same-length-4 (
 ) (read-text-at t) read-text.Post read-text-Inv-loop read-text-μ-loop
 read-text-same-length-4 t c = omega (arith, c .before .before .before .before .before .before .before .before .before .before .before .before .before .before .before .read-each .kept, c .before .before .before .before .before .before .before .before .before .before .before .before .before .before .before .before .before .before .before .before .before .before .before .before .before .before .before .loop .inv .0 .bind-same)
 
--- src/lib.rt:250:17
 read-text-same-length-5 : (t : ℕ) → read-text-lts.Need-same-length-5 (
   record-text-reads.Asked,
   record-text-reads.Learnt,
@@ -1013,7 +773,6 @@ read-text-same-length-5 : (t : ℕ) → read-text-lts.Need-same-length-5 (
 ) (read-text-at t) read-text.Post read-text-Inv-loop read-text-μ-loop
 read-text-same-length-5 t c = omega (arith, c .before .before .before .before .before .before .before .before .before .before .before .before .before .before .before .read-each .kept, c .before .before .before .before .before .before .before .before .before .before .before .before .before .before .before .before .before .before .before .before .before .before .before .before .before .before .before .loop .inv .0 .graph-same)
 
--- src/lib.rt:250:17
 read-text-same-length-6 : (t : ℕ) → read-text-lts.Need-same-length-6 (
   record-text-reads.Asked,
   record-text-reads.Learnt,
@@ -1028,7 +787,6 @@ read-text-same-length-6 : (t : ℕ) → read-text-lts.Need-same-length-6 (
 ) (read-text-at t) read-text.Post read-text-Inv-loop read-text-μ-loop
 read-text-same-length-6 t c = omega (arith, c .before .before .before .before .before .before .before .before .before .before .before .before .before .before .before .read-each .kept, c .before .before .before .before .before .before .before .before .before .before .before .before .before .before .before .before .before .before .before .before .before .before .before .before .before .before .before .loop .inv .0 .word-same)
 
--- src/lib.rt:250:17
 read-text-returns : (t : ℕ) → read-text-lts.Need-returns (
   record-text-reads.Asked,
   record-text-reads.Learnt,
@@ -1043,7 +801,6 @@ read-text-returns : (t : ℕ) → read-text-lts.Need-returns (
 ) (read-text-at t) read-text.Post read-text-Inv-loop read-text-μ-loop
 read-text-returns t c = record { space = (record { names = record { long = read-text-same-length t c }; index = record { long = read-text-same-length-2 t c }; texts = record { long = read-text-same-length-3 t c }; bind = record { long = read-text-same-length-4 t c }; graph = record { long = read-text-same-length-5 t c } }, record { long = read-text-same-length-6 t c }); promise = turn-refused (c .before .before .before .before .before .before .before .before .before .before .before .before .before .before .before .before .before .before .before .before .before .before .before .before .before .before .before .loop .inv .2) (c .before .before .before .before .before .before .before .before .before .before .before .before .before .before .before .before .before .before .before .before .before .before .before .before .lines-from .ensures) (bundleTexts (now (c .before .before .before .before .before .before .before .before .before .before .before .before .before .before .before .before .before .before .before .before .before .before .before .before .before .before .before .before .before .before .before .before .before .before .before .before .before .args .b))) (c .before .before .before .before .before .before .before .before .before .before .before .before .before .before .before .before .before .before .before .before .before .before .before .before .before .before .before .before .before .before .before .before .before .before .before .before .before .args .o .record) (c .before .before .before .before .before .before .before .before .before .before .before .before .before .before .before .before .before .before .before .before .before .before .before .before .before .before .before .before .before .record-text .ensures) (c .before .before .before .before .before .before .before .before .before .before .before .before .before .before .before .before .before .before .before .before .before .before .before .before .before .before .before .before .text-base .ensures) (rw (c .before .r .given .1) at (c .before .before .before .before .before .before .before .before .before .before .before .before .before .before .before .read-each .ensures .promise)) }
 
--- src/lib.rt:254:5
 read-text-close-requires : (t : ℕ) → read-text-lts.Need-close-requires (
   record-text-reads.Asked,
   record-text-reads.Learnt,
@@ -1058,7 +815,6 @@ read-text-close-requires : (t : ℕ) → read-text-lts.Need-close-requires (
 ) (read-text-at t) read-text.Post read-text-Inv-loop read-text-μ-loop
 read-text-close-requires t c κs = turn-sound (c .before .before .before .loop .inv .2) (c .before .before .before .before .before .before .before .before .before .before .before .before .before .pre .1 .between)
 
--- src/lib.rt:200:1
 read-text-same-length-7 : (t : ℕ) → read-text-lts.Need-same-length-7 (
   record-text-reads.Asked,
   record-text-reads.Learnt,
@@ -1073,7 +829,6 @@ read-text-same-length-7 : (t : ℕ) → read-text-lts.Need-same-length-7 (
 ) (read-text-at t) read-text.Post read-text-Inv-loop read-text-μ-loop
 read-text-same-length-7 t c = c .before .before .before .before .loop .inv .0 .names-same
 
--- src/lib.rt:200:1
 read-text-same-length-8 : (t : ℕ) → read-text-lts.Need-same-length-8 (
   record-text-reads.Asked,
   record-text-reads.Learnt,
@@ -1088,7 +843,6 @@ read-text-same-length-8 : (t : ℕ) → read-text-lts.Need-same-length-8 (
 ) (read-text-at t) read-text.Post read-text-Inv-loop read-text-μ-loop
 read-text-same-length-8 t c = c .before .before .before .before .loop .inv .0 .ends-same
 
--- src/lib.rt:200:1
 read-text-same-length-9 : (t : ℕ) → read-text-lts.Need-same-length-9 (
   record-text-reads.Asked,
   record-text-reads.Learnt,
@@ -1103,7 +857,6 @@ read-text-same-length-9 : (t : ℕ) → read-text-lts.Need-same-length-9 (
 ) (read-text-at t) read-text.Post read-text-Inv-loop read-text-μ-loop
 read-text-same-length-9 t c = c .before .before .before .before .loop .inv .0 .texts-same
 
--- src/lib.rt:200:1
 read-text-same-length-10 : (t : ℕ) → read-text-lts.Need-same-length-10 (
   record-text-reads.Asked,
   record-text-reads.Learnt,
@@ -1118,7 +871,6 @@ read-text-same-length-10 : (t : ℕ) → read-text-lts.Need-same-length-10 (
 ) (read-text-at t) read-text.Post read-text-Inv-loop read-text-μ-loop
 read-text-same-length-10 t c = c .before .before .before .before .loop .inv .0 .bind-same
 
--- src/lib.rt:200:1
 read-text-same-length-11 : (t : ℕ) → read-text-lts.Need-same-length-11 (
   record-text-reads.Asked,
   record-text-reads.Learnt,
@@ -1133,7 +885,6 @@ read-text-same-length-11 : (t : ℕ) → read-text-lts.Need-same-length-11 (
 ) (read-text-at t) read-text.Post read-text-Inv-loop read-text-μ-loop
 read-text-same-length-11 t c = c .before .before .before .before .loop .inv .0 .graph-same
 
--- src/lib.rt:200:1
 read-text-same-length-12 : (t : ℕ) → read-text-lts.Need-same-length-12 (
   record-text-reads.Asked,
   record-text-reads.Learnt,
@@ -1148,7 +899,6 @@ read-text-same-length-12 : (t : ℕ) → read-text-lts.Need-same-length-12 (
 ) (read-text-at t) read-text.Post read-text-Inv-loop read-text-μ-loop
 read-text-same-length-12 t c = c .before .before .before .before .loop .inv .0 .word-same
 
--- src/lib.rt:200:1
 read-text-returns-2 : (t : ℕ) → read-text-lts.Need-returns-2 (
   record-text-reads.Asked,
   record-text-reads.Learnt,
@@ -1163,194 +913,295 @@ read-text-returns-2 : (t : ℕ) → read-text-lts.Need-returns-2 (
 ) (read-text-at t) read-text.Post read-text-Inv-loop read-text-μ-loop
 read-text-returns-2 t c = record { space = (record { names = record { long = read-text-same-length-7 t c }; index = record { long = read-text-same-length-8 t c }; texts = record { long = read-text-same-length-9 t c }; bind = record { long = read-text-same-length-10 t c }; graph = record { long = read-text-same-length-11 t c } }, record { long = read-text-same-length-12 t c }); promise = turn-end (c .before .before .before .before .loop .inv .2) (bundleTexts (now (c .before .before .before .before .before .before .before .before .before .before .before .before .before .before .args .b))) (c .before .before .before .before .before .before .before .before .before .before .before .before .before .before .args .o .record) (c .before .before .before .before .before .before .record-text .ensures) (c .before .before .before .before .before .text-base .ensures) (c .before .before .before .loop-test .left) (c .close .ensures) }
 
--- src/lib.rt:117:11
-read-turn-read-line-requires : (t : ℕ) → read-turn-lts.Need-read-line-requires (
-  read-line-reads.Asked,
-  read-line-reads.Learnt,
+read-turn-read-stretch-requires : (t : ℕ) → read-turn-lts.Need-read-stretch-requires (
+  read-stretch-reads.Asked,
+  read-stretch-reads.Learnt,
+  at-reads.Asked,
+  at-reads.Learnt,
   open-file-below t,
   open-file.Post,
 ) (read-turn-at t) read-turn.Post
-read-turn-read-line-requires t c κs = c .before .before .before .before .before .before .before .before .before .before .before .before .before .before .pre .1 .line
+read-turn-read-stretch-requires t c κs = c .before .before .before .before .before .before .before .before .before .before .before .before .before .before .before .pre .1 .lines
 
--- src/lib.rt:118:24
 read-turn-enum-known-a : (t : ℕ) → read-turn-lts.Need-enum-known-a (
-  read-line-reads.Asked,
-  read-line-reads.Learnt,
+  read-stretch-reads.Asked,
+  read-stretch-reads.Learnt,
+  at-reads.Asked,
+  at-reads.Learnt,
   open-file-below t,
   open-file.Post,
 ) (read-turn-at t) read-turn.Post
 read-turn-enum-known-a t c = c .match .keys1
 
--- src/lib.rt:119:25
-read-turn-enum-known-c : (t : ℕ) → read-turn-lts.Need-enum-known-c (
-  read-line-reads.Asked,
-  read-line-reads.Learnt,
+read-turn-enum-known-k : (t : ℕ) → read-turn-lts.Need-enum-known-k (
+  read-stretch-reads.Asked,
+  read-stretch-reads.Learnt,
+  at-reads.Asked,
+  at-reads.Learnt,
   open-file-below t,
   open-file.Post,
 ) (read-turn-at t) read-turn.Post
-read-turn-enum-known-c t c = c .match .keys2
+read-turn-enum-known-k t c = c .match .keys2
 
--- src/lib.rt:128:17
+read-turn-at-requires : (t : ℕ) → read-turn-lts.Need-at-requires (
+  read-stretch-reads.Asked,
+  read-stretch-reads.Learnt,
+  at-reads.Asked,
+  at-reads.Learnt,
+  open-file-below t,
+  open-file.Post,
+) (read-turn-at t) read-turn.Post
+read-turn-at-requires t c κs = (opened-stretch (rw (c .before .k .given .1) at (c .before .before .before .before .before .before .before .before .before .before .before .before .before .before .before .read-stretch .ensures .promise))) .below
+
+read-turn-add-at : (t : ℕ) → read-turn-lts.Need-add-at (
+  read-stretch-reads.Asked,
+  read-stretch-reads.Learnt,
+  at-reads.Asked,
+  at-reads.Learnt,
+  open-file-below t,
+  open-file.Post,
+) (read-turn-at t) read-turn.Post
+read-turn-add-at t c = omega (arith, opens-two (opened-stretch (rw (c .before .before .k .given .1) at (c .before .before .before .before .before .before .before .before .before .before .before .before .before .before .before .before .read-stretch .ensures .promise))), c .before .before .before .before .before .before .before .before .before .before .before .before .before .before .before .before .before .before .before .before .before .before .before .before .before .before .before .before .before .before .before .before .pre .1 .lines .few)
+
+read-turn-at-requires-2 : (t : ℕ) → read-turn-lts.Need-at-requires-2 (
+  read-stretch-reads.Asked,
+  read-stretch-reads.Learnt,
+  at-reads.Asked,
+  at-reads.Learnt,
+  open-file-below t,
+  open-file.Post,
+) (read-turn-at t) read-turn.Post
+read-turn-at-requires-2 t c κs = opens-two (opened-stretch (rw (c .before .before .k .given .1) at (c .before .before .before .before .before .before .before .before .before .before .before .before .before .before .before .before .read-stretch .ensures .promise)))
+
+read-turn-sub-l : (t : ℕ) → read-turn-lts.Need-sub-l (
+  read-stretch-reads.Asked,
+  read-stretch-reads.Learnt,
+  at-reads.Asked,
+  at-reads.Learnt,
+  open-file-below t,
+  open-file.Post,
+) (read-turn-at t) read-turn.Post
+read-turn-sub-l t c = omega (arith, opens-forward (opened-stretch (rw (c .before .before .before .k .given .1) at (c .before .before .before .before .before .before .before .before .before .before .before .before .before .before .before .before .before .read-stretch .ensures .promise))) (c .before .at .ensures) (c .at2 .ensures))
+
+read-turn-part-l-start : (t : ℕ) → read-turn-lts.Need-part-l-start (
+  read-stretch-reads.Asked,
+  read-stretch-reads.Learnt,
+  at-reads.Asked,
+  at-reads.Learnt,
+  open-file-below t,
+  open-file.Post,
+) (read-turn-at t) read-turn.Post
+read-turn-part-l-start t c = omega (arith, opens-forward (opened-stretch (rw (c .before .before .before .k .given .1) at (c .before .before .before .before .before .before .before .before .before .before .before .before .before .before .before .before .before .read-stretch .ensures .promise))) (c .before .at .ensures) (c .at2 .ensures))
+
+read-turn-part-l-end : (t : ℕ) → read-turn-lts.Need-part-l-end (
+  read-stretch-reads.Asked,
+  read-stretch-reads.Learnt,
+  at-reads.Asked,
+  at-reads.Learnt,
+  open-file-below t,
+  open-file.Post,
+) (read-turn-at t) read-turn.Post
+read-turn-part-l-end t c = omega (arith, opens-within (opened-stretch (rw (c .before .before .before .k .given .1) at (c .before .before .before .before .before .before .before .before .before .before .before .before .before .before .before .before .before .read-stretch .ensures .promise))) (c .before .at .ensures) (c .at2 .ensures))
+
+read-turn-add-open-file : (t : ℕ) → read-turn-lts.Need-add-open-file (
+  read-stretch-reads.Asked,
+  read-stretch-reads.Learnt,
+  at-reads.Asked,
+  at-reads.Learnt,
+  open-file-below t,
+  open-file.Post,
+) (read-turn-at t) read-turn.Post
+read-turn-add-open-file t c = omega (arith, opens-forward (opened-stretch (rw (c .before .before .before .before .before .k .given .1) at (c .before .before .before .before .before .before .before .before .before .before .before .before .before .before .before .before .before .before .before .read-stretch .ensures .promise))) (c .before .before .before .at .ensures) (c .before .before .at2 .ensures), opens-within (opened-stretch (rw (c .before .before .before .before .before .k .given .1) at (c .before .before .before .before .before .before .before .before .before .before .before .before .before .before .before .before .before .before .before .read-stretch .ensures .promise))) (c .before .before .before .at .ensures) (c .before .before .at2 .ensures), c .before .before .before .before .before .before .before .before .before .before .before .before .before .before .before .before .before .before .before .before .before .before .before .before .before .before .before .before .before .before .before .before .before .before .before .pre .1 .lines .near)
+
 read-turn-sub-open-file : (t : ℕ) → read-turn-lts.Need-sub-open-file (
-  read-line-reads.Asked,
-  read-line-reads.Learnt,
+  read-stretch-reads.Asked,
+  read-stretch-reads.Learnt,
+  at-reads.Asked,
+  at-reads.Learnt,
   open-file-below t,
   open-file.Post,
 ) (read-turn-at t) read-turn.Post
-read-turn-sub-open-file t c = omega (arith, raw-ordered (fileOpener (now (c .before .before .before .before .before .before .before .before .before .before .before .before .before .before .before .before .before .before .before .before .before .before .before .before .before .before .before .before .before .before .args .b)) (c .before .before .before .before .before .before .before .before .before .before .before .before .before .before .before .before .before .before .before .before .before .before .before .before .before .before .before .before .before .before .args .line .more)) (rw (c .before .c .given .1) at (c .before .before .before .before .before .before .before .before .before .before .before .before .before .before .before .read-line .ensures .promise)) (c .before .before .before .before .before .before .before .before .before .before .before .before .before .before .before .before .before .before .before .before .before .before .before .before .before .before .before .before .before .before .pre .1 .line .between))
+read-turn-sub-open-file t c = omega (arith, path-ordered (opened-stretch (rw (c .before .before .before .before .before .k .given .1) at (c .before .before .before .before .before .before .before .before .before .before .before .before .before .before .before .before .before .before .before .read-stretch .ensures .promise))) (c .before .before .before .at .ensures) (c .before .before .at2 .ensures) (c .before .before .before .before .before .before .before .before .before .before .before .before .before .before .before .before .before .before .before .before .before .before .before .before .before .before .before .before .before .before .before .before .before .before .before .pre .1))
 
--- src/lib.rt:128:17
 read-turn-part-open-file-start : (t : ℕ) → read-turn-lts.Need-part-open-file-start (
-  read-line-reads.Asked,
-  read-line-reads.Learnt,
+  read-stretch-reads.Asked,
+  read-stretch-reads.Learnt,
+  at-reads.Asked,
+  at-reads.Learnt,
   open-file-below t,
   open-file.Post,
 ) (read-turn-at t) read-turn.Post
-read-turn-part-open-file-start t c = omega (arith, raw-ordered (fileOpener (now (c .before .before .before .before .before .before .before .before .before .before .before .before .before .before .before .before .before .before .before .before .before .before .before .before .before .before .before .before .before .before .args .b)) (c .before .before .before .before .before .before .before .before .before .before .before .before .before .before .before .before .before .before .before .before .before .before .before .before .before .before .before .before .before .before .args .line .more)) (rw (c .before .c .given .1) at (c .before .before .before .before .before .before .before .before .before .before .before .before .before .before .before .read-line .ensures .promise)) (c .before .before .before .before .before .before .before .before .before .before .before .before .before .before .before .before .before .before .before .before .before .before .before .before .before .before .before .before .before .before .pre .1 .line .between))
+read-turn-part-open-file-start t c = omega (arith, path-ordered (opened-stretch (rw (c .before .before .before .before .before .k .given .1) at (c .before .before .before .before .before .before .before .before .before .before .before .before .before .before .before .before .before .before .before .read-stretch .ensures .promise))) (c .before .before .before .at .ensures) (c .before .before .at2 .ensures) (c .before .before .before .before .before .before .before .before .before .before .before .before .before .before .before .before .before .before .before .before .before .before .before .before .before .before .before .before .before .before .before .before .before .before .before .pre .1))
 
--- src/lib.rt:128:17
 read-turn-part-open-file-end : (t : ℕ) → read-turn-lts.Need-part-open-file-end (
-  read-line-reads.Asked,
-  read-line-reads.Learnt,
+  read-stretch-reads.Asked,
+  read-stretch-reads.Learnt,
+  at-reads.Asked,
+  at-reads.Learnt,
   open-file-below t,
   open-file.Post,
 ) (read-turn-at t) read-turn.Post
-read-turn-part-open-file-end t c = raw-within (fileOpener (now (c .before .before .before .before .before .before .before .before .before .before .before .before .before .before .before .before .before .before .before .before .before .before .before .before .before .before .before .before .before .before .args .b)) (c .before .before .before .before .before .before .before .before .before .before .before .before .before .before .before .before .before .before .before .before .before .before .before .before .before .before .before .before .before .before .args .line .more)) (rw (c .before .c .given .1) at (c .before .before .before .before .before .before .before .before .before .before .before .before .before .before .before .read-line .ensures .promise)) (c .before .before .before .before .before .before .before .before .before .before .before .before .before .before .before .before .before .before .before .before .before .before .before .before .before .before .before .before .before .before .pre .1 .line .between)
+read-turn-part-open-file-end t c = path-within (opened-stretch (rw (c .before .before .before .before .before .k .given .1) at (c .before .before .before .before .before .before .before .before .before .before .before .before .before .before .before .before .before .before .before .read-stretch .ensures .promise))) (c .before .before .before .at .ensures) (c .before .before .at2 .ensures) (c .before .before .before .before .before .before .before .before .before .before .before .before .before .before .before .before .before .before .before .before .before .before .before .before .before .before .before .before .before .before .before .before .before .before .before .pre .1)
 
--- src/lib.rt:125:13
 read-turn-open-file-requires : (t : ℕ) → read-turn-lts.Need-open-file-requires (
-  read-line-reads.Asked,
-  read-line-reads.Learnt,
+  read-stretch-reads.Asked,
+  read-stretch-reads.Learnt,
+  at-reads.Asked,
+  at-reads.Learnt,
   open-file-below t,
   open-file.Post,
 ) (read-turn-at t) read-turn.Post
-read-turn-open-file-requires t c κs = (omega (arith, c .before .before .before .before .before .before .before .before .before .before .before .before .before .before .before .before .before .before .before .before .before .before .before .before .before .before .before .before .before .before .before .before .before .before .before .before .before .pre .0), file-asks (fileOpener (now (c .before .before .before .before .before .before .before .before .before .before .before .before .before .before .before .before .before .before .before .before .before .before .before .before .before .before .before .before .before .before .before .before .before .before .before .before .before .args .b)) (c .before .before .before .before .before .before .before .before .before .before .before .before .before .before .before .before .before .before .before .before .before .before .before .before .before .before .before .before .before .before .before .before .before .before .before .before .before .args .line .more)) (rw (c .before .before .before .before .before .before .before .before .c .given .1) at (c .before .before .before .before .before .before .before .before .before .before .before .before .before .before .before .before .before .before .before .before .before .before .read-line .ensures .promise)) (c .before .before .before .before .before .before .before .before .before .before .before .before .before .before .before .before .before .before .before .before .before .before .before .before .before .before .before .before .before .before .before .before .before .before .before .before .before .pre .1) (c .before .before .before .before .before .before .before .before .before .before .before .before .before .before .before .before .before .before .before .before .before .before .read-line .ensures .space .0) (c .before .before .before .before .before .before .before .before .before .before .before .before .before .before .before .before .before .before .before .before .before .before .read-line .ensures .space .1 .long))
+read-turn-open-file-requires t c κs = (omega (arith, c .before .before .before .before .before .before .before .before .before .before .before .before .before .before .before .before .before .before .before .before .before .before .before .before .before .before .before .before .before .before .before .before .before .before .before .before .before .before .before .before .before .before .pre .0), opens-asks (opened-stretch (rw (c .before .before .before .before .before .before .before .before .before .before .before .before .k .given .1) at (c .before .before .before .before .before .before .before .before .before .before .before .before .before .before .before .before .before .before .before .before .before .before .before .before .before .before .read-stretch .ensures .promise))) (c .before .before .before .before .before .before .before .before .before .before .at .ensures) (c .before .before .before .before .before .before .before .before .before .at2 .ensures) (c .before .before .before .before .before .before .before .before .before .before .before .before .before .before .before .before .before .before .before .before .before .before .before .before .before .before .before .before .before .before .before .before .before .before .before .before .before .before .before .before .before .before .pre .1) (c .before .before .before .before .before .before .before .before .before .before .before .before .before .before .before .before .before .before .before .before .before .before .before .before .before .before .read-stretch .ensures .space .0) (c .before .before .before .before .before .before .before .before .before .before .before .before .before .before .before .before .before .before .before .before .before .before .before .before .before .before .read-stretch .ensures .space .1 .long))
 
--- src/lib.rt:97:1
+read-turn-add-t40 : (t : ℕ) → read-turn-lts.Need-add-t40 (
+  read-stretch-reads.Asked,
+  read-stretch-reads.Learnt,
+  at-reads.Asked,
+  at-reads.Learnt,
+  open-file-below t,
+  open-file.Post,
+) (read-turn-at t) read-turn.Post
+read-turn-add-t40 t c = omega (arith, opens-two (opened-stretch (rw (c .before .before .before .before .before .before .before .before .before .before .before .before .before .before .before .before .before .before .before .before .before .before .before .before .before .k .given .1) at (c .before .before .before .before .before .before .before .before .before .before .before .before .before .before .before .before .before .before .before .before .before .before .before .before .before .before .before .before .before .before .before .before .before .before .before .before .before .before .before .read-stretch .ensures .promise))), c .before .before .before .before .before .before .before .before .before .before .before .before .before .before .before .before .before .before .before .before .before .before .before .before .before .before .before .before .before .before .before .before .before .before .before .before .before .before .before .before .before .before .before .before .before .before .before .before .before .before .before .before .before .before .before .pre .1 .lines .few)
+
 read-turn-same-length : (t : ℕ) → read-turn-lts.Need-same-length (
-  read-line-reads.Asked,
-  read-line-reads.Learnt,
+  read-stretch-reads.Asked,
+  read-stretch-reads.Learnt,
+  at-reads.Asked,
+  at-reads.Learnt,
   open-file-below t,
   open-file.Post,
 ) (read-turn-at t) read-turn.Post
-read-turn-same-length t c = c .before .before .before .before .before .before .before .before .before .before .before .before .before .before .before .read-line .kept .1 .1 .1 .0
+read-turn-same-length t c = c .before .before .before .before .before .before .before .before .before .before .before .before .before .before .before .read-stretch .kept .1 .1 .1 .1 .0
 
--- src/lib.rt:97:1
 read-turn-same-length-2 : (t : ℕ) → read-turn-lts.Need-same-length-2 (
-  read-line-reads.Asked,
-  read-line-reads.Learnt,
+  read-stretch-reads.Asked,
+  read-stretch-reads.Learnt,
+  at-reads.Asked,
+  at-reads.Learnt,
   open-file-below t,
   open-file.Post,
 ) (read-turn-at t) read-turn.Post
-read-turn-same-length-2 t c = c .before .before .before .before .before .before .before .before .before .before .before .before .before .before .before .read-line .kept .1 .1 .1 .1 .0
+read-turn-same-length-2 t c = c .before .before .before .before .before .before .before .before .before .before .before .before .before .before .before .read-stretch .kept .1 .1 .1 .1 .1 .0
 
--- src/lib.rt:97:1
 read-turn-same-length-3 : (t : ℕ) → read-turn-lts.Need-same-length-3 (
-  read-line-reads.Asked,
-  read-line-reads.Learnt,
+  read-stretch-reads.Asked,
+  read-stretch-reads.Learnt,
+  at-reads.Asked,
+  at-reads.Learnt,
   open-file-below t,
   open-file.Post,
 ) (read-turn-at t) read-turn.Post
-read-turn-same-length-3 t c = c .before .before .before .before .before .before .before .before .before .before .before .before .before .before .before .read-line .kept .1 .1 .1 .1 .1 .0
+read-turn-same-length-3 t c = c .before .before .before .before .before .before .before .before .before .before .before .before .before .before .before .read-stretch .kept .1 .1 .1 .1 .1 .1 .0
 
--- src/lib.rt:97:1
 read-turn-same-length-4 : (t : ℕ) → read-turn-lts.Need-same-length-4 (
-  read-line-reads.Asked,
-  read-line-reads.Learnt,
+  read-stretch-reads.Asked,
+  read-stretch-reads.Learnt,
+  at-reads.Asked,
+  at-reads.Learnt,
   open-file-below t,
   open-file.Post,
 ) (read-turn-at t) read-turn.Post
-read-turn-same-length-4 t c = c .before .before .before .before .before .before .before .before .before .before .before .before .before .before .before .read-line .kept .1 .1 .1 .1 .1 .1 .0
+read-turn-same-length-4 t c = c .before .before .before .before .before .before .before .before .before .before .before .before .before .before .before .read-stretch .kept .1 .1 .1 .1 .1 .1 .1 .0
 
--- src/lib.rt:97:1
 read-turn-same-length-5 : (t : ℕ) → read-turn-lts.Need-same-length-5 (
-  read-line-reads.Asked,
-  read-line-reads.Learnt,
+  read-stretch-reads.Asked,
+  read-stretch-reads.Learnt,
+  at-reads.Asked,
+  at-reads.Learnt,
   open-file-below t,
   open-file.Post,
 ) (read-turn-at t) read-turn.Post
-read-turn-same-length-5 t c = c .before .before .before .before .before .before .before .before .before .before .before .before .before .before .before .read-line .kept .1 .1 .1 .1 .1 .1 .1 .0
+read-turn-same-length-5 t c = c .before .before .before .before .before .before .before .before .before .before .before .before .before .before .before .read-stretch .kept .1 .1 .1 .1 .1 .1 .1 .1 .0
 
--- src/lib.rt:97:1
 read-turn-same-length-6 : (t : ℕ) → read-turn-lts.Need-same-length-6 (
-  read-line-reads.Asked,
-  read-line-reads.Learnt,
+  read-stretch-reads.Asked,
+  read-stretch-reads.Learnt,
+  at-reads.Asked,
+  at-reads.Learnt,
   open-file-below t,
   open-file.Post,
 ) (read-turn-at t) read-turn.Post
-read-turn-same-length-6 t c = c .before .before .before .before .before .before .before .before .before .before .before .before .before .before .before .read-line .kept .1 .1 .1 .1 .1 .1 .1 .1 .0
+read-turn-same-length-6 t c = c .before .before .before .before .before .before .before .before .before .before .before .before .before .before .before .read-stretch .kept .1 .1 .1 .1 .1 .1 .1 .1 .1 .0
 
--- src/lib.rt:97:1
 read-turn-returns : (t : ℕ) → read-turn-lts.Need-returns (
-  read-line-reads.Asked,
-  read-line-reads.Learnt,
+  read-stretch-reads.Asked,
+  read-stretch-reads.Learnt,
+  at-reads.Asked,
+  at-reads.Learnt,
   open-file-below t,
   open-file.Post,
 ) (read-turn-at t) read-turn.Post
-read-turn-returns t c = record { space = (record { names = record { long = read-turn-same-length t c }; index = record { long = read-turn-same-length-2 t c }; texts = record { long = read-turn-same-length-3 t c }; bind = record { long = read-turn-same-length-4 t c }; graph = record { long = read-turn-same-length-5 t c } }, record { long = read-turn-same-length-6 t c }); promise = turn-answered (fileOpener (now (c .before .before .before .before .before .before .before .before .before .before .before .before .before .before .before .before .before .before .before .before .before .before .before .before .before .before .before .before .before .before .args .b)) (c .before .before .before .before .before .before .before .before .before .before .before .before .before .before .before .before .before .before .before .before .before .before .before .before .before .before .before .before .before .before .args .line .more)) (rw (c .before .a .given .1) at (c .before .before .before .before .before .before .before .before .before .before .before .before .before .before .before .read-line .ensures .promise)) }
+read-turn-returns t c = record { space = (record { names = record { long = read-turn-same-length t c }; index = record { long = read-turn-same-length-2 t c }; texts = record { long = read-turn-same-length-3 t c }; bind = record { long = read-turn-same-length-4 t c }; graph = record { long = read-turn-same-length-5 t c } }, record { long = read-turn-same-length-6 t c }); promise = all-done (fileOpener (now (c .before .before .before .before .before .before .before .before .before .before .before .before .before .before .before .before .before .before .before .before .before .before .before .before .before .before .before .before .before .before .before .args .b)) (c .before .before .before .before .before .before .before .before .before .before .before .before .before .before .before .before .before .before .before .before .before .before .before .before .before .before .before .before .before .before .before .args .lines .more)) (c .before .before .before .before .before .before .before .before .before .before .before .before .before .before .before .before .before .before .before .before .before .before .before .before .before .before .before .before .before .before .before .args .lines .base) (now (c .before .before .before .before .before .before .before .before .before .before .before .before .before .before .before .before .before .before .before .before .before .before .before .before .before .before .before .before .before .before .before .args .m)) (now (c .before .before .before .before .before .before .before .before .before .before .before .before .before .before .before .before .before .before .before .before .before .before .before .before .before .before .before .before .before .before .before .args .found)) (c .before .before .before .before .before .before .before .before .before .before .before .before .before .before .before .before .before .before .before .before .before .before .before .before .before .before .before .before .before .before .before .args .lines .from) (c .before .before .before .before .before .before .before .before .before .before .before .before .before .before .before .before .before .before .before .before .before .before .before .before .before .before .before .before .before .before .before .pre .1 .some) (answered-stretch (rw (c .before .a .given .1) at (c .before .before .before .before .before .before .before .before .before .before .before .before .before .before .before .read-stretch .ensures .promise)) (fileOpener (now (c .before .before .before .before .before .before .before .before .before .before .before .before .before .before .before .before .before .before .before .before .before .before .before .before .before .before .before .before .before .before .before .args .b)) (c .before .before .before .before .before .before .before .before .before .before .before .before .before .before .before .before .before .before .before .before .before .before .before .before .before .before .before .before .before .before .before .args .lines .more))) }
 
--- src/lib.rt:97:1
 read-turn-same-length-7 : (t : ℕ) → read-turn-lts.Need-same-length-7 (
-  read-line-reads.Asked,
-  read-line-reads.Learnt,
+  read-stretch-reads.Asked,
+  read-stretch-reads.Learnt,
+  at-reads.Asked,
+  at-reads.Learnt,
   open-file-below t,
   open-file.Post,
 ) (read-turn-at t) read-turn.Post
-read-turn-same-length-7 t c = c .before .before .before .before .before .before .before .before .before .before .before .before .open-file .kept .1 .1 .1 .1 .0 ∙ c .before .before .before .before .before .before .before .before .before .before .before .before .before .before .before .before .before .before .before .before .before .before .before .before .before .before .before .before .before .before .before .before .before .before .before .read-line .kept .1 .1 .1 .0
+read-turn-same-length-7 t c = c .before .before .before .before .before .before .before .before .before .before .before .before .open-file .kept .1 .1 .1 .1 .0 ∙ c .before .before .before .before .before .before .before .before .before .before .before .before .before .before .before .before .before .before .before .before .before .before .before .before .before .before .before .before .before .before .before .before .before .before .before .before .before .before .before .read-stretch .kept .1 .1 .1 .1 .0
 
--- src/lib.rt:97:1
 read-turn-same-length-8 : (t : ℕ) → read-turn-lts.Need-same-length-8 (
-  read-line-reads.Asked,
-  read-line-reads.Learnt,
+  read-stretch-reads.Asked,
+  read-stretch-reads.Learnt,
+  at-reads.Asked,
+  at-reads.Learnt,
   open-file-below t,
   open-file.Post,
 ) (read-turn-at t) read-turn.Post
-read-turn-same-length-8 t c = c .before .before .before .before .before .before .before .before .before .before .before .before .open-file .kept .1 .1 .1 .1 .1 .0 ∙ c .before .before .before .before .before .before .before .before .before .before .before .before .before .before .before .before .before .before .before .before .before .before .before .before .before .before .before .before .before .before .before .before .before .before .before .read-line .kept .1 .1 .1 .1 .0
+read-turn-same-length-8 t c = c .before .before .before .before .before .before .before .before .before .before .before .before .open-file .kept .1 .1 .1 .1 .1 .0 ∙ c .before .before .before .before .before .before .before .before .before .before .before .before .before .before .before .before .before .before .before .before .before .before .before .before .before .before .before .before .before .before .before .before .before .before .before .before .before .before .before .read-stretch .kept .1 .1 .1 .1 .1 .0
 
--- src/lib.rt:97:1
 read-turn-same-length-9 : (t : ℕ) → read-turn-lts.Need-same-length-9 (
-  read-line-reads.Asked,
-  read-line-reads.Learnt,
+  read-stretch-reads.Asked,
+  read-stretch-reads.Learnt,
+  at-reads.Asked,
+  at-reads.Learnt,
   open-file-below t,
   open-file.Post,
 ) (read-turn-at t) read-turn.Post
-read-turn-same-length-9 t c = c .before .before .before .before .before .before .before .before .before .before .before .before .open-file .kept .1 .1 .1 .1 .1 .1 .0 ∙ c .before .before .before .before .before .before .before .before .before .before .before .before .before .before .before .before .before .before .before .before .before .before .before .before .before .before .before .before .before .before .before .before .before .before .before .read-line .kept .1 .1 .1 .1 .1 .0
+read-turn-same-length-9 t c = c .before .before .before .before .before .before .before .before .before .before .before .before .open-file .kept .1 .1 .1 .1 .1 .1 .0 ∙ c .before .before .before .before .before .before .before .before .before .before .before .before .before .before .before .before .before .before .before .before .before .before .before .before .before .before .before .before .before .before .before .before .before .before .before .before .before .before .before .read-stretch .kept .1 .1 .1 .1 .1 .1 .0
 
--- src/lib.rt:97:1
 read-turn-same-length-10 : (t : ℕ) → read-turn-lts.Need-same-length-10 (
-  read-line-reads.Asked,
-  read-line-reads.Learnt,
+  read-stretch-reads.Asked,
+  read-stretch-reads.Learnt,
+  at-reads.Asked,
+  at-reads.Learnt,
   open-file-below t,
   open-file.Post,
 ) (read-turn-at t) read-turn.Post
-read-turn-same-length-10 t c = c .before .before .before .before .before .before .before .before .before .before .before .before .open-file .kept .1 .1 .1 .1 .1 .1 .1 .0 ∙ c .before .before .before .before .before .before .before .before .before .before .before .before .before .before .before .before .before .before .before .before .before .before .before .before .before .before .before .before .before .before .before .before .before .before .before .read-line .kept .1 .1 .1 .1 .1 .1 .0
+read-turn-same-length-10 t c = c .before .before .before .before .before .before .before .before .before .before .before .before .open-file .kept .1 .1 .1 .1 .1 .1 .1 .0 ∙ c .before .before .before .before .before .before .before .before .before .before .before .before .before .before .before .before .before .before .before .before .before .before .before .before .before .before .before .before .before .before .before .before .before .before .before .before .before .before .before .read-stretch .kept .1 .1 .1 .1 .1 .1 .1 .0
 
--- src/lib.rt:97:1
 read-turn-same-length-11 : (t : ℕ) → read-turn-lts.Need-same-length-11 (
-  read-line-reads.Asked,
-  read-line-reads.Learnt,
+  read-stretch-reads.Asked,
+  read-stretch-reads.Learnt,
+  at-reads.Asked,
+  at-reads.Learnt,
   open-file-below t,
   open-file.Post,
 ) (read-turn-at t) read-turn.Post
-read-turn-same-length-11 t c = c .before .before .before .before .before .before .before .before .before .before .before .before .open-file .kept .1 .1 .1 .1 .1 .1 .1 .1 .0 ∙ c .before .before .before .before .before .before .before .before .before .before .before .before .before .before .before .before .before .before .before .before .before .before .before .before .before .before .before .before .before .before .before .before .before .before .before .read-line .kept .1 .1 .1 .1 .1 .1 .1 .0
+read-turn-same-length-11 t c = c .before .before .before .before .before .before .before .before .before .before .before .before .open-file .kept .1 .1 .1 .1 .1 .1 .1 .1 .0 ∙ c .before .before .before .before .before .before .before .before .before .before .before .before .before .before .before .before .before .before .before .before .before .before .before .before .before .before .before .before .before .before .before .before .before .before .before .before .before .before .before .read-stretch .kept .1 .1 .1 .1 .1 .1 .1 .1 .0
 
--- src/lib.rt:97:1
 read-turn-same-length-12 : (t : ℕ) → read-turn-lts.Need-same-length-12 (
-  read-line-reads.Asked,
-  read-line-reads.Learnt,
+  read-stretch-reads.Asked,
+  read-stretch-reads.Learnt,
+  at-reads.Asked,
+  at-reads.Learnt,
   open-file-below t,
   open-file.Post,
 ) (read-turn-at t) read-turn.Post
-read-turn-same-length-12 t c = c .before .before .before .before .before .before .before .before .before .before .before .before .open-file .kept .1 .1 .1 .1 .1 .1 .1 .1 .1 .0 ∙ c .before .before .before .before .before .before .before .before .before .before .before .before .before .before .before .before .before .before .before .before .before .before .before .before .before .before .before .before .before .before .before .before .before .before .before .read-line .kept .1 .1 .1 .1 .1 .1 .1 .1 .0
+read-turn-same-length-12 t c = c .before .before .before .before .before .before .before .before .before .before .before .before .open-file .kept .1 .1 .1 .1 .1 .1 .1 .1 .1 .0 ∙ c .before .before .before .before .before .before .before .before .before .before .before .before .before .before .before .before .before .before .before .before .before .before .before .before .before .before .before .before .before .before .before .before .before .before .before .before .before .before .before .read-stretch .kept .1 .1 .1 .1 .1 .1 .1 .1 .1 .0
 
--- src/lib.rt:97:1
 read-turn-returns-2 : (t : ℕ) → read-turn-lts.Need-returns-2 (
-  read-line-reads.Asked,
-  read-line-reads.Learnt,
+  read-stretch-reads.Asked,
+  read-stretch-reads.Learnt,
+  at-reads.Asked,
+  at-reads.Learnt,
   open-file-below t,
   open-file.Post,
 ) (read-turn-at t) read-turn.Post
-read-turn-returns-2 t c = record { space = (record { names = record { long = read-turn-same-length-7 t c }; index = record { long = read-turn-same-length-8 t c }; texts = record { long = read-turn-same-length-9 t c }; bind = record { long = read-turn-same-length-10 t c }; graph = record { long = read-turn-same-length-11 t c } }, record { long = read-turn-same-length-12 t c }); promise = turn-opened (fileOpener (now (c .before .before .before .before .before .before .before .before .before .before .before .before .before .before .before .before .before .before .before .before .before .before .before .before .before .before .before .before .before .before .before .before .before .before .before .before .before .before .before .before .before .before .before .before .before .before .before .before .before .before .args .b)) (c .before .before .before .before .before .before .before .before .before .before .before .before .before .before .before .before .before .before .before .before .before .before .before .before .before .before .before .before .before .before .before .before .before .before .before .before .before .before .before .before .before .before .before .before .before .before .before .before .before .before .args .line .more)) (rw (c .before .before .before .before .before .before .before .before .before .before .before .before .before .before .before .before .before .before .before .before .before .c .given .1) at (c .before .before .before .before .before .before .before .before .before .before .before .before .before .before .before .before .before .before .before .before .before .before .before .before .before .before .before .before .before .before .before .before .before .before .before .read-line .ensures .promise)) (c .before .before .before .before .before .before .before .before .before .before .before .before .open-file .ensures .promise) }
+read-turn-returns-2 t c = record { space = (record { names = record { long = read-turn-same-length-7 t c }; index = record { long = read-turn-same-length-8 t c }; texts = record { long = read-turn-same-length-9 t c }; bind = record { long = read-turn-same-length-10 t c }; graph = record { long = read-turn-same-length-11 t c } }, record { long = read-turn-same-length-12 t c }); promise = opens-done (opened-stretch (rw (c .before .before .before .before .before .before .before .before .before .before .before .before .before .before .before .before .before .before .before .before .before .before .before .before .before .k .given .1) at (c .before .before .before .before .before .before .before .before .before .before .before .before .before .before .before .before .before .before .before .before .before .before .before .before .before .before .before .before .before .before .before .before .before .before .before .before .before .before .before .read-stretch .ensures .promise))) (c .before .before .before .before .before .before .before .before .before .before .before .before .before .before .before .before .before .before .before .before .before .before .before .at .ensures) (c .before .before .before .before .before .before .before .before .before .before .before .before .before .before .before .before .before .before .before .before .before .before .at2 .ensures) (fileOpener (now (c .before .before .before .before .before .before .before .before .before .before .before .before .before .before .before .before .before .before .before .before .before .before .before .before .before .before .before .before .before .before .before .before .before .before .before .before .before .before .before .before .before .before .before .before .before .before .before .before .before .before .before .before .before .before .before .args .b)) (c .before .before .before .before .before .before .before .before .before .before .before .before .before .before .before .before .before .before .before .before .before .before .before .before .before .before .before .before .before .before .before .before .before .before .before .before .before .before .before .before .before .before .before .before .before .before .before .before .before .before .before .before .before .before .before .args .lines .more)) (c .before .before .before .before .before .before .before .before .before .before .before .before .open-file .ensures .promise) }
 
 pub +open-file+read-each+read-text+read-turn-spec : {M : Type 1} → statement M
 +open-file+read-each+read-text+read-turn-spec =
@@ -1398,22 +1249,14 @@ pub +open-file+read-each+read-text+read-turn-spec : {M : Type 1} → statement M
     (open-file-same-length-18 t)
     (open-file-returns-4 t))
     (λ t. read-each-lts.spec
-    (at-reads.Asked, at-reads.Learnt, read-turn-below t, read-turn.Post)
+    (read-turn-below t, read-turn.Post)
     (read-each-at t)
     read-each.Post
     read-each-Inv-loop
     read-each-μ-loop
     (read-each-loop-holds t)
     (read-each-enum-known-a t)
-    (read-each-at-requires t)
-    (read-each-add-at t)
-    (read-each-at-requires-2 t)
-    (read-each-add-read-turn t)
-    (read-each-sub-read-turn t)
-    (read-each-part-read-turn-start t)
-    (read-each-part-read-turn-end t)
     (read-each-read-turn-requires t)
-    (read-each-add-k t)
     (read-each-loop-less t)
     (read-each-loop-again t)
     (read-each-enum-known-a-2 t)
@@ -1475,16 +1318,24 @@ pub +open-file+read-each+read-text+read-turn-spec : {M : Type 1} → statement M
     (read-text-same-length-12 t)
     (read-text-returns-2 t))
     λ t. read-turn-lts.spec
-    (read-line-reads.Asked, read-line-reads.Learnt, open-file-below t, open-file.Post)
+    (read-stretch-reads.Asked, read-stretch-reads.Learnt, at-reads.Asked, at-reads.Learnt, open-file-below t, open-file.Post)
     (read-turn-at t)
     read-turn.Post
-    (read-turn-read-line-requires t)
+    (read-turn-read-stretch-requires t)
     (read-turn-enum-known-a t)
-    (read-turn-enum-known-c t)
+    (read-turn-enum-known-k t)
+    (read-turn-at-requires t)
+    (read-turn-add-at t)
+    (read-turn-at-requires-2 t)
+    (read-turn-sub-l t)
+    (read-turn-part-l-start t)
+    (read-turn-part-l-end t)
+    (read-turn-add-open-file t)
     (read-turn-sub-open-file t)
     (read-turn-part-open-file-start t)
     (read-turn-part-open-file-end t)
     (read-turn-open-file-requires t)
+    (read-turn-add-t40 t)
     (read-turn-same-length t)
     (read-turn-same-length-2 t)
     (read-turn-same-length-3 t)

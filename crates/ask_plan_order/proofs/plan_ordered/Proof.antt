@@ -10,10 +10,10 @@ array-borrow-prefix-order : tie.Need-array-borrow-prefix-order
 array-borrow-prefix-order c = search needs
 
 slice-aggregate-sort-then-plan : tie.Need-slice-aggregate-sort-then-plan
-slice-aggregate-sort-then-plan c = length-blank _ maxSteps (c .before .before .before .before .before .before .before .before .pre .asked .sound .few-steps)
+slice-aggregate-sort-then-plan c = length-blank _ maxSteps (c .before .before .before .before .before .before .before .before .before .before .pre .asked .sound .few-steps)
 
 sort-then-plan-requires : tie.Need-sort-then-plan-requires
-sort-then-plan-requires c κs = record { asked = c .before .before .before .before .before .before .before .before .before .pre; long = sym (length-blank _ maxSteps (c .before .before .before .before .before .before .before .before .before .pre .asked .sound .few-steps)) }
+sort-then-plan-requires c κs = record { asked = c .before .before .before .before .before .before .before .before .before .before .before .pre; long = sym (length-blank _ maxSteps (c .before .before .before .before .before .before .before .before .before .before .before .pre .asked .sound .few-steps)) }
 
 same-length : tie.Need-same-length
 same-length c = search needs

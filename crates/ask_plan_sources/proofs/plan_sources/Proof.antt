@@ -5,7 +5,7 @@ use Rattle.ask_plan_sources.proofs.plan_sources.Statement.{statement}
 use Rattle.ask_plan_sources.proofs.plan_sources.Tie as tie
 
 missing-source-requires : tie.Need-missing-source-requires
-missing-source-requires c κs = ask-missing (c .before .before .before .before .before .before .before .before .pre)
+missing-source-requires c κs = ask-missing (c .before .before .before .before .before .before .before .before .before .before .pre)
 
 zero-words-from-requires : tie.Need-zero-words-from-requires
 zero-words-from-requires c κs = search needs
@@ -17,7 +17,7 @@ returns : tie.Need-returns
 returns c = missing (c .before .before .before .before .before .missing-source .ensures) (c .before .before .before .before .if1 .taken) (c .before .before .zero-words-from .ensures)
 
 plan-listed-requires : tie.Need-plan-listed-requires
-plan-listed-requires c κs = c .before .before .before .before .before .before .before .before .before .before .before .pre .asked
+plan-listed-requires c κs = c .before .before .before .before .before .before .before .before .before .before .before .before .before .pre .asked
 
 same-length-2 : tie.Need-same-length-2
 same-length-2 c = search needs

@@ -7,7 +7,7 @@ use Rattle.asks.proofs.plan.Statement.{statement}
 use Rattle.asks.proofs.plan.Tie as tie
 
 returns : tie.Need-returns
-returns c = plan-demands _ _ _ _ (short-list (inputsOf (c .before .before .before .before .before .args .manifest .now) (c .before .before .before .before .before .args .card .now) (c .before .before .before .before .before .args .targets .now)) (c .before .before .before .before .before .args .list .now) (c .if1 .taken))
+returns c = plan-demands _ _ _ _ (short-list (inputsOf (c .before .before .before .before .before .before .args .manifest .now) (c .before .before .before .before .before .before .args .card .now) (c .before .before .before .before .before .before .args .targets .now) (c .before .before .before .before .before .before .args .headers .now)) (c .before .before .before .before .before .before .args .list .now) (c .if1 .taken))
 
 plan-buffered-requires : tie.Need-plan-buffered-requires
 plan-buffered-requires c κs = search needs

@@ -10,14 +10,14 @@ use Rattle.cases.proofs.ask_all.Statement.{statement}
 use Rattle.cases.proofs.ask_all.Tie as tie
 
 abbrev Inv-loop : tie.InvT-loop
-Inv-loop fd h input list₀ buf₀ bytes₀ a b c d name bundle card targets tally₀ i₀ list buf bytes tally i =
+Inv-loop fd h input list₀ buf₀ bytes₀ a b c d e name bundle headers card targets tally₀ i₀ list buf bytes tally i =
     (i ≤ h .asks) × (length list ≡ length list₀) × (length buf ≡ length buf₀) × (length bytes ≡ length bytes₀)
 
 abbrev μ-loop : tie.MeasureT-loop
-μ-loop fd h input list₀ buf₀ bytes₀ a b c d name bundle card targets tally₀ i₀ list buf bytes tally i = h .asks - i
+μ-loop fd h input list₀ buf₀ bytes₀ a b c d e name bundle headers card targets tally₀ i₀ list buf bytes tally i = h .asks - i
 
 slice-aggregate-name : tie.Need-slice-aggregate-name Inv-loop μ-loop
-slice-aggregate-name c = sym (length-take-le _ (now (c .before .before .before .before .before .args .input)) (omega (arith, c .before .before .before .before .before .pre .bundle-behind, c .before .before .before .before .before .pre .card-behind, c .before .before .before .before .before .pre .targets-behind, c .before .before .before .before .before .pre .within)))
+slice-aggregate-name c = sym (length-take-le _ (now (c .before .before .before .before .before .args .input)) (omega (arith, c .before .before .before .before .before .pre .bundle-behind, c .before .before .before .before .before .pre .headers-behind, c .before .before .before .before .before .pre .card-behind, c .before .before .before .before .before .pre .targets-behind, c .before .before .before .before .before .pre .within)))
 
 sub-bundle : tie.Need-sub-bundle Inv-loop μ-loop
 sub-bundle c = search needs
@@ -27,6 +27,15 @@ part-bundle-start c = search needs
 
 part-bundle-end : tie.Need-part-bundle-end Inv-loop μ-loop
 part-bundle-end c = search needs
+
+sub-headers : tie.Need-sub-headers Inv-loop μ-loop
+sub-headers c = search needs
+
+part-headers-start : tie.Need-part-headers-start Inv-loop μ-loop
+part-headers-start c = search needs
+
+part-headers-end : tie.Need-part-headers-end Inv-loop μ-loop
+part-headers-end c = search needs
 
 sub-card : tie.Need-sub-card Inv-loop μ-loop
 sub-card c = search needs
@@ -101,6 +110,9 @@ ask-all-spec =
     sub-bundle
     part-bundle-start
     part-bundle-end
+    sub-headers
+    part-headers-start
+    part-headers-end
     sub-card
     part-card-start
     part-card-end

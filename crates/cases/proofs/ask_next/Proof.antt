@@ -25,7 +25,7 @@ slice-relend-prefix-ask-plan : tie.Need-slice-relend-prefix-ask-plan
 slice-relend-prefix-ask-plan c = search needs
 
 slice-aggregate-ask-plan : tie.Need-slice-aggregate-ask-plan
-slice-aggregate-ask-plan c = sym (length-take-le _ (now (c .before .before .before .before .before .before .before .before .before .before .before .before .before .args .list)) (c .before .if3 .left))
+slice-aggregate-ask-plan c = sym (length-take-le _ (now (c .before .before .before .before .before .before .before .before .before .before .before .before .before .before .args .list)) (c .before .if3 .left))
 
 ask-plan-requires : tie.Need-ask-plan-requires
 ask-plan-requires c κs = search needs
@@ -49,7 +49,7 @@ slice-relend-prefix-ask-text : tie.Need-slice-relend-prefix-ask-text
 slice-relend-prefix-ask-text c = search needs
 
 slice-aggregate-ask-text : tie.Need-slice-aggregate-ask-text
-slice-aggregate-ask-text c = sym (length-take-le _ (now (c .before .before .before .before .before .before .before .before .before .before .before .before .before .before .args .buf)) (c .before .before .if4 .left))
+slice-aggregate-ask-text c = sym (length-take-le _ (now (c .before .before .before .before .before .before .before .before .before .before .before .before .before .before .before .args .buf)) (c .before .before .if4 .left))
 
 ask-text-requires : tie.Need-ask-text-requires
 ask-text-requires c κs = search needs

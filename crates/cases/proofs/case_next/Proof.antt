@@ -40,7 +40,7 @@ with-case-requires c κs = search needs
 ask-all-requires : tie.Need-ask-all-requires
 ask-all-requires c κs =
     let s = c .before .before .before .before .before .before .before .before .before .before .before .before .is-sound .ensures (not-false _ (c .before .before .before .before .before .before .before .before .before .before .before .if1 .left)) in
-    record { bundle-behind = s .bundle-behind; card-behind = s .card-behind; targets-behind = s .targets-behind; within = c .before .before .before .before .before .before .before .before .read-part .ensures (not-false _ (c .before .before .before .before .before .if3 .left)) }
+    record { bundle-behind = s .bundle-behind; headers-behind = s .headers-behind; card-behind = s .card-behind; targets-behind = s .targets-behind; within = c .before .before .before .before .before .before .before .before .read-part .ensures (not-false _ (c .before .before .before .before .before .if3 .left)) }
 
 same-length-2 : tie.Need-same-length-2
 same-length-2 c = search needs

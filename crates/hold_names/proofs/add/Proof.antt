@@ -51,7 +51,7 @@ add-enter : tie.Need-add-enter
 add-enter c = search needs
 
 enter-requires : tie.Need-enter-requires
-enter-requires c κs = (c .before .before .before .before .before .before .before .before .before .before .before .before .before .before .before .before .before .pre .holds .room, omega (arith, c .before .before .before .before .before .before .before .before .if2 .left), omega (arith, c .before .before .before .before .before .before .before .before .before .before .before .seek .ensures .home, bucket-small (c .before .before .before .before .before .before .before .before .before .before .before .before .before .before .before .before .before .args .path .now)), omega (arith, used-held (c .before .before .before .before .before .before .before .before .before .before .before .before .before .before .before .before .before .pre .holds), c .before .before .before .before .before .before .before .before .before .before .before .before .before .before .before .before .before .pre .holds .within, c .before .before .before .before .before .before .before .before .before .before .before .before .before .before .before .before .before .pre .holds .small, c .before .before .before .before .before .before .start .ensures, c .before .before .before .before .before .if3 .left), c .before .before .before .before .before .before .before .before .before .before .before .before .before .before .before .before .before .pre .holds .search .few, c .before .before .before .before .before .before .before .before .before .before .before .seek .ensures .within)
+enter-requires c κs = ((c .before .before .before .before .before .before .before .before .before .before .before .before .before .before .before .before .before .pre .holds .room, omega (arith, c .before .before .before .before .before .before .before .before .if2 .left), omega (arith, c .before .before .before .before .before .before .before .before .before .before .before .seek .ensures .home, bucket-small (c .before .before .before .before .before .before .before .before .before .before .before .before .before .before .before .before .before .args .path .now)), omega (arith, used-held (c .before .before .before .before .before .before .before .before .before .before .before .before .before .before .before .before .before .pre .holds), c .before .before .before .before .before .before .before .before .before .before .before .before .before .before .before .before .before .pre .holds .within, c .before .before .before .before .before .before .before .before .before .before .before .before .before .before .before .before .before .pre .holds .small, c .before .before .before .before .before .before .start .ensures, c .before .before .before .before .before .if3 .left), c .before .before .before .before .before .before .before .before .before .before .before .seek .ensures .block, c .before .before .before .before .before .before .before .before .before .before .before .seek .ensures .within), c .before .before .before .before .before .before .before .before .before .before .before .before .before .before .before .before .before .pre .holds .search .shape)
 
 same-length-7 : tie.Need-same-length-7
 same-length-7 c = search needs

@@ -1,9 +1,9 @@
+-- `run_columns::are_enough` meets its contract.
 use mathlib.Core.Path.{refl}
 use Rattle.run_columns.specs.Columns.{enough}
 use Rattle.run_columns.proofs.are_enough.Statement.{statement}
 use Rattle.run_columns.proofs.are_enough.Tie as tie
 
--- src/lib.rt:22:1
 returns : tie.Need-returns
 unfolding enough
 returns c = refl

@@ -1,32 +1,27 @@
+-- `run_columns::note` meets its contract.
 use mathlib.Core.Path.{sym, _∙_}
 use Rattle.run_columns.specs.Columns.{noteAt}
-use Rattle.run_columns.proofs.Tables.{enough-room}
+use Rattle.run_columns.proofs.Tables.{row-room}
 use borrow.Author.Needs.{needs}
 use Rattle.run_columns.proofs.note.Statement.{statement}
 use Rattle.run_columns.proofs.note.Tie as tie
 
--- src/lib.rt:42:8
 are-enough-requires : tie.Need-are-enough-requires
 are-enough-requires c κs = search needs
 
--- src/lib.rt:43:9
 store-requires : tie.Need-store-requires
-store-requires c κs = (c .before .before .before .before .before .pre, enough-room _ _ (sym (c .before .before .are-enough .ensures) ∙ c .before .if1 .taken))
+store-requires c κs = row-room _ _ _ (sym (c .before .before .are-enough .ensures) ∙ c .before .if1 .taken) (c .before .before .before .before .before .pre)
 
--- src/lib.rt:38:1
 same-length : tie.Need-same-length
 same-length c = search needs
 
--- src/lib.rt:38:1
 returns : tie.Need-returns
 unfolding noteAt
 returns c = rw (sym (c .before .before .before .before .before .are-enough .ensures) ∙ c .before .before .before .before .if1 .taken) (c .before .before .store .ensures)
 
--- src/lib.rt:38:1
 same-length-2 : tie.Need-same-length-2
 same-length-2 c = search needs
 
--- src/lib.rt:38:1
 returns-2 : tie.Need-returns-2
 unfolding noteAt
 returns-2 c = rw (sym (c .before .are-enough .ensures) ∙ c .if1 .left)

@@ -1,3 +1,4 @@
+-- `run_columns::store` meets its contract.
 use mathlib.Core.Path.{refl}
 use native.Mathlib.Omega.{arith}
 use lib.ListN.{length-set}
@@ -6,47 +7,42 @@ use borrow.Author.Needs.{needs}
 use Rattle.run_columns.proofs.store.Statement.{statement}
 use Rattle.run_columns.proofs.store.Tie as tie
 
--- src/lib.rt:32:5
 mul-columns : tie.Need-mul-columns
 mul-columns c = search needs
 
--- src/lib.rt:32:5
-slice-write-columns : tie.Need-slice-write-columns
-slice-write-columns c = search needs
-
--- src/lib.rt:33:13
-add-columns : tie.Need-add-columns
-add-columns c = search needs
-
--- src/lib.rt:33:5
 mul-columns-2 : tie.Need-mul-columns-2
 mul-columns-2 c = search needs
 
--- src/lib.rt:33:5
-slice-write-columns-2 : tie.Need-slice-write-columns-2
-slice-write-columns-2 c = simp length-set (omega (arith, c .pre))
+slice-write-columns : tie.Need-slice-write-columns
+slice-write-columns c = search needs
 
--- src/lib.rt:34:18
-add-columns-2 : tie.Need-add-columns-2
-add-columns-2 c = search needs
-
--- src/lib.rt:34:13
-add-columns-3 : tie.Need-add-columns-3
-add-columns-3 c = search needs
-
--- src/lib.rt:34:5
 mul-columns-3 : tie.Need-mul-columns-3
 mul-columns-3 c = search needs
 
--- src/lib.rt:34:5
+add-columns : tie.Need-add-columns
+add-columns c = search needs
+
+mul-columns-4 : tie.Need-mul-columns-4
+mul-columns-4 c = search needs
+
+slice-write-columns-2 : tie.Need-slice-write-columns-2
+slice-write-columns-2 c = simp length-set (omega (arith, c .pre))
+
+mul-columns-5 : tie.Need-mul-columns-5
+mul-columns-5 c = search needs
+
+add-columns-2 : tie.Need-add-columns-2
+add-columns-2 c = search needs
+
+mul-columns-6 : tie.Need-mul-columns-6
+mul-columns-6 c = search needs
+
 slice-write-columns-3 : tie.Need-slice-write-columns-3
 slice-write-columns-3 c = simp length-set (omega (arith, c .pre))
 
--- src/lib.rt:28:1
 same-length : tie.Need-same-length
 same-length c = search needs
 
--- src/lib.rt:28:1
 returns : tie.Need-returns
 unfolding storedAt
 returns c = refl
@@ -56,13 +52,15 @@ store-spec =
     tie.close
     (tie.spec
     mul-columns
-    slice-write-columns
-    add-columns
     mul-columns-2
-    slice-write-columns-2
-    add-columns-2
-    add-columns-3
+    slice-write-columns
     mul-columns-3
+    add-columns
+    mul-columns-4
+    slice-write-columns-2
+    mul-columns-5
+    add-columns-2
+    mul-columns-6
     slice-write-columns-3
     same-length
     returns)

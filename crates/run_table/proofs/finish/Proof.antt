@@ -41,7 +41,8 @@ use Rattle.run_rules.specs.declared.Job.{Job}
 use Rattle.run_rules.specs.Runner.{turned}
 use Rattle.run_rules.proofs.Job as T
 use Rattle.run_columns.specs.declared.Change.{Change}
-use Rattle.run_columns.specs.Columns.{blank, gathered}
+use Rattle.run_core.specs.Numbers.{noJob}
+use Rattle.run_columns.specs.Columns.{gathered}
 use Rattle.run_columns.specs.Changes.{changed, finishedIn}
 use Rattle.run_columns.proofs.Change as Ch
 use Rattle.run_columns.proofs.Change.Laws as Ch′
@@ -112,7 +113,7 @@ module _ {M : Type 1} (𝓤 : URA M) (H : Heap 𝓤) (A : Atoms 𝓤) (W : Given
   exits : s < 2 ^ 32 → (v : Val) → Is Ch.the-row ch (v ∷ []) → ent 𝓤 (⋆ 𝓤 H A (Jobs zs ∷ Cols cs′ ∷ [])) (Post v)
   exits gs v is =
       qed W (Jobs zs ∷ Cols cs′ ∷ []) ∵
-      suffices ! _ (ends-at 𝓤 H A finish.ended stayed (finish.clauses 𝓤 H A at-mem run) W (((κ, (κ′, tt)), (q, (q′, tt)), tt, x, at), tt) v ch (zs, (cs′, (tt, (tt, tt)))) (length-set ys (ch .place) (turned (ch .state) (getD ys (ch .place) blank)), (noted-length ys n cs, (tt, (tt, tt))))) $ says ! (finished ys s good cs) $
+      suffices ! _ (ends-at 𝓤 H A finish.ended stayed (finish.clauses 𝓤 H A at-mem run) W (((κ, (κ′, tt)), (q, (q′, tt)), tt, x, at), tt) v ch (zs, (cs′, (tt, (tt, tt)))) (length-set ys (ch .place) (turned (ch .state) (getD ys (ch .place) noJob)), (noted-length ys n cs, (tt, (tt, tt))))) $ says ! (finished ys s good cs) $
       split ! $ move ! (2 ∷ []) $ split ! $ nothing ! $ move ! (2 ∷ 0 ∷ []) $ join ! $ move ! (3 ∷ 0 ∷ []) $ join ! $ frame ! $
       nothing ! $ owned ! bool (Is bool) (bool-makes 𝓤 H A W) good _ refl $ fjoin ! $ owned ! u32 (Is u32) (uint-makes 𝓤 H A W w32) s _ (refl, gs) $ fjoin ! $ move ! (1 ∷ 0 ∷ []) $ fjoin ! $ move ! (1 ∷ 0 ∷ []) $ fjoin ! $
       owned ! Ch.the-row (Is Ch.the-row) ((LL.makes Ch.the-type Ch′.the-plain) 𝓤 H A) ch _ is $ move ! (1 ∷ 0 ∷ []) $ done !

@@ -47,7 +47,8 @@ use denote.Exit.{yes}
 use Rattle.run_rules.specs.declared.Job.{Job}
 use Rattle.run_rules.proofs.Job as T
 use Rattle.run_rules.proofs.Job.Laws as T′
-use Rattle.run_columns.specs.Columns.{blank, noteAt, notedTo}
+use Rattle.run_core.specs.Numbers.{noJob}
+use Rattle.run_columns.specs.Columns.{noteAt, notedTo}
 use Rattle.run_columns.proofs.Tables.{noted-length}
 use Rattle.run_columns.proofs.note.Symbol as note-def
 use Rattle.run_columns.proofs.note.Symbol.{name as #run-columns·note}
@@ -175,17 +176,17 @@ module _ {M : Type 1} (𝓤 : URA M) (H : Heap 𝓤) (A : Atoms 𝓤) (W : Given
           assigns ! (bin ! (load ! (from ! (stop !)) (look ! 2 refl)) (lit ! tt) (record { fits = g12 })) (from ! (stop !)) (init ! 5 refl (tt, record { fits = g12 })) $
           assigns ! (bin ! (load ! (from ! (fld ! refl (stop !))) (look-in ! 11 (sub ! 0 refl (whole !)))) (load ! (from ! (stop !)) (look ! 5 refl)) tt) (from ! (stop !)) (init ! 6 refl (tt, tt)) $
           rewrite ! 6 (λ (z : ℕ). ‵ (fat fullShare tyPtr l₈ 0 (vptr b z))) (sym (place-is 12 o i)) refl $
-          elem-out ! T.the-row (Is T.the-row) (shows 𝓤 H A T.the-row) (LL.vals T.the-type T′.the-laws) (LL.tells T.the-type T′.the-laws) s ys i blank b o small (λ ge.
+          elem-out ! T.the-row (Is T.the-row) (shows 𝓤 H A T.the-row) (LL.vals T.the-type T′.the-laws) (LL.tells T.the-type T′.the-laws) s ys i noJob b o small (λ ge.
           -- [the record; what it owns; the others; the columns; _4; _5; _6; _7; _8; _9; …]
-          assigns ! (of-opd ! (load ! (from ! (hop ! (look ! 8 refl) (stop !))) (look-raw ! 0 refl))) (from ! (stop !)) (init ! 9 refl (LL.lawful T.the-type T′.the-laws 𝓤 H A W .typed (getD ys i blank) _ ge .0)) $
-          assigns ! (of-opd ! (load ! (from ! (stop !)) (look ! 9 refl))) (from ! (stop !)) (init ! 5 refl (LL.lawful T.the-type T′.the-laws 𝓤 H A W .typed (getD ys i blank) _ ge .0)) $
-          elem-back ! T.the-row s ys i blank (LL.vals T.the-type T′.the-laws (getD ys i blank)) b o small $
+          assigns ! (of-opd ! (load ! (from ! (hop ! (look ! 8 refl) (stop !))) (look-raw ! 0 refl))) (from ! (stop !)) (init ! 9 refl (LL.lawful T.the-type T′.the-laws 𝓤 H A W .typed (getD ys i noJob) _ ge .0)) $
+          assigns ! (of-opd ! (load ! (from ! (stop !)) (look ! 9 refl))) (from ! (stop !)) (init ! 5 refl (LL.lawful T.the-type T′.the-laws 𝓤 H A W .typed (getD ys i noJob) _ ge .0)) $
+          elem-back ! T.the-row s ys i noJob (LL.vals T.the-type T′.the-laws (getD ys i noJob)) b o small $
           assigns ! (addr ! (from ! (fld ! refl (hop ! (look-in ! 12 (sub ! 0 refl (whole !))) (stop !))))) (from ! (stop !)) (init ! 9 refl (tt, tt)) $
           assigns ! (agg ! (and-then ! (load ! (from ! (stop !)) (look ! 9 refl)) (and-then ! (load ! (from ! (fld ! refl (stop !))) (look-in ! 12 (sub ! 1 refl (whole !)))) (no-more !)))) (from ! (stop !)) (init ! 10 refl (tt, (tt, (record { fits = gm .0 }, tt)))) $
           -- `note`
-          move ! (1 ∷ []) $ use1 W (later (some (λ (z : One). raw (Note 𝓤 H A at-mem run .pre (calls.to-note 𝓤 H A W at-mem run κ κ′ q q′ b o δ c p γ n i (getD ys i blank) m (notedTo ys i cs) z)) ⊛ ‵ (calls.note-keeps 𝓤 H A W at-mem run κ κ′ q q′ b o δ c p γ n i (getD ys i blank) (notedTo ys i cs) z)))) (calls.note-goes 𝓤 H A W at-mem run κ κ′ q q′ b o δ c p γ n i (getD ys i blank) m (notedTo ys i cs) (noted-length ys i cs) (gn .0) (lt-of-lt-of-le small (le-of-lt (gn .0))) ge small) $ await ! tt $ pick ! (λ z. split ! $
-          calls-at ! fm (Note 𝓤 H A at-mem run) known (calls.to-note 𝓤 H A W at-mem run κ κ′ q q′ b o δ c p γ n i (getD ys i blank) m (notedTo ys i cs) z) (and-then ! (load ! (from ! (stop !)) (look ! 11 refl)) (and-then ! (load ! (from ! (stop !)) (look ! 14 refl)) (and-then ! (load ! (from ! (stop !)) (look ! 3 refl)) (and-then ! (load ! (from ! (stop !)) (look ! 4 refl)) (no-more !))))) (λ v.
-          use2 W (later (given (v ≡ vunit) (Cols (noteAt n (notedTo ys i cs) i (getD ys i blank))))) (calls.note-comes 𝓤 H A W at-mem run κ κ′ q q′ b o δ c p γ n i (getD ys i blank) m (notedTo ys i cs) (noted-length ys i cs) gm z v) $ await ! tt $ learn ! (λ e.
+          move ! (1 ∷ []) $ use1 W (later (some (λ (z : One). raw (Note 𝓤 H A at-mem run .pre (calls.to-note 𝓤 H A W at-mem run κ κ′ q q′ b o δ c p γ n i (getD ys i noJob) m (notedTo ys i cs) z)) ⊛ ‵ (calls.note-keeps 𝓤 H A W at-mem run κ κ′ q q′ b o δ c p γ n i (getD ys i noJob) (notedTo ys i cs) z)))) (calls.note-goes 𝓤 H A W at-mem run κ κ′ q q′ b o δ c p γ n i (getD ys i noJob) m (notedTo ys i cs) (noted-length ys i cs) (gn .0) (lt-of-lt-of-le small (le-of-lt (gn .0))) ge small) $ await ! tt $ pick ! (λ z. split ! $
+          calls-at ! fm (Note 𝓤 H A at-mem run) known (calls.to-note 𝓤 H A W at-mem run κ κ′ q q′ b o δ c p γ n i (getD ys i noJob) m (notedTo ys i cs) z) (and-then ! (load ! (from ! (stop !)) (look ! 11 refl)) (and-then ! (load ! (from ! (stop !)) (look ! 14 refl)) (and-then ! (load ! (from ! (stop !)) (look ! 3 refl)) (and-then ! (load ! (from ! (stop !)) (look ! 4 refl)) (no-more !))))) (λ v.
+          use2 W (later (given (v ≡ vunit) (Cols (noteAt n (notedTo ys i cs) i (getD ys i noJob))))) (calls.note-comes 𝓤 H A W at-mem run κ κ′ q q′ b o δ c p γ n i (getD ys i noJob) m (notedTo ys i cs) (noted-length ys i cs) gm z v) $ await ! tt $ learn ! (λ e.
           land ! (from ! (stop !)) (init ! 8 refl (unit-typed v e)) $ move ! (1 ∷ 0 ∷ []) $
           assigns-last ! (bin ! (load ! (from ! (stop !)) (look ! 2 refl)) (lit ! tt) (record { fits = next-fits })) (from ! (stop !)) (store ! 2 refl (tt, record { fits = next-fits })) $
           forget ! 3 refl $ forget ! 4 refl $ forget ! 5 refl $ forget ! 6 refl $ forget ! 7 refl $ forget ! 8 refl $ forget ! 9 refl $ forget ! 10 refl $

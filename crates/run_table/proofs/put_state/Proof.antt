@@ -46,7 +46,7 @@ use Rattle.run_rules.specs.declared.Job.{Job}
 use Rattle.run_rules.specs.Runner.{turned}
 use Rattle.run_rules.proofs.Job as T
 use Rattle.run_rules.proofs.Job.Laws as T′
-use Rattle.run_columns.specs.Columns.{blank}
+use Rattle.run_core.specs.Numbers.{noJob}
 use Rattle.run_table.proofs.Walks.{fails, below-room}
 use Rattle.run_table.proofs.put_state.Key.{name as #run-table·put-state}
 use Rattle.run_table.proofs.put_state as put
@@ -82,7 +82,7 @@ module _ {M : Type 1} (𝓤 : URA M) (H : Heap 𝓤) (A : Atoms 𝓤) (W : Given
   n = length ys
 
   abbrev new : Job
-  new = turned w (getD ys i blank)
+  new = turned w (getD ys i noJob)
 
   abbrev zs : List Job
   zs = set ys i new
@@ -144,9 +144,9 @@ module _ {M : Type 1} (𝓤 : URA M) (H : Heap 𝓤) (A : Atoms 𝓤) (W : Given
           assigns ! (bin ! (load ! (from ! (stop !)) (look ! 17 refl)) (lit ! tt) (record { fits = below-room 12 i n (ltb→lt i n held) (gn .1) })) (from ! (stop !)) (init ! 9 refl (tt, record { fits = below-room 12 i n (ltb→lt i n held) (gn .1) })) $
           assigns ! (bin ! (load ! (from ! (fld ! refl (stop !))) (look-in ! 19 (sub ! 0 refl (whole !)))) (load ! (from ! (stop !)) (look ! 9 refl)) tt) (from ! (stop !)) (init ! 7 refl (tt, tt)) $
           rewrite ! 7 (λ (p : ℕ). ‵ (fat fullShare tyPtr l₇ 0 (vptr b p))) (sym (place-is 12 o i)) refl $
-          elem-out ! T.the-row (Is T.the-row) (shows 𝓤 H A T.the-row) (LL.vals T.the-type T′.the-laws) (LL.tells T.the-type T′.the-laws) fullShare ys i blank b o (ltb→lt i n held) (λ ge.
+          elem-out ! T.the-row (Is T.the-row) (shows 𝓤 H A T.the-row) (LL.vals T.the-type T′.the-laws) (LL.tells T.the-type T′.the-laws) fullShare ys i noJob b o (ltb→lt i n held) (λ ge.
           assigns-last ! (of-opd ! (load ! (from ! (stop !)) (look ! 17 refl))) (from ! (hop ! (look ! 9 refl) (fld ! refl (stop !)))) (store-in ! 0 (sub ! 2 refl (whole !)) (tt, record { fits = gw })) $
-          move ! (1 ∷ []) $ drop ! $ owned ! T.the-row (Is T.the-row) ((LL.makes T.the-type T′.the-plain) 𝓤 H A) new _ (made (getD ys i blank) w gw ge) $ move ! (1 ∷ 0 ∷ []) $
+          move ! (1 ∷ []) $ drop ! $ owned ! T.the-row (Is T.the-row) ((LL.makes T.the-type T′.the-plain) 𝓤 H A) new _ (made (getD ys i noJob) w gw ge) $ move ! (1 ∷ 0 ∷ []) $
           elem-put ! T.the-row fullShare ys i new (LL.vals T.the-type T′.the-laws new) b o (ltb→lt i n held) $ forget ! 7 refl $ forget ! 9 refl $
           keep ! (0 ∷ 1 ∷ 2 ∷ 3 ∷ 7 ∷ 8 ∷ 9 ∷ 10 ∷ 11 ∷ 12 ∷ 13 ∷ 14 ∷ 15 ∷ 16 ∷ 17 ∷ 18 ∷ 19 ∷ 20 ∷ 21 ∷ 22 ∷ []) $ by ! (ends l₀ l₁ l₂ l₃ l₄ l₅ l₆ l₇ (ltb i n))))
           (λ failed. skips ! $

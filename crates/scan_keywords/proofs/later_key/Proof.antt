@@ -75,17 +75,7 @@ equal-requires-7 c κs = tt
 
 returns-7 : tie.Need-returns-7
 unfolding laterKey among any
-returns-7 c = rw (sym (c .before .before .before .before .before .before .before .before .before .before .before .before .before .before .before .before .before .before .before .equal .ensures) ∙ c .before .before .before .before .before .before .before .before .before .before .before .before .before .before .before .before .before .before .if1 .left, sym (c .before .before .before .before .before .before .before .before .before .before .before .before .before .before .before .before .equal2 .ensures) ∙ c .before .before .before .before .before .before .before .before .before .before .before .before .before .before .before .if2 .left, sym (c .before .before .before .before .before .before .before .before .before .before .before .before .before .equal3 .ensures) ∙ c .before .before .before .before .before .before .before .before .before .before .before .before .if3 .left, sym (c .before .before .before .before .before .before .before .before .before .before .equal4 .ensures) ∙ c .before .before .before .before .before .before .before .before .before .if4 .left, sym (c .before .before .before .before .before .before .before .equal5 .ensures) ∙ c .before .before .before .before .before .before .if5 .left, sym (c .before .before .before .before .equal6 .ensures) ∙ c .before .before .before .if6 .left, sym (c .before .equal7 .ensures) ∙ c .if7 .taken)
-
-slice-aggregate-equal-8 : tie.Need-slice-aggregate-equal-8
-slice-aggregate-equal-8 c = refl
-
-equal-requires-8 : tie.Need-equal-requires-8
-equal-requires-8 c κs = tt
-
-returns-8 : tie.Need-returns-8
-unfolding laterKey among any
-returns-8 c = rw (sym (c .before .before .before .before .before .before .before .before .before .before .before .before .before .before .before .before .before .before .before .before .before .equal .ensures) ∙ c .before .before .before .before .before .before .before .before .before .before .before .before .before .before .before .before .before .before .before .before .if1 .left, sym (c .before .before .before .before .before .before .before .before .before .before .before .before .before .before .before .before .before .before .equal2 .ensures) ∙ c .before .before .before .before .before .before .before .before .before .before .before .before .before .before .before .before .before .if2 .left, sym (c .before .before .before .before .before .before .before .before .before .before .before .before .before .before .before .equal3 .ensures) ∙ c .before .before .before .before .before .before .before .before .before .before .before .before .before .before .if3 .left, sym (c .before .before .before .before .before .before .before .before .before .before .before .before .equal4 .ensures) ∙ c .before .before .before .before .before .before .before .before .before .before .before .if4 .left, sym (c .before .before .before .before .before .before .before .before .before .equal5 .ensures) ∙ c .before .before .before .before .before .before .before .before .if5 .left, sym (c .before .before .before .before .before .before .equal6 .ensures) ∙ c .before .before .before .before .before .if6 .left, sym (c .before .before .before .equal7 .ensures) ∙ c .before .before .if7 .left) (c .equal8 .ensures ∙ sym (or-false _))
+returns-7 c = rw (sym (c .before .before .before .before .before .before .before .before .before .before .before .before .before .before .before .before .before .before .equal .ensures) ∙ c .before .before .before .before .before .before .before .before .before .before .before .before .before .before .before .before .before .if1 .left, sym (c .before .before .before .before .before .before .before .before .before .before .before .before .before .before .before .equal2 .ensures) ∙ c .before .before .before .before .before .before .before .before .before .before .before .before .before .before .if2 .left, sym (c .before .before .before .before .before .before .before .before .before .before .before .before .equal3 .ensures) ∙ c .before .before .before .before .before .before .before .before .before .before .before .if3 .left, sym (c .before .before .before .before .before .before .before .before .before .equal4 .ensures) ∙ c .before .before .before .before .before .before .before .before .if4 .left, sym (c .before .before .before .before .before .before .equal5 .ensures) ∙ c .before .before .before .before .before .if5 .left, sym (c .before .before .before .equal6 .ensures) ∙ c .before .before .if6 .left) (c .equal7 .ensures ∙ sym (or-false _))
 
 pub later-key-spec : {M : Type 1} → statement M
 later-key-spec =
@@ -111,7 +101,4 @@ later-key-spec =
     returns-6
     slice-aggregate-equal-7
     equal-requires-7
-    returns-7
-    slice-aggregate-equal-8
-    equal-requires-8
-    returns-8)
+    returns-7)

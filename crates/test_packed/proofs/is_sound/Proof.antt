@@ -15,7 +15,10 @@ returns-3 : tie.Need-returns-3
 returns-3 c = λ e. differ e refl
 
 returns-4 : tie.Need-returns-4
-returns-4 c = search needs
+returns-4 c = λ e. differ e refl
+
+returns-5 : tie.Need-returns-5
+returns-5 c = search needs
 
 pub is-sound-spec : {M : Type 1} → statement M
-is-sound-spec = tie.close (tie.spec returns returns-2 returns-3 returns-4)
+is-sound-spec = tie.close (tie.spec returns returns-2 returns-3 returns-4 returns-5)

@@ -1,19 +1,20 @@
 -- `text_buffer::put_files` meets its contract.
 use Prim.Native.Nat.{_-_}
 use lib.ListN.{length}
+use Rattle.spec.specs.Text.{spelledBy}
 use Rattle.text_buffer.proofs.Joining.{Joining, join-begin, join-on, join-over, join-end}
 use borrow.Author.Needs.{needs}
 use Rattle.text_buffer.proofs.put_files.Statement.{statement}
 use Rattle.text_buffer.proofs.put_files.Tie as tie
 
 abbrev Inv-loop : tie.InvT-loop
-Inv-loop names index count fs separator buffer₀ place n₀ i₀ buffer n i = Joining names index count fs separator buffer₀ place buffer n i
+Inv-loop names index count fs separator plain buffer₀ place n₀ i₀ buffer n i = Joining names index count fs separator (spelledBy plain) buffer₀ place buffer n i
 
 abbrev μ-loop : tie.MeasureT-loop
-μ-loop names index count fs separator buffer₀ place n₀ i₀ buffer n i = length fs - i
+μ-loop names index count fs separator plain buffer₀ place n₀ i₀ buffer n i = length fs - i
 
 loop-holds : tie.Need-loop-holds Inv-loop μ-loop
-loop-holds c = join-begin (c .before .before .before .before .args .separator) (c .before .before .before .before .pre)
+loop-holds c = join-begin (c .before .before .before .before .args .separator) (spelledBy (c .before .before .before .before .args .plain)) (c .before .before .before .before .pre)
 
 put-next-requires : tie.Need-put-next-requires Inv-loop μ-loop
 put-next-requires c κs = search needs

@@ -1,0 +1,1 @@
+a:b.o: plain.c /usr/include/stdc-predef.h a.h

@@ -1,0 +1,1 @@
+cost$$.o: cost$$.c /usr/include/stdc-predef.h b$$c.h

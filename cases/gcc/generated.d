@@ -1,0 +1,1 @@
+generated.o: generated.c to\ be\ made.h made.h

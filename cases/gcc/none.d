@@ -1,0 +1,1 @@
+none.o: none.c /usr/include/stdc-predef.h

@@ -1,0 +1,1 @@
+one two plain.o: plain.c /usr/include/stdc-predef.h a.h

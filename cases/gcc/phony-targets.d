@@ -1,0 +1,3 @@
+plain.o: plain.c /usr/include/stdc-predef.h a.h
+/usr/include/stdc-predef.h:
+a.h:

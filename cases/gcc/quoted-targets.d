@@ -1,0 +1,1 @@
+one\ two a$$b: plain.c /usr/include/stdc-predef.h a.h

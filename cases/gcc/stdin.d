@@ -1,0 +1,1 @@
+stdin.o: /usr/include/stdc-predef.h

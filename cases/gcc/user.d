@@ -1,0 +1,1 @@
+stdio.o: stdio.c

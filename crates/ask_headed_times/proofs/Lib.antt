@@ -1,0 +1,2 @@
+pub mod CardTimes
+pub mod Judging

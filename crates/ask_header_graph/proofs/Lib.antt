@@ -1,0 +1,7 @@
+pub mod Ready
+pub mod Splitting
+pub mod Tails
+pub mod Filling
+pub mod Turning
+pub mod Walking
+pub mod Starting

@@ -1,0 +1,4 @@
+pub mod Graph
+pub mod Split
+pub mod Begins
+pub mod Turns

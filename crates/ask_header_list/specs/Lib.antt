@@ -1,0 +1,4 @@
+pub mod Places
+pub mod Copies
+pub mod Finds
+pub mod Adds
