@@ -1,6 +1,9 @@
-//! Planted faults: each edit of `faults/` is made in a copy of the planner's source, the copy is
-//! compiled and put to all cases, and those that the edit names must notice it. So the cases are
-//! shown to tell right from wrong.
+//! Planted faults: each edit of `faults/` is made in the planner's source, the planner is compiled
+//! and put to the cases that the edit names, and these must notice it. So the cases are shown to
+//! tell right from wrong.
+//!
+//! A fault within bodies of functions stands in one copy of the planner with all others: there a
+//! body is chosen by the fault's number when it runs. Any other fault has a copy of its own.
 
 use second::cases::{files, folder, read, Case, Expected};
 use second::Answer;
@@ -13,8 +16,9 @@ use std::process::Command;
 use std::sync::atomic::{AtomicUsize, Ordering};
 use std::thread;
 
-/// How many faulty copies are compiled in one call: they share most of what a call costs.
-const BATCH: usize = 12;
+/// How many copies with a fault of their own are compiled in one call: they share most of what a
+/// call costs.
+const BATCH: usize = 7;
 
 /// A fault: the file `faults/NAME.edit`.
 #[derive(Default)]
@@ -155,44 +159,148 @@ fn read_source(folder: &Path, source: &mut Source) {
     }
 }
 
+/// The copy that stands for the planner without a fault.
+const NO_FAULT: usize = usize::MAX;
+
+/// A source file cut where bodies of functions begin and end: every second part is a body. Bodies
+/// are found by the layout of `cargo fmt`.
+fn parts(content: &str) -> Vec<String> {
+    let mut parts = vec![String::new()];
+    // The indent of the function whose head or body is being read.
+    let (mut indent, mut in_head) = (None, false);
+    for line in content.lines() {
+        let in_body = indent.is_some() && !in_head;
+        if in_body && indent.is_some_and(|indent| line == format!("{indent}}}")) {
+            indent = None;
+            parts.push(String::new());
+        } else if !in_body && is_function(line) {
+            (indent, in_head) = (Some(&line[..line.len() - line.trim_start().len()]), true);
+        }
+        *parts.last_mut().unwrap() += &format!("{line}\n");
+        if in_head && line.ends_with('{') {
+            in_head = false;
+            parts.push(String::new());
+        } else if in_head && (line.ends_with(';') || line.ends_with("{}")) {
+            (indent, in_head) = (None, false);
+        }
+    }
+    parts
+}
+
+/// Whether a line begins a function.
+fn is_function(line: &str) -> bool {
+    let words = line.split_whitespace();
+    words.take_while(|word| !word.contains('(') || word.starts_with("pub(")).any(|w| w == "fn")
+}
+
+/// Whether a body may be chosen when the program runs: not in a function that is also called when
+/// it is compiled, nor where each body would have a type of its own.
+fn may_choose(before: &str) -> bool {
+    let head: Vec<_> = before.lines().rev().collect();
+    let lines = head.iter().position(|line| is_function(line)).map_or(&head[..], |l| &head[..=l]);
+    !lines.iter().any(|line| line.contains("const fn ") || line.contains("-> impl "))
+}
+
+/// For each source file the bodies that a fault replaces, by their place among the parts.
+type Bodies = BTreeMap<PathBuf, BTreeMap<usize, String>>;
+
+/// The bodies that differ; none where anything else does.
+fn bodies(source: &Source, planted: &Source) -> Option<Bodies> {
+    let mut bodies = Bodies::new();
+    for (path, content) in source.iter().filter(|(path, content)| planted[*path] != **content) {
+        let (old, new) = (parts(content), parts(&planted[path]));
+        let mut differing = BTreeMap::new();
+        for (place, (before, after)) in old.iter().zip(&new).enumerate() {
+            if before != after {
+                let is_body = place % 2 == 1 && may_choose(&old[place - 1]);
+                is_body.then(|| differing.insert(place, after.clone()))?;
+            }
+        }
+        (old.len() == new.len()).then(|| bodies.insert(path.clone(), differing))?;
+    }
+    Some(bodies)
+}
+
+/// The source with all of these faults, of which the number that `planted` gives chooses one.
+fn with_all(source: &Source, faults: &[(usize, Bodies)]) -> Source {
+    let mut chosen = source.clone();
+    for (path, content) in &mut chosen {
+        let mut parts = parts(content);
+        for (place, part) in parts.iter_mut().enumerate() {
+            let of = |bodies: &Bodies| bodies.get(path)?.get(&place).cloned();
+            let arms = faults.iter().filter_map(|(number, bodies)| Some((number, of(bodies)?)));
+            let arms = arms.map(|(number, body)| format!("{number} => {{\n{body}}}\n"));
+            let arms: String = arms.collect();
+            if !arms.is_empty() {
+                *part = format!("match crate::planted() {{\n{arms}_ => {{\n{part}}}\n}}\n");
+            }
+        }
+        *content = parts.concat();
+    }
+    chosen
+}
+
 /// Writes a copy of the library into a folder, as a module of another crate that answers asks.
 fn write_module(module: &str, source: &Source, folder: &Path) {
     let answer = fs::read_to_string(here("faults/answer.rs")).unwrap();
     for (path, content) in source {
-        let content = content.replace("crate::", &format!("crate::{module}::"));
         let is_root = path == Path::new("lib.rs");
+        let content = if is_root { format!("{content}{answer}") } else { content.clone() };
+        let content = content.replace("crate::", &format!("crate::{module}::"));
         let path = folder.join(module).join(if is_root { Path::new("mod.rs") } else { path });
         fs::create_dir_all(path.parent().unwrap()).unwrap();
-        fs::write(path, if is_root { content + &answer } else { content }).unwrap();
+        fs::write(path, content).unwrap();
     }
 }
 
-/// What the program of a batch does: each of its planners answers all asks of its input in turn.
+/// What a program does: each line of its input has a copy's place, a fault's number and an ask.
 const MAIN: &str = "
 fn main() {
     std::panic::set_hook(Box::new(|_| {}));
-    let asks: Vec<String> = std::io::stdin().lines().map(Result::unwrap).collect();
-    for planner in PLANNERS {
-        for ask in &asks {
-            println!(\"{}\", std::panic::catch_unwind(|| planner(ask)).unwrap_or_default());
-        }
+    for line in std::io::stdin().lines().map(Result::unwrap) {
+        let (place, rest) = line.split_once(' ').unwrap();
+        let (fault, ask) = rest.split_once(' ').unwrap();
+        let answer = COPIES[place.parse::<usize>().unwrap()];
+        let fault = fault.parse().unwrap();
+        println!(\"{}\", std::panic::catch_unwind(|| answer(fault, ask)).unwrap_or_default());
     }
 }
 ";
 
-/// Compiles copies of the planner, all in one program; gives the answers of each to the asks of a
-/// file, one a line.
-fn answers(batch: &[Source], asks: &Path, folder: &Path) -> Vec<Vec<String>> {
-    let (mut modules, mut planners) = (String::new(), String::new());
-    for (number, source) in batch.iter().enumerate() {
-        let module = format!("fault_{number}");
-        write_module(&module, source, folder);
-        modules += &format!("mod {module};\n");
-        planners += &format!("{module}::answer, ");
+/// A copy of the planner, and the numbers of the faults that stand in it.
+struct Copy {
+    source: Source,
+    faults: Vec<usize>,
+}
+
+/// The copies of the planner: one with all faults that may stand together, and without any of
+/// them, and one for each other fault.
+fn copies(source: &Source, planted: &[Source]) -> Vec<Copy> {
+    let (mut together, mut alone) = (Vec::new(), Vec::new());
+    for (number, planted) in planted.iter().enumerate() {
+        match bodies(source, planted) {
+            Some(bodies) => together.push((number, bodies)),
+            None => alone.push(Copy { source: planted.clone(), faults: vec![number] }),
+        }
     }
-    planners = format!("const PLANNERS: &[fn(&str) -> String] = &[{planners}];\n");
+    let faults = together.iter().map(|(number, _)| *number).chain([NO_FAULT]).collect();
+    let mut copies = vec![Copy { source: with_all(source, &together), faults }];
+    copies.extend(alone);
+    copies
+}
+
+/// Compiles copies of the planner into one program.
+fn compile(copies: &[Copy], folder: &Path) -> PathBuf {
+    let (mut modules, mut answers) = (String::new(), String::new());
+    for (place, copy) in copies.iter().enumerate() {
+        let module = format!("copy_{place}");
+        write_module(&module, &copy.source, folder);
+        modules += &format!("mod {module};\n");
+        answers += &format!("{module}::answer, ");
+    }
+    answers = format!("const COPIES: &[fn(usize, &str) -> String] = &[{answers}];\n");
     let (main, program) = (folder.join("main.rs"), folder.join("program"));
-    fs::write(&main, modules + &planners + MAIN).unwrap();
+    fs::write(&main, modules + &answers + MAIN).unwrap();
     let compiled = Command::new(std::env::var_os("RUSTC").unwrap_or("rustc".into()))
         .args(["--edition", "2021", "-A", "warnings", "-C", "opt-level=0", "-C", "debuginfo=0"])
         .arg("-o")
@@ -200,11 +308,22 @@ fn answers(batch: &[Source], asks: &Path, folder: &Path) -> Vec<Vec<String>> {
         .output()
         .unwrap();
     assert!(compiled.status.success(), "{}", String::from_utf8_lossy(&compiled.stderr));
-    let run = Command::new(program).stdin(File::open(asks).unwrap()).output().unwrap();
+    program
+}
+
+/// The answers of a program to asks, each put to the copy at a place, with a fault.
+fn answers(program: &Path, asks: &[(usize, usize, &Asked)]) -> Vec<String> {
+    let path = program.with_extension("asks");
+    let line = |(place, fault, asked): &(usize, usize, &Asked)| {
+        format!("{place} {fault} {}\n", asked.line)
+    };
+    fs::write(&path, asks.iter().map(line).collect::<String>()).unwrap();
+    let run = Command::new(program).stdin(File::open(&path).unwrap()).output().unwrap();
     assert!(run.status.success(), "a faulty planner ended with {}", run.status);
-    let answers = String::from_utf8(run.stdout).unwrap();
-    let answers: Vec<_> = answers.lines().map(str::to_string).collect();
-    answers.chunks(answers.len() / batch.len()).map(<[String]>::to_vec).collect()
+    let answers: Vec<_> =
+        String::from_utf8(run.stdout).unwrap().lines().map(str::to_string).collect();
+    assert_eq!(answers.len(), asks.len(), "not every ask is answered");
+    answers
 }
 
 /// The line of an ask, or of a run of the program, its expected answer and the name of its case.
@@ -230,20 +349,48 @@ fn is_expected(asked: &Asked, answer: &str) -> bool {
     answer.parse().is_ok_and(|answer| asked.expected.allows(&answer))
 }
 
-/// What is wrong if a planner with this fault gives these answers.
-fn failure(fault: &Fault, asked: &[Asked], answers: &[String]) -> Option<String> {
-    assert_eq!(asked.len(), answers.len(), "{}: not every ask is answered", fault.name);
-    let pairs = asked.iter().zip(answers);
-    let differing = pairs.filter(|(asked, answer)| !is_expected(asked, answer));
-    let differing: Vec<_> = differing.map(|(asked, _)| asked.case.as_str()).collect();
-    let silent = fault.noticed_by.iter().find(|case| !differing.contains(&case.as_str()));
-    if let Some(case) = silent {
-        Some(format!("{}: {case} does not notice it; these do: {differing:?}", fault.name))
-    } else if fault.edits.is_empty() && !differing.is_empty() {
-        Some(format!("without a fault these differ: {differing:?}"))
-    } else {
-        None
+/// The cases that notice a difference when these asks are put to a copy with a fault.
+fn differing<'a>(
+    program: &Path,
+    place: usize,
+    fault: usize,
+    asked: impl Iterator<Item = &'a Asked>,
+) -> Vec<&'a str> {
+    let asks: Vec<_> = asked.map(|asked| (place, fault, asked)).collect();
+    let answers = answers(program, &asks);
+    let pairs = asks.iter().zip(&answers);
+    let differing = pairs.filter(|((_, _, asked), answer)| !is_expected(asked, answer));
+    differing.map(|((_, _, asked), _)| asked.case.as_str()).collect()
+}
+
+/// What is wrong of the faults of one copy. The cases that a fault names are all that it has to be
+/// put to; where one of them is silent it is put to every case, to tell which are not.
+fn failures(
+    program: &Path,
+    place: usize,
+    copy: &Copy,
+    faults: &[Fault],
+    asked: &[Asked],
+) -> Vec<String> {
+    let mut failures = Vec::new();
+    for &number in &copy.faults {
+        let Some(fault) = faults.get(number) else {
+            let differing = differing(program, place, number, asked.iter());
+            if !differing.is_empty() {
+                failures.push(format!("without a fault these differ: {differing:?}"));
+            }
+            continue;
+        };
+        let named = asked.iter().filter(|asked| fault.noticed_by.contains(&asked.case));
+        let noticing = differing(program, place, number, named);
+        let silent = fault.noticed_by.iter().find(|case| !noticing.contains(&case.as_str()));
+        if let Some(case) = silent {
+            let all = differing(program, place, number, asked.iter());
+            let name = &fault.name;
+            failures.push(format!("{name}: {case} does not notice it; these do: {all:?}"));
+        }
     }
+    failures
 }
 
 #[test]
@@ -253,8 +400,6 @@ fn every_planted_fault_is_noticed() {
     // by hand: only those whose name begins with FAULTS
     let only = std::env::var("FAULTS").unwrap_or_default();
     faults.retain(|fault| fault.name.starts_with(&only));
-    // The copy without a fault: no case may differ.
-    faults.push(Fault::default());
     let source = source();
     let (mut planted, mut misfits) = (Vec::new(), Vec::new());
     for fault in &faults {
@@ -267,24 +412,25 @@ fn every_planted_fault_is_noticed() {
 
     let place = Path::new(env!("CARGO_TARGET_TMPDIR")).join("faults");
     let _ = fs::remove_dir_all(&place);
-    fs::create_dir_all(&place).unwrap();
     let cases = read(&files(&folder()).unwrap()).unwrap();
-    let (asked, asks) = (cases.iter().flat_map(asked).collect::<Vec<_>>(), place.join("asks"));
-    let lines: String = asked.iter().map(|asked| format!("{}\n", asked.line)).collect();
-    fs::write(&asks, lines).unwrap();
+    let asked: Vec<_> = cases.iter().flat_map(asked).collect();
+    let copies = copies(&source, &planted);
+    let (together, alone) = copies.split_at(1);
+    let batches: Vec<_> = [together].into_iter().chain(alone.chunks(BATCH)).collect();
 
     let next = AtomicUsize::new(0);
-    let batches: Vec<_> = planted.chunks(BATCH).zip(faults.chunks(BATCH)).collect();
     let work = || {
-        let mut failures = Vec::new();
+        let mut wrong = Vec::new();
         loop {
             let number = next.fetch_add(1, Ordering::Relaxed);
-            let Some((batch, faults)) = batches.get(number) else {
-                return failures;
+            let Some(batch) = batches.get(number) else {
+                return wrong;
             };
-            let answers = answers(batch, &asks, &place.join(number.to_string()));
-            let pairs = faults.iter().zip(&answers);
-            failures.extend(pairs.filter_map(|(fault, answers)| failure(fault, &asked, answers)));
+            let folder = place.join(number.to_string());
+            let program = compile(batch, &folder);
+            for (place, copy) in batch.iter().enumerate() {
+                wrong.extend(failures(&program, place, copy, &faults, &asked));
+            }
         }
     };
     let workers = thread::available_parallelism().map_or(2, usize::from);
