@@ -6,7 +6,7 @@ use native.Mathlib.Decide.{decLt}
 use native.Mathlib.Omega.{arith}
 use lib.ListN.{length, getD, set, length-set}
 use lib.Seq.{getD-set-same, getD-set-other}
-use Rattle.hold_names.specs.Table.{lastAt, blocksFrom, maxBlocks, maxNumbers, lastBlock, sizeOf, Lifted, PutIn, Parted}
+use Rattle.hold_names.specs.Table.{lastAt, blocksFrom, maxBlocks, maxNumbers, lastBlock, sizeOf, Lifted, Roomed, PutIn, Parted}
 
 -- ---- the loop
 
@@ -61,8 +61,20 @@ place l e = ap (λ (y : ℕ). getD l y 0) e
 
 -- ---- room made in a block
 
+pub room-kept : (l : List ℕ) {from to : ℕ} (end : ℕ) → to ≤ from → Roomed l from to end l
+room-kept l end h = record { long = refl; moved = λ k a b. absurd (omega arith); below = λ k a. refl; above = λ k a. refl }
+
+pub room-made : {l : List ℕ} {from up : ℕ} {l′ : List ℕ} (to end : ℕ) → Lifted l from up 1 l′ → to ≤ up → up + 1 ≤ end → Roomed l from to end l′
+room-made to end x least most =
+    record {
+      long = x .long;
+      moved = λ k a b. x .moved k a (omega arith);
+      below = λ k a. x .below k (omega arith);
+      above = λ k a. x .above k (omega arith);
+    }
+
 module _ (index : List ℕ) (n j i m : ℕ) (r : maxNumbers ≤ length index) (b : j < maxBlocks) (w : i ≤ sizeOf index j) (few : sizeOf index j ≤ 126) (e : m ≡ sizeOf index j)
-    {c : List ℕ} (x : Lifted index (blocksFrom + j * 128 + i) (blocksFrom + j * 128 + m) 1 c) where
+    {c : List ℕ} (x : Roomed index (blocksFrom + j * 128 + i) (blocksFrom + j * 128 + m) (blocksFrom + j * 128 + 128) c) where
   abbrev from : ℕ
   from = blocksFrom + j * 128
 
@@ -89,7 +101,7 @@ module _ (index : List ℕ) (n j i m : ℕ) (r : maxNumbers ≤ length index) (b
           | no d ↦ (
               let f : j < k = elim (decLt j k) [ yes g ↦ g | no g ↦ absurd (h (omega arith)) ] in
               other (blocksFrom + k * 128 + l) (λ (g : blocksFrom + k * 128 + l ≡ from + i). omega (arith, g, w, few)) (λ (g : blocksFrom + k * 128 + l ≡ from + 127). omega (arith, g))
-              ∙ x .above (blocksFrom + k * 128 + l) (omega (arith, e, few))
+              ∙ x .above (blocksFrom + k * 128 + l) (omega arith)
               )
         ];
         before = λ l a. other (from + l) (λ (g : from + l ≡ from + i). omega (arith, g)) (λ (g : from + l ≡ from + 127). omega (arith, g, w, few)) ∙ x .below (from + l) (omega arith);

@@ -324,6 +324,13 @@ pub record Lifted (l : List ℕ) (from to by : ℕ) (l′ : List ℕ) : Type 0 w
   pub below : (k : ℕ) → k < from + by → getD l′ k 0 ≡ getD l k 0
   pub above : (k : ℕ) → to + by ≤ k → getD l′ k 0 ≡ getD l k 0
 
+-- the numbers from one place up to another stand one place higher; what lies behind them, up to a third place, may have moved
+pub record Roomed (l : List ℕ) (from to end : ℕ) (l′ : List ℕ) : Type 0 where
+  pub long : length l′ ≡ length l
+  pub moved : (k : ℕ) → from ≤ k → k < to → getD l′ (k + 1) 0 ≡ getD l k 0
+  pub below : (k : ℕ) → k ≤ from → getD l′ k 0 ≡ getD l k 0
+  pub above : (k : ℕ) → end ≤ k → getD l′ k 0 ≡ getD l k 0
+
 -- a number more in block j, at place i
 pub record PutIn (index : List ℕ) (n j i : ℕ) (index′ : List ℕ) : Type 0 where
   pub long : length index′ ≡ length index

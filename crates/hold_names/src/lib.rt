@@ -5,7 +5,7 @@ ghost use Prim.Native.Nat.{_+_, _-_, _^_, _≤_, _<_};
 ghost use lib.ListN.{length, drop};
 ghost use Rattle.lists.specs.Fill.{zeroed};
 ghost use Rattle.spec.specs.Limits.{maxFiles};
-ghost use Rattle.hold_names.specs.Table.{buckets, bucketFrom, Summed, bucketOf, headsFrom, maxNumbers, maxBlocks, lastBlock, sizeOf, Shape, SoundNames, FindsName, AddsName, NamesFile, nameStart, comparedOf, ComparesName, MatchesName, PicksNames, Halves, SeeksSorted, SeeksSecond, SeeksName, Lifted, PutIn, Parted, Spared, Entered};
+ghost use Rattle.hold_names.specs.Table.{buckets, bucketFrom, Summed, bucketOf, headsFrom, maxNumbers, maxBlocks, lastBlock, sizeOf, Shape, SoundNames, FindsName, AddsName, NamesFile, nameStart, comparedOf, ComparesName, MatchesName, PicksNames, Halves, SeeksSorted, SeeksSecond, SeeksName, Lifted, Roomed, PutIn, Parted, Spared, Entered};
 use arena::put;
 use byteorder::compare;
 use byteorder::equal;
@@ -377,6 +377,27 @@ fn lift(index: &mut [u32], from: usize, to: usize, by: usize)
     }
 }
 
+// Up to where a block of n names moves from a place on: so many numbers that eight at once leave none over, as far as the block reaches.
+fn by_eights(place: usize, n: usize) -> usize
+    requires { ⌜ (place ≤ n) × (n ≤ 126) ⌝ }
+    ensures { λ r. ⌜ (n ≤ r) × (r ≤ 127) ⌝ }
+{
+    let up = place + (n - place + 7) / 8 * 8;
+    if up < 127 { up } else { 127 }
+}
+
+// Moves the names of a block of n from a place on up by one, and some of what lies behind them: the compiler moves eight numbers at once, and those that are
+// left over one by one.
+fn make_room(index: &mut [u32], from: usize, place: usize, n: usize)
+    requires { ⌜ (place ≤ n) × (n ≤ 126) × (from + 128 ≤ length (now index)) ⌝ }
+    ensures { λ _. ⌜ Roomed (now (index .entry)) (from + place) (from + n) (from + 128) (now (index .exit)) ⌝ }
+{
+    if n <= place {
+        return;
+    }
+    lift(index, from + place, from + by_eights(place, n), 1);
+}
+
 // A name more in a block. How many there are then.
 fn put_in(index: &mut [u32], count: usize, block: usize, place: usize) -> usize
     requires { ⌜ (maxNumbers ≤ length (now index)) × (count < maxFiles) × (block < maxBlocks) × (place ≤ sizeOf (now index) block) × (sizeOf (now index) block ≤ 126) ⌝ }
@@ -384,7 +405,7 @@ fn put_in(index: &mut [u32], count: usize, block: usize, place: usize) -> usize
 {
     let from = BLOCKS + block * 128;
     let n = at(index, from + 127);
-    lift(index, from + place, from + n, 1);
+    make_room(index, from, place, n);
     put(index, from + place, count);
     put(index, from + 127, n + 1);
     n + 1

@@ -103,7 +103,7 @@ left m f = length m - f .next + one (f .more)
 
 module _ {m : List ℕ} {i : ℕ} {out out′ : List ℕ} {f : Found} (g : Finding m i out out′ f) (e : f .more ≡ true) {s : LineBounds} (a : LineHere m (f .next) s) where
   pub find-ask : length m < 2 ^ 32 → LinePutAsk out′ (f .filled) s
-  find-ask h = record { room = g .room e; start-small = omega (arith, a .starts, g .within); end-small = omega (arith, a .within) }
+  find-ask h = record { room = g .room e; start-small = omega (arith, a .starts, g .within); end-small = omega (arith, a .within); past = λ q. omega (arith, a .starts, a .past q) }
 
   -- no line is left
   at-end : s .next ≤ s .start → length m ≤ f .next

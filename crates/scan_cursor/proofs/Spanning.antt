@@ -1,6 +1,6 @@
 -- Where a line lies, by where it ends.
 use Prim.Native.Nat.{ℕ, _+_, _≤_, _<_}
-use mathlib.Core.Bool.{Bool, true, false, _&&_}
+use mathlib.Core.Bool.{Bool, true, false, _&&_, false≢true}
 use mathlib.Core.List.{List}
 use mathlib.Core.Path.{_≡_, refl}
 use native.Mathlib.Omega.{arith}
@@ -21,7 +21,7 @@ and-false true = refl
 and-false false = refl
 
 pub here-end : (m : List ℕ) {i : ℕ} → i ≤ length m → length m ≤ i → LineHere m i (record { start = i; end = i; comment = false; next = i })
-here-end m h k = record { starts = refl; within = h; most = h; span = λ l. absurd (omega arith) }
+here-end m h k = record { starts = refl; within = h; most = h; span = λ l. absurd (omega arith); past = λ q. absurd (false≢true q) }
 
 module _ (m : List ℕ) {i : ℕ} (h : i < length m) where
   pub here-ended : (c : Bool) {e : ℕ} → EndedAs c m i e → LineHere m i (record { start = i; end = e; comment = c; next = e + 1 })
@@ -38,6 +38,7 @@ module _ (m : List ℕ) {i : ℕ} (h : i < length m) where
               lines = rw (lt-ltb e (length m) (l .within)) (lines-next m h l);
               comment = rw (lt-ltb e (length m) (l .within), a .is) (and-true c);
             };
+        past = λ _. omega (arith, l .forward);
       }
 
   pub here-open : LineOpen m i → LineHere m i (record { start = i; end = length m; comment = false; next = length m })
@@ -53,4 +54,5 @@ module _ (m : List ℕ) {i : ℕ} (h : i < length m) where
               lines = rw (le-ltb (length m) (length m) (omega arith), part-to-end m i, lines-end m (length m) (omega arith)) (lines-last m h a);
               comment = rw (le-ltb (length m) (length m) (omega arith), part-to-end m i) (and-false (isComment (drop i m)));
             };
+        past = λ _. h;
       }

@@ -36,6 +36,7 @@ pub record LinePutAsk (out : List ℕ) (n : ℕ) (s : LineBounds) : Type 0 where
   pub room : n + 2 ≤ length out
   pub start-small : s .start < 2 ^ 32
   pub end-small : s .end < 2 ^ 32
+  pub past : s .comment ≡ true → s .start < s .next
 
 -- a line's start and its end as numbers n and n + 1
 abbrev pub putAt : List ℕ → ℕ → LineBounds → List ℕ

@@ -1,6 +1,6 @@
 -- Where a line lies in the manifest.
 use Prim.Native.Nat.{ℕ, _≤_, _<_}
-use mathlib.Core.Bool.{Bool, _&&_}
+use mathlib.Core.Bool.{Bool, true, _&&_}
 use mathlib.Core.List.{List, _∷_}
 use mathlib.Core.Path.{_≡_}
 use lib.Dec.{ltb}
@@ -35,3 +35,4 @@ pub record LineHere (m : List ℕ) (i : ℕ) (s : LineBounds) : Type 0 where
   pub within : s .end ≤ length m
   pub most : s .next ≤ length m
   pub span : i < length m → LineSpan m i s
+  pub past : s .comment ≡ true → i < s .next

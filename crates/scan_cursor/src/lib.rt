@@ -93,23 +93,23 @@ fn line_at(t: &[u8; 256], m: &[u8], place: usize) -> LineBounds
     }
 }
 
-// A line behind those that were found. A comment is passed over.
+// A line behind those that were found. A comment is passed over; it is asked for first, since comments are the shortest turns of the loop.
 fn put_line(out: &mut [u32], filled: usize, s: LineBounds) -> Found
     requires { ⌜ LinePutAsk (now out) filled s ⌝ }
     ensures { λ r. ⌜ LinePut (now (out .entry)) filled s (now (out .exit)) r ⌝ }
 {
-    if s.next <= s.start {
-        return Found {
-            filled,
-            next: s.start,
-            more: false,
-        };
-    }
     if s.comment {
         return Found {
             filled,
             next: s.next,
             more: true,
+        };
+    }
+    if s.next <= s.start {
+        return Found {
+            filled,
+            next: s.start,
+            more: false,
         };
     }
     out[filled] = s.start as u32;

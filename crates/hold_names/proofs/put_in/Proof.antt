@@ -17,14 +17,8 @@ add-at c = search needs
 at-requires : tie.Need-at-requires
 at-requires c κs = search needs
 
-add-lift : tie.Need-add-lift
-add-lift c = search needs
-
-add-lift-2 : tie.Need-add-lift-2
-add-lift-2 c = search needs
-
-lift-requires : tie.Need-lift-requires
-lift-requires c κs = search needs
+make-room-requires : tie.Need-make-room-requires
+make-room-requires c κs = search needs
 
 add-put : tie.Need-add-put
 add-put c = search needs
@@ -48,7 +42,7 @@ same-length : tie.Need-same-length
 same-length c = search needs
 
 returns : tie.Need-returns
-returns c = (omega (arith, c .before .before .before .before .before .before .before .before .before .before .before .before .at .ensures), rw (c .before .before .put2 .ensures, c .before .before .before .before .before .before .put .ensures) (put-in (c .before .before .before .before .before .before .before .before .before .before .before .before .before .before .before .args .index .now) (c .before .before .before .before .before .before .before .before .before .before .before .before .before .before .before .args .count) (c .before .before .before .before .before .before .before .before .before .before .before .before .before .before .before .args .block) (c .before .before .before .before .before .before .before .before .before .before .before .before .before .before .before .args .place) _ (c .before .before .before .before .before .before .before .before .before .before .before .before .before .before .before .pre .0) (c .before .before .before .before .before .before .before .before .before .before .before .before .before .before .before .pre .2) (c .before .before .before .before .before .before .before .before .before .before .before .before .before .before .before .pre .3) (c .before .before .before .before .before .before .before .before .before .before .before .before .before .before .before .pre .4) (c .before .before .before .before .before .before .before .before .before .before .before .before .at .ensures) (c .before .before .before .before .before .before .before .before .before .before .lift .ensures)))
+returns c = (omega (arith, c .before .before .before .before .before .before .before .before .before .before .before .before .at .ensures), rw (c .before .before .put2 .ensures, c .before .before .before .before .before .before .put .ensures) (put-in (c .before .before .before .before .before .before .before .before .before .before .before .before .before .before .before .args .index .now) (c .before .before .before .before .before .before .before .before .before .before .before .before .before .before .before .args .count) (c .before .before .before .before .before .before .before .before .before .before .before .before .before .before .before .args .block) (c .before .before .before .before .before .before .before .before .before .before .before .before .before .before .before .args .place) _ (c .before .before .before .before .before .before .before .before .before .before .before .before .before .before .before .pre .0) (c .before .before .before .before .before .before .before .before .before .before .before .before .before .before .before .pre .2) (c .before .before .before .before .before .before .before .before .before .before .before .before .before .before .before .pre .3) (c .before .before .before .before .before .before .before .before .before .before .before .before .before .before .before .pre .4) (c .before .before .before .before .before .before .before .before .before .before .before .before .at .ensures) (c .before .before .before .before .before .before .before .before .before .before .make-room .ensures)))
 
 pub put-in-spec : {M : Type 1} → statement M
 put-in-spec =
@@ -58,9 +52,7 @@ put-in-spec =
     add-from
     add-at
     at-requires
-    add-lift
-    add-lift-2
-    lift-requires
+    make-room-requires
     add-put
     put-requires
     add-put-2

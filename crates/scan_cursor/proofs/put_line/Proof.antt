@@ -7,10 +7,10 @@ use Rattle.scan_cursor.proofs.put_line.Statement.{statement}
 use Rattle.scan_cursor.proofs.put_line.Tie as tie
 
 returns : tie.Need-returns
-returns c = none (c .if1 .taken)
+returns c = passed (c .before .pre .past (c .if1 .taken)) (c .if1 .taken)
 
 returns-2 : tie.Need-returns-2
-returns-2 c = passed (c .before .if1 .left) (c .if2 .taken)
+returns-2 c = none (c .if2 .taken)
 
 cast-out : tie.Need-cast-out
 cast-out c = search needs
@@ -43,7 +43,7 @@ same-length : tie.Need-same-length
 same-length c = search needs
 
 returns-3 : tie.Need-returns-3
-returns-3 c = put (c .before .before .before .if1 .left) (c .before .before .if2 .left)
+returns-3 c = put (c .before .before .if2 .left) (c .before .before .before .before .if1 .left)
 
 pub put-line-spec : {M : Type 1} → statement M
 put-line-spec =
