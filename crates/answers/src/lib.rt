@@ -1,4 +1,5 @@
 // The answers of the two asks as document 01's numbers, for whoever prints or compares them.
+#![tactic(auto)]
 ghost use Rattle.std.specs.Prelude.{◌≡◌};
 ghost use Rattle.spec.specs.Answers.{refusal_says, plan_says, text_says};
 ghost use Rattle.answers.specs.Numbers.{saying, said};
@@ -6,7 +7,7 @@ ghost use Rattle.answers.specs.Numbers.{saying, said};
 use spec::{PlanAnswer, Refusal, TextAnswer};
 
 // A refusal's number, whether its place stands in a text, and its place; or 0 and the count that a plan or a text gives.
-#[derive(Drop)]
+#[derive(Clone, Copy)]
 pub struct Numbers {
     pub number: usize,
     pub text: bool,
@@ -15,7 +16,7 @@ pub struct Numbers {
 
 // The same for callers outside: where its place stands in a text, the number of the text and one more; 0 where its value is a number by itself.
 #[repr(C)]
-#[derive(Drop)]
+#[derive(Clone, Copy)]
 pub struct Placed {
     pub number: usize,
     pub text: usize,

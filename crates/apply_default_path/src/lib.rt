@@ -1,4 +1,5 @@
 // One path of a default line: its limits, and the output's number behind the defaults.
+#![tactic(auto)]
 ghost use Rattle.lists.specs.Lent.{Spare, Leaves};
 ghost use Rattle.apply_path_checks.specs.Checks.{RawAsks};
 ghost use Rattle.apply_default_path.specs.Defaults.{PutAsks, PutsDefault, NamesDefault};
@@ -12,7 +13,7 @@ use hold_reading::Counts;
 use hold_reading::columns::DEFAULTS_START;
 
 // What a path of a default line does: it is a default more, or over a limit.
-#[derive(Drop)]
+#[derive(Clone, Copy)]
 pub enum AddedDefault {
     Added(Counts),
     Over,

@@ -1,4 +1,5 @@
 // Default lines: "`default PATHS`, one at least, each the output of an earlier step."
+#![tactic(auto)]
 ghost use Rattle.std.specs.Prelude.{List, ℕ};
 ghost use Rattle.lists.specs.Lent.{Spare, Leaves};
 ghost use Rattle.spec.specs.Statements.{add_defaults, expanded};
@@ -16,7 +17,7 @@ use hold_reading::{Counts, LineAnswer, Open};
 use spec::Refusal;
 
 // A default line: where it starts in the manifest, and where its paths start in it.
-#[derive(Drop)]
+#[derive(Clone, Copy)]
 pub struct DefaultStatement {
     pub start: usize,
     pub paths: usize,

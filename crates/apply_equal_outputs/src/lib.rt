@@ -1,4 +1,5 @@
 // Two equal outputs in a line. The outputs so far stand in a table that is sorted by what they expand to, so each is compared with few others.
+#![tactic(auto)]
 ghost use Rattle.apply_equal_outputs.specs.Sorted.{EntryAsks, PathOrdered, SortedAsks, PlaceIn, AddAsks, PathAdded, TableAsks, ComparesOutputs, RoomAsks, Twice};
 
 use arena::insert;
@@ -11,7 +12,7 @@ use lists::Order;
 use slices::words::at;
 
 // Where a path stands in a sorted table: an equal one is there, or it belongs at a place.
-#[derive(Drop)]
+#[derive(Clone, Copy)]
 pub enum TablePlace {
     Taken,
     Free(usize),

@@ -1,4 +1,5 @@
 // One path of a line is put into the graph's columns: its limits, its number by first mention, and no maker where it is new.
+#![tactic(auto)]
 ghost use Rattle.std.specs.Prelude.{◌≡◌, ◌+◌, ◌≤◌, ◌<◌, length};
 ghost use Rattle.lists.specs.Lent.{Spare, Leaves};
 ghost use Rattle.spec.specs.Limits.{max_mentions, max_written, max_files};
@@ -11,7 +12,7 @@ use hold_reading::Counts;
 use hold_reading::columns::MADE_START;
 use spec::limits::{MENTIONS, PATH, WRITTEN};
 
-#[derive(Drop)]
+#[derive(Clone, Copy)]
 pub enum Mentioned {
     // The reading goes on with these counts.
     On(Counts),

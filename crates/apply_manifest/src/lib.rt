@@ -1,4 +1,5 @@
 // The reader of a bundle of manifest texts: 19, 2 and 3 for the whole of it, then the lines of the top file and of those that it opens.
+#![tactic(auto)]
 ghost use Rattle.lists.specs.Lent.{Spare, Leaves};
 ghost use Rattle.apply_manifest.specs.Manifests.{Roomy, LinesAsk, LinesRead, IsRead};
 ghost use Rattle.hold_reading.specs.Buffers.{SameRoom, buffers};
@@ -27,7 +28,7 @@ const NOTHING: Counts = Counts {
 };
 
 // What the reader answers: how much it holds, or the first refusal.
-#[derive(Drop)]
+#[derive(Clone, Copy)]
 pub enum ReadAnswer {
     Accepted(Counts),
     Refused(Refusal),

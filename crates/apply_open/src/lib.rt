@@ -1,4 +1,5 @@
 // A line that opens a file: the record that its path names, the scope that is entered for it, and the way back.
+#![tactic(auto)]
 ghost use Rattle.std.specs.Prelude.{◌≡◌, ◌≤◌};
 ghost use Rattle.lists.specs.Lent.{Spare, Leaves};
 ghost use Rattle.spec.specs.Limits.{max_written};
@@ -16,14 +17,14 @@ use spec::Refusal;
 use spec::limits::{OPENED, PATH, WRITTEN};
 
 // What a path opens: the record of that name, with the number of the path's bytes; or why it does not.
-#[derive(Drop)]
+#[derive(Clone, Copy)]
 pub enum OpenedPath {
     Found(usize, usize),
     Refused(Refusal),
 }
 
 // The counts with a file that is opened, and the scope to go back to.
-#[derive(Drop)]
+#[derive(Clone, Copy)]
 pub struct OpenedFile {
     pub counts: Counts,
     pub scope: usize,

@@ -1,4 +1,5 @@
 // The refusals under 8 that a path has by itself. Each path of a list is cut and expanded once, and looked at for what its kind is refused for.
+#![tactic(auto)]
 ghost use Rattle.std.specs.Prelude.{◌≡◌, List};
 ghost use Rattle.lists.specs.Lent.{Spare, Leaves};
 ghost use Rattle.spec.specs.Reading.{Reading, is_made};
@@ -17,7 +18,7 @@ use slices::words::at;
 use spec::limits::PATH;
 
 // No path may be empty. An output of a build line is made by no earlier step, a default by one.
-#[derive(Drop)]
+#[derive(Clone, Copy)]
 pub enum PathKind {
     Input,
     Output,
@@ -25,7 +26,7 @@ pub enum PathKind {
 }
 
 // A list of a line's paths: where it starts, and of which kind they are.
-#[derive(Drop)]
+#[derive(Clone, Copy)]
 pub struct PathList {
     pub start: usize,
     pub kind: PathKind,

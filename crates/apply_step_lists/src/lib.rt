@@ -1,4 +1,5 @@
 // The lists of a build line are mentioned, each with its end behind it.
+#![tactic(auto)]
 ghost use Rattle.lists.specs.Lent.{Spare, Leaves};
 ghost use Rattle.apply_step_lists.specs.Lists.{StepListAsks, MentionsList, TwoAsks, Two, FourAsks, Four};
 ghost use Rattle.hold_reading.specs.Buffers.{SameRoom, buffers};
@@ -12,14 +13,14 @@ use hold_reading::Counts;
 use hold_reading::columns::ENDS_START;
 
 // A list of a build line: where it starts, and its end's number among all ends.
-#[derive(Drop)]
+#[derive(Clone, Copy)]
 pub struct EndedList {
     pub start: usize,
     pub end: usize,
 }
 
 // Two lists: where each starts, and the number of the first one's end; the other's follows.
-#[derive(Drop)]
+#[derive(Clone, Copy)]
 pub struct EndedPair {
     pub first: usize,
     pub second: usize,

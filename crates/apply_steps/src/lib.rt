@@ -1,4 +1,5 @@
 // A build line is written: its files are mentioned, and its step is put into the graph's columns.
+#![tactic(auto)]
 ghost use Rattle.lists.specs.Lent.{Spare, Leaves};
 ghost use Rattle.apply_steps.specs.Asks.{StepAsks, WritesStep};
 ghost use Rattle.hold_reading.specs.Buffers.{SameRoom, buffers};
@@ -13,7 +14,7 @@ use spec::Refusal;
 use spec::limits::STEPS;
 
 // A build line: where it starts in the manifest, and where its parts stand in it.
-#[derive(Drop)]
+#[derive(Clone, Copy)]
 pub struct BuildStatement {
     pub start: usize,
     pub places: BuildPlaces,

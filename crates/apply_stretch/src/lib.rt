@@ -1,5 +1,6 @@
 // Lines that were found, up to the first that opens a file. This loop stands apart from the files that open files: into a function that calls itself the
 // compiler builds little, and here it is to build all that a line takes.
+#![tactic(auto)]
 ghost use Rattle.lists.specs.Lent.{Spare, Leaves};
 ghost use Rattle.apply_stretch.specs.Stretches.{StretchAsk, StretchMeets};
 ghost use Rattle.hold_reading.specs.Buffers.{SameRoom, buffers};
@@ -9,14 +10,14 @@ use hold_reading::{Counts, Line, LineAnswer, LineTurn, State};
 use slices::words::at;
 
 // Where lines that were found begin: their text among all texts, and the first of them among the numbers.
-#[derive(Drop)]
+#[derive(Clone, Copy)]
 pub struct FoundPlace {
     pub base: usize,
     pub from: usize,
 }
 
 // All lines are answered; or the one at a place of the numbers opens a file by a raw path, from one place of the line to another, maybe in a new scope.
-#[derive(Drop)]
+#[derive(Clone, Copy)]
 pub enum Stretch {
     Answered(LineAnswer),
     Opens(usize, Counts, bool, usize, usize),

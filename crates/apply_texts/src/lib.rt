@@ -1,4 +1,5 @@
 // A text of a bundle: its lines, some at a time, and the files that they open, each read whole before the lines behind.
+#![tactic(auto)]
 ghost use Rattle.lists.specs.Lent.{Spare, Leaves};
 ghost use Rattle.spec.specs.Bundle.{bundle_texts};
 ghost use Rattle.spec.specs.Manifest.{read_lines, text_lines};
@@ -20,14 +21,14 @@ use spec::Refusal;
 const FOUND: usize = 64;
 
 // A text to be read: the number of its record, and how many files more may be open then.
-#[derive(Drop)]
+#[derive(Clone, Copy)]
 pub struct Opening {
     pub record: usize,
     pub more: usize,
 }
 
 // Where the places of a text begin among those of all texts, and how many files more may be open.
-#[derive(Drop)]
+#[derive(Clone, Copy)]
 pub struct TextPlace {
     pub base: usize,
     pub more: usize,
@@ -35,7 +36,7 @@ pub struct TextPlace {
 
 // The lines that were found, from a place of their numbers on: where the places of their text begin among those of all texts, and how many files more may
 // be open.
-#[derive(Drop)]
+#[derive(Clone, Copy)]
 pub struct TextLines {
     pub base: usize,
     pub from: usize,
@@ -43,14 +44,14 @@ pub struct TextLines {
 }
 
 // Up to which place of the numbers the lines are read, and their answer.
-#[derive(Drop)]
+#[derive(Clone, Copy)]
 pub struct LinesTurn {
     pub next: usize,
     pub answer: LineAnswer,
 }
 
 // A line that opens a file: its place among all texts, whether in a new scope, and how many files more may be open.
-#[derive(Drop)]
+#[derive(Clone, Copy)]
 pub struct OpenLine {
     pub start: usize,
     pub sub: bool,

@@ -1,4 +1,5 @@
 // Several tables in one lent slice: specs and laws, the one store, and a number put in within a table.
+#![tactic(auto)]
 ghost use Rattle.std.specs.Prelude.{◌≡◌, ◌≤◌, ◌<◌, length, set};
 ghost use Rattle.arena.specs.Inserted.{Shifted};
 

@@ -1,4 +1,5 @@
 // The name of a step's depfile, by the text of its rule's key (document 02, [4]).
+#![tactic(auto)]
 ghost use Rattle.std.specs.Prelude.{List, ℕ};
 ghost use Rattle.spec.specs.TextAsk.{TextOutcome};
 ghost use Rattle.hold_reading.specs.Buffers.{buffers};
@@ -12,7 +13,7 @@ use text_step::steps::asked;
 use text_step::{StepAsked, text_at};
 
 // No depfile is named, or its name has so many bytes, or it is refused.
-#[derive(Drop)]
+#[derive(Clone, Copy)]
 pub enum StepDepfile {
     None,
     Written(usize),

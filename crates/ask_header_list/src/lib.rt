@@ -1,5 +1,6 @@
 // The listed inputs of one step: its depfile is looked up by its name, the names that it lists are mentioned, and the step is copied into the second
 // columns with them behind its implicit inputs.
+#![tactic(auto)]
 ghost use Rattle.std.specs.Prelude.{◌≡◌};
 ghost use Rattle.lists.specs.Lent.{Spare, Leaves};
 ghost use Rattle.ask_header_list.specs.Places.{start_in, places_in, PlacesAsk};
@@ -21,7 +22,7 @@ use slices::words::at;
 use spec::Refusal;
 
 // Where the written mentions of a step start, and where each of its parts ends.
-#[derive(Drop)]
+#[derive(Clone, Copy)]
 pub struct StepPlaces {
     pub start: usize,
     pub outs: usize,
@@ -31,7 +32,7 @@ pub struct StepPlaces {
 }
 
 // Where each of its parts ends in the second columns.
-#[derive(Drop)]
+#[derive(Clone, Copy)]
 pub struct StepEnds {
     pub outs: usize,
     pub ins: usize,
@@ -40,7 +41,7 @@ pub struct StepEnds {
 }
 
 // A step's depfile: none is named, no record has its name, or the record and where its names start.
-#[derive(Drop)]
+#[derive(Clone, Copy)]
 pub enum DepfilePlace {
     Unnamed,
     Absent,
@@ -49,7 +50,7 @@ pub enum DepfilePlace {
 }
 
 // What a step's depfile tells: the counts with its names mentioned, and its number; or the step's 20.
-#[derive(Drop)]
+#[derive(Clone, Copy)]
 pub enum DepfileTold {
     Told(Counts, usize),
     Refused,

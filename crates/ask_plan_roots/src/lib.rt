@@ -1,11 +1,12 @@
 // The choice of the roots, and 13: both go by the written inputs.
+#![tactic(auto)]
 ghost use Rattle.lists.specs.Lent.{Spare, Leaves};
 ghost use Rattle.ask_plan_roots.specs.Roots.{PutAsked, FilesPut, ChoiceAsked, RootsPut, RootsFound};
 
 use graph_roots::tops;
 
 // How many roots there are; or 13.
-#[derive(Drop)]
+#[derive(Clone, Copy)]
 pub enum Roots {
     From(usize),
     None,

@@ -1,11 +1,12 @@
 // The names of a target list as numbers of files, or 12.
+#![tactic(auto)]
 ghost use Rattle.lists.specs.Lent.{Spare, Leaves};
 ghost use Rattle.ask_target_files.specs.Numbered.{NumberingAsked, NumbersTargets};
 
 use hold_names::{FoundName, find_name};
 use scan_targets::{NextTarget, bad_form, name_at};
 
-#[derive(Drop)]
+#[derive(Clone, Copy)]
 pub enum NumberedTargets {
     // So many numbers stand at the front of the buffer.
     All(usize),

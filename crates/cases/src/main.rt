@@ -1,5 +1,6 @@
 // Puts every case of the folder cases/ to both asks, from the packed file that `pack` of second/ writes, and compares the answers and
 // the whole of each lent buffer with what is expected.
+#![tactic(auto)]
 ghost use Rattle.std.specs.Prelude.{length};
 ghost use Rattle.test_packed.specs.Parts.{PartsBehind};
 
@@ -31,7 +32,7 @@ fn fill_words(list: &mut [u32]) {
 
 // How many cases and asks there were, and how many were answered otherwise than expected; whether more cases follow, and whether the
 // packed file was read as it should be.
-#[derive(Drop)]
+#[derive(Clone, Copy)]
 struct Tally {
     cases: u64,
     asks: u64,

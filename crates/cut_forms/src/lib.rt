@@ -1,9 +1,10 @@
 // The forms that a line is cut into, where their parts stand in it, and the cut of a list of paths or of one path.
+#![tactic(auto)]
 pub mod opens;
 pub mod paths;
 
 // What a line without indent is.
-#[derive(Drop)]
+#[derive(Clone, Copy)]
 pub enum Statement {
     // where the name starts and ends
     Rule(usize, usize),
@@ -18,14 +19,14 @@ pub enum Statement {
 }
 
 // What an indented line is.
-#[derive(Drop)]
+#[derive(Clone, Copy)]
 pub enum Assignment {
     Binding(usize, usize, usize),
     Wrong(Fault),
 }
 
 // What is wrong with a line's bytes: 4, 5 with the place of the `$`, or 6.
-#[derive(Drop)]
+#[derive(Clone, Copy)]
 pub enum Fault {
     NoForm,
     BadDollar(usize),
@@ -34,7 +35,7 @@ pub enum Fault {
 
 // Where the parts of a build line start. The rule's name ends where the explicit inputs start. Implicit or order-only inputs that are not
 // there start at the line's end, where no path is.
-#[derive(Drop)]
+#[derive(Clone, Copy)]
 pub struct BuildPlaces {
     pub outs: usize,
     pub rule: usize,
@@ -44,28 +45,28 @@ pub struct BuildPlaces {
 }
 
 // The next path of a list: where it starts and ends.
-#[derive(Drop)]
+#[derive(Clone, Copy)]
 pub enum ListPath {
     Path(usize, usize),
     Stop,
 }
 
 // A list of paths: whether it has any, and where it ends.
-#[derive(Drop)]
+#[derive(Clone, Copy)]
 pub enum Listed {
     Ends(bool, usize),
     Wrong(Fault),
 }
 
 // Where a name ends.
-#[derive(Drop)]
+#[derive(Clone, Copy)]
 pub enum Named {
     To(usize),
     Wrong(Fault),
 }
 
 // What stands after a list of inputs: nothing, `|` or `||` with the place behind it, or a byte that does not fit.
-#[derive(Drop)]
+#[derive(Clone, Copy)]
 pub enum Bars {
     LineEnd,
     One(usize),
@@ -74,7 +75,7 @@ pub enum Bars {
 }
 
 // Where a build line's outputs, rule and explicit inputs start.
-#[derive(Drop)]
+#[derive(Clone, Copy)]
 pub struct Head {
     pub outs: usize,
     pub rule: usize,

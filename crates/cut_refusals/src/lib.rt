@@ -1,4 +1,5 @@
 // A line of the manifest cut, with its 4, 5 or 6 in the manifest's own places.
+#![tactic(auto)]
 ghost use Rattle.std.specs.Prelude.{◌≡◌};
 ghost use Rattle.scan_cursor.specs.Spans.{line_of};
 ghost use Rattle.cut_refusals.specs.Cuts.{Near, refusal_of, CutAsks, FileLineAt, BlockLineAt};
@@ -8,7 +9,7 @@ use cut_lines::{cut_indented, cut_statement};
 use spec::Refusal;
 
 // A line at file level. Places are in the line.
-#[derive(Drop)]
+#[derive(Clone, Copy)]
 pub enum FileLine {
     // where the name starts and ends
     Rule(usize, usize),
@@ -23,7 +24,7 @@ pub enum FileLine {
 }
 
 // A line of a block.
-#[derive(Drop)]
+#[derive(Clone, Copy)]
 pub enum BlockLine {
     Binding(usize, usize, usize),
     Refused(Refusal),

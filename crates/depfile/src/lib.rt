@@ -1,1 +1,2 @@
 // Header lists from the compiler: definitions and laws alone.
+#![tactic(auto)]

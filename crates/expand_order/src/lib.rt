@@ -1,4 +1,5 @@
 // How what two raw texts expand to compares: run by run, with nothing written out.
+#![tactic(auto)]
 ghost use Rattle.std.specs.Prelude.{◌≡◌, List};
 ghost use Rattle.hold_bindings.specs.Log.{Logged};
 ghost use Rattle.hold_bindings.specs.Held.{HoldsBindings};
@@ -13,7 +14,7 @@ use expand_parts::{Run, filled};
 use lists::Order;
 
 // What the front of two runs says: which of the two comes first, or the first n bytes are the same, and one of the two has no more.
-#[derive(Drop)]
+#[derive(Clone, Copy)]
 pub enum Ahead {
     Less,
     Greater,

@@ -1,4 +1,5 @@
 // The runs of bytes that an expansion is made of.
+#![tactic(auto)]
 ghost use Rattle.std.specs.Prelude.{List, ℕ, ◌<◌, length};
 ghost use Rattle.hold_bindings.specs.Held.{SoundBindings};
 ghost use Rattle.expand_parts.specs.Runs.{BeginsRun, Variable, ExpandReady, Going, Filled};
@@ -8,7 +9,7 @@ use scan_dollars::{Escape, dollar};
 use slices::bytes::find;
 
 // A run of bytes of an expansion: a part of the raw text, or of the bound texts, and where the raw text goes on behind it.
-#[derive(Drop)]
+#[derive(Clone, Copy)]
 pub struct Run {
     pub bound: bool,
     pub from: usize,

@@ -1,4 +1,5 @@
 // The graph of steps: the order of the needed ones, or a circle among them.
+#![tactic(auto)]
 ghost use Rattle.std.specs.Prelude.{◌≡◌, ◌+◌, ◌≤◌, length, take};
 ghost use Rattle.hold_columns.specs.Columns.{FilesMade, Shown};
 ghost use Rattle.lists.specs.Lent.{Spare, Leaves};
@@ -12,21 +13,21 @@ use slices::words::{at, zero_words_from};
 use spec::limits::STEPS;
 
 // How a walk ends: with so many steps in order, or with a circle, at these places of the path.
-#[derive(Drop)]
+#[derive(Clone, Copy)]
 pub enum Visit {
     Done(usize),
     Circle(usize, usize),
 }
 
 // How the sorting of the needed steps ends: with so many in order, or with a circle of that length.
-#[derive(Drop)]
+#[derive(Clone, Copy)]
 pub enum Sorting {
     Ordered(usize),
     Circular(usize),
 }
 
 // How far the sorting is: from so many roots it has walked, and so many steps are in order.
-#[derive(Drop)]
+#[derive(Clone, Copy)]
 struct Reached {
     roots: usize,
     steps: usize,

@@ -1,4 +1,5 @@
 // Which steps are stale.
+#![tactic(auto)]
 ghost use Rattle.std.specs.Prelude.{◌≡◌, ℕ, ◌<◌, max, length, get_or};
 ghost use Rattle.lists.specs.Members.{◌∈◌};
 ghost use Rattle.hold_columns.specs.Columns.{bit, FilesMade, PartsPlaced};
@@ -9,7 +10,7 @@ use slices::words::at;
 use spec::limits::STEPS;
 
 // What is told of a step: 1 if it is stale, else 0, and the time that its missing outputs have if it is phony.
-#[derive(Drop)]
+#[derive(Clone, Copy)]
 pub struct Judged {
     pub stale: u32,
     pub time: u64,

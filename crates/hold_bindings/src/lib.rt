@@ -1,4 +1,5 @@
 // The table of everything that a manifest binds: file variables, rules with their keys, and the lines of steps' blocks.
+#![tactic(auto)]
 ghost use Rattle.std.specs.Prelude.{◌≡◌, List, [], ◌∷◌, ℕ, ◌+◌, ◌*◌, ◌^◌, ◌≤◌, ◌<◌, length, set};
 ghost use Rattle.lists.specs.Bytes.{less_bytes};
 ghost use Rattle.hold_bindings.specs.Log.{Logged, logged, entering, back_to, entry_at, is_named, newest, Scoping, scoping_of, newest_from};
@@ -36,14 +37,14 @@ const PARENTS: usize = SCOPE_COUNT + 2;
 pub const ROWS: usize = PARENTS + SCOPES;
 
 // The number of an entry, if there is one.
-#[derive(Drop)]
+#[derive(Clone, Copy)]
 pub enum FoundEntry {
     At(usize),
     Missing,
 }
 
 // A part of the texts.
-#[derive(Drop)]
+#[derive(Clone, Copy)]
 pub struct ValuePlace {
     pub from: usize,
     pub to: usize,

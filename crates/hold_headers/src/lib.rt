@@ -1,4 +1,5 @@
 // The second columns of the graph, which have the listed inputs: what they tell of a step's depfile. `specs/Headed.antt` says what they hold.
+#![tactic(auto)]
 ghost use Rattle.std.specs.Prelude.{◌≡◌, ◌+◌, ◌<◌, length};
 ghost use Rattle.hold_reading.specs.Held.{rule_start};
 ghost use Rattle.hold_headers.specs.Headed.{listed_in};
@@ -9,7 +10,7 @@ use slices::words::at;
 use spec::Refusal;
 
 // With the listed inputs of a step: the counts then, or its refusal.
-#[derive(Drop)]
+#[derive(Clone, Copy)]
 pub enum AddedHeaders {
     Headed(Counts),
     Refused(Refusal),

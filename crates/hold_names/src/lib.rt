@@ -1,5 +1,6 @@
 // The table of file names: a number for each path, by first mention. The bytes of the names lie end to end in `names`. `index` has where each ends;
 // then for each bucket two names, as one number; then, sorted and in blocks, the numbers of those that found no room in their bucket.
+#![tactic(auto)]
 ghost use Rattle.std.specs.Prelude.{◌≡◌, ◌+◌, ◌-◌, ◌^◌, ◌≤◌, ◌<◌, length, drop};
 ghost use Rattle.lists.specs.Fill.{zeroed};
 ghost use Rattle.spec.specs.Limits.{max_files};
@@ -27,13 +28,13 @@ pub const NUMBERS: usize = BLOCKS + FILES / 63 * 128;
 // A bucket's number has its first name below this, its second above.
 const PAIR: usize = 65536;
 
-#[derive(Drop)]
+#[derive(Clone, Copy)]
 pub enum FoundName {
     At(usize),
     Missing,
 }
 
-#[derive(Drop)]
+#[derive(Clone, Copy)]
 pub enum Added {
     // It was there, with this number.
     Old(usize),
@@ -44,7 +45,7 @@ pub enum Added {
 }
 
 // How a path compares with a name: it stands before it, is the same, or stands behind it. Each has how many compares were made with this one.
-#[derive(Drop)]
+#[derive(Clone, Copy)]
 pub enum Compared {
     Before(usize),
     Same(usize),
@@ -52,14 +53,14 @@ pub enum Compared {
 }
 
 // Whether a path is a name, and how many compares were made with this one.
-#[derive(Drop)]
+#[derive(Clone, Copy)]
 pub struct Matched {
     pub same: bool,
     pub compares: usize,
 }
 
 // The end of halving: the number of the path, or the count of names; how many compares were made; how many of those looked at are less than the path.
-#[derive(Drop)]
+#[derive(Clone, Copy)]
 pub struct Halved {
     pub number: usize,
     pub compares: usize,
@@ -67,7 +68,7 @@ pub struct Halved {
 }
 
 // The same of all sorted names, with the block of a new path and its place there.
-#[derive(Drop)]
+#[derive(Clone, Copy)]
 pub struct Sought {
     pub number: usize,
     pub compares: usize,
@@ -76,7 +77,7 @@ pub struct Sought {
 }
 
 // The same of a whole lookup, with the path's bucket, so that `add` need not sum its bytes again.
-#[derive(Drop)]
+#[derive(Clone, Copy)]
 pub struct Lookup {
     pub bucket: usize,
     pub number: usize,

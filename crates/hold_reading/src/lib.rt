@@ -1,4 +1,5 @@
 // What the reader keeps beside its lent buffers: counts and the open block. `specs/Held.antt` says what the buffers hold.
+#![tactic(auto)]
 ghost use Rattle.std.specs.Prelude.{◌≡◌};
 
 pub mod columns;
@@ -6,7 +7,7 @@ pub mod columns;
 use spec::Refusal;
 
 // What has been counted so far. `paths` are the mentions of build lines alone, `entries` the rows of the binding table.
-#[derive(Drop)]
+#[derive(Clone, Copy)]
 pub struct Counts {
     pub files: usize,
     pub steps: usize,
@@ -20,7 +21,7 @@ pub struct Counts {
     pub opened: usize,
 }
 
-#[derive(Drop)]
+#[derive(Clone, Copy)]
 pub enum Open {
     Nothing,
     // a rule's block: the start of its line, and its entry in the binding table
@@ -30,28 +31,28 @@ pub enum Open {
 }
 
 // Where a line starts, and whether a newline ends it.
-#[derive(Drop)]
+#[derive(Clone, Copy)]
 pub struct Line {
     pub start: usize,
     pub ended: bool,
 }
 
 // What is kept from line to line beside the buffers.
-#[derive(Drop)]
+#[derive(Clone, Copy)]
 pub struct State {
     pub counts: Counts,
     pub open: Open,
 }
 
 // What a line does: the reading goes on, or it is refused.
-#[derive(Drop)]
+#[derive(Clone, Copy)]
 pub enum LineAnswer {
     Goes(Counts, Open),
     Refused(Refusal),
 }
 
 // The same of a line that may open a file: in a new scope or not, by the raw path from one place of the line to another.
-#[derive(Drop)]
+#[derive(Clone, Copy)]
 pub enum LineTurn {
     Answered(LineAnswer),
     Opens(Counts, bool, usize, usize),

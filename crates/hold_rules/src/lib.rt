@@ -1,4 +1,5 @@
 // What is looked up among the bindings for a rule: whether it is declared, and whether it has a key.
+#![tactic(auto)]
 ghost use Rattle.std.specs.Prelude.{◌≡◌, List};
 ghost use Rattle.lists.specs.Text.{bytes};
 ghost use Rattle.spec.specs.Reading.{Reading, declared};

@@ -148,6 +148,7 @@ pub all_true : (p : ℕ → Bool) (l : List ℕ) → all p l ≡ true → {x : �
 unfolding all
 all_true p (y ∷ l) e (here q) = rw q (and_left (p y) (all p l) e)
 all_true p (y ∷ l) e (there h) = all_true p l (and_right (p y) (all p l) e) h
+all_true p [] e x4 = elim x4 [ ]
 
 pub all_false : (p : ℕ → Bool) (l : List ℕ) → all p l ≡ false → (x : ℕ) × (x ∈ l) × (p x ≡ false)
 unfolding all
@@ -166,6 +167,7 @@ pub any_false : (p : ℕ → Bool) (l : List ℕ) → any p l ≡ false → {x :
 unfolding any
 any_false p (y ∷ l) e (here q) = rw q (or_left (p y) (any p l) e)
 any_false p (y ∷ l) e (there h) = any_false p l (or_right (p y) (any p l) e) h
+any_false p [] e x4 = elim x4 [ ]
 
 pub true_any : (p : ℕ → Bool) (l : List ℕ) {x : ℕ} → x ∈ l → p x ≡ true → any p l ≡ true
 true_any p l h e = split (any p l) (λ (a : any p l ≡ true). a) (λ (b : any p l ≡ false). differ e (any_false p l b h))
@@ -201,6 +203,7 @@ find_none p (y ∷ l) e {x} h =
     split (p y)
     (λ (a : p y ≡ true). absurd (none-ne-some y (sym (rw (a, find) at e))))
     (λ (b : p y ≡ false). elim (in_cons h) [ inl q ↦ rw q b | inr k ↦ find_none p l (rw (b, find) at e) k ])
+find_none p [] e {x = x} h = elim h [ ]
 
 pub in_keep : (p : ℕ → Bool) (l : List ℕ) {x : ℕ} → x ∈ keep p l → (x ∈ l) × (p x ≡ true)
 unfolding keep
@@ -214,6 +217,7 @@ pub keep_in : (p : ℕ → Bool) (l : List ℕ) {x : ℕ} → x ∈ l → p x �
 unfolding keep
 keep_in p (y ∷ l) (here q) e = rw (← q, e, keep) (here refl)
 keep_in p (y ∷ l) (there h) e = split (p y) (λ (a : p y ≡ true). rw (a, keep) (there (keep_in p l h e))) (λ (b : p y ≡ false). rw (b, keep) (keep_in p l h e))
+keep_in p [] x4 e = elim x4 [ ]
 
 pub length_keep : (p : ℕ → Bool) (l : List ℕ) → length (keep p l) ≤ length l
 unfolding keep
@@ -228,6 +232,7 @@ length_keep_less p (y ∷ l) (here q) e = let h = length_keep p l in rw (← q, 
 length_keep_less p (y ∷ l) (there k) e =
     let h = length_keep_less p l k e in
     split (p y) (λ (a : p y ≡ true). rw (a, keep) (omega arith)) (λ (b : p y ≡ false). rw (b, keep) (omega arith))
+length_keep_less p [] x4 e = elim x4 [ ]
 
 pub in_up_from : (k n : ℕ) {x : ℕ} → x ∈ up_from k n → (k ≤ x) × (x < k + n)
 unfolding up_from
@@ -353,6 +358,7 @@ find_least p (z ∷ l) r {x} e {y} h f =
     split (p z)
     (λ (a : p z ≡ true). let q : z ≡ x = some-injective z x (rw (a, find) at e) in elim (in_cons h) [ inl k ↦ omega arith | inr k ↦ (let c = rising_head z l r k in omega arith) ])
     (λ (b : p z ≡ false). elim (in_cons h) [ inl k ↦ differ f (rw k b) | inr k ↦ find_least p l (rising_tail z l r) (rw (b, find) at e) k f ])
+find_least p [] r {x = x} e {y = y} h f = elim h [ ]
 
 pub rising_ext : (l r : List ℕ) → Rising l → Rising r → l ⊆ r → r ⊆ l → l ≡ r
 rising_ext [] [] a b f g = refl

@@ -1,7 +1,8 @@
 // Lists, which are what slices hold: definitions and laws, and the order of two.
+#![tactic(auto)]
 
 // Which of two comes first.
-#[derive(Drop)]
+#[derive(Clone, Copy)]
 pub enum Order {
     Less,
     Equal,

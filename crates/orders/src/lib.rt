@@ -1,1 +1,2 @@
 // Orders of steps: specs alone.
+#![tactic(auto)]

@@ -1,4 +1,5 @@
 // The program: reads `build.ninja` and `times.card` by name and the targets from standard input, and writes the plan.
+#![tactic(auto)]
 ghost use Rattle.io.specs.Counts.{IsPrefixLen};
 ghost use Rattle.report.specs.Begins.{AnswerRooms};
 ghost use Rattle.report.specs.Held.{ToWrite};
@@ -11,7 +12,7 @@ use report_output::Begun;
 use spec::limits::{CARD, LIST, MANIFEST, TARGETS};
 
 // How the program was started: by itself, by the script `plan`, or with arguments that it does not know.
-#[derive(Drop)]
+#[derive(Clone, Copy)]
 enum Started {
     Alone,
     ByScript,
@@ -19,7 +20,7 @@ enum Started {
 }
 
 // How a run ends: what there is to say is written, it is a refusal that is written, or not all of it could be written.
-#[derive(Drop)]
+#[derive(Clone, Copy)]
 enum Outcome {
     Done,
     Refused,

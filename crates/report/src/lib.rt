@@ -1,4 +1,5 @@
 // What the program writes: document 01's section "Gauges on the bench", from the lent bytes to lines in a lent buffer.
+#![tactic(auto)]
 ghost use Rattle.spec.specs.Bundle.{no_lists};
 ghost use Rattle.spec.specs.PlanAsk.{inputs_of};
 ghost use Rattle.answers.specs.Numbers.{said};
@@ -16,21 +17,21 @@ use spec::Wanted;
 use text_batch::TextsAnswer;
 
 // What a reading for texts gives: how many leading steps have their texts in the buffers, or the first refusal.
-#[derive(Drop)]
+#[derive(Clone, Copy)]
 pub enum TextsRead {
     Held(usize),
     Refused(Numbers),
 }
 
 // What the check of all texts finds: that each listed step has one, and for how many first steps the buffers hold them; or the first refusal.
-#[derive(Drop)]
+#[derive(Clone, Copy)]
 pub enum Checked {
     All(usize),
     Refused(Numbers),
 }
 
 // Lines that were made: of so many steps, and so many bytes long.
-#[derive(Drop)]
+#[derive(Clone, Copy)]
 pub struct Lines {
     pub steps: usize,
     pub bytes: usize,

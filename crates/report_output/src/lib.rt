@@ -1,4 +1,5 @@
 // All that the program writes, as definitions; and its output where it is a refusal, in a lent line.
+#![tactic(auto)]
 ghost use Rattle.std.specs.Prelude.{◌≤◌, length};
 ghost use Rattle.answers.specs.Numbers.{said};
 ghost use Rattle.printing.specs.Lines.{circle_output};
@@ -11,7 +12,7 @@ use printing::{say_circle, say_refused};
 
 // How the output begins: the line holds all of it, this many bytes, which say that there is no work or that the planner refuses; or the
 // lines of this many steps are to come, and for so many of the first the buffers hold the texts.
-#[derive(Drop)]
+#[derive(Clone, Copy)]
 pub enum Begun {
     Whole(usize),
     Refusal(usize),

@@ -1,4 +1,5 @@
 // The runner's table as numbers in lent columns, and what is decided on them: the record that changes, and the answer.
+#![tactic(auto)]
 ghost use Rattle.std.specs.Prelude.{◌≡◌, ◌<◌, ◌+◌, ◌*◌, length, get_or};
 ghost use Rattle.lists.specs.Lent.{Spare, Leaves};
 ghost use Rattle.run_rules.specs.Runner.{next_start, finish_of};
@@ -20,7 +21,7 @@ const POOLS: usize = 66;
 // What becomes of the table, for C too: the place of the record that changes and the state it gets, or a place past the end and 0; the refusal's
 // number, 0 for none; the step that is named, or the refusal's place.
 #[repr(C)]
-#[derive(Drop)]
+#[derive(Clone, Copy)]
 pub struct Change {
     pub place: usize,
     pub state: u32,
@@ -30,7 +31,7 @@ pub struct Change {
 
 // What a start is asked with, for C too: the job limit, the load gate, on or off with its highest load, and the reading.
 #[repr(C)]
-#[derive(Drop)]
+#[derive(Clone, Copy)]
 pub struct StartAsk {
     pub limit: u32,
     pub gated: bool,

@@ -1,4 +1,5 @@
 // The runner on numbers: the table as three numbers a record, the graph as rows, passes over both, and the lowest step that may start.
+#![tactic(auto)]
 ghost use Rattle.std.specs.Prelude.{◌≡◌, ◌+◌, ◌*◌, ◌<◌, ltb, length, get_or};
 ghost use Rattle.lists.specs.Lent.{Spare, Leaves};
 ghost use Rattle.run_rules.specs.Runner.{heavy_load, running_jobs, failure_forbids, lowest_step, next_start, job_is, finish_of};
@@ -10,7 +11,7 @@ use run_rules::{FinishAnswer, Gate, Job};
 use slices::words::{at, zero_words_from};
 
 // "the runner starts and names the lowest such step, none only if there is none"
-#[derive(Drop)]
+#[derive(Clone, Copy)]
 pub enum StartAnswer {
     Starts(u32),
     NoneStarts,

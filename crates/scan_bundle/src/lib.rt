@@ -1,5 +1,6 @@
 // A lent bundle: whether its bytes are a sound one, its names and texts as parts of it, the record of a name by halving, places in its texts, and the
 // bundle of one record written.
+#![tactic(auto)]
 ghost use Rattle.std.specs.Prelude.{◌≡◌, [], ◌+◌, ◌%◌, ◌≤◌, ◌<◌, length, get_or};
 ghost use Rattle.std.proofs.Math.Seq.{paste};
 ghost use Rattle.spec.specs.Answers.{base_of, spot};
@@ -16,35 +17,35 @@ use slices::bytes::copy_at;
 use slices::words::at;
 use spec::limits::PATH;
 
-#[derive(Drop)]
+#[derive(Clone, Copy)]
 pub enum BundleAnswer {
     // It is sound and has so many records.
     Sound(usize),
     Malformed,
 }
 
-#[derive(Drop)]
+#[derive(Clone, Copy)]
 pub enum FoundRecord {
     At(usize),
     Missing,
 }
 
 // A place in the texts: the number of a text and an offset in it. A place past them all has the number of texts.
-#[derive(Drop)]
+#[derive(Clone, Copy)]
 pub struct Spot {
     pub text: usize,
     pub offset: usize,
 }
 
 // Where extents end that lie end to end.
-#[derive(Drop)]
+#[derive(Clone, Copy)]
 enum Run {
     End(usize),
     Broken,
 }
 
 // Where a name stands among sorted ones: it is that of a record, or it belongs at a place.
-#[derive(Drop)]
+#[derive(Clone, Copy)]
 enum RecordPlace {
     Taken(usize),
     Free(usize),

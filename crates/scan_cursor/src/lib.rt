@@ -1,5 +1,6 @@
 // A reader over the manifest keeps the lent bytes and the place reached. The borrow checker covers no function over a struct
 // that holds a reference, so each is proved by hand; they leave the work to `line_at` and `put_line`, which take plain slices and values.
+#![tactic(auto)]
 ghost use Rattle.std.specs.Prelude.{◌≤◌, length, ◌≡◌};
 ghost use Rattle.scan_classes.specs.Table.{classes};
 ghost use Rattle.scan_cursor.specs.Spans.{LineHere};
@@ -7,7 +8,7 @@ ghost use Rattle.scan_cursor.specs.Found.{LinePutAsk, LinePut, FoundAsk, LinesFo
 
 use scan_lines::{LineEnd, line_end};
 
-#[derive(Drop)]
+#[derive(Clone, Copy)]
 pub struct Reader<'a> {
     pub manifest: &'a [u8],
     pub cursor: usize,
@@ -15,7 +16,7 @@ pub struct Reader<'a> {
 
 // Where a line starts and its bytes end, whether it is a comment, and where the next line starts. At the manifest's end it starts and
 // ends there, and so does the next.
-#[derive(Drop)]
+#[derive(Clone, Copy)]
 pub struct LineBounds {
     pub start: usize,
     pub end: usize,
@@ -24,7 +25,7 @@ pub struct LineBounds {
 }
 
 // How many numbers the lines that were found take, where the line behind them starts, and whether there may be one, and room for it.
-#[derive(Drop)]
+#[derive(Clone, Copy)]
 pub struct Found {
     pub filled: usize,
     pub next: usize,

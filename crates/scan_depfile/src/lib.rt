@@ -1,11 +1,12 @@
 // Make-style texts: the names that a text lists, one after another. A byte is gone over once.
+#![tactic(auto)]
 ghost use Rattle.std.specs.Prelude.{◌≡◌, ◌≤◌, ◌<◌, length, drop, get_or, set};
 ghost use Rattle.depfile.specs.Depfile.{dollar_byte, backslash_byte, marks_of, blank_lines, behind_blank};
 ghost use Rattle.scan_depfile.specs.Walk.{behind_gaps, rule_ends};
 ghost use Rattle.scan_depfile.specs.Answers.{MarkAt, NameByteAt, ReadsMarks, PassesName, ColonAt, TargetIs, StartsList, NextPrerequisite};
 
 // The mark at a place, and where the next one starts.
-#[derive(Drop)]
+#[derive(Clone, Copy)]
 pub enum FoundMark {
     Byte(u8, usize),
     Gap(usize),
@@ -14,28 +15,28 @@ pub enum FoundMark {
 }
 
 // A byte of a name and where the next one starts, or that the name is over.
-#[derive(Drop)]
+#[derive(Clone, Copy)]
 pub enum NameByte {
     In(u8, usize),
     End,
 }
 
 // Where a name ends, and of how many bytes it is.
-#[derive(Drop)]
+#[derive(Clone, Copy)]
 pub struct NameEnd {
     pub next: usize,
     pub length: usize,
 }
 
 // Where the names start that a text lists for a step; or its 20.
-#[derive(Drop)]
+#[derive(Clone, Copy)]
 pub enum DepfileStart {
     Names(usize),
     Refused,
 }
 
 // The next name that is listed: where the next one starts, and of how many bytes this one is.
-#[derive(Drop)]
+#[derive(Clone, Copy)]
 pub enum DepfileName {
     Name(usize, usize),
     End,

@@ -1,4 +1,5 @@
 // What a `$` begins: an escaped byte, a join, a name, or nothing sound.
+#![tactic(auto)]
 ghost use Rattle.std.specs.Prelude.{◌≡◌, ◌≤◌, length, drop};
 ghost use Rattle.spec.specs.Forms.{name_of, after_name};
 ghost use Rattle.scan_classes.specs.Table.{classes};
@@ -6,7 +7,7 @@ ghost use Rattle.spec.specs.Dollars.{element, braced};
 ghost use Rattle.scan_dollars.specs.Element.{TellsElement, PastAt};
 
 // What a `$` begins, and where the bytes after it start.
-#[derive(Drop)]
+#[derive(Clone, Copy)]
 pub enum Escape {
     // `$$`, `$ ` or `$:`: the byte that it gives
     Byte(u8, usize),
@@ -18,7 +19,7 @@ pub enum Escape {
 }
 
 // Where the bytes after a sound `$` start.
-#[derive(Drop)]
+#[derive(Clone, Copy)]
 pub enum After {
     To(usize),
     Bad,

@@ -1,4 +1,5 @@
 // Words where a rule or a key is named.
+#![tactic(auto)]
 ghost use Rattle.std.specs.Prelude.{◌≡◌};
 ghost use Rattle.spec.specs.Forms.{keyword, later_keyword, later_key, rule_word, key_word};
 ghost use Rattle.scan_keywords.specs.Words.{word_cut};
@@ -6,7 +7,7 @@ ghost use Rattle.scan_keywords.specs.Words.{word_cut};
 use byteorder::equal;
 
 // What a word is: a name, or one of those that fit no form (4) or are not yet in this edition (6).
-#[derive(Drop)]
+#[derive(Clone, Copy)]
 pub enum Word {
     Name,
     NoForm,

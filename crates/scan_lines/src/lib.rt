@@ -1,4 +1,5 @@
 // Where a line ends, and what kind of line it is.
+#![tactic(auto)]
 ghost use Rattle.std.specs.Prelude.{◌≡◌, ◌≤◌, length};
 ghost use Rattle.spec.specs.Lines.{comment, body};
 ghost use Rattle.scan_classes.specs.Table.{classes};
@@ -8,14 +9,14 @@ use scan_classes::{HASH, class_in};
 use scan_tokens::spaces;
 
 // Where the newline that ends a line stands, if the manifest does not end inside that line. A comment is told apart.
-#[derive(Drop)]
+#[derive(Clone, Copy)]
 pub enum LineEnd {
     Ended(usize),
     Comment(usize),
     Open,
 }
 
-#[derive(Drop)]
+#[derive(Clone, Copy)]
 pub enum LineKind {
     Comment,
     Blank,

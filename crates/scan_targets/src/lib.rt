@@ -1,4 +1,5 @@
 // The target list: whether it has the form of one, and its names one after another, as parts of the caller's slice.
+#![tactic(auto)]
 ghost use Rattle.std.specs.Prelude.{◌≡◌, [], ◌≤◌, length, drop};
 ghost use Rattle.lists.specs.Runs.{Reads, after_run};
 ghost use Rattle.spec.specs.Targets.{malformed, targets_from};
@@ -7,7 +8,7 @@ ghost use Rattle.scan_targets.specs.Next.{other, next_in};
 use spec::limits::{PATH, TARGETS};
 
 // What stands at a place where a name may start.
-#[derive(Drop)]
+#[derive(Clone, Copy)]
 pub enum NextTarget {
     // No name: the list ends.
     End,

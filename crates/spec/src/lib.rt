@@ -1,9 +1,10 @@
 // The answers of the two asks, and every refusal with its place. The rules themselves are in specs/.
+#![tactic(auto)]
 
 pub mod limits;
 
 // What the planner says no with: a case for each row of document 01's table, in its order, with its place where that is not always 0.
-#[derive(Drop)]
+#[derive(Clone, Copy)]
 pub enum Refusal {
     // 1: a lent buffer is too short
     ShortBuffer,
@@ -50,21 +51,21 @@ pub enum Refusal {
 }
 
 // What the plan ask answers: the number of steps listed, or a refusal.
-#[derive(Drop)]
+#[derive(Clone, Copy)]
 pub enum PlanAnswer {
     Listed(usize),
     Refused(Refusal),
 }
 
 // What the text ask is asked for.
-#[derive(Drop)]
+#[derive(Clone, Copy)]
 pub enum Wanted {
     Command,
     Description,
 }
 
 // The keys that a rule has in this edition or a later one.
-#[derive(Drop)]
+#[derive(Clone, Copy)]
 pub enum Key {
     Command,
     Description,
@@ -74,7 +75,7 @@ pub enum Key {
 }
 
 // What the text ask answers: the number of bytes written, or a refusal.
-#[derive(Drop)]
+#[derive(Clone, Copy)]
 pub enum TextAnswer {
     Written(usize),
     Refused(Refusal),

@@ -1,1 +1,2 @@
 // Laws of split manifests, over the definitions of `spec`: no code.
+#![tactic(auto)]

@@ -1,4 +1,5 @@
 // "Print the manual's status placeholders": a format and the status record give a line in the lent buffer, or a refusal.
+#![tactic(auto)]
 ghost use Rattle.std.specs.Prelude.{◌≡◌, false, ◌-◌, length};
 ghost use Rattle.text_buffer.specs.Puts.{OpenText, PutsText};
 ghost use Rattle.status_line.specs.Pieces.{percent_of, digit_of, decimal_of, tenths_text, seconds_text, rate_piece, piece_of, piece_text};
@@ -12,7 +13,7 @@ use status_record::Status;
 use text_buffer::{put_byte, put_bytes};
 
 // What a placeholder is written as.
-#[derive(Drop)]
+#[derive(Clone, Copy)]
 pub enum StatusPiece {
     Number(u64),
     Tenths(u64),
@@ -21,20 +22,20 @@ pub enum StatusPiece {
 }
 
 // Where the first `%` stands that begins no placeholder.
-#[derive(Drop)]
+#[derive(Clone, Copy)]
 pub enum WrongPlace {
     At(usize),
     Nowhere,
 }
 
-#[derive(Drop)]
+#[derive(Clone, Copy)]
 pub enum LineRefusal {
     ShortBuffer,
     BadPlaceholder(usize),
     LongLine,
 }
 
-#[derive(Drop)]
+#[derive(Clone, Copy)]
 pub enum StatusLineAnswer {
     Written(usize),
     Refused(LineRefusal),

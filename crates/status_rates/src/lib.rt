@@ -1,9 +1,10 @@
 // Seconds, rates and their tenths. Each operation on floats rounds once; the definitions name it, and the laws say how far from the fraction it ends.
+#![tactic(auto)]
 ghost use Rattle.std.specs.Prelude.{◌≡◌};
 ghost use Rattle.status_rates.specs.Rates.{whole_float, seconds_of, rate_of, tenths_of};
 
 // "A rate is a float or unknown"
-#[derive(Drop)]
+#[derive(Clone, Copy)]
 pub enum Rate {
     Unknown,
     Known(f64),

@@ -1,4 +1,5 @@
 // The status record by value: started, finished, and the clock moved to the time of printing. Nothing is kept anywhere else.
+#![tactic(auto)]
 ghost use Rattle.std.specs.Prelude.{◌≡◌, ◌≤◌, min, max};
 ghost use Rattle.status_record.specs.Record.{taken_time, first_status, moved_to, counting, start_at, slid, held_times, current_of, finish_at, finish_noted, SoundStatus};
 
@@ -7,7 +8,7 @@ use status_rates::{Rate, as_float, rate_over, seconds};
 // "one above 86,400,000 counts as that"
 pub const DAY: u32 = 86400000;
 
-#[derive(Drop)]
+#[derive(Clone, Copy)]
 pub struct Status {
     pub total: u32,
     pub jobs: u32,

@@ -1,4 +1,5 @@
 // The manifest reader for Rust: the buffers come from outside, so their room is checked first.
+#![tactic(auto)]
 ghost use Rattle.std.specs.Prelude.{◌≡◌};
 ghost use Rattle.apply_manifest.specs.Manifests.{Roomy};
 ghost use Rattle.test_manifest.specs.Numbers.{bare_numbers, in_numbers, Cleared, JudgesRoom, ReadWhole, ReadsManifest};
@@ -15,7 +16,7 @@ use spec::limits::{VALUE, WRITTEN};
 
 // What is answered: three times 0 and how much the buffers hold; or a refusal's number and its place in two numbers; or 255 for buffers without room.
 #[repr(C)]
-#[derive(Drop)]
+#[derive(Clone, Copy)]
 pub struct ReadNumbers {
     pub number: usize,
     // 0 where the place is a number by itself, else the record of its text and one more

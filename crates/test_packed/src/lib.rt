@@ -1,5 +1,6 @@
 // The packed file of cases, as `pack` of second/ writes it: its parts read one after another, and an answer with the whole of its lent buffer
 // compared with what is expected.
+#![tactic(auto)]
 ghost use Rattle.std.specs.Prelude.{◌≡◌, true, ◌≤◌, length};
 ghost use Rattle.lists.specs.Lent.{Spare};
 ghost use Rattle.test_packed.specs.Parts.{PartsBehind};
@@ -10,14 +11,14 @@ use scan_numbers::word;
 use slices::words::at;
 
 // Whether an answer is one of those expected, and whether the packed file went on as it should.
-#[derive(Drop)]
+#[derive(Clone, Copy)]
 pub struct Met {
     pub yes: bool,
     pub whole: bool,
 }
 
 // An expected answer; its bytes are the first `length` ones of the buffer that it was read into.
-#[derive(Drop)]
+#[derive(Clone, Copy)]
 struct Expected {
     number: usize,
     text: usize,
@@ -27,7 +28,7 @@ struct Expected {
 }
 
 // What an ask is: 0 the plan, 1 a step's command, 2 its description; the length of the lent buffer, and how many answers are right.
-#[derive(Drop)]
+#[derive(Clone, Copy)]
 pub struct Ask {
     pub kind: usize,
     pub step: usize,
@@ -37,7 +38,7 @@ pub struct Ask {
 }
 
 // Where a case's name, bundle, header lists, card and target list end that lie one behind another, and how many asks follow them.
-#[derive(Drop)]
+#[derive(Clone, Copy)]
 pub struct CaseHead {
     pub name: usize,
     pub bundle: usize,

@@ -7,7 +7,7 @@ use hold_names::{Added, NUMBERS, add, clear};
 use scan_targets::{NextTarget, name_at};
 
 // What adding a path answers in numbers, and how many names there are then.
-#[derive(Drop)]
+#[derive(Clone, Copy)]
 struct Numbered {
     number: usize,
     count: usize,

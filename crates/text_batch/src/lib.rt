@@ -1,4 +1,5 @@
 // The texts of many steps from what a manifest was read into, one behind the other, and where each ends.
+#![tactic(auto)]
 ghost use Rattle.std.specs.Prelude.{◌≡◌, length};
 ghost use Rattle.lists.specs.Lent.{Spare, Leaves};
 ghost use Rattle.hold_reading.specs.Buffers.{buffers};
@@ -14,14 +15,14 @@ use spec::{Refusal, TextAnswer, Wanted};
 use text_step::{StepText, text_of};
 
 // What the texts ask answers: the number of texts written, or a refusal.
-#[derive(Drop)]
+#[derive(Clone, Copy)]
 pub enum TextsAnswer {
     Written(usize),
     Refused(Refusal),
 }
 
 // What became of one text: it ends at a place, it has no room, or it is refused.
-#[derive(Drop)]
+#[derive(Clone, Copy)]
 pub enum Put {
     Ends(usize),
     NoRoom,
@@ -29,21 +30,21 @@ pub enum Put {
 }
 
 // What a walk over the steps comes to: so many texts of so many bytes together, or a refusal.
-#[derive(Drop)]
+#[derive(Clone, Copy)]
 pub enum Walked {
     Stopped(usize, usize),
     Refused(Refusal),
 }
 
 // What all texts of a walk share: which of a step's two is wanted, and how many bytes they have room in.
-#[derive(Drop)]
+#[derive(Clone, Copy)]
 pub struct Batch {
     pub wanted: Wanted,
     pub room: usize,
 }
 
 // The next text of a walk: whose it is, how many bytes those before it take, and how many all have room in.
-#[derive(Drop)]
+#[derive(Clone, Copy)]
 pub struct NextText {
     pub step: usize,
     pub wanted: Wanted,

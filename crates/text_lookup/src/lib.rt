@@ -1,4 +1,5 @@
 // A step's lookup: what a name in its text stands for.
+#![tactic(auto)]
 ghost use Rattle.spec.specs.Text.{lookup_by};
 ghost use Rattle.text_lookup.specs.Scope.{InScope, LooksUp, from_file, from_rule, from_block};
 
@@ -8,7 +9,7 @@ use hold_bindings::{FoundEntry, newest, newest_from};
 // The step that is asked for: its number, the entry of its rule's declaration in the table of bindings, the scope that its line stands in, how many
 // entries and files there are, where its outputs and its explicit inputs start and end among the mentions, how many rule texts deep its text may
 // still go, and whether names of files stand in it as they are, as in a text that no shell reads.
-#[derive(Drop)]
+#[derive(Clone, Copy)]
 pub struct Asked {
     pub step: usize,
     pub rule: usize,
@@ -23,7 +24,7 @@ pub struct Asked {
 }
 
 // Where the text of a name is.
-#[derive(Drop)]
+#[derive(Clone, Copy)]
 pub enum Source {
     // `in`, `in_newline` and `out`
     Inputs,

@@ -1,4 +1,5 @@
 // A text being written, with where in it the texts of the rule's keys already stand: each of them is expanded once, and copied where it comes again.
+#![tactic(auto)]
 ghost use Rattle.std.specs.Prelude.{◌≡◌};
 ghost use Rattle.lists.specs.Parts.{part};
 ghost use Rattle.text_buffer.specs.Puts.{OpenText, PutsText};
@@ -9,14 +10,14 @@ use spec::limits::TEXT;
 use text_buffer::{put_byte, put_bytes};
 
 // A part of the text from place to place. One that ends before it starts is none.
-#[derive(Drop)]
+#[derive(Clone, Copy)]
 pub struct Span {
     pub from: usize,
     pub to: usize,
 }
 
 // The place that is reached, and the text of each rule's key by the key's number.
-#[derive(Drop)]
+#[derive(Clone, Copy)]
 pub struct Draft {
     pub at: usize,
     pub spans: [Span; RULE_KEYS],

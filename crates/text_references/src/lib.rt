@@ -1,4 +1,5 @@
 // The pieces of a raw text, one after another: bytes of its own, and references to names.
+#![tactic(auto)]
 ghost use Rattle.std.specs.Prelude.{◌<◌, length};
 ghost use Rattle.text_references.specs.Begins.{ReferencesReady, BeginsPiece};
 
@@ -6,7 +7,7 @@ use scan_dollars::{Escape, dollar};
 use slices::bytes::find;
 
 // A piece from place to place of the raw text, and where the text goes on behind it.
-#[derive(Drop)]
+#[derive(Clone, Copy)]
 pub enum Piece {
     Bytes(usize, usize, usize),
     Name(usize, usize, usize),

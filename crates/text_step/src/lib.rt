@@ -1,4 +1,5 @@
 // The text of a step from what a manifest was read into: 18, 16, 17, or the text.
+#![tactic(auto)]
 ghost use Rattle.std.specs.Prelude.{◌≡◌};
 ghost use Rattle.spec.specs.Text.{key_name, spelled_by, spelling_for};
 ghost use Rattle.spec.specs.TextAsk.{wanted_key};
@@ -20,14 +21,14 @@ use text_recursion::leads_back;
 pub mod steps;
 
 // "no such step, or it is phony" (18), or the step.
-#[derive(Drop)]
+#[derive(Clone, Copy)]
 pub enum StepAsked {
     NoCommand,
     Step(Asked),
 }
 
 // The text that is asked for: of which step, and which of its two.
-#[derive(Drop)]
+#[derive(Clone, Copy)]
 pub struct StepText {
     pub step: usize,
     pub wanted: Wanted,

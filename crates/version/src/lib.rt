@@ -1,23 +1,24 @@
 // The version that a manifest asks for: read from bytes, and compared.
+#![tactic(auto)]
 ghost use Rattle.std.specs.Prelude.{◌≡◌, drop};
 ghost use Rattle.version.specs.Version.{version_digit, number, minor_from, patch_from, read_version, above, refused_version};
 ghost use Rattle.version.specs.Part.{part_of};
 
-#[derive(Drop)]
+#[derive(Clone, Copy)]
 pub struct Version {
     pub major: u32,
     pub minor: u32,
     pub patch: u32,
 }
 
-#[derive(Drop)]
+#[derive(Clone, Copy)]
 pub enum ReadVersion {
     Read(Version),
     Malformed,
 }
 
 // One number of a version: its value, and where the bytes after it start.
-#[derive(Drop)]
+#[derive(Clone, Copy)]
 pub enum Part {
     Value(u32, usize),
     Malformed,
