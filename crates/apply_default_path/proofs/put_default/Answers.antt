@@ -1,0 +1,42 @@
+-- `apply_default_path::put_default` meets its contract.
+-- the path is within the limits
+use native.Mathlib.Omega.{arith}
+use borrow.Author.Rules.{rules}
+use lib.ListN.{length}
+use Rattle.apply_path_checks.proofs.Makers.{entry_low}
+use Rattle.apply_files.proofs.Limits.{Within, path_within}
+use Rattle.apply_default_path.proofs.Growing.{default_room}
+use Rattle.apply_default_path.proofs.Putting.{put_found, put_missing}
+use Rattle.apply_default_path.proofs.put_default.Goals as goal
+
+pub enum_known-k : goal.enum_known-k
+enum_known-k c = c.in-At.keys1
+
+pub overflow_add-c : goal.overflow_add-c
+overflow_add-c c = omega (arith, default_room c.requires.files.filed.graphed ((path_within (length c.args.path.now) c.args.c c.requires.within)).few)
+
+pub put-requires : goal.put-requires
+put-requires c =
+    
+    (default_room c.requires.files.filed.graphed ((path_within (length c.args.path.now) c.args.c c.requires.within)).few, omega (arith, entry_low c.requires.files.filed c.find_name.ensures c.in-At.is))
+
+pub overflow_add-result : goal.overflow_add-result
+overflow_add-result c = omega (arith, ((path_within (length c.args.path.now) c.args.c c.requires.within)).few, c.requires.files.filed.graphed.few_mentions)
+
+pub overflow_add-result-in-At : goal.overflow_add-result-in-At
+overflow_add-result-in-At c = omega (arith, ((path_within (length c.args.path.now) c.args.c c.requires.within)).few)
+
+pub overflow_add-result-in-At-2 : goal.overflow_add-result-in-At-2
+overflow_add-result-in-At-2 c = omega (arith, ((path_within (length c.args.path.now) c.args.c c.requires.within)).low)
+
+pub enum_told-1 : goal.enum_told-1
+enum_told-1 c = c.in-Missing.keys2
+
+pub shape_of-graph : goal.shape_of-graph
+shape_of-graph c = c.put.auto.arena
+
+pub returns-in-At : goal.returns-in-At
+returns-in-At c = rw c.put.ensures (put_found c.find_name.ensures c.in-At.is c.requires.within)
+
+pub returns-in-Missing : goal.returns-in-Missing
+returns-in-Missing c = put_missing c.find_name.ensures c.in-Missing.is

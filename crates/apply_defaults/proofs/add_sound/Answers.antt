@@ -1,0 +1,44 @@
+-- `apply_defaults::add_sound` meets its contract.
+use Prim.Native.Nat.{◌-◌}
+use mathlib.Core.Path.{◌≡◌, refl}
+use native.Mathlib.Omega.{arith}
+use borrow.Author.Rules.{rules}
+use lib.ListN.{length}
+use Rattle.cut_forms.proofs.Walks.{goes_on, stops}
+use Rattle.apply_path_checks.proofs.Walking.{ready_path, table_held}
+use Rattle.scan_raw.specs.Texts.{PathNext}
+use Rattle.apply_defaults.proofs.Adding.{Adding, add_begin, add_whole, add_on, add_over, add_end}
+use Rattle.hold_reading.specs.Buffers.{buffers}
+use Rattle.apply_defaults.proofs.add_sound.Goals as goal
+
+-- the path of this turn
+
+pub loop-from-init : goal.loop-from-init
+loop-from-init c = (refl, refl, add_begin c.args.s.start c.requires.right c.requires.asks.stands.within)
+
+pub slice_bounds-add_default-count : goal.slice_bounds-add_default-count
+slice_bounds-add_default-count c = omega (arith, ((goes_on _ _ _ c.next_listed.ensures c.in-Path.is)).longer)
+
+pub slice_bounds-add_default-start : goal.slice_bounds-add_default-start
+slice_bounds-add_default-start c = omega (arith, ((goes_on _ _ _ c.next_listed.ensures c.in-Path.is)).longer, ((goes_on _ _ _ c.next_listed.ensures c.in-Path.is)).within)
+
+pub slice_bounds-add_default-end : goal.slice_bounds-add_default-end
+slice_bounds-add_default-end c = omega (arith, ((goes_on _ _ _ c.next_listed.ensures c.in-Path.is)).within)
+
+pub add_default-requires : goal.add_default-requires
+add_default-requires c =
+    let p = c.requires.asks in
+    let w = add_whole c.loop-from.invariant.2 p.stands p.whole in
+    record { ready = ready_path p.table p.short (table_held w) ((goes_on _ _ _ c.next_listed.ensures c.in-Path.is)); room = omega (arith, p.room, c.loop-from.invariant.1); whole = w }
+
+pub loop-from-smaller : goal.loop-from-smaller
+loop-from-smaller c = omega (arith, ((goes_on _ _ _ c.next_listed.ensures c.in-Path.is)).longer, ((goes_on _ _ _ c.next_listed.ensures c.in-Path.is)).within, ((goes_on _ _ _ c.next_listed.ensures c.in-Path.is)).forward)
+
+pub loop-from-preserved : goal.loop-from-preserved
+loop-from-preserved c = (search rules, search rules, add_on c.loop-from.invariant.2 ((goes_on _ _ _ c.next_listed.ensures c.in-Path.is)) c.add_default.ensures.promise c.in-Added.is)
+
+pub returns-in-Over : goal.returns-in-Over
+returns-in-Over c = record { space = (record { long = (search rules) }, record { long = (search rules) }); promise = λ ps w. add_over c.loop-from.invariant.2 ((goes_on _ _ _ c.next_listed.ensures c.in-Path.is)) c.add_default.ensures.promise c.in-Over.is w }
+
+pub returns-in-Stop : goal.returns-in-Stop
+returns-in-Stop c = record { space = (record { long = (search rules) }, record { long = (search rules) }); promise = λ ps w. add_end c.loop-from.invariant.2 (stops _ _ _ c.next_listed.ensures c.in-Stop.is) w }

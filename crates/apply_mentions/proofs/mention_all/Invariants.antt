@@ -1,0 +1,16 @@
+use mathlib.Core.Path.{refl}
+use Prim.Native.Nat.{◌-◌}
+use native.Mathlib.Omega.{arith}
+use lib.ListN.{length}
+use borrow.Author.Rules.{rules}
+use Rattle.scan_raw.specs.Texts.{PathNext}
+use Rattle.cut_forms.proofs.Walks.{goes_on, stops}
+use Rattle.apply_mentions.proofs.Passing.{Passing, pass_begin, pass_within, pass_asks, pass_on, pass_over, pass_end}
+use Rattle.hold_reading.specs.Buffers.{buffers}
+use Rattle.apply_mentions.proofs.mention_all.Given as goal
+
+abbrev pub invariant-loop-from : goal.invariant-loop-from
+invariant-loop-from l = Passing l.t l.l l.at (buffers l.initial.names l.initial.index l.texts l.bind l.initial.graph) l.initial.word l.initial.d l.names l.index l.graph l.word l.i l.d
+
+abbrev pub decreases-loop-from : goal.decreases-loop-from
+decreases-loop-from l = length l.l - l.i

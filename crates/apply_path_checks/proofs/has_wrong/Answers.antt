@@ -1,0 +1,48 @@
+-- `apply_path_checks::has_wrong` meets its contract.
+use Prim.Native.Nat.{◌-◌}
+use mathlib.Core.Path.{◌≡◌, refl}
+use native.Mathlib.Omega.{arith}
+use borrow.Author.Rules.{rules}
+use lib.ListN.{length}
+use Rattle.scan_raw.specs.Texts.{PathNext}
+use Rattle.cut_forms.proofs.Walks.{goes_on, stops}
+use Rattle.apply_path_checks.proofs.Walking.{ready_path, table_held, Looked, look_begin, look_more, look_found, look_end}
+use Rattle.hold_reading.specs.Buffers.{buffers}
+use Rattle.apply_path_checks.proofs.has_wrong.Goals as goal
+
+-- the path of this turn
+
+pub loop-from-init : goal.loop-from-init
+loop-from-init c = (refl, look_begin c.requires.within)
+
+pub enum_known-from : goal.enum_known-from
+enum_known-from c = c.in-Path.keys1
+
+pub slice_bounds-is_wrong-count : goal.slice_bounds-is_wrong-count
+slice_bounds-is_wrong-count c = omega (arith, ((goes_on _ _ _ c.next_listed.ensures c.in-Path.is)).longer)
+
+pub slice_bounds-is_wrong-start : goal.slice_bounds-is_wrong-start
+slice_bounds-is_wrong-start c = omega (arith, ((goes_on _ _ _ c.next_listed.ensures c.in-Path.is)).longer, ((goes_on _ _ _ c.next_listed.ensures c.in-Path.is)).within)
+
+pub slice_bounds-is_wrong-end : goal.slice_bounds-is_wrong-end
+slice_bounds-is_wrong-end c = omega (arith, ((goes_on _ _ _ c.next_listed.ensures c.in-Path.is)).within)
+
+pub is_wrong-requires : goal.is_wrong-requires
+is_wrong-requires c =
+    let p = c.requires in
+    record { ready = ready_path p.table p.short (table_held p.whole) ((goes_on _ _ _ c.next_listed.ensures c.in-Path.is)); room = omega (arith, p.room, c.loop-from.invariant.0); whole = p.whole }
+
+pub returns-then-is_wrong : goal.returns-then-is_wrong
+returns-then-is_wrong c = record { space = record { long = (search rules) }; promise = look_found c.loop-from.invariant.1 ((goes_on _ _ _ c.next_listed.ensures c.in-Path.is)) c.is_wrong.ensures.promise c.if-is_wrong.true }
+
+pub loop-from-smaller : goal.loop-from-smaller
+loop-from-smaller c = omega (arith, ((goes_on _ _ _ c.next_listed.ensures c.in-Path.is)).longer, ((goes_on _ _ _ c.next_listed.ensures c.in-Path.is)).within, ((goes_on _ _ _ c.next_listed.ensures c.in-Path.is)).forward)
+
+pub loop-from-preserved : goal.loop-from-preserved
+loop-from-preserved c = (search rules, look_more c.loop-from.invariant.1 ((goes_on _ _ _ c.next_listed.ensures c.in-Path.is)) c.is_wrong.ensures.promise c.if-is_wrong.false)
+
+pub enum_told-1 : goal.enum_told-1
+enum_told-1 c = c.in-Stop.keys2
+
+pub returns-in-Stop : goal.returns-in-Stop
+returns-in-Stop c = record { space = record { long = (search rules) }; promise = look_end c.loop-from.invariant.1 (stops _ _ _ c.next_listed.ensures c.in-Stop.is) }

@@ -1,0 +1,11 @@
+use Prim.Native.Nat.{◌-◌}
+use native.Mathlib.Omega.{arith}
+use borrow.Author.Rules.{rules}
+use Rattle.apply_step_columns.proofs.Making.{Making, make_begin, make_in, make_low, make_fits, make_on, make_end}
+use Rattle.apply_step_columns.proofs.make.Given as goal
+
+abbrev pub invariant-loop-i : goal.invariant-loop-i
+invariant-loop-i l = Making l.initial.graph l.from l.to l.v l.graph l.i
+
+abbrev pub decreases-loop-i : goal.decreases-loop-i
+decreases-loop-i l = l.to - l.i

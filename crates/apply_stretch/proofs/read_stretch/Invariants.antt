@@ -1,0 +1,17 @@
+use native.Mathlib.Omega.{arith}
+use mathlib.Core.Path.{◌∙◌}
+use Prim.Native.Nat.{◌-◌, ◌≤◌}
+use lib.ListN.{length}
+use Rattle.spec.specs.Manifest.{Opener}
+use Rattle.hold_reading.specs.Buffers.{buffers}
+use Rattle.apply_stretch.proofs.Each.{Same, same_begin, EachFrom, turn_answered, each_begin, each_end, each_refused, each_goes, each_pair, each_forward, each_within, each_asks, each_on, no_files, opens_at}
+use Rattle.apply_stretch.specs.Stretches.{stretch_answers}
+use borrow.Author.Rules.{rules}
+use Rattle.apply_stretch.proofs.read_stretch.Given as goal
+
+abbrev pub invariant-loop-k : goal.invariant-loop-k
+invariant-loop-k l =
+    Same (buffers l.initial.names l.initial.index l.initial.texts l.initial.bind l.initial.graph) l.initial.word (buffers l.names l.index l.texts l.bind l.graph) l.word × (l.initial.k ≤ l.k) × ((via : Opener) → EachFrom via l.p.base l.m l.found l.initial.k (buffers l.initial.names l.initial.index l.initial.texts l.initial.bind l.initial.graph) l.initial.a (buffers l.names l.index l.texts l.bind l.graph) l.a l.k)
+
+abbrev pub decreases-loop-k : goal.decreases-loop-k
+decreases-loop-k l = length l.found - l.k

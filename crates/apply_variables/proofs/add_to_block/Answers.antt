@@ -1,0 +1,49 @@
+-- `apply_variables::add_to_block` meets its contract.
+-- past the limits
+use mathlib.Core.Bool.{false}
+use mathlib.Core.Path.{◌≡◌, sym, ◌∙◌, refl}
+use borrow.Author.Rules.{rules}
+use lib.ListN.{length}
+use native.Mathlib.Omega.{arith}
+use Rattle.apply_bindings.specs.Limits.{binding_over}
+use Rattle.apply_variables.proofs.Outcomes.{line_over, line_goes, step_begun, line_ready}
+use Rattle.apply_variables.proofs.Values.{value_fits, value_counted}
+use Rattle.apply_variables.proofs.add_to_block.Goals as goal
+
+pub shape_of-word-then-binding_over : goal.shape_of-word-then-binding_over
+shape_of-word-then-binding_over c = c.expand-len.auto.word
+
+pub returns-then-binding_over : goal.returns-then-binding_over
+returns-then-binding_over c = record {
+  space = (record { long = (refl) }, record { long = (refl) }, record { long = (c.expand-len.auto.word) });
+  promise = let a = c.args in
+      line_over a.start a.name.now a.raw.now c.expand-len.ensures (sym c.binding_over.ensures ∙ c.if-binding_over.true);
+}
+
+pub overflow_sub-c : goal.overflow_sub-c
+overflow_sub-c c = omega (arith, step_begun c.requires.sound)
+
+pub slice_bounds-push_binding-end : goal.slice_bounds-push_binding-end
+slice_bounds-push_binding-end c = omega (arith, value_fits c.requires _ _ ((sym c.binding_over.ensures ∙ c.if-binding_over.false)))
+
+pub slice_bounds-push_binding-end-2 : goal.slice_bounds-push_binding-end-2
+slice_bounds-push_binding-end-2 c = sym (value_counted c.requires _ _ ((sym c.binding_over.ensures ∙ c.if-binding_over.false)) c.expand-len.ensures)
+
+pub push_binding-d-requires : goal.push_binding-d-requires
+push_binding-d-requires c =
+    
+    line_ready c.requires.sound c.args.name.now _ (rw (value_counted c.requires _ _ ((sym c.binding_over.ensures ∙ c.if-binding_over.false)) c.expand-len.ensures) ((sym c.binding_over.ensures ∙ c.if-binding_over.false)))
+
+pub shape_of-texts : goal.shape_of-texts
+shape_of-texts c = c.push_binding-d.auto.texts
+
+pub shape_of-bind : goal.shape_of-bind
+shape_of-bind c = c.push_binding-d.auto.bind
+
+pub returns : goal.returns
+returns c = record {
+  space = (record { long = (c.push_binding-d.auto.texts) }, record { long = (c.push_binding-d.auto.bind) }, record { long = (search rules) });
+  promise = 
+      let a = c.args in
+      line_goes a.start a.name.now a.raw.now c.expand-len.ensures (value_fits c.requires _ _ ((sym c.binding_over.ensures ∙ c.if-binding_over.false))) (rw (value_counted c.requires _ _ ((sym c.binding_over.ensures ∙ c.if-binding_over.false)) c.expand-len.ensures) ((sym c.binding_over.ensures ∙ c.if-binding_over.false))) c.push_binding-d.ensures;
+}

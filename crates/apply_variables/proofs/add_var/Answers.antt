@@ -1,0 +1,46 @@
+-- `apply_variables::add_var` meets its contract.
+-- past the limits
+use mathlib.Core.Bool.{false}
+use mathlib.Core.Path.{◌≡◌, sym, ◌∙◌, refl}
+use borrow.Author.Rules.{rules}
+use lib.ListN.{length}
+use native.Mathlib.Omega.{arith}
+use Rattle.apply_bindings.specs.Limits.{binding_over}
+use Rattle.apply_variables.proofs.Outcomes.{var_over, var_valued}
+use Rattle.apply_variables.proofs.Values.{value_fits, value_counted}
+use Rattle.apply_variables.proofs.add_var.Goals as goal
+
+pub shape_of-word-then-binding_over : goal.shape_of-word-then-binding_over
+shape_of-word-then-binding_over c = c.expand-n.auto.word
+
+pub returns-then-binding_over : goal.returns-then-binding_over
+returns-then-binding_over c = record {
+  space = (record { long = (refl) }, record { long = (refl) }, record { long = (c.expand-n.auto.word) });
+  promise = let a = c.args in
+      var_over a.start a.name.now a.raw.now c.expand-n.ensures (sym c.binding_over.ensures ∙ c.if-binding_over.true);
+}
+
+pub slice_bounds-set_var-end : goal.slice_bounds-set_var-end
+slice_bounds-set_var-end c = omega (arith, value_fits c.requires _ _ ((sym c.binding_over.ensures ∙ c.if-binding_over.false)))
+
+pub slice_bounds-set_var-end-2 : goal.slice_bounds-set_var-end-2
+slice_bounds-set_var-end-2 c = sym (value_counted c.requires _ _ ((sym c.binding_over.ensures ∙ c.if-binding_over.false)) c.expand-n.ensures)
+
+pub set_var-requires : goal.set_var-requires
+set_var-requires c =
+    
+    record { sound = c.requires.sound; within = rw (value_counted c.requires _ _ ((sym c.binding_over.ensures ∙ c.if-binding_over.false)) c.expand-n.ensures) ((sym c.binding_over.ensures ∙ c.if-binding_over.false)) }
+
+pub shape_of-texts : goal.shape_of-texts
+shape_of-texts c = c.set_var.auto.texts
+
+pub shape_of-bind : goal.shape_of-bind
+shape_of-bind c = c.set_var.auto.bind
+
+pub returns : goal.returns
+returns c = record {
+  space = (record { long = (c.set_var.auto.texts) }, record { long = (c.set_var.auto.bind) }, record { long = (search rules) });
+  promise = 
+      let a = c.args in
+      var_valued a.start a.name.now a.raw.now c.expand-n.ensures (value_fits c.requires _ _ ((sym c.binding_over.ensures ∙ c.if-binding_over.false))) c.set_var.ensures.promise;
+}

@@ -1,0 +1,19 @@
+-- `apply_variables::is_wrong_version` meets its contract.
+use mathlib.Core.Path.{sym, ◌∙◌}
+use borrow.Author.Rules.{rules}
+use Rattle.spec.specs.Statements.{wrong_version}
+use Rattle.apply_variables.proofs.is_wrong_version.Goals as goal
+
+pub equal-requires : goal.equal-requires
+equal-requires c = tt
+
+pub refused-requires : goal.refused-requires
+refused-requires c = tt
+
+pub returns-then-equal : goal.returns-then-equal
+unfolding wrong_version
+returns-then-equal c = c.refused.ensures ∙ rw (sym c.equal.ensures ∙ c.if-equal.true)
+
+pub returns : goal.returns
+unfolding wrong_version
+returns c = rw (sym c.equal.ensures ∙ c.if-equal.false)

@@ -1,0 +1,9 @@
+use Rattle.arena.proofs.Shifting.{Shifting, shift_begin, shift_on, shift_end}
+use borrow.Author.Rules.{rules}
+use Rattle.arena.proofs.insert.Given as goal
+
+abbrev pub invariant-loop-i : goal.invariant-loop-i
+invariant-loop-i l = Shifting l.initial.table l.table l.n l.p l.i
+
+abbrev pub decreases-loop-i : goal.decreases-loop-i
+decreases-loop-i l = l.i

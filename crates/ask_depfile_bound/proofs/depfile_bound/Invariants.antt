@@ -1,0 +1,11 @@
+use Prim.Native.Nat.{◌-◌}
+use Rattle.spec.specs.Text.{key_name}
+use Rattle.ask_depfile_bound.proofs.Bound.{Seen, begun, one_found, one_more, none_found}
+use borrow.Author.Rules.{rules}
+use Rattle.ask_depfile_bound.proofs.depfile_bound.Given as goal
+
+abbrev pub invariant-loop-k : goal.invariant-loop-k
+invariant-loop-k l = Seen l.texts l.bind l.count l.k
+
+abbrev pub decreases-loop-k : goal.decreases-loop-k
+decreases-loop-k l = l.count - l.k

@@ -1,0 +1,17 @@
+-- `ask_depfile_names::depfile_name` meets its contract.
+use Rattle.text_step.proofs.Picking.{asked_none, asked_step}
+use Rattle.ask_depfile_names.proofs.Laws.{reads, no_command, step_asked, step_named}
+use borrow.Author.Rules.{rules}
+use Rattle.ask_depfile_names.proofs.depfile_name.Goals as goal
+
+pub asked-requires : goal.asked-requires
+asked-requires c = reads c.requires
+
+pub text_at-answer-requires : goal.text_at-answer-requires
+text_at-answer-requires c = let a = c.args in step_asked c.requires (asked_step a.texts.now a.bind.now a.graph.now a.c a.step c.asked.ensures c.in-Step.is)
+
+pub returns-in-NoCommand : goal.returns-in-NoCommand
+returns-in-NoCommand c = let a = c.args in no_command c.requires (asked_none a.texts.now a.bind.now a.graph.now a.c a.step c.asked.ensures c.in-NoCommand.is)
+
+pub returns-in-Step : goal.returns-in-Step
+returns-in-Step c = let a = c.args in step_named c.requires (asked_step a.texts.now a.bind.now a.graph.now a.c a.step c.asked.ensures c.in-Step.is) c.text_at-answer.ensures c.named.ensures

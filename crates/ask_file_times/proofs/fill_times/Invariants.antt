@@ -1,0 +1,10 @@
+use Prim.Native.Nat.{◌-◌}
+use Rattle.ask_file_times.proofs.Filling.{Filling, fill_begin, fill_more, fill_end}
+use borrow.Author.Rules.{rules}
+use Rattle.ask_file_times.proofs.fill_times.Given as goal
+
+abbrev pub invariant-loop-f : goal.invariant-loop-f
+invariant-loop-f l = Filling l.card l.names l.index l.count l.initial.times l.f l.times
+
+abbrev pub decreases-loop-f : goal.decreases-loop-f
+decreases-loop-f l = l.count - l.f

@@ -1,0 +1,11 @@
+use Rattle.ask_header_graph.proofs.Filling.{Filling, fill_begin, fill_more, fill_end}
+use lib.ListN.{length}
+use Prim.Native.Nat.{◌-◌}
+use borrow.Author.Rules.{rules}
+use Rattle.ask_header_graph.proofs.fill_column.Given as goal
+
+abbrev pub invariant-loop-i : goal.invariant-loop-i
+invariant-loop-i l = Filling l.initial.second l.at l.src l.second l.i
+
+abbrev pub decreases-loop-i : goal.decreases-loop-i
+decreases-loop-i l = length l.src - l.i

@@ -1,0 +1,11 @@
+use Rattle.ask_header_graph.proofs.Splitting.{Splitting, split_begin, split_more, split_end}
+use native.Mathlib.Omega.{arith}
+use Prim.Native.Nat.{◌-◌}
+use borrow.Author.Rules.{rules}
+use Rattle.ask_header_graph.proofs.split_lists.Given as goal
+
+abbrev pub invariant-loop-s : goal.invariant-loop-s
+invariant-loop-s l = Splitting l.second l.steps l.missing l.listed l.s
+
+abbrev pub decreases-loop-s : goal.decreases-loop-s
+decreases-loop-s l = l.steps - l.s

@@ -1,0 +1,62 @@
+-- `ask_header_graph::walk_steps` meets its contract.
+use Rattle.ask_header_graph.proofs.Walking.{Walking, walk_begin, turn_asked, walk_more, walk_refused, walk_end}
+use Rattle.hold_reading.specs.Buffers.{buffers}
+use native.Mathlib.Omega.{arith}
+use mathlib.Core.Path.{◌∙◌}
+use Prim.Native.Nat.{◌-◌}
+use borrow.Author.Rules.{rules}
+use Rattle.ask_header_graph.proofs.walk_steps.Goals as goal
+
+pub loop-s-init : goal.loop-s-init
+loop-s-init c = walk_begin c.requires
+
+pub head_step-requires : goal.head_step-requires
+head_step-requires c = turn_asked c.loop-s.invariant c.loop-s-test.true
+
+pub enum_known-e : goal.enum_known-e
+enum_known-e c = c.in-Headed.keys1
+
+pub overflow_add-s : goal.overflow_add-s
+overflow_add-s c = omega (arith, c.loop-s.invariant.asks.held.bound.few_steps, c.loop-s-test.true)
+
+pub loop-s-preserved : goal.loop-s-preserved
+loop-s-preserved c = walk_more c.loop-s.invariant c.loop-s-test.true c.head_step.ensures.promise c.in-Headed.is c.head_step.auto.names c.head_step.auto.index c.head_step.auto.second c.head_step.auto.name c.head_step.auto.word
+
+pub enum_known-r : goal.enum_known-r
+enum_known-r c = c.in-Refused.keys2
+
+pub shape_of-names-in-Refused : goal.shape_of-names-in-Refused
+shape_of-names-in-Refused c = c.head_step.auto.names ∙ c.loop-s.invariant.names_long
+
+pub shape_of-index-in-Refused : goal.shape_of-index-in-Refused
+shape_of-index-in-Refused c = c.head_step.auto.index ∙ c.loop-s.invariant.index_long
+
+pub shape_of-second-in-Refused : goal.shape_of-second-in-Refused
+shape_of-second-in-Refused c = c.head_step.auto.second ∙ c.loop-s.invariant.second_long
+
+pub shape_of-name-in-Refused : goal.shape_of-name-in-Refused
+shape_of-name-in-Refused c = c.head_step.auto.name ∙ c.loop-s.invariant.name_long
+
+pub shape_of-word-in-Refused : goal.shape_of-word-in-Refused
+shape_of-word-in-Refused c = c.head_step.auto.word ∙ c.loop-s.invariant.word_long
+
+pub returns-in-Refused : goal.returns-in-Refused
+returns-in-Refused c = record { space = (record { long = (c.head_step.auto.names ∙ c.loop-s.invariant.names_long) }, record { long = (c.head_step.auto.index ∙ c.loop-s.invariant.index_long) }, record { long = (c.head_step.auto.second ∙ c.loop-s.invariant.second_long) }, record { long = (c.head_step.auto.name ∙ c.loop-s.invariant.name_long) }, record { long = (c.head_step.auto.word ∙ c.loop-s.invariant.word_long) }); promise = walk_refused c.loop-s.invariant c.loop-s-test.true c.head_step.ensures.promise c.in-Refused.is }
+
+pub shape_of-names : goal.shape_of-names
+shape_of-names c = c.loop-s.invariant.names_long
+
+pub shape_of-index : goal.shape_of-index
+shape_of-index c = c.loop-s.invariant.index_long
+
+pub shape_of-second : goal.shape_of-second
+shape_of-second c = c.loop-s.invariant.second_long
+
+pub shape_of-name : goal.shape_of-name
+shape_of-name c = c.loop-s.invariant.name_long
+
+pub shape_of-word : goal.shape_of-word
+shape_of-word c = c.loop-s.invariant.word_long
+
+pub returns : goal.returns
+returns c = record { space = (record { long = (c.loop-s.invariant.names_long) }, record { long = (c.loop-s.invariant.index_long) }, record { long = (c.loop-s.invariant.second_long) }, record { long = (c.loop-s.invariant.name_long) }, record { long = (c.loop-s.invariant.word_long) }); promise = walk_end c.loop-s.invariant c.loop-s-test.false }

@@ -1,0 +1,58 @@
+-- `ask_header_list::add_headers` meets its contract.
+use mathlib.Core.Path.{◌∙◌}
+use Rattle.ask_header_list.proofs.Chain.{places_asked, start_low, front_asked, find_asked, told_asked, close_asked, headed_here, refused_here}
+use Rattle.ask_header_list.proofs.add_headers.Goals as goal
+
+pub places_of-p-requires : goal.places_of-p-requires
+places_of-p-requires c = places_asked c.requires.held
+
+pub at-out-requires : goal.at-out-requires
+at-out-requires c = start_low c.requires.held c.places_of-p.ensures
+
+pub find_depfile-place-requires : goal.find_depfile-place-requires
+find_depfile-place-requires c = find_asked c.requires.held c.places_of-p.ensures c.at-out.ensures c.requires.indexed
+
+pub copy_mentions-d-requires : goal.copy_mentions-d-requires
+copy_mentions-d-requires c = front_asked c.requires.held c.places_of-p.ensures
+
+pub mention_listed-requires : goal.mention_listed-requires
+mention_listed-requires c = told_asked c.requires.held c.places_of-p.ensures c.at-out.ensures c.find_depfile-place.ensures c.copy_mentions-d.ensures c.requires.names_long c.requires.word_long c.requires.indexed
+
+pub enum_known-e : goal.enum_known-e
+enum_known-e c = c.in-Told.keys1
+
+pub close_step-requires : goal.close_step-requires
+close_step-requires c = close_asked c.requires.held c.places_of-p.ensures c.at-out.ensures c.find_depfile-place.ensures c.copy_mentions-d.ensures c.mention_listed.ensures.promise c.in-Told.is (c.mention_listed.auto.second ∙ c.copy_mentions-d.auto.second)
+
+pub enum_told-1 : goal.enum_told-1
+enum_told-1 c = c.in-Refused.keys2
+
+pub shape_of-names-in-Told : goal.shape_of-names-in-Told
+shape_of-names-in-Told c = c.mention_listed.auto.names
+
+pub shape_of-index-in-Told : goal.shape_of-index-in-Told
+shape_of-index-in-Told c = c.mention_listed.auto.index
+
+pub shape_of-second-in-Told : goal.shape_of-second-in-Told
+shape_of-second-in-Told c = c.close_step.auto.second ∙ c.mention_listed.auto.second ∙ c.copy_mentions-d.auto.second
+
+pub shape_of-word-in-Told : goal.shape_of-word-in-Told
+shape_of-word-in-Told c = c.mention_listed.auto.word
+
+pub returns-in-Told : goal.returns-in-Told
+returns-in-Told c = record { space = (record { long = (c.mention_listed.auto.names) }, record { long = (c.mention_listed.auto.index) }, record { long = (c.close_step.auto.second ∙ c.mention_listed.auto.second ∙ c.copy_mentions-d.auto.second) }, record { long = (c.mention_listed.auto.word) }); promise = record { agrees = λ log texts bind rd h w. headed_here w c.places_of-p.ensures c.at-out.ensures c.find_depfile-place.ensures c.copy_mentions-d.ensures c.mention_listed.ensures.promise c.in-Told.is c.close_step.ensures } }
+
+pub shape_of-names-in-Refused : goal.shape_of-names-in-Refused
+shape_of-names-in-Refused c = c.mention_listed.auto.names
+
+pub shape_of-index-in-Refused : goal.shape_of-index-in-Refused
+shape_of-index-in-Refused c = c.mention_listed.auto.index
+
+pub shape_of-second-in-Refused : goal.shape_of-second-in-Refused
+shape_of-second-in-Refused c = c.mention_listed.auto.second ∙ c.copy_mentions-d.auto.second
+
+pub shape_of-word-in-Refused : goal.shape_of-word-in-Refused
+shape_of-word-in-Refused c = c.mention_listed.auto.word
+
+pub returns-in-Refused : goal.returns-in-Refused
+returns-in-Refused c = record { space = (record { long = (c.mention_listed.auto.names) }, record { long = (c.mention_listed.auto.index) }, record { long = (c.mention_listed.auto.second ∙ c.copy_mentions-d.auto.second) }, record { long = (c.mention_listed.auto.word) }); promise = record { agrees = λ log texts bind rd h w. refused_here w c.places_of-p.ensures c.at-out.ensures c.find_depfile-place.ensures c.copy_mentions-d.ensures c.mention_listed.ensures.promise c.in-Refused.is } }

@@ -1,0 +1,25 @@
+-- `ask_judged_times::clear_times` meets its contract.
+use Prim.Native.Nat.{◌-◌}
+use mathlib.Core.Path.{sym, ◌∙◌}
+use lib.ListN.{length}
+use Rattle.ask_judged_times.proofs.Clearing.{Clearing, clear_begin, clear_off, clear_on, clear_end}
+use borrow.Author.Rules.{rules}
+use Rattle.ask_judged_times.proofs.clear_times.Goals as goal
+
+pub loop-f-init : goal.loop-f-init
+loop-f-init c = clear_begin
+
+pub marked_maker-requires : goal.marked_maker-requires
+marked_maker-requires c = record { file = c.loop-f-test.true; maker = c.requires.makers c.loop-f.f c.loop-f-test.true }
+
+pub loop-f-preserved-then-marked_maker : goal.loop-f-preserved-then-marked_maker
+loop-f-preserved-then-marked_maker c = clear_off c.loop-f.invariant c.loop-f-test.true c.requires.timed (sym c.marked_maker.ensures ∙ c.if-marked_maker.true)
+
+pub loop-f-preserved : goal.loop-f-preserved
+loop-f-preserved c = clear_on c.loop-f.invariant c.loop-f-test.true (sym c.marked_maker.ensures ∙ c.if-marked_maker.false)
+
+pub shape_of-times : goal.shape_of-times
+shape_of-times c = c.loop-f.invariant.long
+
+pub returns : goal.returns
+returns c = clear_end c.loop-f.invariant c.loop-f-test.false

@@ -1,0 +1,26 @@
+-- `ask_judged_times::mark_forced` meets its contract.
+use Prim.Native.Nat.{◌-◌}
+use mathlib.Core.Path.{sym, ap, ◌∙◌}
+use lib.ListN.{length}
+use Rattle.hold_columns.specs.Columns.{bit}
+use Rattle.ask_judged_times.proofs.Forcing.{Forcing, force_begin, force_more, force_end}
+use borrow.Author.Rules.{rules}
+use Rattle.ask_judged_times.proofs.mark_forced.Goals as goal
+
+pub loop-s-init : goal.loop-s-init
+loop-s-init c = force_begin c.requires
+
+pub is_forced-requires : goal.is_forced-requires
+is_forced-requires c = (c.requires.asked, c.loop-s-test.true)
+
+pub loop-s-preserved-then-is_forced : goal.loop-s-preserved-then-is_forced
+loop-s-preserved-then-is_forced c = force_more c.loop-s.invariant c.loop-s-test.true (sym (ap bit (sym c.is_forced.ensures ∙ c.if-is_forced.true)))
+
+pub loop-s-preserved : goal.loop-s-preserved
+loop-s-preserved c = force_more c.loop-s.invariant c.loop-s-test.true (sym (ap bit (sym c.is_forced.ensures ∙ c.if-is_forced.false)))
+
+pub shape_of-marks : goal.shape_of-marks
+shape_of-marks c = c.loop-s.invariant.long ∙ sym c.requires.marks_long
+
+pub returns : goal.returns
+returns c = force_end c.loop-s.invariant c.loop-s-test.false

@@ -1,0 +1,13 @@
+use mathlib.Core.Path.{refl, sym, ◌∙◌}
+use native.Mathlib.Omega.{arith}
+use Prim.Native.Nat.{◌+◌, ◌-◌}
+use lib.ListN.{length}
+use Rattle.ask_target_files.proofs.Numbering.{Walked, form_bad, begin, ended, bad, turn, unknown, known, more}
+use borrow.Author.Rules.{rules}
+use Rattle.ask_target_files.proofs.number_targets.Given as goal
+
+abbrev pub invariant-loop-end : goal.invariant-loop-end
+invariant-loop-end l = Walked l.targets l.names l.index l.count l.initial.out l.from l.n l.out
+
+abbrev pub decreases-loop-end : goal.decreases-loop-end
+decreases-loop-end l = length l.targets + 1 - l.from

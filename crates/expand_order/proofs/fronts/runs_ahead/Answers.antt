@@ -1,0 +1,18 @@
+-- `expand_order::fronts::runs_ahead` meets its contract.
+use borrow.Author.Rules.{rules}
+use Rattle.expand_parts.specs.Runs.{bytes_of}
+use Rattle.expand_order.proofs.fronts.runs_ahead.Goals as goal
+
+pub slice_bounds-against-end : goal.slice_bounds-against-end
+slice_bounds-against-end c = c.requires.0.in_texts c.if-x.true
+
+pub returns-then-x : goal.returns-then-x
+unfolding bytes_of
+returns-then-x c = rw c.if-x.true c.against.ensures
+
+pub slice_bounds-against-end-2 : goal.slice_bounds-against-end-2
+slice_bounds-against-end-2 c = c.requires.0.in_raw c.if-x.false
+
+pub returns : goal.returns
+unfolding bytes_of
+returns c = rw c.if-x.false c.against-2.ensures

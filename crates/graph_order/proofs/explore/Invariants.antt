@@ -1,0 +1,15 @@
+use lib.ListN.{length-set, length, take}
+use Prim.Native.Nat.{◌+◌, ◌*◌, ◌-◌, ◌<◌}
+use native.Mathlib.Omega.{arith}
+use Rattle.graph_order.specs.Walk.{Explored}
+use Rattle.graph_order.proofs.Exploring.{Exploring, Turn, explore_begin, top_low, top_files, top_start, numbers, open_low, open_maker, push_room, explore_push, explore_circle, pop_room, explore_pop, explore_end}
+use borrow.Author.Rules.{rules}
+use Rattle.graph_order.proofs.explore.Given as goal
+
+abbrev pub invariant-loop-depth : goal.invariant-loop-depth
+invariant-loop-depth l =
+    Exploring l.mentions l.ends l.made (length l.initial.order) (take l.already l.initial.order) l.root l.seen l.next l.path l.order l.depth l.done
+
+abbrev pub decreases-loop-depth : goal.decreases-loop-depth
+decreases-loop-depth l =
+    3 * length l.initial.order - (2 * l.done + l.depth)

@@ -1,0 +1,16 @@
+-- `graph_order::fill` meets its contract.
+use Prim.Native.Nat.{◌-◌}
+use mathlib.Core.Path.{◌∙◌}
+use lib.ListN.{length}
+use Rattle.graph_order.proofs.Filling.{Filling, fill_begin, fill_more, fill_end}
+use borrow.Author.Rules.{rules}
+use Rattle.graph_order.proofs.fill.Goals as goal
+
+pub loop-i-init : goal.loop-i-init
+loop-i-init c = fill_begin
+
+pub loop-i-preserved : goal.loop-i-preserved
+loop-i-preserved c = fill_more c.loop-i.invariant c.requires c.loop-i-test.true
+
+pub returns : goal.returns
+returns c = c.zero_words_from.ensures ∙ fill_end c.loop-i.invariant c.requires c.loop-i-test.false

@@ -1,0 +1,22 @@
+-- `graph_stale::keep_commands` meets its contract.
+use Prim.Native.Nat.{◌-◌}
+use mathlib.Core.Path.{◌∙◌, sym}
+use lib.ListN.{length}
+use Rattle.graph_stale.proofs.Marking.{Keeping, keep_begin, keep_off, keep_on, keep_end}
+use borrow.Author.Rules.{rules}
+use Rattle.graph_stale.proofs.keep_commands.Goals as goal
+
+pub loop-s-init : goal.loop-s-init
+loop-s-init c = keep_begin c.requires
+
+pub loop-s-preserved-then-at-eq1 : goal.loop-s-preserved-then-at-eq1
+loop-s-preserved-then-at-eq1 c = keep_off c.loop-s.invariant c.loop-s-test.true c.at.ensures c.if-at-eq1.true
+
+pub loop-s-preserved : goal.loop-s-preserved
+loop-s-preserved c = keep_on c.loop-s.invariant c.loop-s-test.true c.at.ensures c.if-at-eq1.false
+
+pub shape_of-marks : goal.shape_of-marks
+shape_of-marks c = c.loop-s.invariant.long ∙ sym c.requires
+
+pub returns : goal.returns
+returns c = keep_end c.loop-s.invariant c.loop-s-test.false

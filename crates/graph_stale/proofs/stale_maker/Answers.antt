@@ -1,0 +1,31 @@
+-- `graph_stale::stale_maker` meets its contract.
+use Prim.Native.Nat.{◌-◌}
+use native.Mathlib.Omega.{arith}
+use lib.ListN.{length}
+use Rattle.hold_columns.proofs.Makers.{maker_low}
+use Rattle.hold_columns.proofs.Looking.{Looking, look_begin, look_more, look_found, look_end}
+use Rattle.graph_stale.specs.Judge.{stale_maker}
+use Rattle.graph_stale.proofs.Times.{maker_none, maker_stale_law, maker_fresh, maker_end}
+use borrow.Author.Rules.{rules}
+use Rattle.graph_stale.proofs.stale_maker.Goals as goal
+
+pub loop-i-init : goal.loop-i-init
+loop-i-init c = look_begin _
+
+pub maker-m-requires : goal.maker-m-requires
+maker-m-requires c = (c.loop-i-test.true, c.requires.low c.loop-i.i c.loop-i-test.true)
+
+pub loop-i-preserved-then-m-eq0 : goal.loop-i-preserved-then-m-eq0
+loop-i-preserved-then-m-eq0 c = look_more c.loop-i.invariant c.loop-i-test.true (maker_none _ _ _ _ c.maker-m.ensures c.if-m-eq0.true)
+
+pub at-requires : goal.at-requires
+at-requires c = omega (arith, maker_low c.requires c.loop-i-test.true c.maker-m.ensures)
+
+pub returns-then-at-eq1 : goal.returns-then-at-eq1
+returns-then-at-eq1 c = look_found c.loop-i.invariant c.loop-i-test.true (maker_stale_law _ _ _ _ c.maker-m.ensures c.if-m-eq0.false c.at.ensures c.if-at-eq1.true)
+
+pub loop-i-preserved : goal.loop-i-preserved
+loop-i-preserved c = look_more c.loop-i.invariant c.loop-i-test.true (maker_fresh _ _ _ _ c.maker-m.ensures c.if-m-eq0.false c.at.ensures c.if-at-eq1.false)
+
+pub returns : goal.returns
+returns c = look_end c.loop-i.invariant c.loop-i-test.false (maker_end _ _)

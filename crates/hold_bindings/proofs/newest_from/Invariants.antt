@@ -1,0 +1,10 @@
+use native.Mathlib.Omega.{arith}
+use borrow.Author.Rules.{rules}
+use Rattle.hold_bindings.proofs.Scopes.{Outward, out_begin, out_found, out_none, out_less, out_more}
+use Rattle.hold_bindings.proofs.newest_from.Given as goal
+
+abbrev pub invariant-loop-e : goal.invariant-loop-e
+invariant-loop-e l = Outward l.texts l.bind l.count l.scope l.wanted l.k
+
+abbrev pub decreases-loop-e : goal.decreases-loop-e
+decreases-loop-e l = l.k

@@ -1,0 +1,6 @@
+-- `hold_columns::maker` meets its contract.
+use borrow.Author.Rules.{rules}
+use Rattle.hold_columns.proofs.maker.Goals as goal
+
+pub returns : goal.returns
+returns c = rw (← c.at.ensures) c.at-2.ensures

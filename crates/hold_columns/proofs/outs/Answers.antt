@@ -1,0 +1,8 @@
+-- `hold_columns::outs` meets its contract.
+use Rattle.hold_columns.specs.Columns.{outs_in}
+use borrow.Author.Rules.{rules}
+use Rattle.hold_columns.proofs.outs.Goals as goal
+
+pub returns : goal.returns
+unfolding outs_in
+returns c = rw (c.end_at-to.ensures, c.start-from.ensures)

@@ -1,0 +1,30 @@
+-- `hold_keys::key_number` meets its contract.
+use mathlib.Core.Path.{sym, ◌∙◌}
+use Rattle.spec.specs.Reading.{number_of}
+use Rattle.spec.specs.Text.{key_name, key_names, key_number}
+use borrow.Author.Rules.{rules}
+use Rattle.hold_keys.proofs.key_number.Goals as goal
+
+pub returns-then-equal : goal.returns-then-equal
+unfolding key_number key_names key_name number_of
+returns-then-equal c = rw (sym c.equal.ensures ∙ c.if-equal.true)
+
+pub returns-then-equal-2 : goal.returns-then-equal-2
+unfolding key_number key_names key_name number_of
+returns-then-equal-2 c = rw (sym c.equal.ensures ∙ c.if-equal.false, sym c.equal-2.ensures ∙ c.if-equal-2.true)
+
+pub returns-then-equal-3 : goal.returns-then-equal-3
+unfolding key_number key_names key_name number_of
+returns-then-equal-3 c = rw (sym c.equal.ensures ∙ c.if-equal.false, sym c.equal-2.ensures ∙ c.if-equal-2.false, sym c.equal-3.ensures ∙ c.if-equal-3.true)
+
+pub returns-then-equal-4 : goal.returns-then-equal-4
+unfolding key_number key_names key_name number_of
+returns-then-equal-4 c = rw (sym c.equal.ensures ∙ c.if-equal.false, sym c.equal-2.ensures ∙ c.if-equal-2.false, sym c.equal-3.ensures ∙ c.if-equal-3.false, sym c.equal-4.ensures ∙ c.if-equal-4.true)
+
+pub returns-then-equal-5 : goal.returns-then-equal-5
+unfolding key_number key_names key_name number_of
+returns-then-equal-5 c = rw (sym c.equal.ensures ∙ c.if-equal.false, sym c.equal-2.ensures ∙ c.if-equal-2.false, sym c.equal-3.ensures ∙ c.if-equal-3.false, sym c.equal-4.ensures ∙ c.if-equal-4.false, sym c.equal-5.ensures ∙ c.if-equal-5.true)
+
+pub returns : goal.returns
+unfolding key_number key_names key_name number_of
+returns c = rw (sym c.equal.ensures ∙ c.if-equal.false, sym c.equal-2.ensures ∙ c.if-equal-2.false, sym c.equal-3.ensures ∙ c.if-equal-3.false, sym c.equal-4.ensures ∙ c.if-equal-4.false, sym c.equal-5.ensures ∙ c.if-equal-5.false)

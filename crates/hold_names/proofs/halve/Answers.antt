@@ -1,0 +1,33 @@
+-- `hold_names::halve` meets its contract: a compare with the name in the middle leaves one half of the sorted names.
+use Prim.Native.Nat.{◌-◌}
+use native.Mathlib.Omega.{arith}
+use Rattle.hold_names.proofs.Halving.{Halving, half_begin, half_lower, half_higher, half_found, half_end, mid_inside, mid_below, made_few}
+use borrow.Author.Rules.{rules}
+use Rattle.hold_names.proofs.halve.Goals as goal
+
+pub loop-low-init : goal.loop-low-init
+loop-low-init c = half_begin c.requires.0 c.requires.1.0
+
+pub overflow_mul-mid : goal.overflow_mul-mid
+overflow_mul-mid c = search (rules, mid_inside c.loop-low.invariant c.loop-low-test.true)
+
+pub overflow_add-from : goal.overflow_add-from
+overflow_add-from c = search (rules, mid_inside c.loop-low.invariant c.loop-low-test.true)
+
+pub at-k-requires : goal.at-k-requires
+at-k-requires c = mid_inside c.loop-low.invariant c.loop-low-test.true
+
+pub step-requires : goal.step-requires
+step-requires c = (c.requires.0, (mid_below c.loop-low.invariant c.loop-low-test.true c.at-k.ensures, omega (arith, made_few c.loop-low.invariant, c.requires.1.1)))
+
+pub loop-low-preserved-in-Before : goal.loop-low-preserved-in-Before
+loop-low-preserved-in-Before c = half_lower c.loop-low.invariant c.loop-low-test.true c.at-k.ensures c.step.ensures c.in-Before.is
+
+pub loop-low-preserved : goal.loop-low-preserved
+loop-low-preserved c = half_higher c.loop-low.invariant c.loop-low-test.true c.at-k.ensures c.step.ensures c.in-Behind.is
+
+pub returns-in-Same : goal.returns-in-Same
+returns-in-Same c = half_found c.loop-low.invariant c.loop-low-test.true c.at-k.ensures c.step.ensures c.in-Same.is
+
+pub returns : goal.returns
+returns c = half_end c.loop-low.invariant c.loop-low-test.false

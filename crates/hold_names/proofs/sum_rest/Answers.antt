@@ -1,0 +1,20 @@
+-- `hold_names::sum_rest` meets its contract.
+use Prim.Native.Nat.{◌-◌}
+use native.Mathlib.Omega.{arith}
+use lib.ListN.{length}
+use Rattle.hold_names.specs.Table.{Summed}
+use Rattle.hold_names.proofs.Buckets.{sum_begin, sum_on, sum_end}
+use borrow.Author.Rules.{rules}
+use Rattle.hold_names.proofs.sum_rest.Goals as goal
+
+pub loop-i-init : goal.loop-i-init
+loop-i-init c = sum_begin _ c.requires
+
+pub overflow_add-h : goal.overflow_add-h
+overflow_add-h c = omega (arith, c.wide.ensures, c.loop-i.invariant.small)
+
+pub loop-i-preserved : goal.loop-i-preserved
+loop-i-preserved c = sum_on c.loop-i.invariant c.loop-i-test.true c.wide.ensures.0
+
+pub returns : goal.returns
+returns c = sum_end c.loop-i.invariant c.loop-i-test.false

@@ -1,0 +1,14 @@
+-- `hold_rules::is_bad_key` meets its contract.
+use mathlib.Core.Path.{sym, ◌∙◌}
+use borrow.Author.Rules.{rules}
+use borrow.Author.Tests.{not-true, not-false}
+use Rattle.hold_rules.specs.Tests.{bad_key}
+use Rattle.hold_rules.proofs.is_bad_key.Goals as goal
+
+pub returns-then-not-is_rule_key : goal.returns-then-not-is_rule_key
+unfolding bad_key
+returns-then-not-is_rule_key c = λ log h. rw (sym c.is_rule_key.ensures ∙ not-true _ c.if-not-is_rule_key.true)
+
+pub returns : goal.returns
+unfolding bad_key
+returns c = λ log h. c.has_key.ensures log h ∙ rw (sym c.is_rule_key.ensures ∙ not-false _ c.if-not-is_rule_key.false)

@@ -1,0 +1,14 @@
+-- `plan::read_all` meets its contract.
+use Rattle.io.proofs.Counting.{prefix_len_of_le}
+use native.Mathlib.Omega.{arith}
+use Prim.Native.Nat.{◌-◌, ◌≤◌}
+use mathlib.Core.Path.{◌≡◌}
+use lib.ListN.{length}
+use borrow.Author.Rules.{rules}
+use Rattle.plan.proofs.read_all.Goals as goal
+
+pub returns-then-n-eq0 : goal.returns-then-n-eq0
+returns-then-n-eq0 c = prefix_len_of_le _ _ (omega (arith, c.loop-done.invariant.0, c.read-got.auto.buf))
+
+pub returns : goal.returns
+returns c = prefix_len_of_le _ _ c.loop-done.invariant.0

@@ -1,0 +1,12 @@
+use Prim.Native.Nat.{◌-◌}
+use lib.ListN.{length}
+use mathlib.Core.Path.{◌∙◌}
+use Rattle.report_lines.proofs.Lining.{Lining, lining_start, lining_from, lining_to, lining_room, lining_on, lining_end}
+use borrow.Author.Rules.{rules}
+use Rattle.report_lines.proofs.text_lines.Given as goal
+
+abbrev pub invariant-loop-i : goal.invariant-loop-i
+invariant-loop-i l = Lining l.place l.count l.bytes l.ends l.initial.out l.out l.i l.from l.behind
+
+abbrev pub decreases-loop-i : goal.decreases-loop-i
+decreases-loop-i l = length l.ends - l.i

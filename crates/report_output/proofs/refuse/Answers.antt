@@ -1,0 +1,7 @@
+-- `report_output::refuse` meets its contract.
+use Rattle.report_output.proofs.Refusals.{refuses_so}
+use borrow.Author.Rules.{rules}
+use Rattle.report_output.proofs.refuse.Goals as goal
+
+pub returns : goal.returns
+returns c = refuses_so c.args.bundle.now c.args.n _ c.locate.ensures c.say_refused.ensures

@@ -1,0 +1,11 @@
+use native.Mathlib.Omega.{arith}
+use Rattle.run_core.specs.Numbers.{jobs_in}
+use Rattle.run_core.proofs.Deciding.{LookedFrom, look_begin, look_more, look_end}
+use borrow.Author.Rules.{rules}
+use Rattle.run_core.proofs.lowest_ready.Given as goal
+
+abbrev pub invariant-loop-i : goal.invariant-loop-i
+invariant-loop-i l = LookedFrom l.marks l.room (jobs_in l.c) l.i l.best
+
+abbrev pub decreases-loop-i : goal.decreases-loop-i
+decreases-loop-i l = l.i

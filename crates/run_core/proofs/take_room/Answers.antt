@@ -1,0 +1,16 @@
+-- `run_core::take_room` meets its contract.
+use Rattle.run_core.proofs.Steps.{room_same, room_less, room_empty, room_past}
+use borrow.Author.Rules.{rules}
+use Rattle.run_core.proofs.take_room.Goals as goal
+
+pub returns-then-j-ne1 : goal.returns-then-j-ne1
+returns-then-j-ne1 c = room_same _ _ c.if-j-ne1.true
+
+pub returns-then-room-p-gt0 : goal.returns-then-room-p-gt0
+returns-then-room-p-gt0 c = room_less _ _ c.if-j-ne1.false
+
+pub returns-else-room-p-gt0 : goal.returns-else-room-p-gt0
+returns-else-room-p-gt0 c = room_empty _ _ c.if-j-ne1.false c.if-room-p-gt0.false
+
+pub returns-else-p-room : goal.returns-else-p-room
+returns-else-p-room c = room_past _ _ c.if-j-ne1.false c.if-p-room.false

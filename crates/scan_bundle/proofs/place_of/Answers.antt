@@ -1,0 +1,29 @@
+-- `scan_bundle::place_of` meets its contract: a compare with the name in the middle leaves one half of the sorted names.
+use Prim.Native.Nat.{◌-◌}
+use mathlib.Core.Path.{refl}
+use native.Mathlib.Omega.{arith}
+use Rattle.spec.specs.Bundle.{bundle_names}
+use Rattle.scan_bundle.proofs.Sorting.{Halving, half_begin, half_lower, half_higher, half_found, half_end, mid_below}
+use borrow.Author.Rules.{rules}
+use Rattle.scan_bundle.proofs.place_of.Goals as goal
+
+pub loop-low-init : goal.loop-low-init
+loop-low-init c = half_begin _ _ c.requires.1.1
+
+pub at-k-requires : goal.at-k-requires
+at-k-requires c = omega (arith, c.loop-low.invariant.within)
+
+pub record_name-requires : goal.record_name-requires
+record_name-requires c = (c.requires.0, omega (arith, mid_below _ c.loop-low.invariant c.loop-low-test.true refl c.at-k.ensures, c.requires.1.0))
+
+pub loop-low-preserved-in-Less : goal.loop-low-preserved-in-Less
+loop-low-preserved-in-Less c = half_lower _ c.loop-low.invariant c.loop-low-test.true refl c.at-k.ensures c.record_name.ensures c.compare.ensures c.in-Less.is
+
+pub loop-low-preserved : goal.loop-low-preserved
+loop-low-preserved c = half_higher _ c.loop-low.invariant c.loop-low-test.true refl c.at-k.ensures c.record_name.ensures c.compare.ensures c.in-Greater.is
+
+pub returns-in-Equal : goal.returns-in-Equal
+returns-in-Equal c = half_found _ c.loop-low.invariant c.loop-low-test.true refl c.at-k.ensures c.record_name.ensures c.compare.ensures c.in-Equal.is
+
+pub returns : goal.returns
+returns c = half_end _ c.loop-low.invariant c.loop-low-test.false

@@ -1,0 +1,25 @@
+-- `scan_depfile::backslash_at` meets its contract.
+use Rattle.scan_depfile.specs.Answers.{MarkAt}
+use Rattle.scan_depfile.proofs.Places.{last_backslash, joined_here, escaped_space, escaped_hash, backslash_here}
+use borrow.Author.Rules.{rules}
+use Rattle.scan_depfile.proofs.backslash_at.Goals as goal
+
+pub returns-then-s-next : goal.returns-then-s-next
+unfolding MarkAt
+returns-then-s-next c = last_backslash c.args.s.now c.args.i c.requires.0 c.if-s-next.true c.requires.1
+
+pub returns-then-c-eq10 : goal.returns-then-c-eq10
+unfolding MarkAt
+returns-then-c-eq10 c = joined_here c.args.s.now c.args.i c.requires.0 c.if-s-next.false c.requires.1 c.if-c-eq10.true
+
+pub returns-then-c-eq32 : goal.returns-then-c-eq32
+unfolding MarkAt
+returns-then-c-eq32 c = escaped_space c.args.s.now c.args.i c.requires.0 c.if-s-next.false c.requires.1 c.if-c-eq32.true
+
+pub returns-then-c-eq35 : goal.returns-then-c-eq35
+unfolding MarkAt
+returns-then-c-eq35 c = escaped_hash c.args.s.now c.args.i c.requires.0 c.if-s-next.false c.requires.1 c.if-c-eq35.true
+
+pub returns : goal.returns
+unfolding MarkAt
+returns c = backslash_here c.args.s.now c.args.i c.requires.0 c.if-s-next.false c.requires.1 c.if-c-eq10.false c.if-c-eq32.false c.if-c-eq35.false

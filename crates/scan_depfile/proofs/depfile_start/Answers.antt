@@ -1,0 +1,22 @@
+-- `scan_depfile::depfile_start` meets its contract.
+use Rattle.scan_depfile.specs.Answers.{TargetHere, StartsList}
+use Rattle.scan_depfile.proofs.Told.{target_here, target_other}
+use Rattle.scan_depfile.proofs.Listing.{start_empty, start_other, start_on}
+use borrow.Author.Rules.{rules}
+use Rattle.scan_depfile.proofs.depfile_start.Goals as goal
+
+pub returns-then-out-eq0 : goal.returns-then-out-eq0
+unfolding StartsList
+returns-then-out-eq0 c = start_empty c.args.s.now c.args.out.now c.if-out-eq0.true
+
+pub behind_colon-requires : goal.behind_colon-requires
+behind_colon-requires c =
+    let t : TargetHere _ _ _ _ = target_here _ _ _ _ c.target_is.ensures c.in-Names.is in
+    t.reads.within
+
+pub returns-in-Names : goal.returns-in-Names
+returns-in-Names c = start_on c.args.out.now c.skip_blank.ensures c.behind_colon.result (target_here _ _ _ _ c.target_is.ensures c.in-Names.is) c.if-out-eq0.false c.behind_colon.ensures
+
+pub returns-in-Refused : goal.returns-in-Refused
+unfolding StartsList
+returns-in-Refused c = start_other c.args.out.now c.skip_blank.ensures (target_other _ _ _ _ c.target_is.ensures c.in-Refused.is)

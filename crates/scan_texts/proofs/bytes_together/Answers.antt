@@ -1,0 +1,29 @@
+-- src/lib.rt:38:9
+use Rattle.scan_texts.proofs.Texts.{bundle_head, texts_before, texts_together}
+use native.Mathlib.Omega.{arith}
+use borrow.Author.Rules.{rules}
+use Rattle.scan_texts.proofs.bytes_together.Goals as goal
+
+-- src/lib.rt:39:9
+
+-- src/lib.rt:40:21
+
+-- src/lib.rt:40:16
+
+-- src/lib.rt:40:16
+
+-- src/lib.rt:40:5
+
+-- src/lib.rt:34:1
+
+pub word-n-requires : goal.word-n-requires
+word-n-requires c = omega (arith, bundle_head _ c.requires)
+
+pub word-first-requires : goal.word-first-requires
+word-first-requires c = omega (arith, bundle_head _ c.requires)
+
+pub overflow_sub-result : goal.overflow_sub-result
+overflow_sub-result c = texts_before c.args.b.now c.requires c.word-n.ensures.is c.word-first.ensures.is
+
+pub returns : goal.returns
+returns c = texts_together c.args.b.now c.requires c.word-n.ensures.is c.word-first.ensures.is

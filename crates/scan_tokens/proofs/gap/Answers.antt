@@ -1,0 +1,29 @@
+-- `scan_tokens::gap` meets its contract.
+use Prim.Native.Nat.{◌-◌}
+use borrow.Author.Rules.{rules}
+use lib.ListN.{length}
+use Rattle.spec.specs.Forms.{gap}
+use Rattle.scan_tokens.proofs.Places.{Going, going_begin}
+use Rattle.scan_tokens.proofs.Gaps.{skip_end, skip_space, skip_other, skip_last, skip_dollar, skip_join}
+use Rattle.scan_tokens.proofs.gap.Goals as goal
+
+pub loop-i-init : goal.loop-i-init
+loop-i-init c = going_begin c.requires
+
+pub loop-i-preserved-then-b-eq32 : goal.loop-i-preserved-then-b-eq32
+loop-i-preserved-then-b-eq32 c = skip_space c.loop-i.invariant c.loop-i-test.true c.if-b-eq32.true
+
+pub returns-then-b-ne36 : goal.returns-then-b-ne36
+returns-then-b-ne36 c = skip_other c.loop-i.invariant c.loop-i-test.true c.if-b-eq32.false c.if-b-ne36.true
+
+pub returns-then-s-next : goal.returns-then-s-next
+returns-then-s-next c = skip_last c.loop-i.invariant c.loop-i-test.true c.if-b-ne36.false c.if-s-next.true
+
+pub returns-then-s-next-ne10 : goal.returns-then-s-next-ne10
+returns-then-s-next-ne10 c = skip_dollar c.loop-i.invariant c.loop-i-test.true c.if-b-ne36.false c.if-s-next.false c.if-s-next-ne10.true
+
+pub loop-i-preserved : goal.loop-i-preserved
+loop-i-preserved c = skip_join c.loop-i.invariant c.loop-i-test.true c.if-b-ne36.false c.if-s-next.false c.if-s-next-ne10.false
+
+pub returns : goal.returns
+returns c = skip_end c.loop-i.invariant c.loop-i-test.false

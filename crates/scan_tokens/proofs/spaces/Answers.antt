@@ -1,0 +1,20 @@
+-- `scan_tokens::spaces` meets its contract.
+use Prim.Native.Nat.{◌-◌}
+use borrow.Author.Tests.{eq-eqb, ne_eqb}
+use borrow.Author.Rules.{rules}
+use lib.ListN.{length}
+use Rattle.lists.specs.Runs.{Scanning, scan_begin, scan_more, scan_stop, scan_end}
+use Rattle.spec.specs.Lines.{is_space}
+use Rattle.scan_tokens.proofs.spaces.Goals as goal
+
+pub loop-i-init : goal.loop-i-init
+loop-i-init c = scan_begin c.requires
+
+pub returns-then-s-i-ne32 : goal.returns-then-s-i-ne32
+returns-then-s-i-ne32 c = scan_stop c.loop-i.invariant c.loop-i-test.true (ne_eqb _ _ c.if-s-i-ne32.true)
+
+pub loop-i-preserved : goal.loop-i-preserved
+loop-i-preserved c = scan_more c.loop-i.invariant c.loop-i-test.true (eq-eqb _ _ c.if-s-i-ne32.false)
+
+pub returns : goal.returns
+returns c = scan_end c.loop-i.invariant c.loop-i-test.false

@@ -1,0 +1,9 @@
+-- `slid` meets its contract.
+use native.Mathlib.Omega.{arith}
+use Rattle.status_record.proofs.Steps.{slid_law, spread}
+use borrow.Author.Rules.{rules}
+use Rattle.status_record.proofs.slid.Goals as goal
+
+pub returns : goal.returns
+unfolding spread
+returns c = slid_law c.args.t1 c.args.t (omega (arith, c.well-formed.0.1.0.1))

@@ -1,0 +1,28 @@
+-- `test_manifest::in_numbers` meets its contract.
+use Rattle.test_manifest.specs.Numbers.{in_numbers}
+use Rattle.test_manifest.proofs.Judging.{counted, refused_so}
+use Rattle.test_manifest.proofs.in_numbers.Goals as goal
+
+pub enum_known-a : goal.enum_known-a
+enum_known-a c = c.in-Accepted.keys1
+
+pub enum_known-a-in-Refused-1 : goal.enum_known-a-in-Refused-1
+enum_known-a-in-Refused-1 c = c.in-Refused.keys2
+
+pub of_refusal-requires : goal.of_refusal-requires
+of_refusal-requires c = tt
+
+pub locate-requires : goal.locate-requires
+locate-requires c = tt
+
+pub uncounted-requires : goal.uncounted-requires
+uncounted-requires c = tt
+
+pub returns-in-Accepted : goal.returns-in-Accepted
+unfolding in_numbers
+returns-in-Accepted c = counted c.args.bundle.now c.in-Accepted.is
+
+pub returns-in-Refused : goal.returns-in-Refused
+returns-in-Refused c =
+    refused_so c.args.bundle.now _ _ c.in-Refused.is
+    c.of_refusal.ensures c.locate.ensures c.uncounted.ensures

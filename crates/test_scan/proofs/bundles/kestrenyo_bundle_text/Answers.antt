@@ -1,0 +1,19 @@
+-- `test_scan::bundles::kestrenyo_bundle_text` meets its contract.
+use mathlib.Core.Path.{sym, ◌∙◌}
+use native.Mathlib.Omega.{arith}
+use borrow.Author.Tests.{not-true, not-false}
+use Rattle.test_scan.proofs.Bundling.{sounds, text_none, text_other, text_same}
+use borrow.Author.Rules.{rules}
+use Rattle.test_scan.proofs.bundles.kestrenyo_bundle_text.Goals as goal
+
+pub returns-then-records_in-k : goal.returns-then-records_in-k
+returns-then-records_in-k c = text_none _ _ c.records_in.ensures c.if-records_in-k.true _
+
+pub record_text-requires : goal.record_text-requires
+record_text-requires c = let s = sounds _ c.records_in.ensures (omega arith) in (s.laid, omega (arith, s.count))
+
+pub returns-then-not-equal : goal.returns-then-not-equal
+returns-then-not-equal c = text_other _ _ c.records_in.ensures c.if-records_in-k.false _ (rw (← c.record_text.ensures) (sym c.equal.ensures ∙ not-true _ c.if-not-equal.true))
+
+pub returns : goal.returns
+returns c = text_same _ _ c.records_in.ensures c.if-records_in-k.false _ (rw (← c.record_text.ensures) (sym c.equal.ensures ∙ not-false _ c.if-not-equal.false))

@@ -1,0 +1,14 @@
+-- `test_scan::cards::kestrenyo_card_time` meets its contract.
+use mathlib.Core.Path.{sym, ◌∙◌}
+use borrow.Author.Tests.{not-true, not-false}
+use borrow.Author.Rules.{rules}
+use Rattle.test_scan.proofs.cards.kestrenyo_card_time.Goals as goal
+
+pub returns-then-not-sound : goal.returns-then-not-sound
+returns-then-not-sound c = rw (sym c.sound.ensures ∙ not-true _ c.if-not-sound.true)
+
+pub time_of-requires : goal.time_of-requires
+time_of-requires c = sym c.sound.ensures ∙ not-false _ c.if-not-sound.false
+
+pub returns : goal.returns
+returns c = rw (sym c.sound.ensures ∙ not-false _ c.if-not-sound.false) c.time_of.ensures

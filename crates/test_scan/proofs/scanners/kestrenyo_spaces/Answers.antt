@@ -1,0 +1,7 @@
+-- `test_scan::scanners::kestrenyo_spaces` meets its contract.
+use borrow.Author.Rules.{rules}
+use Rattle.test_scan.proofs.Numbers.{token}
+use Rattle.test_scan.proofs.scanners.kestrenyo_spaces.Goals as goal
+
+pub returns : goal.returns
+returns c = token _ _ c.start_in-i.ensures c.spaces.ensures

@@ -1,0 +1,50 @@
+-- `text_batch::walk` meets its contract.
+use Rattle.hold_reading.specs.Buffers.{buffers}
+use lib.ListN.{length}
+use Prim.Native.Nat.{◌-◌, ◌≤◌}
+use native.Mathlib.Omega.{arith}
+use mathlib.Core.Path.{◌≡◌, refl}
+use Rattle.text_batch.proofs.Walking.{Walking, walk_begin, walk_end, walk_on, walk_full, walk_long, walk_refused, walk_asks, end_within}
+use borrow.Author.Rules.{rules}
+use Rattle.text_batch.proofs.walk.Goals as goal
+
+-- the end of a turn's text
+
+pub loop-i-init : goal.loop-i-init
+loop-i-init c = (refl, refl, walk_begin)
+
+pub put_text-requires : goal.put_text-requires
+put_text-requires c = walk_asks c.requires c.loop-i.invariant.2 c.loop-i.invariant.0 c.loop-i.invariant.1
+
+pub enum_known-e : goal.enum_known-e
+enum_known-e c = c.in-Ends.keys1
+
+pub returns-then-ends-i : goal.returns-then-ends-i
+returns-then-ends-i c = record { space = record { long = (search rules) }; promise = walk_full c.loop-i.invariant.2 c.loop-i-test.true c.at-step.ensures (rw c.in-Ends.is at c.put_text.ensures.promise) c.if-ends-i.true }
+
+pub overflow_cast-ends : goal.overflow_cast-ends
+overflow_cast-ends c = omega (arith, (end_within c.requires (rw c.in-Ends.is at c.put_text.ensures.promise)), c.requires.low)
+
+pub offset_bounds-ends-i : goal.offset_bounds-ends-i
+offset_bounds-ends-i c = omega (arith, c.if-ends-i.false, c.loop-i.invariant.2.long, c.well-formed)
+
+pub overflow_add-i : goal.overflow_add-i
+overflow_add-i c = omega (arith, c.loop-i-test.true, c.well-formed)
+
+pub loop-i-preserved : goal.loop-i-preserved
+loop-i-preserved c = (omega (arith, c.loop-i.invariant.0, c.put_text.auto), omega (arith, c.loop-i.invariant.1, c.put_text.auto), walk_on c.loop-i.invariant.2 c.loop-i-test.true c.at-step.ensures (rw c.in-Ends.is at c.put_text.ensures.promise) ((end_within c.requires (rw c.in-Ends.is at c.put_text.ensures.promise))) c.if-ends-i.false)
+
+pub enum_told-1 : goal.enum_told-1
+enum_told-1 c = c.in-NoRoom.keys2
+
+pub returns-in-NoRoom : goal.returns-in-NoRoom
+returns-in-NoRoom c = record { space = record { long = (search rules) }; promise = walk_long c.loop-i.invariant.2 c.loop-i-test.true c.at-step.ensures (rw c.in-NoRoom.is at c.put_text.ensures.promise) }
+
+pub enum_known-r : goal.enum_known-r
+enum_known-r c = c.in-Refused.keys3
+
+pub returns-in-Refused : goal.returns-in-Refused
+returns-in-Refused c = record { space = record { long = (search rules) }; promise = walk_refused c.loop-i.invariant.2 c.loop-i-test.true c.at-step.ensures (rw c.in-Refused.is at c.put_text.ensures.promise) }
+
+pub returns : goal.returns
+returns c = record { space = record { long = (search rules) }; promise = walk_end c.loop-i.invariant.2 c.loop-i-test.false }

@@ -1,0 +1,15 @@
+use Rattle.hold_reading.specs.Buffers.{buffers}
+use lib.ListN.{length}
+use Prim.Native.Nat.{◌-◌, ◌≤◌}
+use native.Mathlib.Omega.{arith}
+use mathlib.Core.Path.{◌≡◌, refl}
+use Rattle.text_batch.proofs.Walking.{Walking, walk_begin, walk_end, walk_on, walk_full, walk_long, walk_refused, walk_asks, end_within}
+use borrow.Author.Rules.{rules}
+use Rattle.text_batch.proofs.walk.Given as goal
+
+abbrev pub invariant-loop-i : goal.invariant-loop-i
+invariant-loop-i l =
+    (length l.one ≡ length l.initial.one) × (length l.bytes ≡ length l.initial.bytes) × Walking (buffers l.names l.index l.texts l.bind l.graph) l.c l.steps l.wanted l.room (length l.initial.ends) l.bytes l.ends l.i l.end
+
+abbrev pub decreases-loop-i : goal.decreases-loop-i
+decreases-loop-i l = length l.steps - l.i

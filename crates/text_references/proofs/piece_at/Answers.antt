@@ -1,0 +1,20 @@
+-- `text_references::piece_at` meets its contract.
+use Rattle.scan_dollars.proofs.Answers.{tells_byte, tells_join, tells_name, tells_bad}
+use Rattle.text_references.proofs.Beginnings.{plain_begins, literal_begins, join_begins, name_begins, none_begins}
+use borrow.Author.Rules.{rules}
+use Rattle.text_references.proofs.piece_at.Goals as goal
+
+pub returns-then-raw-i-ne36 : goal.returns-then-raw-i-ne36
+returns-then-raw-i-ne36 c = plain_begins _ _ c.requires.0 c.requires.1.sound c.if-raw-i-ne36.true c.find-end.ensures
+
+pub returns-in-Byte : goal.returns-in-Byte
+returns-in-Byte c = literal_begins _ _ c.requires.0 c.requires.1.sound c.if-raw-i-ne36.false (tells_byte _ _ _ _ c.dollar.ensures c.in-Byte.is)
+
+pub returns-in-Join : goal.returns-in-Join
+returns-in-Join c = join_begins _ _ c.requires.0 c.requires.1.sound c.if-raw-i-ne36.false (tells_join _ _ _ _ c.dollar.ensures c.in-Join.is)
+
+pub returns-in-Name : goal.returns-in-Name
+returns-in-Name c = name_begins _ _ c.requires.0 c.requires.1.sound c.if-raw-i-ne36.false (tells_name _ _ _ _ c.dollar.ensures c.in-Name.is)
+
+pub returns-in-Bad : goal.returns-in-Bad
+returns-in-Bad c = none_begins _ _ c.requires.0 c.requires.1.sound c.if-raw-i-ne36.false _ (tells_bad _ _ _ _ c.dollar.ensures c.in-Bad.is)

@@ -1,0 +1,17 @@
+-- `text_step::text_of` meets its contract.
+use Rattle.text_step.proofs.Picking.{asked_none, asked_step}
+use Rattle.text_step.proofs.Answering.{reads, no_command, step_asked, step_text}
+use borrow.Author.Rules.{rules}
+use Rattle.text_step.proofs.text_of.Goals as goal
+
+pub asked-requires : goal.asked-requires
+asked-requires c = reads c.requires
+
+pub text_at-requires : goal.text_at-requires
+text_at-requires c = let a = c.args in step_asked (asked_step a.texts.now a.bind.now a.graph.now a.c a.x.step c.asked.ensures c.in-Step.is) c.requires
+
+pub returns-in-NoCommand : goal.returns-in-NoCommand
+returns-in-NoCommand c = let a = c.args in no_command c.requires a.x.wanted (asked_none a.texts.now a.bind.now a.graph.now a.c a.x.step c.asked.ensures c.in-NoCommand.is) c.zero_bytes_from.ensures
+
+pub returns-in-Step : goal.returns-in-Step
+returns-in-Step c = let a = c.args in step_text (asked_step a.texts.now a.bind.now a.graph.now a.c a.x.step c.asked.ensures c.in-Step.is) c.requires c.wanted_key-key.ensures c.text_at.ensures

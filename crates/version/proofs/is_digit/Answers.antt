@@ -1,0 +1,12 @@
+-- `version::is_digit` meets its contract.
+use borrow.Author.Tests.{le-leb, lt-leb}
+use Rattle.version.specs.Version.{version_digit}
+use Rattle.version.proofs.is_digit.Goals as goal
+
+pub returns-then-b-ge48 : goal.returns-then-b-ge48
+unfolding version_digit
+returns-then-b-ge48 c = rw (le-leb _ _ c.if-b-ge48.true)
+
+pub returns-else-b-ge48 : goal.returns-else-b-ge48
+unfolding version_digit
+returns-else-b-ge48 c = rw (lt-leb _ _ c.if-b-ge48.false)

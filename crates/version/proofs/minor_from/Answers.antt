@@ -1,0 +1,17 @@
+-- `version::minor_from` meets its contract.
+use borrow.Author.Rules.{rules}
+use Rattle.version.specs.Version.{minor_from}
+use Rattle.version.proofs.Steps.{none_read, last_read, one_read}
+use Rattle.version.proofs.minor_from.Goals as goal
+
+pub returns-in_default : goal.returns-in_default
+unfolding minor_from
+returns-in_default c = rw (none_read _ c.number-second.ensures c.in_default.is)
+
+pub returns-then-i-s : goal.returns-then-i-s
+unfolding minor_from
+returns-then-i-s c = rw (one_read _ c.number-second.ensures c.in-Value.is c.if-i-s.true) c.patch_from.ensures
+
+pub returns : goal.returns
+unfolding minor_from
+returns c = rw (last_read _ c.number-second.ensures c.in-Value.is c.if-i-s.false)

@@ -1,0 +1,17 @@
+-- `version::patch_from` meets its contract.
+use borrow.Author.Rules.{rules}
+use Rattle.version.specs.Version.{patch_from}
+use Rattle.version.proofs.Steps.{none_read, last_read, one_read}
+use Rattle.version.proofs.patch_from.Goals as goal
+
+pub returns-in_default : goal.returns-in_default
+unfolding patch_from
+returns-in_default c = rw (none_read _ c.number-third.ensures c.in_default.is)
+
+pub returns-then-end-s : goal.returns-then-end-s
+unfolding patch_from
+returns-then-end-s c = rw (one_read _ c.number-third.ensures c.in-Value.is c.if-end-s.true)
+
+pub returns : goal.returns
+unfolding patch_from
+returns c = rw (last_read _ c.number-third.ensures c.in-Value.is c.if-end-s.false)
