@@ -7,7 +7,7 @@ ghost use Rattle.spec.specs.Bundle.{bundle_names};
 ghost use Rattle.scan_bundle.specs.Bundles.{LaidBundle, found_record};
 ghost use Rattle.apply_open.specs.Opens.{open_over, OpenAsks, OpensPath, EnterAsks, Enters, LeaveAsks, LeavesScope};
 
-use byteorder::equal;
+use byte_order::equal;
 use expand_dollars::expand;
 use hold_bindings::{back_to, current_scope, enter_scope};
 use hold_reading::Counts;

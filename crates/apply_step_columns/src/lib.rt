@@ -6,7 +6,7 @@ ghost use Rattle.hold_bindings.specs.Held.{HoldsBindings, SoundBindings};
 ghost use Rattle.apply_step_columns.specs.StepColumns.{rule_number, phony_bit, MakeAsks, MarksMade, PutStepAsks, PutsStep};
 
 use arena::put;
-use byteorder::equal;
+use byte_order::equal;
 use hold_bindings::{FoundEntry, newest};
 use hold_columns::OUTS_END;
 use hold_reading::Counts;

@@ -9,7 +9,7 @@ ghost use Rattle.hold_reading.specs.Binds.{Meets};
 ghost use Rattle.apply_variables.specs.Asks.{BindingAsks, RoomForBinding};
 
 use apply_bindings::{binding_over, push_binding};
-use byteorder::equal;
+use byte_order::equal;
 use expand_dollars::expand;
 use hold_bindings::current_scope;
 use hold_reading::{Counts, LineAnswer, Open};

@@ -5,7 +5,7 @@ ghost use Rattle.hold_bindings.specs.Log.{Logged};
 ghost use Rattle.hold_bindings.specs.Held.{HoldsBindings, SoundBindings};
 ghost use Rattle.ask_depfile_bound.specs.Bound.{depfile_bound};
 
-use byteorder::equal;
+use byte_order::equal;
 use hold_bindings::entry_name;
 
 // Whether one of the entries has that name: a rule's key, a line of a block or a file variable. A rule of that name counts too, which costs no more than the longer way.

@@ -5,7 +5,7 @@ ghost use Rattle.spec.specs.Forms.{cut_statement, cut_indented};
 ghost use Rattle.scan_classes.specs.Table.{classes};
 ghost use Rattle.cut_forms.specs.Statements.{StatementAt, AssignmentAt};
 
-use byteorder::equal;
+use byte_order::equal;
 use cut_bindings::{cut_binding, cut_rule};
 use cut_builds::cut_build;
 use cut_forms::opens::cut_open;

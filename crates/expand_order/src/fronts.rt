@@ -3,7 +3,7 @@ ghost use Rattle.expand_parts.specs.Runs.{bytes_of, RunPlaced};
 ghost use Rattle.expand_order.specs.Ahead.{FrontsCompared};
 
 use crate::Ahead;
-use byteorder::{compare, lesser};
+use byte_order::{compare, lesser};
 use expand_parts::Run;
 use lists::Order;
 

@@ -7,7 +7,7 @@ ghost use Rattle.hold_bindings.specs.Index.{key_at};
 ghost use Rattle.hold_bindings.specs.Held.{max_rows, scopes_at, current_at, parents_at, HoldsScopes, HoldsBindings, SoundBindings, SoundScopes, HasScope, HasScopeRoom, HasBackRoom, FewScopes, HasEntry, HasRowRoom, HasRoom, EntryRoom, entry_start, ValueAt, PlaceOf, Pushed, Added, Scoped};
 
 use arena::insert;
-use byteorder::{equal, less};
+use byte_order::{equal, less};
 use slices::bytes::copy_at;
 use slices::words::at;
 use spec::limits::{BINDINGS, NAME, RULES, WRITTEN};

@@ -4,7 +4,7 @@ ghost use Rattle.std.specs.Prelude.{◌≡◌, [], ◌<◌, get_or};
 ghost use Rattle.spec.specs.Text.{key_name, key_names, rule_keys, key_number};
 ghost use Rattle.hold_keys.specs.Names.{names_joined};
 
-use byteorder::equal;
+use byte_order::equal;
 use spec::Key;
 
 // How many keys there are, and the number of every name that is none.

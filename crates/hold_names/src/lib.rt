@@ -7,7 +7,7 @@ ghost use Rattle.spec.specs.Limits.{max_files};
 ghost use Rattle.hold_names.specs.Table.{buckets, bucket_from, Summed, bucket_of, heads_from, max_numbers, max_blocks, last_block, size_of, Shape, SoundNames, FindsName, AddsName, NamesFile, name_start, compared_of, ComparesName, MatchesName, PicksNames, Halves, SeeksSorted, SeeksSecond, SeeksName, Lifted, Roomed, PutIn, Parted, Spared, Entered};
 
 use arena::put;
-use byteorder::{compare, equal, lesser};
+use byte_order::{compare, equal, lesser};
 use lists::Order;
 use slices::bytes::copy_at;
 use slices::words::{at, zero_words_in};

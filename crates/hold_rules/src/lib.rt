@@ -9,7 +9,7 @@ ghost use Rattle.hold_bindings.specs.Held.{HoldsBindings, SoundBindings};
 ghost use Rattle.hold_reading.specs.Held.{HoldsBound};
 ghost use Rattle.hold_rules.specs.Tests.{OfRule, keyed, bad_key};
 
-use byteorder::equal;
+use byte_order::equal;
 use hold_bindings::{FoundEntry, newest};
 use hold_keys::key_number;
 use hold_reading::Counts;

@@ -65,6 +65,7 @@ from_drop s (y ∷ l) h =
       | inl q ↦ absurd (eqb-false s y b q)
       | inr k ↦ (let (j, c, e, g) = from_drop s l k in (suc j, omega arith, e, rw (b, from) g))
     ])
+from_drop s [] h = elim h [ ]
 
 module _ {Want : ℕ → Type 0} {Before : ℕ → ℕ → Type 0} where
   pub drop_circle : (l : List ℕ) (s j : ℕ) → Once l → ((t : ℕ) → t ∈ l → Want t) → Linked Before (l ++ (s ∷ [])) → j < length l → get_or l j 0 ≡ s

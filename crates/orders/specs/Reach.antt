@@ -95,6 +95,7 @@ module _ (l ys : List ℕ) where
         | inl q ↦ inr (here q)
         | inr k ↦ elim (fresh_in xs k) [ inl a ↦ inl a | inr b ↦ inr (there b) ]
       ]))
+  fresh_in [] {x = x} h = elim h [ ]
 
   fresh_once : (xs : List ℕ) → Once ys → Once (fresh xs l ys)
   unfolding fresh

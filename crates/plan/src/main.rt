@@ -4,7 +4,7 @@ ghost use Rattle.io.specs.Counts.{IsPrefixLen};
 ghost use Rattle.report.specs.Begins.{AnswerRooms};
 ghost use Rattle.report.specs.Held.{ToWrite};
 
-use byteorder::equal;
+use byte_order::equal;
 use libc::{STDERR_FILENO, STDIN_FILENO, STDOUT_FILENO};
 use report::{begin, next_lines};
 use report_bundle::lend_alone;

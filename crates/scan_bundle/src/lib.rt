@@ -9,7 +9,7 @@ ghost use Rattle.spec.specs.Card.{in_bytes, number_at, card_names};
 ghost use Rattle.scan_bundle.specs.Bundles.{LaidBundle, LiesAt, RunAsks, run_of, NamesSorted, PlacesRecord, SortsNames, BundleIndexed, Indexes, found_record, record_place_of, Wraps, WrapsHead};
 
 use arena::insert;
-use byteorder::compare;
+use byte_order::compare;
 use lists::Order;
 use scan_card::sound_layout;
 use scan_numbers::word;

@@ -4,7 +4,7 @@ ghost use Rattle.std.specs.Prelude.{◌≡◌, ◌+◌, ◌≤◌, length};
 ghost use Rattle.spec.specs.Card.{record_at, sound_layout, sound_header, sound_record, sound_names, sound_card};
 ghost use Rattle.scan_card.specs.Fields.{Headed};
 
-use byteorder::less;
+use byte_order::less;
 use scan_numbers::{long, word};
 use spec::limits::{CARD, PATH, RECORDS};
 

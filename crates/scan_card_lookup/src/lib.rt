@@ -5,7 +5,7 @@ ghost use Rattle.lists.specs.Order.{order_bytes};
 ghost use Rattle.spec.specs.Card.{sound_card, card_entries, time_in};
 ghost use Rattle.scan_card.specs.Fields.{EntryListed, card_entry_at};
 
-use byteorder::compare;
+use byte_order::compare;
 use lists::Order;
 use scan_numbers::{long, word};
 

@@ -4,7 +4,7 @@ ghost use Rattle.std.specs.Prelude.{◌≡◌};
 ghost use Rattle.spec.specs.Forms.{keyword, later_keyword, later_key, rule_word, key_word};
 ghost use Rattle.scan_keywords.specs.Words.{word_cut};
 
-use byteorder::equal;
+use byte_order::equal;
 
 // What a word is: a name, or one of those that fit no form (4) or are not yet in this edition (6).
 #[derive(Clone, Copy)]

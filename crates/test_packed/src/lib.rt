@@ -6,7 +6,7 @@ ghost use Rattle.lists.specs.Lent.{Spare};
 ghost use Rattle.test_packed.specs.Parts.{PartsBehind};
 
 use answers::Placed;
-use byteorder::equal;
+use byte_order::equal;
 use scan_numbers::word;
 use slices::words::at;
 

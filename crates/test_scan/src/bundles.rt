@@ -2,7 +2,7 @@
 ghost use Rattle.std.specs.Prelude.{◌≡◌};
 ghost use Rattle.test_scan.specs.Bundles.{bundle_count, record_number, records_in, text_number, base_number, spot_number, WrapsInto};
 
-use byteorder::equal;
+use byte_order::equal;
 use scan_bundle::{
     BundleAnswer, FoundRecord, find_record, index, record_text, spot_of, text_base, wrap,
 };

@@ -3,7 +3,7 @@
 ghost use Rattle.spec.specs.Text.{lookup_by};
 ghost use Rattle.text_lookup.specs.Scope.{InScope, LooksUp, from_file, from_rule, from_block};
 
-use byteorder::equal;
+use byte_order::equal;
 use hold_bindings::{FoundEntry, newest, newest_from};
 
 // The step that is asked for: its number, the entry of its rule's declaration in the table of bindings, the scope that its line stands in, how many

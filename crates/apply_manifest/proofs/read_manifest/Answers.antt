@@ -59,17 +59,17 @@ is_sound_bundle-requires c = tt
 
 pub returns-then-not-is_sound_bundle : goal.returns-then-not-is_sound_bundle
 unfolding IsRead
-returns-then-not-is_sound_bundle c = record { space = search rules; promise = not_sound _ (sym c.is_sound_bundle.ensures ∙ not-true _ c.if-not-is_sound_bundle.true) }
+returns-then-not-is_sound_bundle c = record { space = search rules; promise = not_sound _ (sym c.is_sound_bundle.ensures ∙ c.if-not-is_sound_bundle.true) }
 
 pub bytes_together-requires : goal.bytes_together-requires
-bytes_together-requires c = (sym c.is_sound_bundle.ensures ∙ not-false _ c.if-not-is_sound_bundle.false)
+bytes_together-requires c = (sym c.is_sound_bundle.ensures ∙ c.if-not-is_sound_bundle.false)
 
 pub returns-then-bytes_together-gt-MANIFEST : goal.returns-then-bytes_together-gt-MANIFEST
 unfolding IsRead
-returns-then-bytes_together-gt-MANIFEST c = record { space = search rules; promise = too_long _ (sym c.is_sound_bundle.ensures ∙ not-false _ c.if-not-is_sound_bundle.false) c.bytes_together.ensures c.if-bytes_together-gt-MANIFEST.true }
+returns-then-bytes_together-gt-MANIFEST c = record { space = search rules; promise = too_long _ (sym c.is_sound_bundle.ensures ∙ c.if-not-is_sound_bundle.false) c.bytes_together.ensures c.if-bytes_together-gt-MANIFEST.true }
 
 pub first_bad-requires : goal.first_bad-requires
-first_bad-requires c = short _ (sym c.is_sound_bundle.ensures ∙ not-false _ c.if-not-is_sound_bundle.false) c.bytes_together.ensures c.if-bytes_together-gt-MANIFEST.false
+first_bad-requires c = short _ (sym c.is_sound_bundle.ensures ∙ c.if-not-is_sound_bundle.false) c.bytes_together.ensures c.if-bytes_together-gt-MANIFEST.false
 
 pub enum_known-p : goal.enum_known-p
 enum_known-p c = c.in-At.keys1
@@ -78,16 +78,16 @@ pub enum_told-1 : goal.enum_told-1
 enum_told-1 c = c.in-Nowhere.keys2
 
 pub read_lines-requires : goal.read_lines-requires
-read_lines-requires c = lines_ask c.requires (short _ (sym c.is_sound_bundle.ensures ∙ not-false _ c.if-not-is_sound_bundle.false) c.bytes_together.ensures c.if-bytes_together-gt-MANIFEST.false)
+read_lines-requires c = lines_ask c.requires (short _ (sym c.is_sound_bundle.ensures ∙ c.if-not-is_sound_bundle.false) c.bytes_together.ensures c.if-bytes_together-gt-MANIFEST.false)
 
 pub returns-in-At : goal.returns-in-At
 unfolding IsRead
-returns-in-At c = record { space = search rules; promise = bad_bytes _ (sym c.is_sound_bundle.ensures ∙ not-false _ c.if-not-is_sound_bundle.false) c.bytes_together.ensures c.if-bytes_together-gt-MANIFEST.false _ c.first_bad.ensures c.in-At.is }
+returns-in-At c = record { space = search rules; promise = bad_bytes _ (sym c.is_sound_bundle.ensures ∙ c.if-not-is_sound_bundle.false) c.bytes_together.ensures c.if-bytes_together-gt-MANIFEST.false _ c.first_bad.ensures c.in-At.is }
 
 pub returns-in-Goes : goal.returns-in-Goes
 unfolding IsRead
-returns-in-Goes c = record { space = search rules; promise = lines_accepted _ (sym c.is_sound_bundle.ensures ∙ not-false _ c.if-not-is_sound_bundle.false) c.bytes_together.ensures c.if-bytes_together-gt-MANIFEST.false _ c.first_bad.ensures c.in-Nowhere.is (rw c.in-Goes.is at c.read_lines.ensures.promise) }
+returns-in-Goes c = record { space = search rules; promise = lines_accepted _ (sym c.is_sound_bundle.ensures ∙ c.if-not-is_sound_bundle.false) c.bytes_together.ensures c.if-bytes_together-gt-MANIFEST.false _ c.first_bad.ensures c.in-Nowhere.is (rw c.in-Goes.is at c.read_lines.ensures.promise) }
 
 pub returns-in-Refused : goal.returns-in-Refused
 unfolding IsRead
-returns-in-Refused c = record { space = search rules; promise = lines_refused _ (sym c.is_sound_bundle.ensures ∙ not-false _ c.if-not-is_sound_bundle.false) c.bytes_together.ensures c.if-bytes_together-gt-MANIFEST.false _ c.first_bad.ensures c.in-Nowhere.is (rw c.in-Refused.is at c.read_lines.ensures.promise) }
+returns-in-Refused c = record { space = search rules; promise = lines_refused _ (sym c.is_sound_bundle.ensures ∙ c.if-not-is_sound_bundle.false) c.bytes_together.ensures c.if-bytes_together-gt-MANIFEST.false _ c.first_bad.ensures c.in-Nowhere.is (rw c.in-Refused.is at c.read_lines.ensures.promise) }

@@ -14,10 +14,10 @@ pub shape_of-list-then-not-sound : goal.shape_of-list-then-not-sound
 shape_of-list-then-not-sound c = c.zero_words_from.auto.buf
 
 pub returns-then-not-sound : goal.returns-then-not-sound
-returns-then-not-sound c = record { space = (record { long = refl }, record { long = refl }); promise = bad_card (sym c.sound.ensures ∙ not-true _ c.if-not-sound.true) c.zero_words_from.ensures }
+returns-then-not-sound c = record { space = (record { long = refl }, record { long = refl }); promise = bad_card (sym c.sound.ensures ∙ c.if-not-sound.true) c.zero_words_from.ensures }
 
 pub plan_targets-requires : goal.plan_targets-requires
-plan_targets-requires c = record { asked = c.requires; sound = sym c.sound.ensures ∙ not-false _ c.if-not-sound.false }
+plan_targets-requires c = record { asked = c.requires; sound = sym c.sound.ensures ∙ c.if-not-sound.false }
 
 pub shape_of-names : goal.shape_of-names
 shape_of-names c = c.plan_targets.auto.names
@@ -29,4 +29,4 @@ pub shape_of-list : goal.shape_of-list
 shape_of-list c = c.plan_targets.auto.list
 
 pub returns : goal.returns
-returns c = record { space = c.plan_targets.ensures.space; promise = good_card (sym c.sound.ensures ∙ not-false _ c.if-not-sound.false) c.plan_targets.ensures.promise }
+returns c = record { space = c.plan_targets.ensures.space; promise = good_card (sym c.sound.ensures ∙ c.if-not-sound.false) c.plan_targets.ensures.promise }

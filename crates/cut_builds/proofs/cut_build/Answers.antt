@@ -19,13 +19,13 @@ returns-then-l-end-ne58 c = no_form_law (outputs_other (subst (ListedAt _ _) c.i
 
 pub returns-then-not-any : goal.returns-then-not-any
 unfolding ListedAt StatementAt
-returns-then-not-any c = no_form_law (outputs_none (subst (ListedAt _ _) c.in-Ends.is c.listed.ensures) c.if-l-end.false c.if-l-end-ne58.false (not-true _ c.if-not-any.true))
+returns-then-not-any c = no_form_law (outputs_none (subst (ListedAt _ _) c.in-Ends.is c.listed.ensures) c.if-l-end.false c.if-l-end-ne58.false (c.if-not-any.true))
 
 pub returns-else-not-any : goal.returns-else-not-any
 unfolding ListedAt
 returns-else-not-any c =
     let w : ListEnds _ _ _ _ = subst (ListedAt _ _) c.in-Ends.is c.listed.ensures in
-    rw (outputs_some w c.if-l-end.false c.if-l-end-ne58.false (not-false _ c.if-not-any.false) c.gap-from.ensures) (c.cut_inputs.ensures w.raw (paths_of_law w))
+    rw (outputs_some w c.if-l-end.false c.if-l-end-ne58.false (c.if-not-any.false) c.gap-from.ensures) (c.cut_inputs.ensures w.raw (paths_of_law w))
 
 pub returns-in-Wrong : goal.returns-in-Wrong
 unfolding ListedAt StatementAt

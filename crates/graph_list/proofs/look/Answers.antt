@@ -18,13 +18,13 @@ pub all_clear-requires : goal.all_clear-requires
 all_clear-requires c = rw c.requires.long (record { low = inputs_low c.requires.sound.low _ _ c.inputs.ensures; makers = c.requires.sound.makers })
 
 pub returns-then-not-all_clear : goal.returns-then-not-all_clear
-returns-then-not-all_clear c = look_blocked (c.all_clear.ensures ∙ ap (all_clear _ _) c.inputs.ensures) (not-true _ c.if-not-all_clear.true)
+returns-then-not-all_clear c = look_blocked (c.all_clear.ensures ∙ ap (all_clear _ _) c.inputs.ensures) (c.if-not-all_clear.true)
 
 pub returns-then-at-ne1 : goal.returns-then-at-ne1
-returns-then-at-ne1 c = look_free (c.all_clear.ensures ∙ ap (all_clear _ _) c.inputs.ensures) (not-false _ c.if-not-all_clear.false) c.at-2.ensures c.if-at-ne1.true (omega (arith, c.requires.low, c.requires.long))
+returns-then-at-ne1 c = look_free (c.all_clear.ensures ∙ ap (all_clear _ _) c.inputs.ensures) (c.if-not-all_clear.false) c.at-2.ensures c.if-at-ne1.true (omega (arith, c.requires.low, c.requires.long))
 
 pub returns-then-s-best : goal.returns-then-s-best
-returns-then-s-best c = look_lower (c.all_clear.ensures ∙ ap (all_clear _ _) c.inputs.ensures) (not-false _ c.if-not-all_clear.false) c.at-2.ensures c.if-at-ne1.false c.if-s-best.true
+returns-then-s-best c = look_lower (c.all_clear.ensures ∙ ap (all_clear _ _) c.inputs.ensures) (c.if-not-all_clear.false) c.at-2.ensures c.if-at-ne1.false c.if-s-best.true
 
 pub returns : goal.returns
-returns c = look_higher (c.all_clear.ensures ∙ ap (all_clear _ _) c.inputs.ensures) (not-false _ c.if-not-all_clear.false) c.at-2.ensures c.if-at-ne1.false c.if-s-best.false
+returns c = look_higher (c.all_clear.ensures ∙ ap (all_clear _ _) c.inputs.ensures) (c.if-not-all_clear.false) c.at-2.ensures c.if-at-ne1.false c.if-s-best.false

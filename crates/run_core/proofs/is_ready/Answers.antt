@@ -12,10 +12,10 @@ pub is_clear-requires : goal.is_clear-requires
 is_clear-requires c = tt
 
 pub returns-then-not-is_clear : goal.returns-then-not-is_clear
-returns-then-not-is_clear c = ready_blocked _ _ _ c.if-j-ne0.false c.is_clear.ensures (not-true _ c.if-not-is_clear.true)
+returns-then-not-is_clear c = ready_blocked _ _ _ c.if-j-ne0.false c.is_clear.ensures (c.if-not-is_clear.true)
 
 pub has_room-requires : goal.has_room-requires
 has_room-requires c = tt
 
 pub returns : goal.returns
-returns c = c.has_room.ensures ∙ ready_room _ _ _ c.if-j-ne0.false c.is_clear.ensures (not-false _ c.if-not-is_clear.false)
+returns c = c.has_room.ensures ∙ ready_room _ _ _ c.if-j-ne0.false c.is_clear.ensures (c.if-not-is_clear.false)

@@ -14,7 +14,7 @@ pub loop-k-init : goal.loop-k-init
 loop-k-init c = naming_begin c.requires
 
 pub returns-then-not-sound_record : goal.returns-then-not-sound_record
-returns-then-not-sound_record c = refuted _ (λ h. differ (turn c.loop-k.invariant c.loop-k-test.true h).fair (sym c.sound_record.ensures ∙ not-true _ c.if-not-sound_record.true))
+returns-then-not-sound_record c = refuted _ (λ h. differ (turn c.loop-k.invariant c.loop-k-test.true h).fair (sym c.sound_record.ensures ∙ c.if-not-sound_record.true))
 
 pub returns-then-card-end : goal.returns-then-card-end
 unfolding record_at
@@ -22,12 +22,12 @@ returns-then-card-end c = refuted _ (λ h. let t = turn c.loop-k.invariant c.loo
 
 pub returns-then-not-less : goal.returns-then-not-less
 unfolding record_at
-returns-then-not-less c = refuted _ (λ h. differ (turn c.loop-k.invariant c.loop-k-test.true h).less (rw (← c.word.ensures.is) (sym c.less.ensures ∙ not-true _ c.if-not-less.true)))
+returns-then-not-less c = refuted _ (λ h. differ (turn c.loop-k.invariant c.loop-k-test.true h).less (rw (← c.word.ensures.is) (sym c.less.ensures ∙ c.if-not-less.true)))
 
 pub loop-k-preserved : goal.loop-k-preserved
 unfolding record_at
 loop-k-preserved c =
-    turned c.loop-k.invariant c.loop-k-test.true _ c.word.ensures.is (sym c.sound_record.ensures ∙ not-false _ c.if-not-sound_record.false) c.if-card-end.false (sym c.less.ensures ∙ not-false _ c.if-not-less.false)
+    turned c.loop-k.invariant c.loop-k-test.true _ c.word.ensures.is (sym c.sound_record.ensures ∙ c.if-not-sound_record.false) c.if-card-end.false (sym c.less.ensures ∙ c.if-not-less.false)
 
 pub returns : goal.returns
 returns c = naming_end c.loop-k.invariant c.loop-k-test.false

@@ -11,13 +11,13 @@ pub uncounted-requires : goal.uncounted-requires
 uncounted-requires c = tt
 
 pub returns-then-not-is_roomy : goal.returns-then-not-is_roomy
-returns-then-not-is_roomy c = too_small c.is_roomy.ensures (not-true _ c.if-not-is_roomy.true) c.uncounted.ensures
+returns-then-not-is_roomy c = too_small c.is_roomy.ensures (c.if-not-is_roomy.true) c.uncounted.ensures
 
 pub table-t-requires : goal.table-t-requires
 table-t-requires c = tt
 
 pub read_or_clear-requires : goal.read_or_clear-requires
-read_or_clear-requires c = lent c.table-t.ensures (c.is_roomy.ensures.enough (not-false _ c.if-not-is_roomy.false))
+read_or_clear-requires c = lent c.table-t.ensures (c.is_roomy.ensures.enough (c.if-not-is_roomy.false))
 
 pub in_numbers-requires : goal.in_numbers-requires
 in_numbers-requires c = tt
@@ -41,4 +41,4 @@ pub shape_of-word : goal.shape_of-word
 shape_of-word c = c.read_or_clear.auto.word
 
 pub returns : goal.returns
-returns c = has_read c.is_roomy.ensures _ (not-false _ c.if-not-is_roomy.false) c.read_or_clear.ensures c.in_numbers.ensures
+returns c = has_read c.is_roomy.ensures _ (c.if-not-is_roomy.false) c.read_or_clear.ensures c.in_numbers.ensures

@@ -17,10 +17,10 @@ pub put_in_quotes-requires : goal.put_in_quotes-requires
 put_in_quotes-requires c = copy_open c.loop-i.invariant
 
 pub returns-then-not-is_safe : goal.returns-then-not-is_safe
-returns-then-not-is_safe c = copy_quoted c.loop-i.invariant c.loop-i-test.true (sym c.is_safe.ensures ∙ not-true c.is_safe.result c.if-not-is_safe.true) c.requires c.put_in_quotes.ensures
+returns-then-not-is_safe c = copy_quoted c.loop-i.invariant c.loop-i-test.true (sym c.is_safe.ensures ∙ c.if-not-is_safe.true) c.requires c.put_in_quotes.ensures
 
 pub loop-i-preserved : goal.loop-i-preserved
-loop-i-preserved c = copy_on c.loop-i.invariant c.loop-i-test.true (sym c.is_safe.ensures ∙ not-false c.is_safe.result c.if-not-is_safe.false)
+loop-i-preserved c = copy_on c.loop-i.invariant c.loop-i-test.true (sym c.is_safe.ensures ∙ c.if-not-is_safe.false)
 
 pub returns : goal.returns
 returns c = copy_end c.loop-i.invariant c.loop-i-test.false

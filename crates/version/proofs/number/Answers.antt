@@ -19,10 +19,10 @@ pub returns-then-not-is_digit : goal.returns-then-not-is_digit
 unfolding part_of
 returns-then-not-is_digit c =
     let a = c.args in
-    sym (no_digit a.s.now a.from c.if-s-from.false (sym c.is_digit.ensures ∙ not-true _ c.if-not-is_digit.true))
+    sym (no_digit a.s.now a.from c.if-s-from.false (sym c.is_digit.ensures ∙ c.if-not-is_digit.true))
 
 pub loop-i-init : goal.loop-i-init
-loop-i-init c = begin _ _ c.if-s-from.false (sym c.is_digit.ensures ∙ not-false _ c.if-not-is_digit.false)
+loop-i-init c = begin _ _ c.if-s-from.false (sym c.is_digit.ensures ∙ c.if-not-is_digit.false)
 
 pub returns-then-b-eq46 : goal.returns-then-b-eq46
 unfolding part_of
@@ -32,25 +32,25 @@ pub returns-then-not-is_digit-2 : goal.returns-then-not-is_digit-2
 unfolding part_of
 returns-then-not-is_digit-2 c =
     no_number c.loop-i.invariant c.loop-i-test.true c.if-b-eq46.false
-    (sym c.is_digit-in-loop-i.ensures ∙ not-true _ c.if-not-is_digit-2.true)
+    (sym c.is_digit-in-loop-i.ensures ∙ c.if-not-is_digit-2.true)
 
 pub overflow_sub-n : goal.overflow_sub-n
-overflow_sub-n c = omega (arith, digit_range _ ((sym c.is_digit-in-loop-i.ensures ∙ not-false _ c.if-not-is_digit-2.false)))
+overflow_sub-n c = omega (arith, digit_range _ ((sym c.is_digit-in-loop-i.ensures ∙ c.if-not-is_digit-2.false)))
 
 pub overflow_cast-n : goal.overflow_cast-n
-overflow_cast-n c = omega (arith, digit_range _ ((sym c.is_digit-in-loop-i.ensures ∙ not-false _ c.if-not-is_digit-2.false)))
+overflow_cast-n c = omega (arith, digit_range _ ((sym c.is_digit-in-loop-i.ensures ∙ c.if-not-is_digit-2.false)))
 
 pub overflow_add-n : goal.overflow_add-n
-overflow_add-n c = omega (arith, digit_range _ ((sym c.is_digit-in-loop-i.ensures ∙ not-false _ c.if-not-is_digit-2.false)))
+overflow_add-n c = omega (arith, digit_range _ ((sym c.is_digit-in-loop-i.ensures ∙ c.if-not-is_digit-2.false)))
 
 pub returns-then-n-gt65535 : goal.returns-then-n-gt65535
 unfolding part_of
 returns-then-n-gt65535 c =
-    over c.loop-i.invariant c.loop-i-test.true c.if-b-eq46.false ((sym c.is_digit-in-loop-i.ensures ∙ not-false _ c.if-not-is_digit-2.false)) (omega arith)
+    over c.loop-i.invariant c.loop-i-test.true c.if-b-eq46.false ((sym c.is_digit-in-loop-i.ensures ∙ c.if-not-is_digit-2.false)) (omega arith)
 
 pub loop-i-preserved : goal.loop-i-preserved
 loop-i-preserved c =
-    more c.loop-i.invariant c.loop-i-test.true c.if-b-eq46.false ((sym c.is_digit-in-loop-i.ensures ∙ not-false _ c.if-not-is_digit-2.false)) c.if-n-gt65535.false
+    more c.loop-i.invariant c.loop-i-test.true c.if-b-eq46.false ((sym c.is_digit-in-loop-i.ensures ∙ c.if-not-is_digit-2.false)) c.if-n-gt65535.false
 
 pub returns : goal.returns
 unfolding part_of

@@ -10,15 +10,15 @@ use Rattle.cut_forms.proofs.paths.cut_default.Goals as goal
 
 pub returns-then-not-any : goal.returns-then-not-any
 unfolding ListedAt StatementAt
-returns-then-not-any c = no_form_law (default_none (subst (ListedAt _ _) c.in-Ends.is c.listed.ensures) (not-true _ c.if-not-any.true))
+returns-then-not-any c = no_form_law (default_none (subst (ListedAt _ _) c.in-Ends.is c.listed.ensures) (c.if-not-any.true))
 
 pub returns-then-end-l : goal.returns-then-end-l
 unfolding ListedAt StatementAt
-returns-then-end-l c = no_form_law (default_more (subst (ListedAt _ _) c.in-Ends.is c.listed.ensures) (not-false _ c.if-not-any.false) c.if-end-l.true)
+returns-then-end-l c = no_form_law (default_more (subst (ListedAt _ _) c.in-Ends.is c.listed.ensures) (c.if-not-any.false) c.if-end-l.true)
 
 pub returns-else-end-l : goal.returns-else-end-l
 unfolding ListedAt StatementAt
-returns-else-end-l c = default_ends (subst (ListedAt _ _) c.in-Ends.is c.listed.ensures) (not-false _ c.if-not-any.false) c.if-end-l.false
+returns-else-end-l c = default_ends (subst (ListedAt _ _) c.in-Ends.is c.listed.ensures) (c.if-not-any.false) c.if-end-l.false
 
 pub returns-in-Wrong : goal.returns-in-Wrong
 unfolding ListedAt StatementAt

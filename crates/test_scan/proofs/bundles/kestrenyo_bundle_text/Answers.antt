@@ -13,7 +13,7 @@ pub record_text-requires : goal.record_text-requires
 record_text-requires c = let s = sounds _ c.records_in.ensures (omega arith) in (s.laid, omega (arith, s.count))
 
 pub returns-then-not-equal : goal.returns-then-not-equal
-returns-then-not-equal c = text_other _ _ c.records_in.ensures c.if-records_in-k.false _ (rw (← c.record_text.ensures) (sym c.equal.ensures ∙ not-true _ c.if-not-equal.true))
+returns-then-not-equal c = text_other _ _ c.records_in.ensures c.if-records_in-k.false _ (rw (← c.record_text.ensures) (sym c.equal.ensures ∙ c.if-not-equal.true))
 
 pub returns : goal.returns
-returns c = text_same _ _ c.records_in.ensures c.if-records_in-k.false _ (rw (← c.record_text.ensures) (sym c.equal.ensures ∙ not-false _ c.if-not-equal.false))
+returns c = text_same _ _ c.records_in.ensures c.if-records_in-k.false _ (rw (← c.record_text.ensures) (sym c.equal.ensures ∙ c.if-not-equal.false))

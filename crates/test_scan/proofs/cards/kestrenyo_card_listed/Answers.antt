@@ -5,10 +5,10 @@ use borrow.Author.Rules.{rules}
 use Rattle.test_scan.proofs.cards.kestrenyo_card_listed.Goals as goal
 
 pub returns-then-not-sound : goal.returns-then-not-sound
-returns-then-not-sound c = rw (sym c.sound.ensures ∙ not-true _ c.if-not-sound.true)
+returns-then-not-sound c = rw (sym c.sound.ensures ∙ c.if-not-sound.true)
 
 pub count_listed-requires : goal.count_listed-requires
-count_listed-requires c = sym c.sound.ensures ∙ not-false _ c.if-not-sound.false
+count_listed-requires c = sym c.sound.ensures ∙ c.if-not-sound.false
 
 pub returns : goal.returns
-returns c = rw (sym c.sound.ensures ∙ not-false _ c.if-not-sound.false) c.count_listed.ensures
+returns c = rw (sym c.sound.ensures ∙ c.if-not-sound.false) c.count_listed.ensures

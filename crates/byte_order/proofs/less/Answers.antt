@@ -1,9 +1,9 @@
--- `byteorder::less` meets its contract.
+-- `byte_order::less` meets its contract.
 use mathlib.Core.Path.{sym, ◌∙◌}
 use borrow.Author.Rules.{rules}
 use Rattle.lists.specs.Bytes.{eq_less, less_asym}
 use Rattle.lists.specs.Order.{order_less, order_equal, order_greater}
-use Rattle.byteorder.proofs.less.Goals as goal
+use Rattle.byte_order.proofs.less.Goals as goal
 
 pub returns-in-Less : goal.returns-in-Less
 returns-in-Less c = sym (order_less _ _ (sym c.compare.ensures ∙ c.in-Less.is))

@@ -1,11 +1,11 @@
--- `byteorder::equal_short` meets its contract.
+-- `byte_order::equal_short` meets its contract.
 use Prim.Native.Nat.{◌-◌}
 use native.Mathlib.Omega.{arith}
 use borrow.Author.Rules.{rules}
 use lib.ListN.{length}
 use Rattle.lists.specs.Bytes.{eq_bytes}
-use Rattle.byteorder.proofs.Comparing.{Comparing, compare_begin, equal_end, equal_differ, equal_more}
-use Rattle.byteorder.proofs.equal_short.Goals as goal
+use Rattle.byte_order.proofs.Comparing.{Comparing, compare_begin, equal_end, equal_differ, equal_more}
+use Rattle.byte_order.proofs.equal_short.Goals as goal
 
 pub loop-i-init : goal.loop-i-init
 loop-i-init c = compare_begin

@@ -3,8 +3,8 @@ use native.Mathlib.Omega.{arith}
 use borrow.Author.Rules.{rules}
 use lib.ListN.{length}
 use Rattle.lists.specs.Bytes.{eq_bytes}
-use Rattle.byteorder.proofs.Comparing.{Comparing, compare_begin, equal_end, equal_differ, equal_more}
-use Rattle.byteorder.proofs.equal_short.Given as goal
+use Rattle.byte_order.proofs.Comparing.{Comparing, compare_begin, equal_end, equal_differ, equal_more}
+use Rattle.byte_order.proofs.equal_short.Given as goal
 
 abbrev pub invariant-loop-i : goal.invariant-loop-i
 invariant-loop-i l = Comparing eq_bytes l.a l.b (length l.a) l.i

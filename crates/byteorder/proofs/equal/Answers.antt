@@ -1,7 +1,0 @@
--- `byteorder::equal` meets its contract.
-use borrow.Author.Rules.{rules}
-use Rattle.byteorder.proofs.Comparing.{equal_length}
-use Rattle.byteorder.proofs.equal.Goals as goal
-
-pub returns-then-a-b : goal.returns-then-a-b
-returns-then-a-b c = equal_length _ _ c.if-a-b.true
