@@ -42,12 +42,14 @@ one_record_law (m ∷ t) o (first d) (first e) q = d ∙ sym e
 one_record_law (m ∷ t) o {j} {k} (first d) (later h) q = absurd (once_head m.step (steps_of t) o (rw (← d, q) (among_step h)))
 one_record_law (m ∷ t) o {j} {k} (later h) (first e) q = absurd (once_head m.step (steps_of t) o (rw (← e, ← q) (among_step h)))
 one_record_law (m ∷ t) o (later g) (later h) q = one_record_law t (once_tail m.step (steps_of t) o) g h q
+one_record_law [] o {j = j} {k = k} x4 _ q = elim x4 [ ]
 
 -- ---- tests of all and of any
 pub all_jobs : (p : Job → Bool) (t : List Job) → all p t ≡ true → {j : Job} → j among t → p j ≡ true
 unfolding all
 all_jobs p (k ∷ t) e (first q) = rw q (and_left (p k) (all p t) e)
 all_jobs p (k ∷ t) e (later h) = all_jobs p t (and_right (p k) (all p t) e) h
+all_jobs p [] e {j = j} x'' = elim x'' [ ]
 
 pub jobs_all : (p : Job → Bool) (t : List Job) → ((j : Job) → j among t → p j ≡ true) → all p t ≡ true
 unfolding all
@@ -63,6 +65,7 @@ pub no_jobs : (p : Job → Bool) (t : List Job) → any p t ≡ false → {j : J
 unfolding any
 no_jobs p (k ∷ t) e (first q) = rw q (or_left (p k) (any p t) e)
 no_jobs p (k ∷ t) e (later h) = no_jobs p t (or_right (p k) (any p t) e) h
+no_jobs p [] e {j = j} x'' = elim x'' [ ]
 
 pub jobs_any : (p : Job → Bool) (t : List Job) {j : Job} → j among t → p j ≡ true → any p t ≡ true
 jobs_any p t h e = split (any p t) (λ (a : any p t ≡ true). a) (λ (b : any p t ≡ false). differ e (no_jobs p t b h))

@@ -195,6 +195,7 @@ ends_then : {vs : Variables} (o : Outcome) (f : Reading → Block → Outcome) �
 unfolding and_then
 ends_then (goes_on rd b) f (ends_on k) g = g rd b k
 ends_then (refused r) f ends_off g = ends_off
+ends_then {vs = vs} (opens _ _ _ _) f x6 g = elim x6 [ ]
 
 ends_close : {vs : Variables} (rd : Reading) (b : Block) → Keeps vs rd.vars → Ends vs (close rd b)
 unfolding close with_rule with_step
@@ -280,6 +281,7 @@ ends_back : (sub : Bool) (vs : Variables) (o : Outcome) → Ends (entered sub vs
 unfolding and_then
 ends_back sub vs (goes_on rd b) (ends_on k) = back_keeps sub vs rd b k
 ends_back sub vs (refused r) ends_off = ends_off
+ends_back sub vs (opens _ _ _ _) x5 = elim x5 [ ]
 
 pub opener_keeps : (names texts : List (List ℕ)) (more : ℕ) → KeepingOpener (opener names texts more)
 unfolding opener open_path with_opened

@@ -35,6 +35,7 @@ greatest_above : (l : List ℕ) {t : ℕ} → t ∈ l → t ≤ greatest l
 unfolding greatest
 greatest_above (u ∷ l) (here e) = omega (arith, e)
 greatest_above (u ∷ l) (there h) = let b = greatest_above l h in omega (arith, b)
+greatest_above [] {t = t} x' = elim x' [ ]
 
 greatest_in : (u : ℕ) (l : List ℕ) → greatest (u ∷ l) ∈ u ∷ l
 unfolding greatest
