@@ -31,6 +31,7 @@ module _ (up : ℕ → List ℕ) {x : ℕ} where
   gathered_in (k ∷ ms) row (here e) (inl q) = gathered_row ms (here (q ∙ e))
   gathered_in (k ∷ ms) row (here e) (inr w) = gathered_row ms (there (in_left row (rw e at w)))
   gathered_in (k ∷ ms) row (there h) w = gathered_in ms (k ∷ up k ++ row) h w
+  gathered_in [] row {m = m} x3 w = elim x3 [ ]
 
   in_gathered : (ms row : List ℕ) → x ∈ gathered up ms row → (x ∈ row) ⊎ ((m : ℕ) × (m ∈ ms) × ((x ≡ m) ⊎ (x ∈ up m)))
   unfolding gathered
