@@ -91,10 +91,11 @@ in_concat g (f ∷ fs) h = elim (in_append (g f) h) [
   | inr b ↦ (let (x, i, j) = in_concat g fs b in (x, there i, j))
 ]
 
-pub concat_in : (g : ℕ → List ℕ) {fs : List ℕ} {f m : ℕ} → f ∈ fs → m ∈ g f → m ∈ concat (map g fs)
+pub concat_in : (g : ℕ → List ℕ) {f : ℕ} {fs : List ℕ} {m : ℕ} → f ∈ fs → m ∈ g f → m ∈ concat (map g fs)
 unfolding concat
-concat_in g {fs = x ∷ fs} {f} {m} (here e) h = in_left {l = g x} (concat (map g fs)) (rw e at h)
+concat_in g {f} {fs = x ∷ fs} {m} (here e) h = in_left {l = g x} (concat (map g fs)) (rw e at h)
 concat_in g {fs = x ∷ fs} (there i) h = in_right (g x) (concat_in g i h)
+concat_in g {f = f} {fs = []} {m = m} x5 h = elim x5 [ ]
 
 pub in_makers_of : (steps : List Step) (fs : List ℕ) {m : ℕ} → m ∈ makers_of steps fs → (f : ℕ) × (f ∈ fs) × Makes steps m f
 unfolding makers_of

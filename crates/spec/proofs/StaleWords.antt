@@ -27,7 +27,7 @@ in_map g [] h = absurd (not_in_nil h)
 in_map g (x ∷ l) (here e) = (x, here refl, e)
 in_map g (x ∷ l) (there h) = let (f, i, e) = in_map g l h in (f, there i, e)
 
-map_in : (g : ℕ → ℕ) {l : List ℕ} {f : ℕ} → f ∈ l → g f ∈ map g l
+map_in : (g : ℕ → ℕ) {f : ℕ} {l : List ℕ} → f ∈ l → g f ∈ map g l
 map_in g (here e) = here (ap g e)
 map_in g (there h) = there (map_in g h)
 
