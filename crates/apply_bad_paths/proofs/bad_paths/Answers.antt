@@ -7,6 +7,9 @@ use Rattle.apply_bad_paths.proofs.bad_paths.Goals as goal
 pub has_wrong-requires : goal.has_wrong-requires
 has_wrong-requires c = list_asks c.requires refl c.requires.stands.outs.within
 
+pub shape_of-graph-then-has_wrong : goal.shape_of-graph-then-has_wrong
+shape_of-graph-then-has_wrong c = refl
+
 pub shape_of-word-then-has_wrong : goal.shape_of-word-then-has_wrong
 shape_of-word-then-has_wrong c = c.has_wrong.auto.word
 
@@ -15,6 +18,9 @@ returns-then-has_wrong c = record { space = record { long = (c.has_wrong.auto.wo
 
 pub has_wrong_input-requires : goal.has_wrong_input-requires
 has_wrong_input-requires c = line_asks c.requires (search rules)
+
+pub shape_of-graph-then-has_wrong_input : goal.shape_of-graph-then-has_wrong_input
+shape_of-graph-then-has_wrong_input c = refl
 
 pub shape_of-word-then-has_wrong_input : goal.shape_of-word-then-has_wrong_input
 shape_of-word-then-has_wrong_input c = c.has_wrong_input.auto.word ∙ c.has_wrong.auto.word

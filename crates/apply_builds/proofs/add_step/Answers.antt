@@ -8,6 +8,12 @@ use Rattle.apply_builds.proofs.add_step.Goals as goal
 pub returns-then-not-is_declared : goal.returns-then-not-is_declared
 returns-then-not-is_declared c = record { space = (record { names = record { long = refl }; index = record { long = refl }; texts = record { long = refl }; bind = record { long = refl }; graph = record { long = refl } }, record { long = refl }); promise = λ b w. line_unknown c.args.s.start c.is_declared.ensures (c.if-not-is_declared.true) w }
 
+pub shape_of-names-then-bad_paths : goal.shape_of-names-then-bad_paths
+shape_of-names-then-bad_paths c = refl
+
+pub shape_of-index-then-bad_paths : goal.shape_of-index-then-bad_paths
+shape_of-index-then-bad_paths c = refl
+
 pub shape_of-graph-then-bad_paths : goal.shape_of-graph-then-bad_paths
 shape_of-graph-then-bad_paths c = c.bad_paths.auto.graph
 

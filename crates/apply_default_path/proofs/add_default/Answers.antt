@@ -20,19 +20,22 @@ pub returns-then-path_over : goal.returns-then-path_over
 returns-then-path_over c = record { space = (record { long = refl }, record { long = (c.expand-n.auto.word) }); promise = default_over c.args.raw.now c.expand-n.ensures (sym c.path_over.ensures ∙ c.if-path_over.true) }
 
 pub slice_bounds-put_default-end : goal.slice_bounds-put_default-end
-slice_bounds-put_default-end c = let w = path_within _ _ ((sym c.path_over.ensures ∙ c.if-path_over.false)) in omega (arith, w.short, c.requires.room)
+slice_bounds-put_default-end c = let inside : path_over c.expand-n.result c.args.c ≡ false = sym c.path_over.ensures ∙ c.if-path_over.false in
+    let w = path_within _ _ (inside) in omega (arith, w.short, c.requires.room)
 
 pub slice_bounds-put_default-end-2 : goal.slice_bounds-put_default-end-2
 slice_bounds-put_default-end-2 c =
-    let w = path_within _ _ ((sym c.path_over.ensures ∙ c.if-path_over.false)) in
+    let inside : path_over c.expand-n.result c.args.c ≡ false = sym c.path_over.ensures ∙ c.if-path_over.false in
+    let w = path_within _ _ (inside) in
     sym (word_counted c.args.raw.now c.expand-n.ensures c.requires.whole (omega (arith, w.short, c.requires.room)))
 
 pub put_default-requires : goal.put_default-requires
 put_default-requires c =
-    let w = path_within _ _ ((sym c.path_over.ensures ∙ c.if-path_over.false)) in
+    let inside : path_over c.expand-n.result c.args.c ≡ false = sym c.path_over.ensures ∙ c.if-path_over.false in
+    let w = path_within _ _ (inside) in
     record {
       files = files_held c.requires.whole;
-      within = rw (word_counted c.args.raw.now c.expand-n.ensures c.requires.whole (omega (arith, w.short, c.requires.room))) ((sym c.path_over.ensures ∙ c.if-path_over.false));
+      within = rw (word_counted c.args.raw.now c.expand-n.ensures c.requires.whole (omega (arith, w.short, c.requires.room))) (inside);
     }
 
 pub shape_of-graph : goal.shape_of-graph
@@ -42,8 +45,9 @@ pub shape_of-word : goal.shape_of-word
 shape_of-word c = c.expand-n.auto.word
 
 pub returns : goal.returns
-returns c = record {
+returns c = let inside : path_over c.expand-n.result c.args.c ≡ false = sym c.path_over.ensures ∙ c.if-path_over.false in
+    record {
   space = (record { long = (c.put_default.auto.graph) }, record { long = (c.expand-n.auto.word) });
-  promise = let w = path_within _ _ ((sym c.path_over.ensures ∙ c.if-path_over.false)) in
-      default_added c.args.raw.now c.expand-n.ensures (omega (arith, w.short, c.requires.room)) ((sym c.path_over.ensures ∙ c.if-path_over.false)) c.put_default.ensures;
+  promise = let w = path_within _ _ (inside) in
+      default_added c.args.raw.now c.expand-n.ensures (omega (arith, w.short, c.requires.room)) (inside) c.put_default.ensures;
 }

@@ -13,21 +13,26 @@ pub enum_known-k : goal.enum_known-k
 enum_known-k c = c.in-At.keys1
 
 pub overflow_add-c : goal.overflow_add-c
-overflow_add-c c = omega (arith, default_room c.requires.files.filed.graphed ((path_within (length c.args.path.now) c.args.c c.requires.within)).few)
+overflow_add-c c = let limits : Within (length c.args.path.now) c.args.c = path_within (length c.args.path.now) c.args.c c.requires.within in
+    omega (arith, default_room c.requires.files.filed.graphed (limits).few)
 
 pub put-requires : goal.put-requires
 put-requires c =
+    let limits : Within (length c.args.path.now) c.args.c = path_within (length c.args.path.now) c.args.c c.requires.within in
     
-    (default_room c.requires.files.filed.graphed ((path_within (length c.args.path.now) c.args.c c.requires.within)).few, omega (arith, entry_low c.requires.files.filed c.find_name.ensures c.in-At.is))
+    (default_room c.requires.files.filed.graphed (limits).few, omega (arith, entry_low c.requires.files.filed c.find_name.ensures c.in-At.is))
 
 pub overflow_add-result : goal.overflow_add-result
-overflow_add-result c = omega (arith, ((path_within (length c.args.path.now) c.args.c c.requires.within)).few, c.requires.files.filed.graphed.few_mentions)
+overflow_add-result c = let limits : Within (length c.args.path.now) c.args.c = path_within (length c.args.path.now) c.args.c c.requires.within in
+    omega (arith, (limits).few, c.requires.files.filed.graphed.few_mentions)
 
 pub overflow_add-result-in-At : goal.overflow_add-result-in-At
-overflow_add-result-in-At c = omega (arith, ((path_within (length c.args.path.now) c.args.c c.requires.within)).few)
+overflow_add-result-in-At c = let limits : Within (length c.args.path.now) c.args.c = path_within (length c.args.path.now) c.args.c c.requires.within in
+    omega (arith, (limits).few)
 
 pub overflow_add-result-in-At-2 : goal.overflow_add-result-in-At-2
-overflow_add-result-in-At-2 c = omega (arith, ((path_within (length c.args.path.now) c.args.c c.requires.within)).low)
+overflow_add-result-in-At-2 c = let limits : Within (length c.args.path.now) c.args.c = path_within (length c.args.path.now) c.args.c c.requires.within in
+    omega (arith, (limits).low)
 
 pub enum_told-1 : goal.enum_told-1
 enum_told-1 c = c.in-Missing.keys2

@@ -4,6 +4,9 @@ use borrow.Author.Rules.{rules}
 use Rattle.apply_defaults.proofs.Lines.{line_wrong, line_sound, sound_asks}
 use Rattle.apply_defaults.proofs.add_defaults.Goals as goal
 
+pub shape_of-graph-then-has_wrong : goal.shape_of-graph-then-has_wrong
+shape_of-graph-then-has_wrong c = refl
+
 pub shape_of-word-then-has_wrong : goal.shape_of-word-then-has_wrong
 shape_of-word-then-has_wrong c = c.has_wrong.auto.word
 

@@ -14,9 +14,10 @@ enum_known-k c = c.in-Old.keys1
 
 pub note_again-requires : goal.note_again-requires
 note_again-requires c =
+    let within : Within (length c.args.name.now) c.args.c = path_within _ _ c.requires.within in
     
     let w = c.requires.writing in
-    let l = (path_within _ _ c.requires.within) in
+    let l = within in
     (old_low c.add_listed_name.ensures l w c.in-Old.is, omega (arith, w.paths_counted, mentions_short w c.args.name.now l), l.few, l.low, graph_long w.columns)
 
 pub enum_known-k-in-New-1 : goal.enum_known-k-in-New-1
@@ -24,9 +25,10 @@ enum_known-k-in-New-1 c = c.in-New.keys2
 
 pub note_first-requires : goal.note_first-requires
 note_first-requires c =
+    let within : Within (length c.args.name.now) c.args.c = path_within _ _ c.requires.within in
     
     let w = c.requires.writing in
-    let l = (path_within _ _ c.requires.within) in
+    let l = within in
     let n = new_low c.add_listed_name.ensures l w c.in-New.is in
     (n.0, n.1, omega (arith, w.paths_counted, mentions_short w c.args.name.now l), l.few, l.low, graph_long w.columns)
 
@@ -43,7 +45,8 @@ pub shape_of-graph-in-Old : goal.shape_of-graph-in-Old
 shape_of-graph-in-Old c = c.note_again.auto.graph
 
 pub returns-in-Old : goal.returns-in-Old
-returns-in-Old c = record { space = (record { long = (c.add_listed_name.auto.names) }, record { long = (c.add_listed_name.auto.index) }, record { long = (c.note_again.auto.graph) }); promise = record { adds = λ texts bind h w. path_old c.add_listed_name.ensures ((path_within _ _ c.requires.within)) w c.in-Old.is c.note_again.ensures } }
+returns-in-Old c = let within : Within (length c.args.name.now) c.args.c = path_within _ _ c.requires.within in
+    record { space = (record { long = (c.add_listed_name.auto.names) }, record { long = (c.add_listed_name.auto.index) }, record { long = (c.note_again.auto.graph) }); promise = record { adds = λ texts bind h w. path_old c.add_listed_name.ensures (within) w c.in-Old.is c.note_again.ensures } }
 
 pub shape_of-names-in-New : goal.shape_of-names-in-New
 shape_of-names-in-New c = c.add_listed_name.auto.names
@@ -55,7 +58,8 @@ pub shape_of-graph-in-New : goal.shape_of-graph-in-New
 shape_of-graph-in-New c = c.note_first.auto.graph
 
 pub returns-in-New : goal.returns-in-New
-returns-in-New c = record { space = (record { long = (c.add_listed_name.auto.names) }, record { long = (c.add_listed_name.auto.index) }, record { long = (c.note_first.auto.graph) }); promise = record { adds = λ texts bind h w. path_new c.add_listed_name.ensures ((path_within _ _ c.requires.within)) w c.in-New.is c.note_first.ensures } }
+returns-in-New c = let within : Within (length c.args.name.now) c.args.c = path_within _ _ c.requires.within in
+    record { space = (record { long = (c.add_listed_name.auto.names) }, record { long = (c.add_listed_name.auto.index) }, record { long = (c.note_first.auto.graph) }); promise = record { adds = λ texts bind h w. path_new c.add_listed_name.ensures (within) w c.in-New.is c.note_first.ensures } }
 
 pub shape_of-names-in-Full : goal.shape_of-names-in-Full
 shape_of-names-in-Full c = c.add_listed_name.auto.names
@@ -64,4 +68,5 @@ pub shape_of-index-in-Full : goal.shape_of-index-in-Full
 shape_of-index-in-Full c = c.add_listed_name.auto.index
 
 pub returns-in-Full : goal.returns-in-Full
-returns-in-Full c = record { space = (record { long = (c.add_listed_name.auto.names) }, record { long = (c.add_listed_name.auto.index) }, record { long = refl }); promise = record { adds = λ texts bind h w. path_full c.add_listed_name.ensures ((path_within _ _ c.requires.within)) w c.requires.names_long c.in-Full.is } }
+returns-in-Full c = let within : Within (length c.args.name.now) c.args.c = path_within _ _ c.requires.within in
+    record { space = (record { long = (c.add_listed_name.auto.names) }, record { long = (c.add_listed_name.auto.index) }, record { long = refl }); promise = record { adds = λ texts bind h w. path_full c.add_listed_name.ensures (within) w c.requires.names_long c.in-Full.is } }

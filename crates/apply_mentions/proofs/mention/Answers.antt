@@ -15,13 +15,16 @@ pub returns-then-path_over : goal.returns-then-path_over
 returns-then-path_over c = record { space = (record { names = record { long = refl }; index = record { long = refl }; texts = record { long = refl }; bind = record { long = refl }; graph = record { long = refl } }, record { long = (c.expand-n.auto.word) }); promise = mention_over c.requires c.expand-n.ensures (sym c.path_over.ensures ∙ c.if-path_over.true) }
 
 pub slice_bounds-add_path-end : goal.slice_bounds-add_path-end
-slice_bounds-add_path-end c = omega (arith, path_fits c.requires c.expand-n.ensures ((sym c.path_over.ensures ∙ c.if-path_over.false)))
+slice_bounds-add_path-end c = let inside : path_over c.expand-n.result c.args.c ≡ false = sym c.path_over.ensures ∙ c.if-path_over.false in
+    omega (arith, path_fits c.requires c.expand-n.ensures (inside))
 
 pub slice_bounds-add_path-end-2 : goal.slice_bounds-add_path-end-2
-slice_bounds-add_path-end-2 c = sym (path_counted c.requires c.expand-n.ensures ((sym c.path_over.ensures ∙ c.if-path_over.false)))
+slice_bounds-add_path-end-2 c = let inside : path_over c.expand-n.result c.args.c ≡ false = sym c.path_over.ensures ∙ c.if-path_over.false in
+    sym (path_counted c.requires c.expand-n.ensures (inside))
 
 pub add_path-requires : goal.add_path-requires
-add_path-requires c = mention_fits c.requires c.expand-n.ensures ((sym c.path_over.ensures ∙ c.if-path_over.false))
+add_path-requires c = let inside : path_over c.expand-n.result c.args.c ≡ false = sym c.path_over.ensures ∙ c.if-path_over.false in
+    mention_fits c.requires c.expand-n.ensures (inside)
 
 pub shape_of-names : goal.shape_of-names
 shape_of-names c = c.add_path.auto.names
@@ -36,4 +39,5 @@ pub shape_of-word : goal.shape_of-word
 shape_of-word c = c.expand-n.auto.word
 
 pub returns : goal.returns
-returns c = record { space = (record { names = record { long = (c.add_path.auto.names) }; index = record { long = (c.add_path.auto.index) }; texts = record { long = refl }; bind = record { long = refl }; graph = record { long = (c.add_path.auto.graph) } }, record { long = (c.expand-n.auto.word) }); promise = mention_marked c.requires c.expand-n.ensures ((sym c.path_over.ensures ∙ c.if-path_over.false)) c.add_path.ensures.promise }
+returns c = let inside : path_over c.expand-n.result c.args.c ≡ false = sym c.path_over.ensures ∙ c.if-path_over.false in
+    record { space = (record { names = record { long = (c.add_path.auto.names) }; index = record { long = (c.add_path.auto.index) }; texts = record { long = refl }; bind = record { long = refl }; graph = record { long = (c.add_path.auto.graph) } }, record { long = (c.expand-n.auto.word) }); promise = mention_marked c.requires c.expand-n.ensures (inside) c.add_path.ensures.promise }

@@ -8,8 +8,20 @@ use Rattle.apply_rules.proofs.add_key.Goals as goal
 pub is_bad_key-requires : goal.is_bad_key-requires
 is_bad_key-requires c = of_rule_law c.requires
 
+pub shape_of-texts-then-is_bad_key : goal.shape_of-texts-then-is_bad_key
+shape_of-texts-then-is_bad_key c = refl
+
+pub shape_of-bind-then-is_bad_key : goal.shape_of-bind-then-is_bad_key
+shape_of-bind-then-is_bad_key c = refl
+
 pub returns-then-is_bad_key : goal.returns-then-is_bad_key
 returns-then-is_bad_key c = record { space = (record { long = (refl) }, record { long = (refl) }); promise = let a = c.args in keys_bad a.start a.head a.entry a.name.now a.raw.now c.is_bad_key.ensures c.if-is_bad_key.true }
+
+pub shape_of-texts-then-binding_over : goal.shape_of-texts-then-binding_over
+shape_of-texts-then-binding_over c = refl
+
+pub shape_of-bind-then-binding_over : goal.shape_of-bind-then-binding_over
+shape_of-bind-then-binding_over c = refl
 
 pub returns-then-binding_over : goal.returns-then-binding_over
 returns-then-binding_over c = record {

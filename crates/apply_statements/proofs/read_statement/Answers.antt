@@ -173,6 +173,12 @@ shape_of-names-in-Build c = c.add_step.auto.names
 pub shape_of-index-in-Build : goal.shape_of-index-in-Build
 shape_of-index-in-Build c = c.add_step.auto.index
 
+pub shape_of-texts-in-Build : goal.shape_of-texts-in-Build
+shape_of-texts-in-Build c = refl
+
+pub shape_of-bind-in-Build : goal.shape_of-bind-in-Build
+shape_of-bind-in-Build c = refl
+
 pub shape_of-graph-in-Build : goal.shape_of-graph-in-Build
 shape_of-graph-in-Build c = c.add_step.auto.graph
 
@@ -181,6 +187,18 @@ shape_of-word-in-Build c = c.add_step.auto.word
 
 pub returns-in-Build : goal.returns-in-Build
 returns-in-Build c = record { space = (record { names = record { long = (c.add_step.auto.names) }; index = record { long = (c.add_step.auto.index) }; texts = record { long = (refl) }; bind = record { long = (refl) }; graph = record { long = (c.add_step.auto.graph) } }, record { long = (c.add_step.auto.word) }); promise = turn_met _ (build_read (line_of _ _ _) (build_told (line_of _ _ _) c.cut_file_line.ensures c.in-Build.is) c.add_step.ensures.promise) c.turned-in-Build.ensures }
+
+pub shape_of-names-in-Default : goal.shape_of-names-in-Default
+shape_of-names-in-Default c = refl
+
+pub shape_of-index-in-Default : goal.shape_of-index-in-Default
+shape_of-index-in-Default c = refl
+
+pub shape_of-texts-in-Default : goal.shape_of-texts-in-Default
+shape_of-texts-in-Default c = refl
+
+pub shape_of-bind-in-Default : goal.shape_of-bind-in-Default
+shape_of-bind-in-Default c = refl
 
 pub shape_of-graph-in-Default : goal.shape_of-graph-in-Default
 shape_of-graph-in-Default c = c.add_defaults.auto.graph

@@ -10,6 +10,12 @@ use Rattle.apply_variables.proofs.Outcomes.{line_over, line_goes, step_begun, li
 use Rattle.apply_variables.proofs.Values.{value_fits, value_counted}
 use Rattle.apply_variables.proofs.add_to_block.Goals as goal
 
+pub shape_of-texts-then-binding_over : goal.shape_of-texts-then-binding_over
+shape_of-texts-then-binding_over c = refl
+
+pub shape_of-bind-then-binding_over : goal.shape_of-bind-then-binding_over
+shape_of-bind-then-binding_over c = refl
+
 pub shape_of-word-then-binding_over : goal.shape_of-word-then-binding_over
 shape_of-word-then-binding_over c = c.expand-len.auto.word
 
@@ -24,15 +30,18 @@ pub overflow_sub-c : goal.overflow_sub-c
 overflow_sub-c c = omega (arith, step_begun c.requires.sound)
 
 pub slice_bounds-push_binding-end : goal.slice_bounds-push_binding-end
-slice_bounds-push_binding-end c = omega (arith, value_fits c.requires _ _ ((sym c.binding_over.ensures ∙ c.if-binding_over.false)))
+slice_bounds-push_binding-end c = let inside : binding_over (length c.args.name.now) c.expand-len.result c.args.c ≡ false = sym c.binding_over.ensures ∙ c.if-binding_over.false in
+    omega (arith, value_fits c.requires _ _ (inside))
 
 pub slice_bounds-push_binding-end-2 : goal.slice_bounds-push_binding-end-2
-slice_bounds-push_binding-end-2 c = sym (value_counted c.requires _ _ ((sym c.binding_over.ensures ∙ c.if-binding_over.false)) c.expand-len.ensures)
+slice_bounds-push_binding-end-2 c = let inside : binding_over (length c.args.name.now) c.expand-len.result c.args.c ≡ false = sym c.binding_over.ensures ∙ c.if-binding_over.false in
+    sym (value_counted c.requires _ _ (inside) c.expand-len.ensures)
 
 pub push_binding-d-requires : goal.push_binding-d-requires
 push_binding-d-requires c =
+    let inside : binding_over (length c.args.name.now) c.expand-len.result c.args.c ≡ false = sym c.binding_over.ensures ∙ c.if-binding_over.false in
     
-    line_ready c.requires.sound c.args.name.now _ (rw (value_counted c.requires _ _ ((sym c.binding_over.ensures ∙ c.if-binding_over.false)) c.expand-len.ensures) ((sym c.binding_over.ensures ∙ c.if-binding_over.false)))
+    line_ready c.requires.sound c.args.name.now _ (rw (value_counted c.requires _ _ (inside) c.expand-len.ensures) (inside))
 
 pub shape_of-texts : goal.shape_of-texts
 shape_of-texts c = c.push_binding-d.auto.texts
@@ -41,9 +50,10 @@ pub shape_of-bind : goal.shape_of-bind
 shape_of-bind c = c.push_binding-d.auto.bind
 
 pub returns : goal.returns
-returns c = record {
+returns c = let inside : binding_over (length c.args.name.now) c.expand-len.result c.args.c ≡ false = sym c.binding_over.ensures ∙ c.if-binding_over.false in
+    record {
   space = (record { long = (c.push_binding-d.auto.texts) }, record { long = (c.push_binding-d.auto.bind) }, record { long = (search rules) });
   promise = 
       let a = c.args in
-      line_goes a.start a.name.now a.raw.now c.expand-len.ensures (value_fits c.requires _ _ ((sym c.binding_over.ensures ∙ c.if-binding_over.false))) (rw (value_counted c.requires _ _ ((sym c.binding_over.ensures ∙ c.if-binding_over.false)) c.expand-len.ensures) ((sym c.binding_over.ensures ∙ c.if-binding_over.false))) c.push_binding-d.ensures;
+      line_goes a.start a.name.now a.raw.now c.expand-len.ensures (value_fits c.requires _ _ (inside)) (rw (value_counted c.requires _ _ (inside) c.expand-len.ensures) (inside)) c.push_binding-d.ensures;
 }

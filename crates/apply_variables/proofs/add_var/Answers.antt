@@ -10,6 +10,12 @@ use Rattle.apply_variables.proofs.Outcomes.{var_over, var_valued}
 use Rattle.apply_variables.proofs.Values.{value_fits, value_counted}
 use Rattle.apply_variables.proofs.add_var.Goals as goal
 
+pub shape_of-texts-then-binding_over : goal.shape_of-texts-then-binding_over
+shape_of-texts-then-binding_over c = refl
+
+pub shape_of-bind-then-binding_over : goal.shape_of-bind-then-binding_over
+shape_of-bind-then-binding_over c = refl
+
 pub shape_of-word-then-binding_over : goal.shape_of-word-then-binding_over
 shape_of-word-then-binding_over c = c.expand-n.auto.word
 
@@ -21,15 +27,18 @@ returns-then-binding_over c = record {
 }
 
 pub slice_bounds-set_var-end : goal.slice_bounds-set_var-end
-slice_bounds-set_var-end c = omega (arith, value_fits c.requires _ _ ((sym c.binding_over.ensures ∙ c.if-binding_over.false)))
+slice_bounds-set_var-end c = let inside : binding_over (length c.args.name.now) c.expand-n.result c.args.c ≡ false = sym c.binding_over.ensures ∙ c.if-binding_over.false in
+    omega (arith, value_fits c.requires _ _ (inside))
 
 pub slice_bounds-set_var-end-2 : goal.slice_bounds-set_var-end-2
-slice_bounds-set_var-end-2 c = sym (value_counted c.requires _ _ ((sym c.binding_over.ensures ∙ c.if-binding_over.false)) c.expand-n.ensures)
+slice_bounds-set_var-end-2 c = let inside : binding_over (length c.args.name.now) c.expand-n.result c.args.c ≡ false = sym c.binding_over.ensures ∙ c.if-binding_over.false in
+    sym (value_counted c.requires _ _ (inside) c.expand-n.ensures)
 
 pub set_var-requires : goal.set_var-requires
 set_var-requires c =
+    let inside : binding_over (length c.args.name.now) c.expand-n.result c.args.c ≡ false = sym c.binding_over.ensures ∙ c.if-binding_over.false in
     
-    record { sound = c.requires.sound; within = rw (value_counted c.requires _ _ ((sym c.binding_over.ensures ∙ c.if-binding_over.false)) c.expand-n.ensures) ((sym c.binding_over.ensures ∙ c.if-binding_over.false)) }
+    record { sound = c.requires.sound; within = rw (value_counted c.requires _ _ (inside) c.expand-n.ensures) (inside) }
 
 pub shape_of-texts : goal.shape_of-texts
 shape_of-texts c = c.set_var.auto.texts
@@ -38,9 +47,10 @@ pub shape_of-bind : goal.shape_of-bind
 shape_of-bind c = c.set_var.auto.bind
 
 pub returns : goal.returns
-returns c = record {
+returns c = let inside : binding_over (length c.args.name.now) c.expand-n.result c.args.c ≡ false = sym c.binding_over.ensures ∙ c.if-binding_over.false in
+    record {
   space = (record { long = (c.set_var.auto.texts) }, record { long = (c.set_var.auto.bind) }, record { long = (search rules) });
   promise = 
       let a = c.args in
-      var_valued a.start a.name.now a.raw.now c.expand-n.ensures (value_fits c.requires _ _ ((sym c.binding_over.ensures ∙ c.if-binding_over.false))) c.set_var.ensures.promise;
+      var_valued a.start a.name.now a.raw.now c.expand-n.ensures (value_fits c.requires _ _ (inside)) c.set_var.ensures.promise;
 }

@@ -11,6 +11,12 @@ depfile_name-requires c = depfile_asked c.requires
 pub enum_told-1 : goal.enum_told-1
 enum_told-1 c = c.in-None.keys1
 
+pub slice_bounds-add_headers-end : goal.slice_bounds-add_headers-end
+slice_bounds-add_headers-end c = omega arith
+
+pub slice_bounds-add_headers-end-in-None : goal.slice_bounds-add_headers-end-in-None
+slice_bounds-add_headers-end-in-None c = refl
+
 pub add_headers-requires : goal.add_headers-requires
 add_headers-requires c = add_asked c.requires
 
@@ -64,6 +70,12 @@ shape_of-word-in-Written c = c.add_headers-in-Written.auto.word
 
 pub returns-in-Written : goal.returns-in-Written
 returns-in-Written c = record { space = (record { long = (c.add_headers-in-Written.auto.names) }, record { long = (c.add_headers-in-Written.auto.index) }, record { long = (c.add_headers-in-Written.auto.second) }, record { long = (c.depfile_name.auto.word) }, record { long = (c.add_headers-in-Written.auto.word) }); promise = named_turn c.requires c.depfile_name.ensures c.in-Written.is c.add_headers-in-Written.ensures.promise }
+
+pub shape_of-names-in-Refused : goal.shape_of-names-in-Refused
+shape_of-names-in-Refused c = refl
+
+pub shape_of-index-in-Refused : goal.shape_of-index-in-Refused
+shape_of-index-in-Refused c = refl
 
 pub shape_of-name-in-Refused : goal.shape_of-name-in-Refused
 shape_of-name-in-Refused c = c.depfile_name.auto.word

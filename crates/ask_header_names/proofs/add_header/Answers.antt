@@ -11,10 +11,12 @@ pub returns-then-path_over : goal.returns-then-path_over
 returns-then-path_over c = record { space = (record { long = refl }, record { long = refl }, record { long = refl }); promise = header_over c.requires c.args.n (sym c.path_over.ensures ∙ c.if-path_over.true) }
 
 pub slice_bounds-add_listed-end : goal.slice_bounds-add_listed-end
-slice_bounds-add_listed-end c = sym (name_counted c.requires c.args.n ((sym c.path_over.ensures ∙ c.if-path_over.false)))
+slice_bounds-add_listed-end c = let inside : path_over c.args.n c.args.c ≡ false = sym c.path_over.ensures ∙ c.if-path_over.false in
+    sym (name_counted c.requires c.args.n (inside))
 
 pub add_listed-requires : goal.add_listed-requires
-add_listed-requires c = header_fits c.requires c.args.n ((sym c.path_over.ensures ∙ c.if-path_over.false))
+add_listed-requires c = let inside : path_over c.args.n c.args.c ≡ false = sym c.path_over.ensures ∙ c.if-path_over.false in
+    header_fits c.requires c.args.n (inside)
 
 pub shape_of-names : goal.shape_of-names
 shape_of-names c = c.add_listed.auto.names
@@ -26,4 +28,5 @@ pub shape_of-graph : goal.shape_of-graph
 shape_of-graph c = c.add_listed.auto.graph
 
 pub returns : goal.returns
-returns c = record { space = (record { long = (c.add_listed.auto.names) }, record { long = (c.add_listed.auto.index) }, record { long = (c.add_listed.auto.graph) }); promise = header_added c.requires c.args.n ((sym c.path_over.ensures ∙ c.if-path_over.false)) c.add_listed.ensures.promise }
+returns c = let inside : path_over c.args.n c.args.c ≡ false = sym c.path_over.ensures ∙ c.if-path_over.false in
+    record { space = (record { long = (c.add_listed.auto.names) }, record { long = (c.add_listed.auto.index) }, record { long = (c.add_listed.auto.graph) }); promise = header_added c.requires c.args.n (inside) c.add_listed.ensures.promise }

@@ -24,6 +24,12 @@ returns-then-depfile_bound c = c.plan_depfiles.ensures
 pub plan_unlisted-requires : goal.plan_unlisted-requires
 plan_unlisted-requires c = ask_unlisted c.requires
 
+pub shape_of-names : goal.shape_of-names
+shape_of-names c = refl
+
+pub shape_of-index : goal.shape_of-index
+shape_of-index c = refl
+
 pub shape_of-list : goal.shape_of-list
 shape_of-list c = c.plan_unlisted.auto.list
 

@@ -25,6 +25,12 @@ slice_bounds-plan_columns-end-in-All c = sym (length-take-le _ _ (numbers_within
 pub plan_columns-requires : goal.plan_columns-requires
 plan_columns-requires c = columns c.number_targets.ensures.promise c.in-All.is c.requires c.number_targets.auto.out
 
+pub shape_of-names-in-Bad : goal.shape_of-names-in-Bad
+shape_of-names-in-Bad c = refl
+
+pub shape_of-index-in-Bad : goal.shape_of-index-in-Bad
+shape_of-index-in-Bad c = refl
+
 pub shape_of-numbers-in-Bad : goal.shape_of-numbers-in-Bad
 shape_of-numbers-in-Bad c = c.number_targets.auto.out
 

@@ -24,7 +24,8 @@ pub next_open-i-requires : goal.next_open-i-requires
 next_open-i-requires c = (rw c.loop-depth.invariant.walk.long (top_files c.loop-depth.invariant c.loop-depth-test.true c.at-s.ensures c.requires.sound c.inputs-fs.ensures), top_start c.loop-depth.invariant c.loop-depth-test.true c.at-s.ensures c.requires.sound c.inputs-fs.ensures c.at.ensures)
 
 pub overflow_cast-next : goal.overflow_cast-next
-overflow_cast-next c = omega (arith, numbers ((record {
+overflow_cast-next c = let turn : Turn c.args.mentions.now c.args.ends.now c.args.made.now (length c.args.order.now) (take c.args.already c.args.order.now) c.args.root
+    c.loop-depth.seen c.loop-depth.next c.loop-depth.path c.loop-depth.order c.loop-depth.depth c.loop-depth.done c.at-s.result c.inputs-fs.result.now c.at.result c.next_open-i.result = record {
   sound = c.requires.sound;
   state = c.loop-depth.invariant;
   deep = c.loop-depth-test.true;
@@ -32,10 +33,12 @@ overflow_cast-next c = omega (arith, numbers ((record {
   inputs = c.inputs-fs.ensures;
   start = c.at.ensures;
   opens = c.next_open-i.ensures;
-})))
+} in
+    omega (arith, numbers (turn))
 
 pub offset_bounds-next-s : goal.offset_bounds-next-s
-offset_bounds-next-s c = omega (arith, numbers ((record {
+offset_bounds-next-s c = let turn : Turn c.args.mentions.now c.args.ends.now c.args.made.now (length c.args.order.now) (take c.args.already c.args.order.now) c.args.root
+    c.loop-depth.seen c.loop-depth.next c.loop-depth.path c.loop-depth.order c.loop-depth.depth c.loop-depth.done c.at-s.result c.inputs-fs.result.now c.at.result c.next_open-i.result = record {
   sound = c.requires.sound;
   state = c.loop-depth.invariant;
   deep = c.loop-depth-test.true;
@@ -43,10 +46,12 @@ offset_bounds-next-s c = omega (arith, numbers ((record {
   inputs = c.inputs-fs.ensures;
   start = c.at.ensures;
   opens = c.next_open-i.ensures;
-})))
+} in
+    omega (arith, numbers (turn))
 
 pub bounds-next-s : goal.bounds-next-s
-bounds-next-s c = omega (arith, numbers ((record {
+bounds-next-s c = let turn : Turn c.args.mentions.now c.args.ends.now c.args.made.now (length c.args.order.now) (take c.args.already c.args.order.now) c.args.root
+    c.loop-depth.seen c.loop-depth.next c.loop-depth.path c.loop-depth.order c.loop-depth.depth c.loop-depth.done c.at-s.result c.inputs-fs.result.now c.at.result c.next_open-i.result = record {
   sound = c.requires.sound;
   state = c.loop-depth.invariant;
   deep = c.loop-depth-test.true;
@@ -54,13 +59,15 @@ bounds-next-s c = omega (arith, numbers ((record {
   inputs = c.inputs-fs.ensures;
   start = c.at.ensures;
   opens = c.next_open-i.ensures;
-})))
+} in
+    omega (arith, numbers (turn))
 
 pub maker-m-requires : goal.maker-m-requires
 maker-m-requires c = (c.if-i-fs.true, (top_files c.loop-depth.invariant c.loop-depth-test.true c.at-s.ensures c.requires.sound c.inputs-fs.ensures).low c.next_open-i.result c.if-i-fs.true)
 
 pub overflow_sub-m : goal.overflow_sub-m
-overflow_sub-m c = omega (arith, open_maker ((record {
+overflow_sub-m c = let turn : Turn c.args.mentions.now c.args.ends.now c.args.made.now (length c.args.order.now) (take c.args.already c.args.order.now) c.args.root
+    c.loop-depth.seen c.loop-depth.next c.loop-depth.path c.loop-depth.order c.loop-depth.depth c.loop-depth.done c.at-s.result c.inputs-fs.result.now c.at.result c.next_open-i.result = record {
   sound = c.requires.sound;
   state = c.loop-depth.invariant;
   deep = c.loop-depth-test.true;
@@ -68,10 +75,12 @@ overflow_sub-m c = omega (arith, open_maker ((record {
   inputs = c.inputs-fs.ensures;
   start = c.at.ensures;
   opens = c.next_open-i.ensures;
-})) c.if-i-fs.true c.maker-m.ensures)
+} in
+    omega (arith, open_maker (turn) c.if-i-fs.true c.maker-m.ensures)
 
 pub at-requires-then-i-fs : goal.at-requires-then-i-fs
-at-requires-then-i-fs c = omega (arith, open_low ((record {
+at-requires-then-i-fs c = let turn : Turn c.args.mentions.now c.args.ends.now c.args.made.now (length c.args.order.now) (take c.args.already c.args.order.now) c.args.root
+    c.loop-depth.seen c.loop-depth.next c.loop-depth.path c.loop-depth.order c.loop-depth.depth c.loop-depth.done c.at-s.result c.inputs-fs.result.now c.at.result c.next_open-i.result = record {
   sound = c.requires.sound;
   state = c.loop-depth.invariant;
   deep = c.loop-depth-test.true;
@@ -79,18 +88,12 @@ at-requires-then-i-fs c = omega (arith, open_low ((record {
   inputs = c.inputs-fs.ensures;
   start = c.at.ensures;
   opens = c.next_open-i.ensures;
-})) c.if-i-fs.true c.maker-m.ensures, numbers ((record {
-  sound = c.requires.sound;
-  state = c.loop-depth.invariant;
-  deep = c.loop-depth-test.true;
-  last = c.at-s.ensures;
-  inputs = c.inputs-fs.ensures;
-  start = c.at.ensures;
-  opens = c.next_open-i.ensures;
-})))
+} in
+    omega (arith, open_low (turn) c.if-i-fs.true c.maker-m.ensures, numbers (turn))
 
 pub shape_of-seen-then-at-eq1 : goal.shape_of-seen-then-at-eq1
-shape_of-seen-then-at-eq1 c = omega (arith, numbers ((record {
+shape_of-seen-then-at-eq1 c = let turn : Turn c.args.mentions.now c.args.ends.now c.args.made.now (length c.args.order.now) (take c.args.already c.args.order.now) c.args.root
+    c.loop-depth.seen c.loop-depth.next c.loop-depth.path c.loop-depth.order c.loop-depth.depth c.loop-depth.done c.at-s.result c.inputs-fs.result.now c.at.result c.next_open-i.result = record {
   sound = c.requires.sound;
   state = c.loop-depth.invariant;
   deep = c.loop-depth-test.true;
@@ -98,10 +101,12 @@ shape_of-seen-then-at-eq1 c = omega (arith, numbers ((record {
   inputs = c.inputs-fs.ensures;
   start = c.at.ensures;
   opens = c.next_open-i.ensures;
-})), c.requires.visited.walk.long)
+} in
+    omega (arith, numbers (turn), c.requires.visited.walk.long)
 
 pub shape_of-next-then-at-eq1 : goal.shape_of-next-then-at-eq1
-shape_of-next-then-at-eq1 c = simp length-set (omega (arith, numbers ((record {
+shape_of-next-then-at-eq1 c = let turn : Turn c.args.mentions.now c.args.ends.now c.args.made.now (length c.args.order.now) (take c.args.already c.args.order.now) c.args.root
+    c.loop-depth.seen c.loop-depth.next c.loop-depth.path c.loop-depth.order c.loop-depth.depth c.loop-depth.done c.at-s.result c.inputs-fs.result.now c.at.result c.next_open-i.result = record {
   sound = c.requires.sound;
   state = c.loop-depth.invariant;
   deep = c.loop-depth-test.true;
@@ -109,10 +114,12 @@ shape_of-next-then-at-eq1 c = simp length-set (omega (arith, numbers ((record {
   inputs = c.inputs-fs.ensures;
   start = c.at.ensures;
   opens = c.next_open-i.ensures;
-})), c.requires.visited.next_long))
+} in
+    simp length-set (omega (arith, numbers (turn), c.requires.visited.next_long))
 
 pub shape_of-path-then-at-eq1 : goal.shape_of-path-then-at-eq1
-shape_of-path-then-at-eq1 c = omega (arith, numbers ((record {
+shape_of-path-then-at-eq1 c = let turn : Turn c.args.mentions.now c.args.ends.now c.args.made.now (length c.args.order.now) (take c.args.already c.args.order.now) c.args.root
+    c.loop-depth.seen c.loop-depth.next c.loop-depth.path c.loop-depth.order c.loop-depth.depth c.loop-depth.done c.at-s.result c.inputs-fs.result.now c.at.result c.next_open-i.result = record {
   sound = c.requires.sound;
   state = c.loop-depth.invariant;
   deep = c.loop-depth-test.true;
@@ -120,10 +127,12 @@ shape_of-path-then-at-eq1 c = omega (arith, numbers ((record {
   inputs = c.inputs-fs.ensures;
   start = c.at.ensures;
   opens = c.next_open-i.ensures;
-})), c.requires.path_long)
+} in
+    omega (arith, numbers (turn), c.requires.path_long)
 
 pub shape_of-order-then-at-eq1 : goal.shape_of-order-then-at-eq1
-shape_of-order-then-at-eq1 c = omega (arith, numbers ((record {
+shape_of-order-then-at-eq1 c = let turn : Turn c.args.mentions.now c.args.ends.now c.args.made.now (length c.args.order.now) (take c.args.already c.args.order.now) c.args.root
+    c.loop-depth.seen c.loop-depth.next c.loop-depth.path c.loop-depth.order c.loop-depth.depth c.loop-depth.done c.at-s.result c.inputs-fs.result.now c.at.result c.next_open-i.result = record {
   sound = c.requires.sound;
   state = c.loop-depth.invariant;
   deep = c.loop-depth-test.true;
@@ -131,11 +140,13 @@ shape_of-order-then-at-eq1 c = omega (arith, numbers ((record {
   inputs = c.inputs-fs.ensures;
   start = c.at.ensures;
   opens = c.next_open-i.ensures;
-})))
+} in
+    omega (arith, numbers (turn))
 
 pub returns-then-at-eq1 : goal.returns-then-at-eq1
 unfolding Explored
-returns-then-at-eq1 c = explore_circle ((record {
+returns-then-at-eq1 c = let turn : Turn c.args.mentions.now c.args.ends.now c.args.made.now (length c.args.order.now) (take c.args.already c.args.order.now) c.args.root
+    c.loop-depth.seen c.loop-depth.next c.loop-depth.path c.loop-depth.order c.loop-depth.depth c.loop-depth.done c.at-s.result c.inputs-fs.result.now c.at.result c.next_open-i.result = record {
   sound = c.requires.sound;
   state = c.loop-depth.invariant;
   deep = c.loop-depth-test.true;
@@ -143,10 +154,12 @@ returns-then-at-eq1 c = explore_circle ((record {
   inputs = c.inputs-fs.ensures;
   start = c.at.ensures;
   opens = c.next_open-i.ensures;
-})) c.if-i-fs.true c.maker-m.ensures c.at-then-i-fs.ensures c.if-at-eq1.true c.place.ensures
+} in
+    explore_circle (turn) c.if-i-fs.true c.maker-m.ensures c.at-then-i-fs.ensures c.if-at-eq1.true c.place.ensures
 
 pub offset_bounds-seen-m : goal.offset_bounds-seen-m
-offset_bounds-seen-m c = omega (arith, ((open_low ((record {
+offset_bounds-seen-m c = let push : (c.maker-m.result - 1 < length c.args.order.now) × (c.loop-depth.depth < length c.args.order.now) = let turn : Turn c.args.mentions.now c.args.ends.now c.args.made.now (length c.args.order.now) (take c.args.already c.args.order.now) c.args.root
+    c.loop-depth.seen c.loop-depth.next c.loop-depth.path c.loop-depth.order c.loop-depth.depth c.loop-depth.done c.at-s.result c.inputs-fs.result.now c.at.result c.next_open-i.result = record {
   sound = c.requires.sound;
   state = c.loop-depth.invariant;
   deep = c.loop-depth-test.true;
@@ -154,7 +167,10 @@ offset_bounds-seen-m c = omega (arith, ((open_low ((record {
   inputs = c.inputs-fs.ensures;
   start = c.at.ensures;
   opens = c.next_open-i.ensures;
-})) c.if-i-fs.true c.maker-m.ensures, push_room ((record {
+} in
+    (open_low (turn) c.if-i-fs.true c.maker-m.ensures, push_room (turn) c.if-i-fs.true c.maker-m.ensures c.at-then-i-fs.ensures c.if-at-eq1.false) in
+    let turn : Turn c.args.mentions.now c.args.ends.now c.args.made.now (length c.args.order.now) (take c.args.already c.args.order.now) c.args.root
+    c.loop-depth.seen c.loop-depth.next c.loop-depth.path c.loop-depth.order c.loop-depth.depth c.loop-depth.done c.at-s.result c.inputs-fs.result.now c.at.result c.next_open-i.result = record {
   sound = c.requires.sound;
   state = c.loop-depth.invariant;
   deep = c.loop-depth-test.true;
@@ -162,18 +178,12 @@ offset_bounds-seen-m c = omega (arith, ((open_low ((record {
   inputs = c.inputs-fs.ensures;
   start = c.at.ensures;
   opens = c.next_open-i.ensures;
-})) c.if-i-fs.true c.maker-m.ensures c.at-then-i-fs.ensures c.if-at-eq1.false)), numbers ((record {
-  sound = c.requires.sound;
-  state = c.loop-depth.invariant;
-  deep = c.loop-depth-test.true;
-  last = c.at-s.ensures;
-  inputs = c.inputs-fs.ensures;
-  start = c.at.ensures;
-  opens = c.next_open-i.ensures;
-})))
+} in
+    omega (arith, push, numbers (turn))
 
 pub bounds-seen-m : goal.bounds-seen-m
-bounds-seen-m c = omega (arith, ((open_low ((record {
+bounds-seen-m c = let push : (c.maker-m.result - 1 < length c.args.order.now) × (c.loop-depth.depth < length c.args.order.now) = let turn : Turn c.args.mentions.now c.args.ends.now c.args.made.now (length c.args.order.now) (take c.args.already c.args.order.now) c.args.root
+    c.loop-depth.seen c.loop-depth.next c.loop-depth.path c.loop-depth.order c.loop-depth.depth c.loop-depth.done c.at-s.result c.inputs-fs.result.now c.at.result c.next_open-i.result = record {
   sound = c.requires.sound;
   state = c.loop-depth.invariant;
   deep = c.loop-depth-test.true;
@@ -181,7 +191,10 @@ bounds-seen-m c = omega (arith, ((open_low ((record {
   inputs = c.inputs-fs.ensures;
   start = c.at.ensures;
   opens = c.next_open-i.ensures;
-})) c.if-i-fs.true c.maker-m.ensures, push_room ((record {
+} in
+    (open_low (turn) c.if-i-fs.true c.maker-m.ensures, push_room (turn) c.if-i-fs.true c.maker-m.ensures c.at-then-i-fs.ensures c.if-at-eq1.false) in
+    let turn : Turn c.args.mentions.now c.args.ends.now c.args.made.now (length c.args.order.now) (take c.args.already c.args.order.now) c.args.root
+    c.loop-depth.seen c.loop-depth.next c.loop-depth.path c.loop-depth.order c.loop-depth.depth c.loop-depth.done c.at-s.result c.inputs-fs.result.now c.at.result c.next_open-i.result = record {
   sound = c.requires.sound;
   state = c.loop-depth.invariant;
   deep = c.loop-depth-test.true;
@@ -189,18 +202,12 @@ bounds-seen-m c = omega (arith, ((open_low ((record {
   inputs = c.inputs-fs.ensures;
   start = c.at.ensures;
   opens = c.next_open-i.ensures;
-})) c.if-i-fs.true c.maker-m.ensures c.at-then-i-fs.ensures c.if-at-eq1.false)), numbers ((record {
-  sound = c.requires.sound;
-  state = c.loop-depth.invariant;
-  deep = c.loop-depth-test.true;
-  last = c.at-s.ensures;
-  inputs = c.inputs-fs.ensures;
-  start = c.at.ensures;
-  opens = c.next_open-i.ensures;
-})))
+} in
+    omega (arith, push, numbers (turn))
 
 pub overflow_cast-path-then-i-fs : goal.overflow_cast-path-then-i-fs
-overflow_cast-path-then-i-fs c = omega (arith, ((open_low ((record {
+overflow_cast-path-then-i-fs c = let push : (c.maker-m.result - 1 < length c.args.order.now) × (c.loop-depth.depth < length c.args.order.now) = let turn : Turn c.args.mentions.now c.args.ends.now c.args.made.now (length c.args.order.now) (take c.args.already c.args.order.now) c.args.root
+    c.loop-depth.seen c.loop-depth.next c.loop-depth.path c.loop-depth.order c.loop-depth.depth c.loop-depth.done c.at-s.result c.inputs-fs.result.now c.at.result c.next_open-i.result = record {
   sound = c.requires.sound;
   state = c.loop-depth.invariant;
   deep = c.loop-depth-test.true;
@@ -208,7 +215,10 @@ overflow_cast-path-then-i-fs c = omega (arith, ((open_low ((record {
   inputs = c.inputs-fs.ensures;
   start = c.at.ensures;
   opens = c.next_open-i.ensures;
-})) c.if-i-fs.true c.maker-m.ensures, push_room ((record {
+} in
+    (open_low (turn) c.if-i-fs.true c.maker-m.ensures, push_room (turn) c.if-i-fs.true c.maker-m.ensures c.at-then-i-fs.ensures c.if-at-eq1.false) in
+    let turn : Turn c.args.mentions.now c.args.ends.now c.args.made.now (length c.args.order.now) (take c.args.already c.args.order.now) c.args.root
+    c.loop-depth.seen c.loop-depth.next c.loop-depth.path c.loop-depth.order c.loop-depth.depth c.loop-depth.done c.at-s.result c.inputs-fs.result.now c.at.result c.next_open-i.result = record {
   sound = c.requires.sound;
   state = c.loop-depth.invariant;
   deep = c.loop-depth-test.true;
@@ -216,18 +226,12 @@ overflow_cast-path-then-i-fs c = omega (arith, ((open_low ((record {
   inputs = c.inputs-fs.ensures;
   start = c.at.ensures;
   opens = c.next_open-i.ensures;
-})) c.if-i-fs.true c.maker-m.ensures c.at-then-i-fs.ensures c.if-at-eq1.false)), numbers ((record {
-  sound = c.requires.sound;
-  state = c.loop-depth.invariant;
-  deep = c.loop-depth-test.true;
-  last = c.at-s.ensures;
-  inputs = c.inputs-fs.ensures;
-  start = c.at.ensures;
-  opens = c.next_open-i.ensures;
-})))
+} in
+    omega (arith, push, numbers (turn))
 
 pub offset_bounds-path-depth : goal.offset_bounds-path-depth
-offset_bounds-path-depth c = omega (arith, ((open_low ((record {
+offset_bounds-path-depth c = let push : (c.maker-m.result - 1 < length c.args.order.now) × (c.loop-depth.depth < length c.args.order.now) = let turn : Turn c.args.mentions.now c.args.ends.now c.args.made.now (length c.args.order.now) (take c.args.already c.args.order.now) c.args.root
+    c.loop-depth.seen c.loop-depth.next c.loop-depth.path c.loop-depth.order c.loop-depth.depth c.loop-depth.done c.at-s.result c.inputs-fs.result.now c.at.result c.next_open-i.result = record {
   sound = c.requires.sound;
   state = c.loop-depth.invariant;
   deep = c.loop-depth-test.true;
@@ -235,7 +239,10 @@ offset_bounds-path-depth c = omega (arith, ((open_low ((record {
   inputs = c.inputs-fs.ensures;
   start = c.at.ensures;
   opens = c.next_open-i.ensures;
-})) c.if-i-fs.true c.maker-m.ensures, push_room ((record {
+} in
+    (open_low (turn) c.if-i-fs.true c.maker-m.ensures, push_room (turn) c.if-i-fs.true c.maker-m.ensures c.at-then-i-fs.ensures c.if-at-eq1.false) in
+    let turn : Turn c.args.mentions.now c.args.ends.now c.args.made.now (length c.args.order.now) (take c.args.already c.args.order.now) c.args.root
+    c.loop-depth.seen c.loop-depth.next c.loop-depth.path c.loop-depth.order c.loop-depth.depth c.loop-depth.done c.at-s.result c.inputs-fs.result.now c.at.result c.next_open-i.result = record {
   sound = c.requires.sound;
   state = c.loop-depth.invariant;
   deep = c.loop-depth-test.true;
@@ -243,18 +250,12 @@ offset_bounds-path-depth c = omega (arith, ((open_low ((record {
   inputs = c.inputs-fs.ensures;
   start = c.at.ensures;
   opens = c.next_open-i.ensures;
-})) c.if-i-fs.true c.maker-m.ensures c.at-then-i-fs.ensures c.if-at-eq1.false)), numbers ((record {
-  sound = c.requires.sound;
-  state = c.loop-depth.invariant;
-  deep = c.loop-depth-test.true;
-  last = c.at-s.ensures;
-  inputs = c.inputs-fs.ensures;
-  start = c.at.ensures;
-  opens = c.next_open-i.ensures;
-})))
+} in
+    omega (arith, push, numbers (turn))
 
 pub bounds-path-depth : goal.bounds-path-depth
-bounds-path-depth c = omega (arith, ((open_low ((record {
+bounds-path-depth c = let push : (c.maker-m.result - 1 < length c.args.order.now) × (c.loop-depth.depth < length c.args.order.now) = let turn : Turn c.args.mentions.now c.args.ends.now c.args.made.now (length c.args.order.now) (take c.args.already c.args.order.now) c.args.root
+    c.loop-depth.seen c.loop-depth.next c.loop-depth.path c.loop-depth.order c.loop-depth.depth c.loop-depth.done c.at-s.result c.inputs-fs.result.now c.at.result c.next_open-i.result = record {
   sound = c.requires.sound;
   state = c.loop-depth.invariant;
   deep = c.loop-depth-test.true;
@@ -262,7 +263,10 @@ bounds-path-depth c = omega (arith, ((open_low ((record {
   inputs = c.inputs-fs.ensures;
   start = c.at.ensures;
   opens = c.next_open-i.ensures;
-})) c.if-i-fs.true c.maker-m.ensures, push_room ((record {
+} in
+    (open_low (turn) c.if-i-fs.true c.maker-m.ensures, push_room (turn) c.if-i-fs.true c.maker-m.ensures c.at-then-i-fs.ensures c.if-at-eq1.false) in
+    let turn : Turn c.args.mentions.now c.args.ends.now c.args.made.now (length c.args.order.now) (take c.args.already c.args.order.now) c.args.root
+    c.loop-depth.seen c.loop-depth.next c.loop-depth.path c.loop-depth.order c.loop-depth.depth c.loop-depth.done c.at-s.result c.inputs-fs.result.now c.at.result c.next_open-i.result = record {
   sound = c.requires.sound;
   state = c.loop-depth.invariant;
   deep = c.loop-depth-test.true;
@@ -270,18 +274,12 @@ bounds-path-depth c = omega (arith, ((open_low ((record {
   inputs = c.inputs-fs.ensures;
   start = c.at.ensures;
   opens = c.next_open-i.ensures;
-})) c.if-i-fs.true c.maker-m.ensures c.at-then-i-fs.ensures c.if-at-eq1.false)), numbers ((record {
-  sound = c.requires.sound;
-  state = c.loop-depth.invariant;
-  deep = c.loop-depth-test.true;
-  last = c.at-s.ensures;
-  inputs = c.inputs-fs.ensures;
-  start = c.at.ensures;
-  opens = c.next_open-i.ensures;
-})))
+} in
+    omega (arith, push, numbers (turn))
 
 pub overflow_add-depth : goal.overflow_add-depth
-overflow_add-depth c = omega (arith, ((open_low ((record {
+overflow_add-depth c = let push : (c.maker-m.result - 1 < length c.args.order.now) × (c.loop-depth.depth < length c.args.order.now) = let turn : Turn c.args.mentions.now c.args.ends.now c.args.made.now (length c.args.order.now) (take c.args.already c.args.order.now) c.args.root
+    c.loop-depth.seen c.loop-depth.next c.loop-depth.path c.loop-depth.order c.loop-depth.depth c.loop-depth.done c.at-s.result c.inputs-fs.result.now c.at.result c.next_open-i.result = record {
   sound = c.requires.sound;
   state = c.loop-depth.invariant;
   deep = c.loop-depth-test.true;
@@ -289,7 +287,10 @@ overflow_add-depth c = omega (arith, ((open_low ((record {
   inputs = c.inputs-fs.ensures;
   start = c.at.ensures;
   opens = c.next_open-i.ensures;
-})) c.if-i-fs.true c.maker-m.ensures, push_room ((record {
+} in
+    (open_low (turn) c.if-i-fs.true c.maker-m.ensures, push_room (turn) c.if-i-fs.true c.maker-m.ensures c.at-then-i-fs.ensures c.if-at-eq1.false) in
+    let turn : Turn c.args.mentions.now c.args.ends.now c.args.made.now (length c.args.order.now) (take c.args.already c.args.order.now) c.args.root
+    c.loop-depth.seen c.loop-depth.next c.loop-depth.path c.loop-depth.order c.loop-depth.depth c.loop-depth.done c.at-s.result c.inputs-fs.result.now c.at.result c.next_open-i.result = record {
   sound = c.requires.sound;
   state = c.loop-depth.invariant;
   deep = c.loop-depth-test.true;
@@ -297,18 +298,12 @@ overflow_add-depth c = omega (arith, ((open_low ((record {
   inputs = c.inputs-fs.ensures;
   start = c.at.ensures;
   opens = c.next_open-i.ensures;
-})) c.if-i-fs.true c.maker-m.ensures c.at-then-i-fs.ensures c.if-at-eq1.false)), numbers ((record {
-  sound = c.requires.sound;
-  state = c.loop-depth.invariant;
-  deep = c.loop-depth-test.true;
-  last = c.at-s.ensures;
-  inputs = c.inputs-fs.ensures;
-  start = c.at.ensures;
-  opens = c.next_open-i.ensures;
-})))
+} in
+    omega (arith, push, numbers (turn))
 
 pub loop-depth-smaller-then-i-fs : goal.loop-depth-smaller-then-i-fs
-loop-depth-smaller-then-i-fs c = omega (arith, ((open_low ((record {
+loop-depth-smaller-then-i-fs c = let push : (c.maker-m.result - 1 < length c.args.order.now) × (c.loop-depth.depth < length c.args.order.now) = let turn : Turn c.args.mentions.now c.args.ends.now c.args.made.now (length c.args.order.now) (take c.args.already c.args.order.now) c.args.root
+    c.loop-depth.seen c.loop-depth.next c.loop-depth.path c.loop-depth.order c.loop-depth.depth c.loop-depth.done c.at-s.result c.inputs-fs.result.now c.at.result c.next_open-i.result = record {
   sound = c.requires.sound;
   state = c.loop-depth.invariant;
   deep = c.loop-depth-test.true;
@@ -316,7 +311,10 @@ loop-depth-smaller-then-i-fs c = omega (arith, ((open_low ((record {
   inputs = c.inputs-fs.ensures;
   start = c.at.ensures;
   opens = c.next_open-i.ensures;
-})) c.if-i-fs.true c.maker-m.ensures, push_room ((record {
+} in
+    (open_low (turn) c.if-i-fs.true c.maker-m.ensures, push_room (turn) c.if-i-fs.true c.maker-m.ensures c.at-then-i-fs.ensures c.if-at-eq1.false) in
+    let turn : Turn c.args.mentions.now c.args.ends.now c.args.made.now (length c.args.order.now) (take c.args.already c.args.order.now) c.args.root
+    c.loop-depth.seen c.loop-depth.next c.loop-depth.path c.loop-depth.order c.loop-depth.depth c.loop-depth.done c.at-s.result c.inputs-fs.result.now c.at.result c.next_open-i.result = record {
   sound = c.requires.sound;
   state = c.loop-depth.invariant;
   deep = c.loop-depth-test.true;
@@ -324,18 +322,12 @@ loop-depth-smaller-then-i-fs c = omega (arith, ((open_low ((record {
   inputs = c.inputs-fs.ensures;
   start = c.at.ensures;
   opens = c.next_open-i.ensures;
-})) c.if-i-fs.true c.maker-m.ensures c.at-then-i-fs.ensures c.if-at-eq1.false)), numbers ((record {
-  sound = c.requires.sound;
-  state = c.loop-depth.invariant;
-  deep = c.loop-depth-test.true;
-  last = c.at-s.ensures;
-  inputs = c.inputs-fs.ensures;
-  start = c.at.ensures;
-  opens = c.next_open-i.ensures;
-})))
+} in
+    omega (arith, push, numbers (turn))
 
 pub loop-depth-preserved-then-i-fs : goal.loop-depth-preserved-then-i-fs
-loop-depth-preserved-then-i-fs c = explore_push ((record {
+loop-depth-preserved-then-i-fs c = let turn : Turn c.args.mentions.now c.args.ends.now c.args.made.now (length c.args.order.now) (take c.args.already c.args.order.now) c.args.root
+    c.loop-depth.seen c.loop-depth.next c.loop-depth.path c.loop-depth.order c.loop-depth.depth c.loop-depth.done c.at-s.result c.inputs-fs.result.now c.at.result c.next_open-i.result = record {
   sound = c.requires.sound;
   state = c.loop-depth.invariant;
   deep = c.loop-depth-test.true;
@@ -343,10 +335,12 @@ loop-depth-preserved-then-i-fs c = explore_push ((record {
   inputs = c.inputs-fs.ensures;
   start = c.at.ensures;
   opens = c.next_open-i.ensures;
-})) c.if-i-fs.true c.maker-m.ensures c.at-then-i-fs.ensures c.if-at-eq1.false
+} in
+    explore_push (turn) c.if-i-fs.true c.maker-m.ensures c.at-then-i-fs.ensures c.if-at-eq1.false
 
 pub offset_bounds-seen-s : goal.offset_bounds-seen-s
-offset_bounds-seen-s c = omega (arith, numbers ((record {
+offset_bounds-seen-s c = let turn : Turn c.args.mentions.now c.args.ends.now c.args.made.now (length c.args.order.now) (take c.args.already c.args.order.now) c.args.root
+    c.loop-depth.seen c.loop-depth.next c.loop-depth.path c.loop-depth.order c.loop-depth.depth c.loop-depth.done c.at-s.result c.inputs-fs.result.now c.at.result c.next_open-i.result = record {
   sound = c.requires.sound;
   state = c.loop-depth.invariant;
   deep = c.loop-depth-test.true;
@@ -354,10 +348,12 @@ offset_bounds-seen-s c = omega (arith, numbers ((record {
   inputs = c.inputs-fs.ensures;
   start = c.at.ensures;
   opens = c.next_open-i.ensures;
-})))
+} in
+    omega (arith, numbers (turn))
 
 pub bounds-seen-s : goal.bounds-seen-s
-bounds-seen-s c = omega (arith, numbers ((record {
+bounds-seen-s c = let turn : Turn c.args.mentions.now c.args.ends.now c.args.made.now (length c.args.order.now) (take c.args.already c.args.order.now) c.args.root
+    c.loop-depth.seen c.loop-depth.next c.loop-depth.path c.loop-depth.order c.loop-depth.depth c.loop-depth.done c.at-s.result c.inputs-fs.result.now c.at.result c.next_open-i.result = record {
   sound = c.requires.sound;
   state = c.loop-depth.invariant;
   deep = c.loop-depth-test.true;
@@ -365,10 +361,12 @@ bounds-seen-s c = omega (arith, numbers ((record {
   inputs = c.inputs-fs.ensures;
   start = c.at.ensures;
   opens = c.next_open-i.ensures;
-})))
+} in
+    omega (arith, numbers (turn))
 
 pub overflow_cast-order : goal.overflow_cast-order
-overflow_cast-order c = omega (arith, numbers ((record {
+overflow_cast-order c = let turn : Turn c.args.mentions.now c.args.ends.now c.args.made.now (length c.args.order.now) (take c.args.already c.args.order.now) c.args.root
+    c.loop-depth.seen c.loop-depth.next c.loop-depth.path c.loop-depth.order c.loop-depth.depth c.loop-depth.done c.at-s.result c.inputs-fs.result.now c.at.result c.next_open-i.result = record {
   sound = c.requires.sound;
   state = c.loop-depth.invariant;
   deep = c.loop-depth-test.true;
@@ -376,10 +374,12 @@ overflow_cast-order c = omega (arith, numbers ((record {
   inputs = c.inputs-fs.ensures;
   start = c.at.ensures;
   opens = c.next_open-i.ensures;
-})))
+} in
+    omega (arith, numbers (turn))
 
 pub offset_bounds-order-done : goal.offset_bounds-order-done
-offset_bounds-order-done c = omega (arith, numbers ((record {
+offset_bounds-order-done c = let turn : Turn c.args.mentions.now c.args.ends.now c.args.made.now (length c.args.order.now) (take c.args.already c.args.order.now) c.args.root
+    c.loop-depth.seen c.loop-depth.next c.loop-depth.path c.loop-depth.order c.loop-depth.depth c.loop-depth.done c.at-s.result c.inputs-fs.result.now c.at.result c.next_open-i.result = record {
   sound = c.requires.sound;
   state = c.loop-depth.invariant;
   deep = c.loop-depth-test.true;
@@ -387,10 +387,12 @@ offset_bounds-order-done c = omega (arith, numbers ((record {
   inputs = c.inputs-fs.ensures;
   start = c.at.ensures;
   opens = c.next_open-i.ensures;
-})))
+} in
+    omega (arith, numbers (turn))
 
 pub bounds-order-done : goal.bounds-order-done
-bounds-order-done c = omega (arith, pop_room ((record {
+bounds-order-done c = let turn : Turn c.args.mentions.now c.args.ends.now c.args.made.now (length c.args.order.now) (take c.args.already c.args.order.now) c.args.root
+    c.loop-depth.seen c.loop-depth.next c.loop-depth.path c.loop-depth.order c.loop-depth.depth c.loop-depth.done c.at-s.result c.inputs-fs.result.now c.at.result c.next_open-i.result = record {
   sound = c.requires.sound;
   state = c.loop-depth.invariant;
   deep = c.loop-depth-test.true;
@@ -398,18 +400,12 @@ bounds-order-done c = omega (arith, pop_room ((record {
   inputs = c.inputs-fs.ensures;
   start = c.at.ensures;
   opens = c.next_open-i.ensures;
-})) c.if-i-fs.false, numbers ((record {
-  sound = c.requires.sound;
-  state = c.loop-depth.invariant;
-  deep = c.loop-depth-test.true;
-  last = c.at-s.ensures;
-  inputs = c.inputs-fs.ensures;
-  start = c.at.ensures;
-  opens = c.next_open-i.ensures;
-})))
+} in
+    omega (arith, pop_room (turn) c.if-i-fs.false, numbers (turn))
 
 pub overflow_add-done : goal.overflow_add-done
-overflow_add-done c = omega (arith, numbers ((record {
+overflow_add-done c = let turn : Turn c.args.mentions.now c.args.ends.now c.args.made.now (length c.args.order.now) (take c.args.already c.args.order.now) c.args.root
+    c.loop-depth.seen c.loop-depth.next c.loop-depth.path c.loop-depth.order c.loop-depth.depth c.loop-depth.done c.at-s.result c.inputs-fs.result.now c.at.result c.next_open-i.result = record {
   sound = c.requires.sound;
   state = c.loop-depth.invariant;
   deep = c.loop-depth-test.true;
@@ -417,13 +413,15 @@ overflow_add-done c = omega (arith, numbers ((record {
   inputs = c.inputs-fs.ensures;
   start = c.at.ensures;
   opens = c.next_open-i.ensures;
-})))
+} in
+    omega (arith, numbers (turn))
 
 pub overflow_sub-depth-else-i-fs : goal.overflow_sub-depth-else-i-fs
 overflow_sub-depth-else-i-fs c = c.loop-depth-test.true
 
 pub loop-depth-smaller : goal.loop-depth-smaller
-loop-depth-smaller c = omega (arith, pop_room ((record {
+loop-depth-smaller c = let turn : Turn c.args.mentions.now c.args.ends.now c.args.made.now (length c.args.order.now) (take c.args.already c.args.order.now) c.args.root
+    c.loop-depth.seen c.loop-depth.next c.loop-depth.path c.loop-depth.order c.loop-depth.depth c.loop-depth.done c.at-s.result c.inputs-fs.result.now c.at.result c.next_open-i.result = record {
   sound = c.requires.sound;
   state = c.loop-depth.invariant;
   deep = c.loop-depth-test.true;
@@ -431,18 +429,12 @@ loop-depth-smaller c = omega (arith, pop_room ((record {
   inputs = c.inputs-fs.ensures;
   start = c.at.ensures;
   opens = c.next_open-i.ensures;
-})) c.if-i-fs.false, numbers ((record {
-  sound = c.requires.sound;
-  state = c.loop-depth.invariant;
-  deep = c.loop-depth-test.true;
-  last = c.at-s.ensures;
-  inputs = c.inputs-fs.ensures;
-  start = c.at.ensures;
-  opens = c.next_open-i.ensures;
-})), c.loop-depth-test.true)
+} in
+    omega (arith, pop_room (turn) c.if-i-fs.false, numbers (turn), c.loop-depth-test.true)
 
 pub loop-depth-preserved : goal.loop-depth-preserved
-loop-depth-preserved c = explore_pop ((record {
+loop-depth-preserved c = let turn : Turn c.args.mentions.now c.args.ends.now c.args.made.now (length c.args.order.now) (take c.args.already c.args.order.now) c.args.root
+    c.loop-depth.seen c.loop-depth.next c.loop-depth.path c.loop-depth.order c.loop-depth.depth c.loop-depth.done c.at-s.result c.inputs-fs.result.now c.at.result c.next_open-i.result = record {
   sound = c.requires.sound;
   state = c.loop-depth.invariant;
   deep = c.loop-depth-test.true;
@@ -450,7 +442,8 @@ loop-depth-preserved c = explore_pop ((record {
   inputs = c.inputs-fs.ensures;
   start = c.at.ensures;
   opens = c.next_open-i.ensures;
-})) c.if-i-fs.false
+} in
+    explore_pop (turn) c.if-i-fs.false
 
 pub shape_of-seen : goal.shape_of-seen
 shape_of-seen c = omega (arith, c.loop-depth.invariant.walk.long, c.requires.visited.walk.long)

@@ -19,7 +19,8 @@ pub loop-i-preserved-then-at-eq1 : goal.loop-i-preserved-then-at-eq1
 loop-i-preserved-then-at-eq1 c = append_skip c.loop-i.invariant c.loop-i-test.true c.at-f.ensures c.at.ensures c.if-at-eq1.true
 
 pub overflow_cast-out : goal.overflow_cast-out
-overflow_cast-out c = omega (arith, ((rw c.at-f.ensures (c.requires.low c.loop-i.i c.loop-i-test.true), c.requires.few)))
+overflow_cast-out c = let low : (c.at-f.result < length c.args.marks.now) × (length c.args.marks.now ≤ max_files) = (rw c.at-f.ensures (c.requires.low c.loop-i.i c.loop-i-test.true), c.requires.few) in
+    omega (arith, low)
 
 pub loop-i-preserved : goal.loop-i-preserved
 loop-i-preserved c = append_more c.loop-i.invariant c.loop-i-test.true c.at-f.ensures c.at.ensures c.if-at-eq1.false c.requires.room

@@ -12,13 +12,16 @@ pub loop-i-init : goal.loop-i-init
 loop-i-init c = mark_begin
 
 pub offset_bounds-marks-at : goal.offset_bounds-marks-at
-offset_bounds-marks-at c = omega (arith, (rw c.at.ensures (c.requires c.loop-i.i c.loop-i-test.true)), c.well-formed)
+offset_bounds-marks-at c = let low : c.at.result < length c.args.marks.now = rw c.at.ensures (c.requires c.loop-i.i c.loop-i-test.true) in
+    omega (arith, low, c.well-formed)
 
 pub bounds-marks-at : goal.bounds-marks-at
-bounds-marks-at c = rw c.loop-i.invariant.state.long ((rw c.at.ensures (c.requires c.loop-i.i c.loop-i-test.true)))
+bounds-marks-at c = let low : c.at.result < length c.args.marks.now = rw c.at.ensures (c.requires c.loop-i.i c.loop-i-test.true) in
+    rw c.loop-i.invariant.state.long (low)
 
 pub loop-i-preserved : goal.loop-i-preserved
-loop-i-preserved c = mark_more c.loop-i.invariant c.loop-i-test.true c.at.ensures ((rw c.at.ensures (c.requires c.loop-i.i c.loop-i-test.true)))
+loop-i-preserved c = let low : c.at.result < length c.args.marks.now = rw c.at.ensures (c.requires c.loop-i.i c.loop-i-test.true) in
+    mark_more c.loop-i.invariant c.loop-i-test.true c.at.ensures (low)
 
 pub shape_of-marks : goal.shape_of-marks
 shape_of-marks c = c.loop-i.invariant.state.long

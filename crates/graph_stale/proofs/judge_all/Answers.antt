@@ -16,19 +16,24 @@ pub judge-v-requires : goal.judge-v-requires
 judge-v-requires c = (ask_judge c.requires c.loop-i.invariant, rw c.at-s.ensures (c.requires.steps c.loop-i.i c.loop-i-test.true))
 
 pub offset_bounds-stale-s : goal.offset_bounds-stale-s
-offset_bounds-stale-s c = omega (arith, ((rw c.at-s.ensures (c.requires.steps c.loop-i.i c.loop-i-test.true), c.requires.asked.sound.few_steps)))
+offset_bounds-stale-s c = let step : (c.at-s.result < length c.args.phony.now) × (length c.args.phony.now ≤ max_steps) = (rw c.at-s.ensures (c.requires.steps c.loop-i.i c.loop-i-test.true), c.requires.asked.sound.few_steps) in
+    omega (arith, step)
 
 pub bounds-stale-s : goal.bounds-stale-s
-bounds-stale-s c = omega (arith, ((rw c.at-s.ensures (c.requires.steps c.loop-i.i c.loop-i-test.true), c.requires.asked.sound.few_steps)))
+bounds-stale-s c = let step : (c.at-s.result < length c.args.phony.now) × (length c.args.phony.now ≤ max_steps) = (rw c.at-s.ensures (c.requires.steps c.loop-i.i c.loop-i-test.true), c.requires.asked.sound.few_steps) in
+    omega (arith, step)
 
 pub offset_bounds-late-s : goal.offset_bounds-late-s
-offset_bounds-late-s c = omega (arith, ((rw c.at-s.ensures (c.requires.steps c.loop-i.i c.loop-i-test.true), c.requires.asked.sound.few_steps)))
+offset_bounds-late-s c = let step : (c.at-s.result < length c.args.phony.now) × (length c.args.phony.now ≤ max_steps) = (rw c.at-s.ensures (c.requires.steps c.loop-i.i c.loop-i-test.true), c.requires.asked.sound.few_steps) in
+    omega (arith, step)
 
 pub bounds-late-s : goal.bounds-late-s
-bounds-late-s c = omega (arith, ((rw c.at-s.ensures (c.requires.steps c.loop-i.i c.loop-i-test.true), c.requires.asked.sound.few_steps)))
+bounds-late-s c = let step : (c.at-s.result < length c.args.phony.now) × (length c.args.phony.now ≤ max_steps) = (rw c.at-s.ensures (c.requires.steps c.loop-i.i c.loop-i-test.true), c.requires.asked.sound.few_steps) in
+    omega (arith, step)
 
 pub loop-i-preserved : goal.loop-i-preserved
-loop-i-preserved c = tell_more c.loop-i.invariant c.loop-i-test.true c.at-s.ensures (((rw c.at-s.ensures (c.requires.steps c.loop-i.i c.loop-i-test.true), c.requires.asked.sound.few_steps))).0 c.judge-v.ensures
+loop-i-preserved c = let step : (c.at-s.result < length c.args.phony.now) × (length c.args.phony.now ≤ max_steps) = (rw c.at-s.ensures (c.requires.steps c.loop-i.i c.loop-i-test.true), c.requires.asked.sound.few_steps) in
+    tell_more c.loop-i.invariant c.loop-i-test.true c.at-s.ensures (step).0 c.judge-v.ensures
 
 pub shape_of-stale : goal.shape_of-stale
 shape_of-stale c = omega (arith, c.loop-i.invariant.stale_long, c.requires.asked.stale_long)

@@ -11,3 +11,7 @@ bounds-columns-i-2 c = simp length-set (omega (arith, c.requires))
 
 pub bounds-columns-i-3 : goal.bounds-columns-i-3
 bounds-columns-i-3 c = simp length-set (omega (arith, c.requires))
+
+pub returns : goal.returns
+unfolding stored_at
+returns c = refl

@@ -10,6 +10,24 @@ is_roomy-requires c = tt
 pub uncounted-requires : goal.uncounted-requires
 uncounted-requires c = tt
 
+pub shape_of-names-then-not-is_roomy : goal.shape_of-names-then-not-is_roomy
+shape_of-names-then-not-is_roomy c = refl
+
+pub shape_of-index-then-not-is_roomy : goal.shape_of-index-then-not-is_roomy
+shape_of-index-then-not-is_roomy c = refl
+
+pub shape_of-texts-then-not-is_roomy : goal.shape_of-texts-then-not-is_roomy
+shape_of-texts-then-not-is_roomy c = refl
+
+pub shape_of-bind-then-not-is_roomy : goal.shape_of-bind-then-not-is_roomy
+shape_of-bind-then-not-is_roomy c = refl
+
+pub shape_of-graph-then-not-is_roomy : goal.shape_of-graph-then-not-is_roomy
+shape_of-graph-then-not-is_roomy c = refl
+
+pub shape_of-word-then-not-is_roomy : goal.shape_of-word-then-not-is_roomy
+shape_of-word-then-not-is_roomy c = refl
+
 pub returns-then-not-is_roomy : goal.returns-then-not-is_roomy
 returns-then-not-is_roomy c = too_small c.is_roomy.ensures (c.if-not-is_roomy.true) c.uncounted.ensures
 

@@ -23,7 +23,8 @@ pub returns-then-ends-i : goal.returns-then-ends-i
 returns-then-ends-i c = record { space = record { long = (search rules) }; promise = walk_full c.loop-i.invariant.2 c.loop-i-test.true c.at-step.ensures (rw c.in-Ends.is at c.put_text.ensures.promise) c.if-ends-i.true }
 
 pub overflow_cast-ends : goal.overflow_cast-ends
-overflow_cast-ends c = omega (arith, (end_within c.requires (rw c.in-Ends.is at c.put_text.ensures.promise)), c.requires.low)
+overflow_cast-ends c = let low : c.in-Ends.e ≤ c.args.b.room = end_within c.requires (rw c.in-Ends.is at c.put_text.ensures.promise) in
+    omega (arith, low, c.requires.low)
 
 pub offset_bounds-ends-i : goal.offset_bounds-ends-i
 offset_bounds-ends-i c = omega (arith, c.if-ends-i.false, c.loop-i.invariant.2.long, c.well-formed)
@@ -32,7 +33,8 @@ pub overflow_add-i : goal.overflow_add-i
 overflow_add-i c = omega (arith, c.loop-i-test.true, c.well-formed)
 
 pub loop-i-preserved : goal.loop-i-preserved
-loop-i-preserved c = (omega (arith, c.loop-i.invariant.0, c.put_text.auto), omega (arith, c.loop-i.invariant.1, c.put_text.auto), walk_on c.loop-i.invariant.2 c.loop-i-test.true c.at-step.ensures (rw c.in-Ends.is at c.put_text.ensures.promise) ((end_within c.requires (rw c.in-Ends.is at c.put_text.ensures.promise))) c.if-ends-i.false)
+loop-i-preserved c = let low : c.in-Ends.e ≤ c.args.b.room = end_within c.requires (rw c.in-Ends.is at c.put_text.ensures.promise) in
+    (omega (arith, c.loop-i.invariant.0, c.put_text.auto), omega (arith, c.loop-i.invariant.1, c.put_text.auto), walk_on c.loop-i.invariant.2 c.loop-i-test.true c.at-step.ensures (rw c.in-Ends.is at c.put_text.ensures.promise) (low) c.if-ends-i.false)
 
 pub enum_told-1 : goal.enum_told-1
 enum_told-1 c = c.in-NoRoom.keys2
