@@ -26,7 +26,7 @@ pub copy_at-requires : goal.copy_at-requires
 copy_at-requires c = omega (arith, used_held c.requires.holds, c.requires.holds.within, c.start-from.ensures, c.if-names-from.false)
 
 pub enter-requires : goal.enter-requires
-enter-requires c = ((c.requires.holds.room, omega (arith, c.if-files-ge-FILES.false), omega (arith, c.seek-s.ensures.home, bucket_small c.args.path.now), omega (arith, used_held c.requires.holds, c.requires.holds.within, c.requires.holds.small, c.start-from.ensures, c.if-names-from.false), c.seek-s.ensures.block, c.seek-s.ensures.within), c.requires.holds.search.shape)
+enter-requires c = record { max_numbers_in_bounds = (c.requires.holds.room, omega (arith, c.if-files-ge-FILES.false), omega (arith, c.seek-s.ensures.home, bucket_small c.args.path.now), omega (arith, used_held c.requires.holds, c.requires.holds.within, c.requires.holds.small, c.start-from.ensures, c.if-names-from.false), c.seek-s.ensures.block, c.seek-s.ensures.within); shape = c.requires.holds.search.shape }
 
 pub returns : goal.returns
 returns c = rw c.copy_at.ensures (add_new c.seek-s.ensures (sought_none c.seek-s.ensures c.if-s-files.false) (omega (arith, c.if-files-ge-FILES.false)) c.start-from.ensures c.if-names-from.false c.enter.ensures c.enter.auto.index)

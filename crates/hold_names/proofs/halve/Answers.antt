@@ -6,7 +6,7 @@ use borrow.Author.Rules.{rules}
 use Rattle.hold_names.proofs.halve.Goals as goal
 
 pub loop-low-init : goal.loop-low-init
-loop-low-init c = half_begin c.requires.0 c.requires.1.0
+loop-low-init c = half_begin c.requires.sound_names c.requires.picks_names
 
 pub overflow_mul-mid : goal.overflow_mul-mid
 overflow_mul-mid c = search (rules, mid_inside c.loop-low.invariant c.loop-low-test.true)
@@ -18,7 +18,7 @@ pub at-k-requires : goal.at-k-requires
 at-k-requires c = mid_inside c.loop-low.invariant c.loop-low-test.true
 
 pub step-requires : goal.step-requires
-step-requires c = (c.requires.0, (mid_below c.loop-low.invariant c.loop-low-test.true c.at-k.ensures, omega (arith, made_few c.loop-low.invariant, c.requires.1.1)))
+step-requires c = record { sound_names = c.requires.sound_names; k_lt_count = (mid_below c.loop-low.invariant c.loop-low-test.true c.at-k.ensures, omega (arith, made_few c.loop-low.invariant, c.requires.n_bound)) }
 
 pub loop-low-preserved-in-Before : goal.loop-low-preserved-in-Before
 loop-low-preserved-in-Before c = half_lower c.loop-low.invariant c.loop-low-test.true c.at-k.ensures c.step.ensures c.in-Before.is

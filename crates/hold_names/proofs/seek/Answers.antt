@@ -15,13 +15,13 @@ pub returns-then-first-eq0 : goal.returns-then-first-eq0
 returns-then-first-eq0 c = seek_none _ c.requires c.bucket-b.ensures c.at-pair.ensures c.if-first-eq0.true
 
 pub match_entry-m-requires : goal.match_entry-m-requires
-match_entry-m-requires c = (c.requires, (omega (arith, c.if-first-eq0.false), first_low _ c.requires c.bucket-b.ensures c.at-pair.ensures, omega arith))
+match_entry-m-requires c = record { sound_names = c.requires; nonzero = (omega (arith, c.if-first-eq0.false), first_low _ c.requires c.bucket-b.ensures c.at-pair.ensures, omega arith) }
 
 pub returns-then-m : goal.returns-then-m
 returns-then-m c = seek_same _ c.requires c.bucket-b.ensures c.at-pair.ensures (omega (arith, c.if-first-eq0.false)) c.match_entry-m.ensures c.if-m.true
 
 pub seek_second-s-requires : goal.seek_second-s-requires
-seek_second-s-requires c = (c.requires, (second_low _ c.requires c.bucket-b.ensures c.at-pair.ensures, omega (arith, c.match_entry-m.ensures.made)))
+seek_second-s-requires c = record { sound_names = c.requires; second_le_count = (second_low _ c.requires c.bucket-b.ensures c.at-pair.ensures, omega (arith, c.match_entry-m.ensures.made)) }
 
 pub returns : goal.returns
 returns c = seek_on _ c.requires c.bucket-b.ensures c.at-pair.ensures (omega (arith, c.if-first-eq0.false)) (passed c.match_entry-m.ensures c.if-m.false) c.seek_second-s.ensures

@@ -5,10 +5,10 @@ use borrow.Author.Rules.{rules}
 use Rattle.hold_names.proofs.spare.Goals as goal
 
 pub put_in-requires : goal.put_in-requires
-put_in-requires c = (c.requires.0.0, c.requires.0.1, omega (arith, c.requires.0.2, c.requires.1.blocks), c.requires.0.3, c.requires.1.few _ c.requires.0.2)
+put_in-requires c = (c.requires.max_numbers_in_bounds.0, c.requires.max_numbers_in_bounds.1, omega (arith, c.requires.max_numbers_in_bounds.2, c.requires.shape.blocks), c.requires.max_numbers_in_bounds.3, c.requires.shape.few _ c.requires.max_numbers_in_bounds.2)
 
 pub part_block-requires : goal.part_block-requires
-part_block-requires c = part_asked c.put_in.ensures.1 c.put_in.ensures.0 c.requires.0.0 c.requires.1 c.requires.0.1 c.requires.0.2 c.if-put_in-eq127.true
+part_block-requires c = part_asked c.put_in.ensures.1 c.put_in.ensures.0 c.requires.max_numbers_in_bounds.0 c.requires.shape c.requires.max_numbers_in_bounds.1 c.requires.max_numbers_in_bounds.2 c.if-put_in-eq127.true
 
 pub returns-then-put_in-eq127 : goal.returns-then-put_in-eq127
 returns-then-put_in-eq127 c = spared_parted c.put_in.ensures.1 c.put_in.ensures.0 c.if-put_in-eq127.true c.part_block.ensures

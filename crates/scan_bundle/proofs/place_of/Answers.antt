@@ -8,13 +8,13 @@ use borrow.Author.Rules.{rules}
 use Rattle.scan_bundle.proofs.place_of.Goals as goal
 
 pub loop-low-init : goal.loop-low-init
-loop-low-init c = half_begin _ _ c.requires.1.1
+loop-low-init c = half_begin _ _ c.requires.n_bound.1
 
 pub at-k-requires : goal.at-k-requires
 at-k-requires c = omega (arith, c.loop-low.invariant.within)
 
 pub record_name-requires : goal.record_name-requires
-record_name-requires c = (c.requires.0, omega (arith, mid_below _ c.loop-low.invariant c.loop-low-test.true refl c.at-k.ensures, c.requires.1.0))
+record_name-requires c = record { laid_bundle = c.requires.laid_bundle; k_bound = omega (arith, mid_below _ c.loop-low.invariant c.loop-low-test.true refl c.at-k.ensures, c.requires.n_bound.0) }
 
 pub loop-low-preserved-in-Less : goal.loop-low-preserved-in-Less
 loop-low-preserved-in-Less c = half_lower _ c.loop-low.invariant c.loop-low-test.true refl c.at-k.ensures c.record_name.ensures c.compare.ensures c.in-Less.is

@@ -5,13 +5,13 @@ use Rattle.scan_bundle.proofs.Lying.{record_lies, text_at}
 use Rattle.scan_bundle.proofs.record_text.Goals as goal
 
 pub overflow_mul-k : goal.overflow_mul-k
-overflow_mul-k c = let y = record_lies _ c.requires.0 _ c.requires.1 in omega (arith, y.within, y.room)
+overflow_mul-k c = let y = record_lies _ c.requires.laid_bundle _ c.requires.k_bound in omega (arith, y.within, y.room)
 
 pub overflow_add-k : goal.overflow_add-k
-overflow_add-k c = let y = record_lies _ c.requires.0 _ c.requires.1 in omega (arith, y.within, y.room)
+overflow_add-k c = let y = record_lies _ c.requires.laid_bundle _ c.requires.k_bound in omega (arith, y.within, y.room)
 
 pub part_at-requires : goal.part_at-requires
-part_at-requires c = (record_lies _ c.requires.0 _ c.requires.1).text
+part_at-requires c = (record_lies _ c.requires.laid_bundle _ c.requires.k_bound).text
 
 pub returns : goal.returns
-returns c = c.part_at.ensures ∙ sym (text_at _ _ c.requires.1)
+returns c = c.part_at.ensures ∙ sym (text_at _ _ c.requires.k_bound)

@@ -11,28 +11,28 @@ pub loop-k-init : goal.loop-k-init
 loop-k-init c = sort_begin _ _ _
 
 pub slice_bounds-place_of-end-in-loop-k : goal.slice_bounds-place_of-end-in-loop-k
-slice_bounds-place_of-end-in-loop-k c = sym (length-take-le _ _ (omega (arith, c.loop-k.invariant.long, c.requires.1.1)))
+slice_bounds-place_of-end-in-loop-k c = sym (length-take-le _ _ (omega (arith, c.loop-k.invariant.long, c.requires.n_value.1)))
 
 pub record_name-requires : goal.record_name-requires
-record_name-requires c = (c.requires.0, omega (arith, c.requires.1.0))
+record_name-requires c = record { laid_bundle = c.requires.laid_bundle; k_bound = omega (arith, c.requires.n_value.0) }
 
 pub place_of-requires : goal.place_of-requires
-place_of-requires c = (c.requires.0, (omega (arith, c.requires.1.0), c.loop-k.invariant.sorted))
+place_of-requires c = record { laid_bundle = c.requires.laid_bundle; n_bound = (omega (arith, c.requires.n_value.0), c.loop-k.invariant.sorted) }
 
 pub shape_of-order-in-Taken : goal.shape_of-order-in-Taken
 shape_of-order-in-Taken c = c.loop-k.invariant.long
 
 pub returns-in-Taken : goal.returns-in-Taken
-returns-in-Taken c = sort_twice c.loop-k.invariant c.requires.1.0 c.loop-k-test.true c.record_name.ensures c.place_of.ensures c.in-Taken.is
+returns-in-Taken c = sort_twice c.loop-k.invariant c.requires.n_value.0 c.loop-k-test.true c.record_name.ensures c.place_of.ensures c.in-Taken.is
 
 pub insert-requires : goal.insert-requires
-insert-requires c = (free_within c.loop-k.invariant c.requires.1.0 c.loop-k-test.true c.record_name.ensures c.place_of.ensures c.requires.1.1 c.in-Free.is, omega (arith, c.loop-k.invariant.long, c.requires.1.1), omega (arith, c.requires.1.2))
+insert-requires c = (free_within c.loop-k.invariant c.requires.n_value.0 c.loop-k-test.true c.record_name.ensures c.place_of.ensures c.requires.n_value.1 c.in-Free.is, omega (arith, c.loop-k.invariant.long, c.requires.n_value.1), omega (arith, c.requires.n_value.2))
 
 pub loop-k-preserved : goal.loop-k-preserved
-loop-k-preserved c = sort_more c.loop-k.invariant c.requires.1.0 c.loop-k-test.true c.record_name.ensures c.place_of.ensures c.in-Free.is c.insert.ensures
+loop-k-preserved c = sort_more c.loop-k.invariant c.requires.n_value.0 c.loop-k-test.true c.record_name.ensures c.place_of.ensures c.in-Free.is c.insert.ensures
 
 pub shape_of-order : goal.shape_of-order
 shape_of-order c = c.loop-k.invariant.long
 
 pub returns : goal.returns
-returns c = sort_end c.loop-k.invariant c.requires.1.0 c.loop-k-test.false
+returns c = sort_end c.loop-k.invariant c.requires.n_value.0 c.loop-k-test.false

@@ -10,22 +10,22 @@ pub loop-k-init : goal.loop-k-init
 loop-k-init c = spot_begin _ _
 
 pub overflow_mul-k : goal.overflow_mul-k
-overflow_mul-k c = let y = laid_room _ c.requires.0 in omega (arith, c.requires.1)
+overflow_mul-k c = let y = laid_room _ c.requires.laid_bundle in omega (arith, c.requires.n_value)
 
 pub overflow_add-k : goal.overflow_add-k
-overflow_add-k c = let y = laid_room _ c.requires.0 in omega (arith, c.requires.1)
+overflow_add-k c = let y = laid_room _ c.requires.laid_bundle in omega (arith, c.requires.n_value)
 
 pub overflow_add-k-in-loop-k : goal.overflow_add-k-in-loop-k
-overflow_add-k-in-loop-k c = let y = laid_room _ c.requires.0 in omega (arith, c.requires.1)
+overflow_add-k-in-loop-k c = let y = laid_room _ c.requires.laid_bundle in omega (arith, c.requires.n_value)
 
 pub word-size-requires : goal.word-size-requires
-word-size-requires c = let y = laid_room _ c.requires.0 in omega (arith, c.requires.1)
+word-size-requires c = let y = laid_room _ c.requires.laid_bundle in omega (arith, c.requires.n_value)
 
 pub returns-then-left-size : goal.returns-then-left-size
-returns-then-left-size c = spot_here c.loop-k.invariant c.requires.0 (omega (arith, c.requires.1)) _ c.word-size.ensures.is c.if-left-size.true c.requires.1
+returns-then-left-size c = spot_here c.loop-k.invariant c.requires.laid_bundle (omega (arith, c.requires.n_value)) _ c.word-size.ensures.is c.if-left-size.true c.requires.n_value
 
 pub loop-k-preserved : goal.loop-k-preserved
-loop-k-preserved c = spot_on c.loop-k.invariant c.requires.0 (omega (arith, c.requires.1)) _ c.word-size.ensures.is c.if-left-size.false
+loop-k-preserved c = spot_on c.loop-k.invariant c.requires.laid_bundle (omega (arith, c.requires.n_value)) _ c.word-size.ensures.is c.if-left-size.false
 
 pub returns : goal.returns
-returns c = spot_past c.loop-k.invariant (omega (arith, c.requires.1)) c.requires.1
+returns c = spot_past c.loop-k.invariant (omega (arith, c.requires.n_value)) c.requires.n_value
