@@ -10,25 +10,25 @@ use Rattle.cut_builds.proofs.after_implicit.Goals as goal
 pub order_only-requires : goal.order_only-requires
 unfolding BarsAt
 order_only-requires c =
-    let e : BarEnds _ _ _ _ = subst (BarsAt _ _) c.in-Two.is c.bars.ensures in
+    let e : BarEnds _ _ _ _ = c.in-Two.ensures in
     (search rules, e.within)
 
 pub returns-in-LineEnd : goal.returns-in-LineEnd
 unfolding BarsAt StatementAt after_implicit
-returns-in-LineEnd c = λ b i m k p. inputs_at k (ap (after_implicit b i m) (subst (BarsAt _ _) c.in-LineEnd.is c.bars.ensures)) p (no_paths_law _)
+returns-in-LineEnd c = λ b i m k p. inputs_at k (ap (after_implicit b i m) c.in-LineEnd.ensures) p (no_paths_law _)
 
 pub returns-in-One : goal.returns-in-One
 unfolding BarsAt StatementAt after_implicit
 returns-in-One c = λ b i m k p.
-    let e : BarEnds _ _ _ _ = subst (BarsAt _ _) c.in-One.is c.bars.ensures in
+    let e : BarEnds _ _ _ _ = c.in-One.ensures in
     no_form_law (ap (after_implicit b i m) e.cut)
 
 pub returns-in-Two : goal.returns-in-Two
 unfolding BarsAt StatementAt after_implicit
 returns-in-Two c = λ b i m k p.
-    let e : BarEnds _ _ _ _ = subst (BarsAt _ _) c.in-Two.is c.bars.ensures in
+    let e : BarEnds _ _ _ _ = c.in-Two.ensures in
     rw (ap (after_implicit b i m) e.cut) (c.order_only.ensures b i m k p)
 
 pub returns-in-Other : goal.returns-in-Other
 unfolding BarsAt StatementAt after_implicit
-returns-in-Other c = λ b i m k p. no_form_law (ap (after_implicit b i m) (subst (BarsAt _ _) c.in-Other.is c.bars.ensures))
+returns-in-Other c = λ b i m k p. no_form_law (ap (after_implicit b i m) c.in-Other.ensures)

@@ -17,7 +17,10 @@ word-n-requires c = let l = layout (laid_layout _ _ _ (sym c.is_laid.ensures ∙
 pub sort_names-requires : goal.sort_names-requires
 sort_names-requires c =
     let h = sym c.is_laid.ensures ∙ c.if-not-is_laid.false in
-    (record { least = c.args.least; most = c.args.most; laid = h }, (c.word-n.ensures.is, omega (arith, laid_few _ _ _ h, c.word-n.ensures.is, c.requires), c.word-n.ensures.small))
+    record {
+      laid_bundle = record { least = c.args.least; most = c.args.most; laid = h };
+      n_value = (c.word-n.ensures.is, omega (arith, laid_few _ _ _ h, c.word-n.ensures.is, c.requires), c.word-n.ensures.small);
+    }
 
 pub shape_of-order-then-not-sort_names : goal.shape_of-order-then-not-sort_names
 shape_of-order-then-not-sort_names c = c.sort_names.ensures.space.long

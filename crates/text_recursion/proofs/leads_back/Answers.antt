@@ -21,7 +21,7 @@ pub returns-then-not-d-n : goal.returns-then-not-d-n
 unfolding marks
 returns-then-not-d-n c = λ log rd s h.
     level_out (level_on c.loop-k.invariant c.loop-k-test.true c.deeper-d.ensures) h (key_name c.args.key)
-    (rw (← c.number_of-n.ensures) (not-true (get_or c.deeper-d.result c.number_of-n.result false) c.if-not-d-n.true))
+    (rw (← c.number_of-n.ensures) c.if-not-d-n.true)
 
 pub loop-k-preserved : goal.loop-k-preserved
 loop-k-preserved c = level_on c.loop-k.invariant c.loop-k-test.true c.deeper-d.ensures
