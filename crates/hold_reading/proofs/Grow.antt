@@ -2,7 +2,7 @@
 use Prim.Native.Nat.{ℕ, ◌+◌, ◌≤◌, ◌<◌}
 use mathlib.Core.Bool.{true, false}
 use mathlib.Core.List.{List, [], ◌∷◌, ◌++◌, map}
-use mathlib.Core.Path.{◌≡◌, refl, sym, ◌∙◌, ap}
+use mathlib.Core.Path.{◌≡◌, refl, sym, ◌∙◌, ap, subst}
 use native.Mathlib.Decide.{dec_lt}
 use native.Mathlib.Omega.{arith}
 use lib.Dec.{eqb}
@@ -217,7 +217,7 @@ module _ {log : List Logged} {texts bind texts' bind' : List ℕ} {c : Counts} (
       (b.vars ∙ sym (variables_other e log (λ j p. omega arith) (λ p. omega arith)))
       (b.rules ∙ sym (rules_other e log (λ p. omega arith) (λ k p. keys_not_step k (length rd.steps) (sym p))))
       line_blocks
-      (rw m (owner_step (length (rd.steps ++ (s ∷ []))) (length log) (length (scoping_of log).outers) (length rd.steps) (simp length-append (omega arith)), b.owned))
+      (rw m (owner_step (length (rd.steps ++ (s ∷ []))) (length log) (length (scoping_of log).outers) (length rd.steps) (simp length-append (omega arith))), subst (λ (k : ℕ). Owned k log) (sym m) b.owned)
 
 -- ---- what a line leaves
 
