@@ -99,6 +99,7 @@ paths_mentions (p ∷ ps) h =
     paths_mentions ps (with_mention p h)
     ∙ append_assoc h.mentions (n ∷ []) (numbers_of (mention f ps) ps)
     ∙ rw (mention_append h.reading.files (p ∷ []) ps, number_mention p f ps (among_own h.reading.files p))
+    (ap (λ (fs : List (List ℕ)). h.mentions ++ (n ∷ numbers_of fs ps)) (sym (mention_append h.reading.files (p ∷ []) ps)))
 
 -- a file that is new has no maker, as one that is not there
 made_more : (made : List ℕ) (f : ℕ) → get_or (made ++ (0 ∷ [])) f 0 ≡ get_or made f 0

@@ -9,9 +9,6 @@ use Rattle.apply_default_path.proofs.Growing.{default_room}
 use Rattle.apply_default_path.proofs.Putting.{put_found, put_missing}
 use Rattle.apply_default_path.proofs.put_default.Goals as goal
 
-pub enum_known-k : goal.enum_known-k
-enum_known-k c = c.in-At.keys1
-
 pub overflow_add-c : goal.overflow_add-c
 overflow_add-c c = let limits : Within (length c.args.path.now) c.args.c = path_within (length c.args.path.now) c.args.c c.requires.within in
     omega (arith, default_room c.requires.files.filed.graphed (limits).few)
@@ -33,9 +30,6 @@ overflow_add-result-in-At c = let limits : Within (length c.args.path.now) c.arg
 pub overflow_add-result-in-At-2 : goal.overflow_add-result-in-At-2
 overflow_add-result-in-At-2 c = let limits : Within (length c.args.path.now) c.args.c = path_within (length c.args.path.now) c.args.c c.requires.within in
     omega (arith, (limits).low)
-
-pub enum_told-1 : goal.enum_told-1
-enum_told-1 c = c.in-Missing.keys2
 
 pub shape_of-graph : goal.shape_of-graph
 shape_of-graph c = c.put.auto.arena

@@ -9,9 +9,6 @@ use Rattle.apply_files.proofs.Limits.{Within, path_within}
 use Rattle.apply_files.proofs.Adding.{mentions_short, path_old, path_new, path_full, old_low, new_low}
 use Rattle.apply_files.proofs.add_path.Goals as goal
 
-pub enum_known-k : goal.enum_known-k
-enum_known-k c = c.in-Old.keys1
-
 pub note_again-requires : goal.note_again-requires
 note_again-requires c =
     let within : Within (length c.args.path.now) c.args.c = path_within _ _ c.requires.within in
@@ -19,9 +16,6 @@ note_again-requires c =
     let w = c.requires.writing in
     let l = within in
     (old_low c.add.ensures l w c.in-Old.is, omega (arith, w.paths_counted, mentions_short w c.args.path.now l), l.few, l.low, graph_long w.columns)
-
-pub enum_known-k-in-New-1 : goal.enum_known-k-in-New-1
-enum_known-k-in-New-1 c = c.in-New.keys2
 
 pub note_first-requires : goal.note_first-requires
 note_first-requires c =
@@ -31,9 +25,6 @@ note_first-requires c =
     let l = within in
     let n = new_low c.add.ensures l w c.in-New.is in
     (n.0, n.1, omega (arith, w.paths_counted, mentions_short w c.args.path.now l), l.few, l.low, graph_long w.columns)
-
-pub enum_told-1 : goal.enum_told-1
-enum_told-1 c = c.in-Full.keys3
 
 pub shape_of-names-in-Old : goal.shape_of-names-in-Old
 shape_of-names-in-Old c = c.add.auto.names

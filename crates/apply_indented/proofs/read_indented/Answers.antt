@@ -4,17 +4,8 @@ use Rattle.scan_cursor.specs.Spans.{line_of}
 use Rattle.apply_indented.proofs.Outcomes.{no_block_law, key_asks}
 use Rattle.apply_indented.proofs.read_indented.Goals as goal
 
-pub enum_told-1 : goal.enum_told-1
-enum_told-1 c = c.in-Nothing.keys1
-
-pub enum_known-block : goal.enum_known-block
-enum_known-block c = c.in-Rule.keys2
-
 pub read_key-requires : goal.read_key-requires
 read_key-requires c = key_asks c.in-Rule.is c.requires
-
-pub enum_told-in-Step : goal.enum_told-in-Step
-enum_told-in-Step c = c.in-Step.keys3
 
 pub read_setting-requires : goal.read_setting-requires
 read_setting-requires c = rw c.in-Step.is at c.requires

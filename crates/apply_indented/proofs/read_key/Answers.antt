@@ -7,9 +7,6 @@ use Rattle.apply_indented.proofs.Outcomes.{line_applied, wrong_key_law}
 use borrow.Author.Rules.{rules}
 use Rattle.apply_indented.proofs.read_key.Goals as goal
 
-pub enum_known-from : goal.enum_known-from
-enum_known-from c = c.in-Binding.keys1
-
 pub raw_value-raw-requires : goal.raw_value-raw-requires
 raw_value-raw-requires c = let s = setting_told (line_of _ _ _) c.cut_block_line.ensures c.in-Binding.is in s.places.starts
 
@@ -21,9 +18,6 @@ slice_bounds-add_key-start c = let s = setting_told (line_of _ _ _) c.cut_block_
 
 pub slice_bounds-add_key-end : goal.slice_bounds-add_key-end
 slice_bounds-add_key-end c = let s = setting_told (line_of _ _ _) c.cut_block_line.ensures c.in-Binding.is in omega (arith, s.places.within)
-
-pub enum_known-r : goal.enum_known-r
-enum_known-r c = c.in-Refused.keys2
 
 pub shape_of-texts : goal.shape_of-texts
 shape_of-texts c = c.add_key.auto.texts

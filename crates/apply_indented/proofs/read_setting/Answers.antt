@@ -7,9 +7,6 @@ use Rattle.apply_indented.proofs.Outcomes.{line_applied, value_asks, wrong_setti
 use borrow.Author.Rules.{rules}
 use Rattle.apply_indented.proofs.read_setting.Goals as goal
 
-pub enum_known-from : goal.enum_known-from
-enum_known-from c = c.in-Binding.keys1
-
 pub raw_value-raw-requires : goal.raw_value-raw-requires
 raw_value-raw-requires c = let s = setting_told (line_of _ _ _) c.cut_block_line.ensures c.in-Binding.is in s.places.starts
 
@@ -24,9 +21,6 @@ slice_bounds-add_to_block-end c = let s = setting_told (line_of _ _ _) c.cut_blo
 
 pub add_to_block-requires : goal.add_to_block-requires
 add_to_block-requires c = value_asks (line_of _ _ _) (setting_told (line_of _ _ _) c.cut_block_line.ensures c.in-Binding.is) c.raw_value-raw.ensures c.requires
-
-pub enum_known-r : goal.enum_known-r
-enum_known-r c = c.in-Refused.keys2
 
 pub shape_of-texts : goal.shape_of-texts
 shape_of-texts c = c.add_to_block.auto.texts

@@ -57,29 +57,17 @@ use Rattle.apply_lines.proofs.read_line.Goals as goal
 pub line_kind-requires : goal.line_kind-requires
 line_kind-requires c = c.requires.cut.table
 
-pub enum_told-1 : goal.enum_told-1
-enum_told-1 c = c.in-Comment.keys1
-
-pub enum_told-in-Blank : goal.enum_told-in-Blank
-enum_told-in-Blank c = c.in-Blank.keys2
-
 pub close-requires : goal.close-requires
 close-requires c = between_sound c.requires.between
 
 pub turned-requires : goal.turned-requires
 turned-requires c = tt
 
-pub enum_told-in-Indented : goal.enum_told-in-Indented
-enum_told-in-Indented c = c.in-Indented.keys3
-
 pub read_indented-requires : goal.read_indented-requires
 read_indented-requires c = indented_asks c.requires
 
 pub turned-requires-in-Indented : goal.turned-requires-in-Indented
 turned-requires-in-Indented c = tt
-
-pub enum_told-in-Statement : goal.enum_told-in-Statement
-enum_told-in-Statement c = c.in-Statement.keys4
 
 pub read_file_line-requires : goal.read_file_line-requires
 read_file_line-requires c = c.requires

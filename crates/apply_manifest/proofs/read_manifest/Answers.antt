@@ -71,12 +71,6 @@ returns-then-bytes_together-gt-MANIFEST c = record { space = search rules; promi
 pub first_bad-requires : goal.first_bad-requires
 first_bad-requires c = short _ (sym c.is_sound_bundle.ensures ∙ c.if-not-is_sound_bundle.false) c.bytes_together.ensures c.if-bytes_together-gt-MANIFEST.false
 
-pub enum_known-p : goal.enum_known-p
-enum_known-p c = c.in-At.keys1
-
-pub enum_told-1 : goal.enum_told-1
-enum_told-1 c = c.in-Nowhere.keys2
-
 pub read_lines-requires : goal.read_lines-requires
 read_lines-requires c = lines_ask c.requires (short _ (sym c.is_sound_bundle.ensures ∙ c.if-not-is_sound_bundle.false) c.bytes_together.ensures c.if-bytes_together-gt-MANIFEST.false)
 

@@ -70,12 +70,6 @@ slice_bounds-find_named-end-2 c = sym (path_counted c.args.raw.now c.requires c.
 pub find_named-requires : goal.find_named-requires
 find_named-requires c = c.requires.laid
 
-pub enum_known-k : goal.enum_known-k
-enum_known-k c = c.in-At.keys1
-
-pub enum_told-1 : goal.enum_told-1
-enum_told-1 c = c.in-Missing.keys2
-
 pub shape_of-word-in-At : goal.shape_of-word-in-At
 shape_of-word-in-At c = c.expand-n.auto.word
 

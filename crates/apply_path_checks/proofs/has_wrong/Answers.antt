@@ -15,9 +15,6 @@ use Rattle.apply_path_checks.proofs.has_wrong.Goals as goal
 pub loop-from-init : goal.loop-from-init
 loop-from-init c = (refl, look_begin c.requires.within)
 
-pub enum_known-from : goal.enum_known-from
-enum_known-from c = c.in-Path.keys1
-
 pub slice_bounds-is_wrong-count : goal.slice_bounds-is_wrong-count
 slice_bounds-is_wrong-count c = let next : PathNext c.args.l.now c.loop-from.i c.in-Path.from c.in-Path.to = goes_on _ _ _ c.next_listed.ensures c.in-Path.is in
     omega (arith, (next).longer)
@@ -47,9 +44,6 @@ loop-from-smaller c = let next : PathNext c.args.l.now c.loop-from.i c.in-Path.f
 pub loop-from-preserved : goal.loop-from-preserved
 loop-from-preserved c = let next : PathNext c.args.l.now c.loop-from.i c.in-Path.from c.in-Path.to = goes_on _ _ _ c.next_listed.ensures c.in-Path.is in
     (search rules, look_more c.loop-from.invariant.1 (next) c.is_wrong.ensures.promise c.if-is_wrong.false)
-
-pub enum_told-1 : goal.enum_told-1
-enum_told-1 c = c.in-Stop.keys2
 
 pub returns-in-Stop : goal.returns-in-Stop
 returns-in-Stop c = record { space = record { long = (search rules) }; promise = look_end c.loop-from.invariant.1 (stops _ _ _ c.next_listed.ensures c.in-Stop.is) }

@@ -4,17 +4,11 @@ use borrow.Author.Rules.{rules}
 use Rattle.apply_path_checks.proofs.Makers.{entry_low, entry_within, found_made, missing_unmade}
 use Rattle.apply_path_checks.proofs.is_output.Goals as goal
 
-pub enum_known-k : goal.enum_known-k
-enum_known-k c = c.in-At.keys1
-
 pub overflow_add-k : goal.overflow_add-k
 overflow_add-k c = let p = c.requires in record { fits = omega (arith, entry_low p.filed c.find_name.ensures c.in-At.is) }
 
 pub at-requires : goal.at-requires
 at-requires c = let p = c.requires in entry_within p.filed c.find_name.ensures c.in-At.is
-
-pub enum_told-1 : goal.enum_told-1
-enum_told-1 c = c.in-Missing.keys2
 
 pub returns-in-At : goal.returns-in-At
 returns-in-At c = λ log rd h. found_made h c.find_name.ensures c.in-At.is c.at.ensures

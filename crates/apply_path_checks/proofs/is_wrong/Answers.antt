@@ -9,17 +9,8 @@ shape_of-word-then-n-eq0 c = c.expand-n.auto.word
 pub returns-then-n-eq0 : goal.returns-then-n-eq0
 returns-then-n-eq0 c = record { space = record { long = (c.expand-n.auto.word) }; promise = empty_wrong c.args.raw.now c.expand-n.ensures c.args.kind c.if-n-eq0.true }
 
-pub enum_told-1 : goal.enum_told-1
-enum_told-1 c = c.in-Input.keys1
-
-pub enum_told-in-Output : goal.enum_told-in-Output
-enum_told-in-Output c = c.in-Output.keys2
-
 pub is_made-requires : goal.is_made-requires
 is_made-requires c = made_asks c.args.raw.now c.expand-n.ensures c.requires
-
-pub enum_told-in-Default : goal.enum_told-in-Default
-enum_told-in-Default c = c.in-Default.keys3
 
 pub is_made-requires-in-Default : goal.is_made-requires-in-Default
 is_made-requires-in-Default c = made_asks c.args.raw.now c.expand-n.ensures c.requires

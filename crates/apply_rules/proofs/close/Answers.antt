@@ -5,19 +5,10 @@ use Rattle.hold_reading.specs.declared.Open.{Open}
 use Rattle.apply_rules.proofs.Outcomes.{of_rule, closed_none, closed_step, closed_rule, closed_bare}
 use Rattle.apply_rules.proofs.close.Goals as goal
 
-pub enum_told-1 : goal.enum_told-1
-enum_told-1 c = c.in-Nothing.keys1
-
-pub enum_known-block : goal.enum_known-block
-enum_known-block c = c.in-Rule.keys2
-
 pub has_command-requires : goal.has_command-requires
 has_command-requires c =
     let a = c.args in
     of_rule (subst (λ (o : Open). SoundBlock a.texts.now a.bind.now a.c o) c.in-Rule.is c.requires)
-
-pub enum_told-in-Step : goal.enum_told-in-Step
-enum_told-in-Step c = c.in-Step.keys3
 
 pub returns-in-Nothing : goal.returns-in-Nothing
 returns-in-Nothing c = rw c.in-Nothing.is closed_none

@@ -8,14 +8,8 @@ use Rattle.apply_statements.proofs.read_file_line.Goals as goal
 pub close-requires : goal.close-requires
 close-requires c = between_sound c.requires.between
 
-pub enum_known-d : goal.enum_known-d
-enum_known-d c = c.in-Goes.keys1
-
 pub read_statement-requires : goal.read_statement-requires
 read_statement-requires c = closed_asks (rw c.in-Goes.is at c.close.ensures) c.requires
-
-pub enum_known-r : goal.enum_known-r
-enum_known-r c = c.in-Refused.keys2
 
 pub shape_of-names : goal.shape_of-names
 shape_of-names c = c.read_statement.auto.names

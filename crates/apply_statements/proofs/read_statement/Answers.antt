@@ -95,9 +95,6 @@ use Rattle.apply_statements.proofs.read_statement.Goals as goal
 
 -- src/lib.rt:26:1
 
-pub enum_known-from : goal.enum_known-from
-enum_known-from c = c.in-Rule.keys1
-
 pub slice_bounds-start_rule-count : goal.slice_bounds-start_rule-count
 slice_bounds-start_rule-count c = let s = rule_told (line_of _ _ _) c.cut_file_line.ensures c.in-Rule.is in omega (arith, s.1.ordered)
 
@@ -113,29 +110,17 @@ start_rule-requires c = between_sound c.requires.between
 pub turned-requires : goal.turned-requires
 turned-requires c = tt
 
-pub enum_known-p : goal.enum_known-p
-enum_known-p c = c.in-Build.keys2
-
 pub add_step-requires : goal.add_step-requires
 add_step-requires c = build_asks (line_of _ _ _) c.requires (build_told (line_of _ _ _) c.cut_file_line.ensures c.in-Build.is)
 
 pub turned-requires-in-Build : goal.turned-requires-in-Build
 turned-requires-in-Build c = tt
 
-pub enum_known-at : goal.enum_known-at
-enum_known-at c = c.in-Default.keys3
-
 pub add_defaults-requires : goal.add_defaults-requires
 add_defaults-requires c = default_asks (line_of _ _ _) c.requires (default_told (line_of _ _ _) c.cut_file_line.ensures c.in-Default.is)
 
 pub turned-requires-in-Default : goal.turned-requires-in-Default
 turned-requires-in-Default c = tt
-
-pub enum_known-sub : goal.enum_known-sub
-enum_known-sub c = c.in-Open.keys4
-
-pub enum_known-from-in-Binding-1 : goal.enum_known-from-in-Binding-1
-enum_known-from-in-Binding-1 c = c.in-Binding.keys5
 
 pub raw_value-raw-requires : goal.raw_value-raw-requires
 raw_value-raw-requires c = let s = binding_told (line_of _ _ _) c.cut_file_line.ensures c.in-Binding.is in s.places.starts
@@ -154,9 +139,6 @@ add_var-requires c = value_asks (line_of _ _ _) c.requires (binding_told (line_o
 
 pub turned-requires-in-Binding : goal.turned-requires-in-Binding
 turned-requires-in-Binding c = tt
-
-pub enum_known-r : goal.enum_known-r
-enum_known-r c = c.in-Refused.keys6
 
 pub shape_of-texts-in-Rule : goal.shape_of-texts-in-Rule
 shape_of-texts-in-Rule c = c.start_rule.auto.texts

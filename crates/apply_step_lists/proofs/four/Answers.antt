@@ -11,17 +11,11 @@ end_place-outs_end-requires c = omega (arith, c.requires.few)
 pub two-requires : goal.two-requires
 two-requires c = rw c.end_place-outs_end.ensures (four_first c.requires)
 
-pub enum_known-d : goal.enum_known-d
-enum_known-d c = c.in-On.keys1
-
 pub end_place-implicit_end-requires : goal.end_place-implicit_end-requires
 end_place-implicit_end-requires c = omega (arith, c.requires.few)
 
 pub two-requires-in-On : goal.two-requires-in-On
 two-requires-in-On c = rw c.end_place-implicit_end.ensures (four_second c.requires (search rules) (search rules) (rw (c.in-On.is, c.end_place-outs_end.ensures) at c.two.ensures.promise))
-
-pub enum_told-1 : goal.enum_told-1
-enum_told-1 c = c.in-Over.keys2
 
 pub shape_of-names-in-On : goal.shape_of-names-in-On
 shape_of-names-in-On c = c.two-in-On.auto.names ∙ c.two.auto.names

@@ -8,9 +8,6 @@ use Rattle.apply_step_lists.proofs.one.Goals as goal
 pub mention_all-requires : goal.mention_all-requires
 mention_all-requires c = c.requires.asks
 
-pub enum_known-d : goal.enum_known-d
-enum_known-d c = c.in-On.keys1
-
 pub overflow_add-list : goal.overflow_add-list
 overflow_add-list c = omega (arith, c.requires.low)
 
@@ -19,9 +16,6 @@ put-requires c =
     let a = c.requires in
     let w = one_held a.asks (rw c.in-On.is at c.mention_all.ensures.promise) in
     (omega (arith, a.low, graph_long w.columns), omega (arith, w.few_mentions, w.mentions_low))
-
-pub enum_told-1 : goal.enum_told-1
-enum_told-1 c = c.in-Over.keys2
 
 pub shape_of-names-in-On : goal.shape_of-names-in-On
 shape_of-names-in-On c = c.mention_all.auto.names

@@ -8,17 +8,11 @@ use Rattle.apply_step_lists.proofs.two.Goals as goal
 pub one-requires : goal.one-requires
 one-requires c = two_first c.requires
 
-pub enum_known-d : goal.enum_known-d
-enum_known-d c = c.in-On.keys1
-
 pub overflow_add-second : goal.overflow_add-second
 overflow_add-second c = omega (arith, c.requires.low)
 
 pub one-requires-in-On : goal.one-requires-in-On
 one-requires-in-On c = two_second c.requires (search rules) (search rules) (rw c.in-On.is at c.one.ensures.promise)
-
-pub enum_told-1 : goal.enum_told-1
-enum_told-1 c = c.in-Over.keys2
 
 pub shape_of-names-in-On : goal.shape_of-names-in-On
 shape_of-names-in-On c = c.one-in-On.auto.names ∙ c.one.auto.names

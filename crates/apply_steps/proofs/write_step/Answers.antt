@@ -10,9 +10,6 @@ returns-then-c-ge-STEPS c = record { space = (record { names = record { long = r
 pub four-requires : goal.four-requires
 four-requires c = write_four c.requires (omega (arith, c.if-c-ge-STEPS.false))
 
-pub enum_known-d : goal.enum_known-d
-enum_known-d c = c.in-On.keys1
-
 pub slice_bounds-rule_number-count : goal.slice_bounds-rule_number-count
 slice_bounds-rule_number-count c = omega (arith, c.requires.stands.ordered)
 
@@ -30,9 +27,6 @@ current_scope-requires c = write_scopes c.requires
 
 pub put_step-e-requires : goal.put_step-e-requires
 put_step-e-requires c = write_columns c.requires (rw c.in-On.is at c.four.ensures.promise) c.if-c-ge-STEPS.false _ c.rule_number-n.ensures c.current_scope.ensures
-
-pub enum_told-1 : goal.enum_told-1
-enum_told-1 c = c.in-Over.keys2
 
 pub shape_of-names-in-On : goal.shape_of-names-in-On
 shape_of-names-in-On c = c.four.auto.names

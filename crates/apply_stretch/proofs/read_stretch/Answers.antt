@@ -13,9 +13,6 @@ use Rattle.apply_stretch.proofs.read_stretch.Goals as goal
 pub loop-k-init : goal.loop-k-init
 loop-k-init c = (same_begin, omega arith, λ via. each_begin via c.requires)
 
-pub enum_known-a : goal.enum_known-a
-enum_known-a c = c.in-Goes.keys1
-
 pub at-start-requires : goal.at-start-requires
 at-start-requires c = c.loop-k-test.true
 
@@ -37,9 +34,6 @@ slice_bounds-read_line-end c = omega (arith, each_within (c.loop-k.invariant.2 n
 pub read_line-requires : goal.read_line-requires
 read_line-requires c = each_asks (c.loop-k.invariant.2 no_files) c.loop-k-test.true c.at-start.ensures c.at-end.ensures c.in-Goes.is c.requires c.loop-k.invariant.0
 
-pub enum_known-x : goal.enum_known-x
-enum_known-x c = c.in-Answered.keys1
-
 pub overflow_add-k-in-Answered : goal.overflow_add-k-in-Answered
 overflow_add-k-in-Answered c = omega (arith, (each_pair (c.loop-k.invariant.2 no_files) c.loop-k-test.true).two, c.requires.few)
 
@@ -54,9 +48,6 @@ loop-k-preserved c =
       omega (arith, c.loop-k.invariant.1),
       λ via. each_on (c.loop-k.invariant.2 via) c.loop-k-test.true c.at-start.ensures c.at-end.ensures c.in-Goes.is (turn_answered via (rw c.in-Answered.is at c.read_line.ensures.promise)),
     )
-
-pub enum_known-d : goal.enum_known-d
-enum_known-d c = c.in-Opens.keys2
 
 pub shape_of-names-in-Opens : goal.shape_of-names-in-Opens
 shape_of-names-in-Opens c = c.read_line.auto.names ∙ c.loop-k.invariant.0.names_same
@@ -78,9 +69,6 @@ shape_of-word-in-Opens c = c.read_line.auto.word ∙ c.loop-k.invariant.0.word_s
 
 pub returns-in-Opens : goal.returns-in-Opens
 returns-in-Opens c = record { space = (record { names = record { long = (c.read_line.auto.names ∙ c.loop-k.invariant.0.names_same) }; index = record { long = (c.read_line.auto.index ∙ c.loop-k.invariant.0.ends_same) }; texts = record { long = (c.read_line.auto.texts ∙ c.loop-k.invariant.0.texts_same) }; bind = record { long = (c.read_line.auto.bind ∙ c.loop-k.invariant.0.bind_same) }; graph = record { long = (c.read_line.auto.graph ∙ c.loop-k.invariant.0.graph_same) } }, record { long = (c.read_line.auto.word ∙ c.loop-k.invariant.0.word_same) }); promise = opens_at (λ via. each_goes (c.loop-k.invariant.2 via) c.in-Goes.is) c.loop-k.invariant.1 c.loop-k-test.true c.at-start.ensures c.at-end.ensures (rw c.in-Opens.is at c.read_line.ensures.promise) }
-
-pub enum_known-a-in-Refused-1 : goal.enum_known-a-in-Refused-1
-enum_known-a-in-Refused-1 c = c.in-Refused.keys2
 
 pub shape_of-names-in-Refused : goal.shape_of-names-in-Refused
 shape_of-names-in-Refused c = c.loop-k.invariant.0.names_same

@@ -8,9 +8,6 @@ use Rattle.ask_header_graph.proofs.head_step.Goals as goal
 pub depfile_name-requires : goal.depfile_name-requires
 depfile_name-requires c = depfile_asked c.requires
 
-pub enum_told-1 : goal.enum_told-1
-enum_told-1 c = c.in-None.keys1
-
 pub slice_bounds-add_headers-end : goal.slice_bounds-add_headers-end
 slice_bounds-add_headers-end c = omega arith
 
@@ -20,9 +17,6 @@ slice_bounds-add_headers-end-in-None c = refl
 pub add_headers-requires : goal.add_headers-requires
 add_headers-requires c = add_asked c.requires
 
-pub enum_known-n : goal.enum_known-n
-enum_known-n c = c.in-Written.keys2
-
 pub slice_bounds-add_headers-end-in-Written : goal.slice_bounds-add_headers-end-in-Written
 slice_bounds-add_headers-end-in-Written c = name_within c.requires c.depfile_name.ensures c.in-Written.is
 
@@ -31,9 +25,6 @@ slice_bounds-add_headers-end-in-Written-2 c = sym (length-take-le _ _ (name_with
 
 pub add_headers-requires-in-Written : goal.add_headers-requires-in-Written
 add_headers-requires-in-Written c = add_asked c.requires
-
-pub enum_known-r : goal.enum_known-r
-enum_known-r c = c.in-Refused.keys3
 
 pub shape_of-names-in-None : goal.shape_of-names-in-None
 shape_of-names-in-None c = c.add_headers.auto.names

@@ -13,17 +13,11 @@ loop-s-init c = walk_begin c.requires
 pub head_step-requires : goal.head_step-requires
 head_step-requires c = turn_asked c.loop-s.invariant c.loop-s-test.true
 
-pub enum_known-e : goal.enum_known-e
-enum_known-e c = c.in-Headed.keys1
-
 pub overflow_add-s : goal.overflow_add-s
 overflow_add-s c = omega (arith, c.loop-s.invariant.asks.held.bound.few_steps, c.loop-s-test.true)
 
 pub loop-s-preserved : goal.loop-s-preserved
 loop-s-preserved c = walk_more c.loop-s.invariant c.loop-s-test.true c.head_step.ensures.promise c.in-Headed.is c.head_step.auto.names c.head_step.auto.index c.head_step.auto.second c.head_step.auto.name c.head_step.auto.word
-
-pub enum_known-r : goal.enum_known-r
-enum_known-r c = c.in-Refused.keys2
 
 pub shape_of-names-in-Refused : goal.shape_of-names-in-Refused
 shape_of-names-in-Refused c = c.head_step.auto.names ∙ c.loop-s.invariant.names_long

@@ -18,14 +18,8 @@ copy_mentions-d-requires c = front_asked c.requires.held c.places_of-p.ensures
 pub mention_listed-requires : goal.mention_listed-requires
 mention_listed-requires c = told_asked c.requires.held c.places_of-p.ensures c.at-out.ensures c.find_depfile-place.ensures c.copy_mentions-d.ensures c.requires.names_long c.requires.word_long c.requires.indexed
 
-pub enum_known-e : goal.enum_known-e
-enum_known-e c = c.in-Told.keys1
-
 pub close_step-requires : goal.close_step-requires
 close_step-requires c = close_asked c.requires.held c.places_of-p.ensures c.at-out.ensures c.find_depfile-place.ensures c.copy_mentions-d.ensures c.mention_listed.ensures.promise c.in-Told.is (c.mention_listed.auto.second ∙ c.copy_mentions-d.auto.second)
-
-pub enum_told-1 : goal.enum_told-1
-enum_told-1 c = c.in-Refused.keys2
 
 pub shape_of-names-in-Told : goal.shape_of-names-in-Told
 shape_of-names-in-Told c = c.mention_listed.auto.names

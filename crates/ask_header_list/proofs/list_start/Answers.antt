@@ -4,12 +4,6 @@ use Rattle.ask_header_list.proofs.Finding.{starts_at, starts_not}
 use borrow.Author.Rules.{rules}
 use Rattle.ask_header_list.proofs.list_start.Goals as goal
 
-pub enum_known-from : goal.enum_known-from
-enum_known-from c = c.in-Names.keys1
-
-pub enum_told-1 : goal.enum_told-1
-enum_told-1 c = c.in-Refused.keys2
-
 pub returns-in-Names : goal.returns-in-Names
 returns-in-Names c = starts_at _ _ _ (list_from _ _ _ c.depfile_start.ensures c.in-Names.is)
 

@@ -4,35 +4,17 @@ use native.Mathlib.Omega.{arith}
 use Rattle.ask_header_list.proofs.Telling.{tells_unnamed, tells_absent, tells_malformed, tells_on, tells_over, tells_as, told_low, told_asks, told_more}
 use Rattle.ask_header_list.proofs.mention_listed.Goals as goal
 
-pub enum_told-1 : goal.enum_told-1
-enum_told-1 c = c.in-Unnamed.keys1
-
-pub enum_told-in-Absent : goal.enum_told-in-Absent
-enum_told-in-Absent c = c.in-Absent.keys2
-
-pub enum_told-in-Malformed : goal.enum_told-in-Malformed
-enum_told-in-Malformed c = c.in-Malformed.keys3
-
-pub enum_known-place : goal.enum_known-place
-enum_known-place c = c.in-Lists.keys4
-
 pub record_text-text-requires : goal.record_text-text-requires
 record_text-text-requires c = (c.requires.laid, told_low c.requires c.in-Lists.is)
 
 pub add_header_list-requires : goal.add_header_list-requires
 add_header_list-requires c = told_asks c.requires c.in-Lists.is c.record_text-text.ensures
 
-pub enum_known-d : goal.enum_known-d
-enum_known-d c = c.in-On.keys1
-
 pub overflow_sub-result : goal.overflow_sub-result
 overflow_sub-result c = omega (arith, (told_more c.requires c.in-On.is c.add_header_list.ensures.promise).0)
 
 pub overflow_mul-result : goal.overflow_mul-result
 overflow_mul-result c = record { fits = omega (arith, (told_more c.requires c.in-On.is c.add_header_list.ensures.promise).1) }
-
-pub enum_told-in-Over : goal.enum_told-in-Over
-enum_told-in-Over c = c.in-Over.keys2
 
 pub returns-in-Unnamed : goal.returns-in-Unnamed
 returns-in-Unnamed c = record { space = (record { long = refl }, record { long = refl }, record { long = refl }, record { long = refl }); promise = tells_as c.in-Unnamed.is tells_unnamed }

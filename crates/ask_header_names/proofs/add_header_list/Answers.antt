@@ -14,14 +14,8 @@ loop-next-init c = list_begin c.requires
 pub next_prerequisite-requires : goal.next_prerequisite-requires
 next_prerequisite-requires c = c.loop-next.invariant.within
 
-pub enum_known-next : goal.enum_known-next
-enum_known-next c = c.in-Name.keys1
-
 pub add_header-requires : goal.add_header-requires
 add_header-requires c = list_asks c.loop-next.invariant c.next_prerequisite.auto.word
-
-pub enum_known-e : goal.enum_known-e
-enum_known-e c = c.in-On.keys1
 
 pub loop-next-smaller : goal.loop-next-smaller
 loop-next-smaller c = let l = name_listed _ _ _ _ _ c.next_prerequisite.ensures c.in-Name.is in omega (arith, l.forward, l.within)
@@ -29,20 +23,11 @@ loop-next-smaller c = let l = name_listed _ _ _ _ _ c.next_prerequisite.ensures 
 pub loop-next-preserved : goal.loop-next-preserved
 loop-next-preserved c = list_on c.loop-next.invariant c.next_prerequisite.auto.word (name_listed _ _ _ _ _ c.next_prerequisite.ensures c.in-Name.is) c.add_header.auto.names c.add_header.auto.index c.add_header.auto.graph (rw c.in-On.is at c.add_header.ensures.promise)
 
-pub enum_told-1 : goal.enum_told-1
-enum_told-1 c = c.in-Over.keys2
-
 pub returns-in-Over : goal.returns-in-Over
 returns-in-Over c = record { space = (record { long = (search rules) }, record { long = (search rules) }, record { long = (search rules) }, record { long = (search rules) }); promise = loop.list_over c.loop-next.invariant c.next_prerequisite.auto.word (name_listed _ _ _ _ _ c.next_prerequisite.ensures c.in-Name.is) (rw c.in-Over.is at c.add_header.ensures.promise) }
 
-pub enum_told-in-End : goal.enum_told-in-End
-enum_told-in-End c = c.in-End.keys2
-
 pub returns-in-End : goal.returns-in-End
 returns-in-End c = record { space = (record { long = (search rules) }, record { long = (search rules) }, record { long = (search rules) }, record { long = (search rules) }); promise = list_end c.loop-next.invariant (list_over _ _ _ _ _ c.next_prerequisite.ensures c.in-End.is) }
-
-pub enum_told-in-Malformed : goal.enum_told-in-Malformed
-enum_told-in-Malformed c = c.in-Malformed.keys3
 
 pub returns-in-Malformed : goal.returns-in-Malformed
 returns-in-Malformed c = record { space = (record { long = (search rules) }, record { long = (search rules) }, record { long = (search rules) }, record { long = (search rules) }); promise = list_bad c.loop-next.invariant (list_malformed _ _ _ _ _ c.next_prerequisite.ensures c.in-Malformed.is) }

@@ -13,12 +13,6 @@ slice_bounds-index-end c = sym (length-replicate {A = ℕ} max_headers 0)
 pub index-requires : goal.index-requires
 index-requires c = le_of_eq (sym (length-replicate {A = ℕ} max_headers 0))
 
-pub enum_told-1 : goal.enum_told-1
-enum_told-1 c = c.in-Sound.keys1
-
-pub enum_told-in-Malformed : goal.enum_told-in-Malformed
-enum_told-in-Malformed c = c.in-Malformed.keys2
-
 pub returns-in-Sound : goal.returns-in-Sound
 returns-in-Sound c = lists_sound c.index.ensures c.in-Sound.is
 

@@ -35,9 +35,6 @@ slice_bounds-read_manifest-end-6 c = sym (length-replicate {A = ℕ} max_value 0
 pub read_manifest-requires : goal.read_manifest-requires
 read_manifest-requires c = roomy c.table-t.ensures (length-replicate {A = ℕ} max_written 0) (length-replicate {A = ℕ} max_numbers 0) (length-replicate {A = ℕ} max_texts 0) (length-replicate {A = ℕ} max_rows 0) (length-replicate {A = ℕ} (columns_end + max_manifest) 0) (length-replicate {A = ℕ} max_value 0)
 
-pub enum_known-c : goal.enum_known-c
-enum_known-c c = c.in-Accepted.keys1
-
 pub slice_bounds-plan_read-end : goal.slice_bounds-plan_read-end
 slice_bounds-plan_read-end c = sym (c.read_manifest.auto.names ∙ length-replicate {A = ℕ} max_written 0)
 
@@ -55,9 +52,6 @@ slice_bounds-plan_read-end-in-Accepted-4 c = sym (c.read_manifest.auto.graph ∙
 
 pub plan_read-requires : goal.plan_read-requires
 plan_read-requires c = askable c.requires c.table-t.ensures (c.read_manifest.auto.names ∙ length-replicate {A = ℕ} max_written 0) (read_accepted _ _ c.read_manifest.ensures.promise c.in-Accepted.is)
-
-pub enum_known-r : goal.enum_known-r
-enum_known-r c = c.in-Refused.keys2
 
 pub zero_words_from-requires : goal.zero_words_from-requires
 zero_words_from-requires c = tt

@@ -7,14 +7,8 @@ use Rattle.ask_plan_columns.proofs.choose_then_plan.Goals as goal
 pub choose_roots-requires : goal.choose_roots-requires
 choose_roots-requires c = choice c.requires
 
-pub enum_told-1 : goal.enum_told-1
-enum_told-1 c = c.in-None.keys1
-
 pub zero_words_from-requires : goal.zero_words_from-requires
 zero_words_from-requires c = tt
-
-pub enum_known-k : goal.enum_known-k
-enum_known-k c = c.in-From.keys2
 
 pub slice_bounds-plan_headers-end : goal.slice_bounds-plan_headers-end
 slice_bounds-plan_headers-end c = roots_within c.choose_roots.ensures c.in-From.is

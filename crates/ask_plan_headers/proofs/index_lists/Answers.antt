@@ -5,12 +5,6 @@ use Rattle.ask_plan_headers.proofs.index_lists.Goals as goal
 pub index-requires : goal.index-requires
 index-requires c = c.requires.room
 
-pub enum_known-n : goal.enum_known-n
-enum_known-n c = c.in-Sound.keys1
-
-pub enum_told-1 : goal.enum_told-1
-enum_told-1 c = c.in-Malformed.keys2
-
 pub shape_of-order-in-Sound : goal.shape_of-order-in-Sound
 shape_of-order-in-Sound c = c.index.auto.order
 

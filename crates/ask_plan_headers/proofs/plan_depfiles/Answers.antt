@@ -28,17 +28,11 @@ slice_bounds-head_steps-end-4 c = sym (length-replicate {A = ℕ} max_path 0)
 pub head_steps-requires : goal.head_steps-requires
 head_steps-requires c = ask_heads c.requires c.index_lists-n.ensures.promise (length-replicate {A = ℕ} columns_end 0) (length-replicate {A = ℕ} max_text 0) (length-replicate {A = ℕ} max_path 0)
 
-pub enum_known-d : goal.enum_known-d
-enum_known-d c = c.in-Headed.keys1
-
 pub slice_bounds-plan_second-end : goal.slice_bounds-plan_second-end
 slice_bounds-plan_second-end c = sym (c.head_steps.auto.second ∙ length-replicate {A = ℕ} columns_end 0)
 
 pub plan_second-requires : goal.plan_second-requires
 plan_second-requires c = ask_second c.requires c.head_steps.ensures.promise c.in-Headed.is
-
-pub enum_known-r : goal.enum_known-r
-enum_known-r c = c.in-Refused.keys2
 
 pub zero_words_from-requires : goal.zero_words_from-requires
 zero_words_from-requires c = tt

@@ -7,14 +7,8 @@ use Rattle.ask_plan_reading.proofs.number_then_plan.Goals as goal
 pub number_targets-requires : goal.number_targets-requires
 number_targets-requires c = numbering c.requires
 
-pub enum_known-place : goal.enum_known-place
-enum_known-place c = c.in-Bad.keys1
-
 pub zero_words_from-requires : goal.zero_words_from-requires
 zero_words_from-requires c = tt
-
-pub enum_known-n : goal.enum_known-n
-enum_known-n c = c.in-All.keys2
 
 pub slice_bounds-plan_columns-end : goal.slice_bounds-plan_columns-end
 slice_bounds-plan_columns-end c = numbers_within c.number_targets.ensures.promise c.in-All.is c.requires

@@ -35,9 +35,6 @@ slice_bounds-read_manifest-end-6 c = sym (length-replicate {A = ℕ} max_value 0
 pub read_manifest-requires : goal.read_manifest-requires
 read_manifest-requires c = roomy c.table-t.ensures (length-replicate {A = ℕ} max_written 0) (length-replicate {A = ℕ} max_numbers 0) (length-replicate {A = ℕ} max_texts 0) (length-replicate {A = ℕ} max_rows 0) (length-replicate {A = ℕ} (columns_end + max_manifest) 0) (length-replicate {A = ℕ} max_value 0)
 
-pub enum_known-c : goal.enum_known-c
-enum_known-c c = c.in-Accepted.keys1
-
 pub slice_bounds-texts_of-end : goal.slice_bounds-texts_of-end
 slice_bounds-texts_of-end c = sym (c.read_manifest.auto.names ∙ length-replicate {A = ℕ} max_written 0)
 
@@ -55,9 +52,6 @@ slice_bounds-texts_of-end-in-Accepted-4 c = sym (c.read_manifest.auto.graph ∙ 
 
 pub texts_of-requires : goal.texts_of-requires
 texts_of-requires c = askable (read_accepted _ _ c.read_manifest.ensures.promise c.in-Accepted.is) c.table-t.ensures
-
-pub enum_known-r : goal.enum_known-r
-enum_known-r c = c.in-Refused.keys2
 
 pub zero_bytes_from-requires : goal.zero_bytes_from-requires
 zero_bytes_from-requires c = tt

@@ -5,7 +5,7 @@ use borrow.Author.Rules.{rules}
 use Rattle.scan_bundle.proofs.has_sound_extents.Goals as goal
 
 pub end_of-requires-in-End : goal.end_of-requires-in-End
-end_of-requires-in-End c = (c.requires.0, (omega arith, names_small _ c.requires.0 c.end_of.ensures c.in-End.is))
+end_of-requires-in-End c = record { run_asks = c.requires.0; first_bound = (omega arith, names_small _ c.requires.0 c.end_of.ensures c.in-End.is) }
 
 pub returns-in-Broken : goal.returns-in-Broken
 returns-in-Broken c = names_broken _ c.requires.0 c.end_of.ensures c.in-Broken.is

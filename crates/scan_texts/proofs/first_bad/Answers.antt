@@ -43,9 +43,6 @@ record_text-requires c = (laid _ c.requires.sound, omega (arith, c.word-n.ensure
 pub bad_byte-requires : goal.bad_byte-requires
 bad_byte-requires c = tt
 
-pub enum_known-p : goal.enum_known-p
-enum_known-p c = c.in-At.keys1
-
 pub text_base-requires : goal.text_base-requires
 text_base-requires c = (laid _ c.requires.sound, omega (arith, c.word-n.ensures.is, c.loop-k-test.true))
 
@@ -54,9 +51,6 @@ overflow_add-result c = omega (arith, bad_near c.args.b.now c.requires _ (omega 
 
 pub returns-in-At : goal.returns-in-At
 returns-in-At c = bad_here c.loop-k.invariant (omega (arith, length_texts c.args.b.now, c.word-n.ensures.is, c.loop-k-test.true)) c.record_text.ensures _ c.bad_byte.ensures c.in-At.is c.text_base.ensures
-
-pub enum_told-1 : goal.enum_told-1
-enum_told-1 c = c.in-Nowhere.keys2
 
 pub overflow_add-k : goal.overflow_add-k
 overflow_add-k c = omega (arith, c.word-n.ensures.small, c.loop-k-test.true)

@@ -3,12 +3,6 @@ use Rattle.test_manifest.specs.Numbers.{in_numbers}
 use Rattle.test_manifest.proofs.Judging.{counted, refused_so}
 use Rattle.test_manifest.proofs.in_numbers.Goals as goal
 
-pub enum_known-a : goal.enum_known-a
-enum_known-a c = c.in-Accepted.keys1
-
-pub enum_known-a-in-Refused-1 : goal.enum_known-a-in-Refused-1
-enum_known-a-in-Refused-1 c = c.in-Refused.keys2
-
 pub of_refusal-requires : goal.of_refusal-requires
 of_refusal-requires c = tt
 

@@ -7,12 +7,6 @@ use Rattle.test_manifest.proofs.read_or_clear.Goals as goal
 pub zero_bytes_from-requires : goal.zero_bytes_from-requires
 zero_bytes_from-requires c = tt
 
-pub enum_known-a : goal.enum_known-a
-enum_known-a c = c.in-Accepted.keys1
-
-pub enum_known-a-in-Refused-1 : goal.enum_known-a-in-Refused-1
-enum_known-a-in-Refused-1 c = c.in-Refused.keys2
-
 pub clear_all-requires : goal.clear_all-requires
 clear_all-requires c = tt
 

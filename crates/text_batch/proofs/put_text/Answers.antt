@@ -6,9 +6,6 @@ use Rattle.text_batch.proofs.Putting.{text_short, put_long, put_ends, put_refuse
 use borrow.Author.Rules.{rules}
 use Rattle.text_batch.proofs.put_text.Goals as goal
 
-pub enum_known-n : goal.enum_known-n
-enum_known-n c = c.in-Written.keys1
-
 pub shape_of-one-then-room-end : goal.shape_of-one-then-room-end
 shape_of-one-then-room-end c = c.text_of.auto.buffer
 
@@ -26,9 +23,6 @@ copy_at-requires c = omega (arith, text_part c.text_of.ensures c.in-Written.is c
 
 pub overflow_add-result : goal.overflow_add-result
 overflow_add-result c = omega (arith, c.if-room-end.false, c.requires.before, c.requires.within, c.well-formed)
-
-pub enum_known-r : goal.enum_known-r
-enum_known-r c = c.in-Refused.keys2
 
 pub shape_of-one-else-room-end : goal.shape_of-one-else-room-end
 shape_of-one-else-room-end c = c.text_of.auto.buffer

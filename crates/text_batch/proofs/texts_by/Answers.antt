@@ -10,17 +10,11 @@ usable-room-requires c = tt
 pub walk-requires : goal.walk-requires
 walk-requires c = walk_asked c.args.bytes.now c.requires c.usable-room.ensures
 
-pub enum_known-n : goal.enum_known-n
-enum_known-n c = c.in-Stopped.keys1
-
 pub zero_bytes_from-requires : goal.zero_bytes_from-requires
 zero_bytes_from-requires c = tt
 
 pub zero_words_from-requires : goal.zero_words_from-requires
 zero_words_from-requires c = tt
-
-pub enum_known-r : goal.enum_known-r
-enum_known-r c = c.in-Refused.keys2
 
 pub zero_bytes_from-requires-in-Refused : goal.zero_bytes_from-requires-in-Refused
 zero_bytes_from-requires-in-Refused c = tt

@@ -16,9 +16,6 @@ loop-i-init c = (refl, refl, walk_begin)
 pub put_text-requires : goal.put_text-requires
 put_text-requires c = walk_asks c.requires c.loop-i.invariant.2 c.loop-i.invariant.0 c.loop-i.invariant.1
 
-pub enum_known-e : goal.enum_known-e
-enum_known-e c = c.in-Ends.keys1
-
 pub returns-then-ends-i : goal.returns-then-ends-i
 returns-then-ends-i c = record { space = record { long = (search rules) }; promise = walk_full c.loop-i.invariant.2 c.loop-i-test.true c.at-step.ensures (rw c.in-Ends.is at c.put_text.ensures.promise) c.if-ends-i.true }
 
@@ -36,14 +33,8 @@ pub loop-i-preserved : goal.loop-i-preserved
 loop-i-preserved c = let low : c.in-Ends.e ≤ c.args.b.room = end_within c.requires (rw c.in-Ends.is at c.put_text.ensures.promise) in
     (omega (arith, c.loop-i.invariant.0, c.put_text.auto), omega (arith, c.loop-i.invariant.1, c.put_text.auto), walk_on c.loop-i.invariant.2 c.loop-i-test.true c.at-step.ensures (rw c.in-Ends.is at c.put_text.ensures.promise) (low) c.if-ends-i.false)
 
-pub enum_told-1 : goal.enum_told-1
-enum_told-1 c = c.in-NoRoom.keys2
-
 pub returns-in-NoRoom : goal.returns-in-NoRoom
 returns-in-NoRoom c = record { space = record { long = (search rules) }; promise = walk_long c.loop-i.invariant.2 c.loop-i-test.true c.at-step.ensures (rw c.in-NoRoom.is at c.put_text.ensures.promise) }
-
-pub enum_known-r : goal.enum_known-r
-enum_known-r c = c.in-Refused.keys3
 
 pub returns-in-Refused : goal.returns-in-Refused
 returns-in-Refused c = record { space = record { long = (search rules) }; promise = walk_refused c.loop-i.invariant.2 c.loop-i-test.true c.at-step.ensures (rw c.in-Refused.is at c.put_text.ensures.promise) }
