@@ -6,4 +6,4 @@ use Rattle.status_record.proofs.slid.Goals as goal
 
 pub returns : goal.returns
 unfolding spread
-returns c = slid_law c.args.w c.args.t (omega (arith, c.type_inv.w 0))
+returns c = slid_law c.args.w c.args.t (search rules)
