@@ -1,11 +1,11 @@
 -- The loops over the lent table: what is made and noted after i turns.
-use Rattle.std.proofs.Common.{ℕ, zero, suc, ◌+◌, ◌≤◌, ◌<◌, ◌≡◌, refl, sym, ap, ◌∙◌, subst, List, length}
+use Rattle.std.proofs.Common.{ℕ, ◌+◌, ◌≤◌, ◌<◌, ◌≡◌, refl, ap, ◌∙◌, List, length}
 use native.Mathlib.Omega.{arith}
 use Rattle.std.proofs.Common.{add-one}
 use lib.ListN.{get_or, set}
 use Rattle.run_rules.specs.declared.Job.{Job}
 use Rattle.run_core.specs.Numbers.{no_job}
-use Rattle.run_columns.specs.Columns.{note_at, noted_to, gathered}
+use Rattle.run_columns.specs.Columns.{note_at, noted_to}
 use Rattle.run_columns.specs.Fresh.{fresh_job, fresh_to, fresh_count, fresh_number}
 use Rattle.run_columns.proofs.Made.{fresh_length, count_fits}
 use Rattle.run_table.specs.Promises.{Fresh}

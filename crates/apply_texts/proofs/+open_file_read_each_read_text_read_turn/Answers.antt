@@ -1,16 +1,14 @@
-use mathlib.Core.Path.{◌≡◌, refl, sym, ◌∙◌}
+use mathlib.Core.Path.{refl, ◌∙◌}
 use native.Mathlib.Omega.{arith}
-use lib.ListN.{length, length-replicate}
-use lib.Seq.{length-take-le}
+use lib.ListN.{length-replicate}
 use Rattle.spec.specs.Bundle.{bundle_texts}
-use Rattle.hold_reading.specs.Buffers.{buffers}
 use Rattle.apply_texts.specs.Texts.{file_opener}
 use Rattle.scan_texts.proofs.Texts.{laid}
-use Rattle.apply_stretch.proofs.Each.{Same, same_begin, EachFrom, each_begin, each_joins, each_end, each_refused, answered_stretch, opened_stretch}
-use Rattle.apply_texts.proofs.Turns.{Reached, turn_begin, found_ask, turn_asks, turn_on, turn_refused, turn_sound, turn_end}
+use Rattle.apply_stretch.proofs.Each.{same_begin, each_begin, each_joins, each_end, each_refused, answered_stretch, opened_stretch}
+use Rattle.apply_texts.proofs.Turns.{turn_begin, found_ask, turn_asks, turn_on, turn_refused, turn_sound, turn_end}
 use Rattle.apply_texts.proofs.Files.{path_asks, not_opened, all_open, enter_asks, text_asks, file_stopped, leave_asks, file_read}
 use Rattle.apply_texts.proofs.Stretched.{all_done, opens_two, opens_forward, opens_within, path_ordered, path_within, opens_asks, opens_done, turn_asked}
-use Prim.Native.Nat.{ℕ, ◌+◌, ◌*◌, ◌-◌, ◌<◌}
+use Prim.Native.Nat.{ℕ}
 use Rattle.apply_texts.proofs.+open_file_read_each_read_text_read_turn.Goals as goal
 
 pub open_file-open_path-requires : goal.open_file-open_path-requires

@@ -1,8 +1,8 @@
 -- `text_expansion::write_name` and `text_expansion::write_text`, which call one another, meet their contracts. Each rule text goes one less deep, and of one depth the text comes before its names.
 use native.Mathlib.Omega.{arith}
 use Rattle.text_references.proofs.Turns.{as_bytes, as_name}
-use Rattle.text_expansion.proofs.Writing.{Writing, write_begin, bytes_on, bytes_over, name_asked, name_on, name_over, write_end}
-use Rattle.text_expansion.proofs.Keys.{in_scope, key_asked, plain_asked, plain_written, again_behind, again_written, depth_left, text_asked, key_written}
+use Rattle.text_expansion.proofs.Writing.{write_begin, bytes_on, bytes_over, name_asked, name_on, name_over, write_end}
+use Rattle.text_expansion.proofs.Keys.{key_asked, plain_written, again_written, depth_left, text_asked, key_written}
 use Rattle.text_expansion.proofs.+write_name_write_text.Goals as goal
 
 pub write_name-returns-then-from-to : goal.write_name-returns-then-from-to
