@@ -10,7 +10,7 @@ use Rattle.run_columns.specs.declared.Change.{Change}
 use Rattle.run_rules.specs.Runner.{finish_of, next_start}
 use Rattle.run_core.specs.Passes.{start_answer}
 use Rattle.run_columns.specs.Columns.{enough, gathered}
-use Rattle.run_columns.specs.Changes.{changed, short_change, finish_change, finished_in}
+use Rattle.run_columns.specs.Changes.{turned_at, changed, short_change, finish_change, finished_in}
 use Rattle.run_columns.specs.Chosen.{asked_given, start_change, started_in}
 use Rattle.run_columns.specs.Fresh.{fresh_to, fresh_count, fresh_number}
 use Rattle.run_columns.proofs.Made.{fresh_made}
@@ -47,3 +47,11 @@ started t gs ds a cs =
       table = ap (λ (c : Change). changed t c) (started_gathered t cs gs ds a) ∙ by_room t cs (start_change t (start_answer o)) (start_table t o);
       columns = refl;
     }
+
+-- the same, of what the calls of a finish and of a start answer
+module _ {t t' : List Job} {cs cs' : List ℕ} {r : Change} {i state : ℕ} (columns : cs' ≡ gathered t cs) (place : i ≡ r.place) (turns : state ≡ r.state) (table : t' ≡ turned_at t i state) where
+  pub finished_by : {s : ℕ} {good : Bool} → r ≡ finished_in (length t) cs' s good → Finished t s good cs r t' cs'
+  finished_by {s} {good} e = rw (table, place, turns, e, columns) (finished t s good cs)
+
+  pub started_by : {gs ds : List ℕ} {a : StartAsk} → r ≡ started_in (length t) cs' gs ds a → Started t gs ds a cs r t' cs'
+  started_by {gs} {ds} {a} e = rw (table, place, turns, e, columns) (started t gs ds a cs)

@@ -1,5 +1,6 @@
-// The runner's table: a lent slice of step records, changed in place. Thin functions, walked by hand, over what crate run_columns decides.
+// The runner's table: a lent slice of step records, changed in place. Thin functions over what crate run_columns decides.
 #![tactic(auto)]
+
 ghost use Rattle.std.specs.Prelude.{◌≡◌, ◌<◌};
 ghost use Rattle.run_columns.specs.Columns.{gathered};
 ghost use Rattle.run_columns.specs.Changes.{turned_at};

@@ -177,3 +177,32 @@ module _ {m : List ℕ} {i : ℕ} {out out' : List ℕ} {f : Found} (g : Finding
   find_less (none h) = rw (e, a.starts) (omega arith)
   find_less (passed o c) = rw e (omega (arith, (span o).on, a.most))
   find_less (put o c) = rw e (omega (arith, (span o).on, a.most, most_one (leb (f.filled + 4) (length (put_at out' f.filled s)))))
+
+-- what the loop knows of its reader too: it reads this manifest, and stands where the next line starts
+pub record Reading (m : List ℕ) (i : ℕ) (out : List ℕ) (lent : List ℕ) (cursor : ℕ) (out' : List ℕ) (f : Found) : Type 0 where
+  pub same : lent ≡ m
+  pub place : cursor ≡ f.next
+  pub finding : Finding m i out out' f
+
+pub read_begin : {t m lent : List ℕ} {i cursor : ℕ} {out : List ℕ} → FoundAsk t m i out → lent ≡ m → cursor ≡ i → Reading m i out lent cursor out (at_first i)
+read_begin a e k = record { same = e; place = k; finding = find_begin a }
+
+module _ {m : List ℕ} {i : ℕ} {out lent : List ℕ} {cursor : ℕ} {out' : List ℕ} {f : Found} (g : Reading m i out lent cursor out' f) where
+  pub read_inside : cursor ≤ length lent
+  read_inside = rw (g.place, g.same) g.finding.within
+
+  module _ (e : f.more ≡ true) {s : LineBounds} (a : LineHere lent cursor s) where
+    here : LineHere m f.next s
+    here = rw (g.same, g.place) at a
+
+    pub read_ask : length m < 2 ^ 32 → LinePutAsk out' f.filled s
+    read_ask h = find_ask g.finding e here h
+
+    pub read_turn : {out'' lent' : List ℕ} {cursor' : ℕ} {f' : Found} → LinePut out' f.filled s out'' f' → lent' ≡ lent → cursor' ≡ f'.next → Reading m i out lent' cursor' out'' f'
+    read_turn p d k = record { same = d ∙ g.same; place = k; finding = find_turn g.finding e here p }
+
+    pub read_less : {out'' : List ℕ} {f' : Found} → LinePut out' f.filled s out'' f' → left m f' < left m f
+    read_less p = find_less g.finding e here p
+
+  pub read_end : f.more ≡ false → LinesFound m i out out' f
+  read_end e = find_end g.finding e

@@ -1,4 +1,2 @@
 pub mod Spanning
 pub mod Finding
-pub mod Readers
-pub mod Calls

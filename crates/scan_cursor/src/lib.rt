@@ -1,6 +1,7 @@
-// A reader over the manifest keeps the lent bytes and the place reached. The borrow checker covers no function over a struct
-// that holds a reference, so each is proved by hand; they leave the work to `line_at` and `put_line`, which take plain slices and values.
+// A reader over the manifest keeps the lent bytes and the place reached. Its functions leave the work to `line_at` and `put_line`,
+// which take plain slices and values.
 #![tactic(auto)]
+
 ghost use Rattle.std.specs.Prelude.{◌≤◌, length, ◌≡◌};
 ghost use Rattle.scan_classes.specs.Table.{classes};
 ghost use Rattle.scan_cursor.specs.Spans.{LineHere};

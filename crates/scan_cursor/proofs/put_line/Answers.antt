@@ -1,6 +1,5 @@
 -- `scan_cursor::put_line` meets its contract.
 use native.Mathlib.Omega.{arith}
-use borrow.Author.Rules.{rules}
 use lib.ListN.{length-set}
 use Rattle.scan_cursor.specs.Found.{none, passed, put}
 use Rattle.scan_cursor.proofs.put_line.Goals as goal
