@@ -3,7 +3,7 @@
  * of file times and a list of targets it decides which steps to run, in which order, and what each one's command says. It runs
  * nothing itself.
  *
- * The library is libkestrenyo.a (in dist/, or by `rt staticlib kestrenyo`), for x86-64 Linux. It needs memcpy and memset
+ * The library is libkestrenyo.a (in dist/, or by `tools/archive kestrenyo`), for x86-64 Linux. It needs memcpy and memset
  * alone, keeps nothing between calls, allocates nothing, opens nothing and never fails to return: any bytes get an answer.
  *
  * Stack: a call takes KESTRENYO_STACK bytes of the calling thread's stack at most. On a smaller stack it ends in a fault at

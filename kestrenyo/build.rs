@@ -1,4 +1,4 @@
-//! Links the static library: the one that `rt staticlib kestrenyo` wrote, else that of `dist/`, if
+//! Links the static library: the one that `tools/archive kestrenyo` built, else that of `dist/`, if
 //! it was built from the sources as they are.
 
 use std::path::Path;
@@ -6,7 +6,7 @@ use std::process::Command;
 
 fn main() {
     let top = concat!(env!("CARGO_MANIFEST_DIR"), "/..");
-    let built = format!("{top}/target/staticlib");
+    let built = format!("{top}/crates/kestrenyo/out");
     let is_built = Path::new(&format!("{built}/libkestrenyo.a")).exists();
     let is_kept = !is_built && is_current(top);
     let folder = if is_kept { format!("{top}/dist") } else { built.clone() };
@@ -18,7 +18,7 @@ fn main() {
     println!("cargo:rerun-if-changed={top}/dist");
     // a warning and no error, since clippy and rustdoc link nothing
     if !is_built && !is_kept {
-        println!("cargo:warning=no target/staticlib/libkestrenyo.a: `rt staticlib kestrenyo` in the folder above writes it");
+        println!("cargo:warning=no crates/kestrenyo/out/libkestrenyo.a: `tools/archive kestrenyo` in the folder above writes it");
     }
 }
 

@@ -1,6 +1,6 @@
 /*
  * Plans the bench example of document 01, its rule in a file of its own, and prints what the program prints:
- * cc -I ../../include bench.c ../../target/staticlib/libkestrenyo.a -o bench && ./bench
+ * cc -I ../../include bench.c ../../crates/kestrenyo/out/libkestrenyo.a -o bench && ./bench
  */
 #include "kestrenyo.h"
 

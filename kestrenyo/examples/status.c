@@ -1,6 +1,6 @@
 /*
  * Prints the status of a small build as its steps start and finish:
- * cc -I ../../include status.c ../../target/staticlib/libkestrenyo.a -o status && ./status
+ * cc -I ../../include status.c ../../crates/kestrenyo/out/libkestrenyo.a -o status && ./status
  */
 #include "kestrenyo.h"
 

@@ -1,6 +1,6 @@
 //! The stack that an ask takes and that the program takes, by trial: the least, in KiB, with which
 //! a thread asks all of [`compare::adversary`] and of the shapes, and under whose limit (`ulimit
-//! -s`) the program plans those. The command is: stack [PROGRAM], of which `target/bin/plan` is the
+//! -s`) the program plans those. The command is: stack [PROGRAM], of which `crates/plan/out/plan` is the
 //! default.
 
 use compare::asks::ours;
@@ -81,7 +81,7 @@ fn main() -> io::Result<()> {
     }
     let program = words
         .get(1)
-        .map_or(concat!(env!("CARGO_MANIFEST_DIR"), "/../target/bin/plan"), |word| word);
+        .map_or(concat!(env!("CARGO_MANIFEST_DIR"), "/../crates/plan/out/plan"), |word| word);
     let program = fs::canonicalize(program)?.display().to_string();
     let folder = env::temp_dir().join(format!("stack-{}", std::process::id()));
     let mut rooms = Vec::new();
