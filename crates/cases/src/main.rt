@@ -7,9 +7,13 @@ ghost use Rattle.test_packed.specs.Parts.{PartsBehind};
 use answer_places::locate;
 use answers::{of_plan, of_text};
 use asks::{plan, text};
-use libc::STDOUT_FILENO;
 use spec::Wanted;
+use std::fs::File;
+use std::os::fd::AsRawFd;
 use test_packed::{Ask, CaseHead, Met, check, is_sound, read_ask, read_head, read_part};
+
+// Standard output's descriptor.
+const STDOUT_FILENO: i32 = 1;
 
 // What the lent buffers hold before an ask: nothing that an ask would write there.
 const BEFORE: u8 = 7;
@@ -267,12 +271,11 @@ fn run(fd: i32) -> Tally {
     run_all(fd, &mut input, &mut list, &mut buf, &mut bytes)
 }
 
-fn main() {
-    let fd = os::open_read(b"packed");
-    if fd < 0 {
-        os::fail(b"packed");
-        return;
+fn main(rt: HostRuntime) {
+    match File::open(&rt, "packed") {
+        Ok(file) => report(run(file.as_raw_fd())),
+        Err(e) => {
+            let _ = eprintln!(rt; "packed: {e}");
+        }
     }
-    report(run(fd));
-    libc::close(fd);
 }

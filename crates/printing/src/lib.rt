@@ -1,5 +1,6 @@
 // The lines that the program writes, made in a lent buffer.
 #![tactic(auto)]
+
 ghost use Rattle.std.specs.Prelude.{◌∷◌, [], ◌++◌, ◌+◌, ◌*◌, ◌≤◌, ◌<◌, length, take};
 ghost use Rattle.answers.specs.Numbers.{place_told};
 ghost use Rattle.printing.specs.Lines.{decimal, worded, no_work, place_text, refused_text, refused_line, spaced, circle_output, head_of, step_line_of};

@@ -1,5 +1,6 @@
 // The lines of the steps whose texts stand in lent buffers, end to end.
 #![tactic(auto)]
+
 ghost use Rattle.printing.specs.Writes.{LeavesOutput};
 ghost use Rattle.report_lines.specs.Cut.{cut_texts, lines_of_texts, CutWanted};
 

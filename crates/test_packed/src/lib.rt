@@ -1,6 +1,7 @@
 // The packed file of cases, as `pack` of second/ writes it: its parts read one after another, and an answer with the whole of its lent buffer
 // compared with what is expected.
 #![tactic(auto)]
+
 ghost use Rattle.std.specs.Prelude.{◌≡◌, true, ◌≤◌, length};
 ghost use Rattle.lists.specs.Lent.{Spare};
 ghost use Rattle.test_packed.specs.Parts.{PartsBehind};

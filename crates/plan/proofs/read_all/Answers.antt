@@ -8,7 +8,7 @@ use borrow.Author.Rules.{rules}
 use Rattle.plan.proofs.read_all.Goals as goal
 
 pub returns-then-n-eq0 : goal.returns-then-n-eq0
-returns-then-n-eq0 c = prefix_len_of_le _ _ (omega (arith, c.loop-done.invariant.0, c.read-got.auto.buf))
+returns-then-n-eq0 g c = prefix_len_of_le _ _ (omega (arith, c.loop-done.invariant.0, c.read.auto.buf))
 
 pub returns : goal.returns
-returns c = prefix_len_of_le _ _ c.loop-done.invariant.0
+returns g c = prefix_len_of_le _ _ c.loop-done.invariant.0

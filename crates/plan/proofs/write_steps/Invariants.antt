@@ -10,8 +10,8 @@ use borrow.Author.Rules.{rules}
 use Rattle.plan.proofs.write_steps.Given as goal
 
 abbrev pub invariant-loop-place : goal.invariant-loop-place
-invariant-loop-place l =
+invariant-loop-place g l =
     (length l.bytes ≡ length l.initial.bytes) × (length l.ends ≡ length l.initial.ends) × (length l.out ≡ length l.initial.out) × ToWrite l.bundle l.steps l.bytes l.ends l.out l.place l.held
 
 abbrev pub decreases-loop-place : goal.decreases-loop-place
-decreases-loop-place l = length l.steps - l.place
+decreases-loop-place g l = length l.steps - l.place

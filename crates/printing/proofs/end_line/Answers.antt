@@ -2,7 +2,6 @@
 use mathlib.Core.Path.{refl, ◌∙◌}
 use lib.ListN.{length-set}
 use Rattle.printing.proofs.Putting.{end_law}
-use borrow.Author.Rules.{rules}
 use Rattle.printing.proofs.end_line.Goals as goal
 
 pub shape_of-line : goal.shape_of-line

@@ -1,6 +1,5 @@
 -- `printing::put_head` meets its contract.
 use Rattle.printing.proofs.Putting.{head_law}
-use borrow.Author.Rules.{rules}
 use Rattle.printing.proofs.put_head.Goals as goal
 
 pub returns : goal.returns

@@ -1,6 +1,5 @@
 -- `printing::put_place` meets its contract.
 use Rattle.printing.proofs.Putting.{place_plain, place_in_text}
-use borrow.Author.Rules.{rules}
 use Rattle.printing.proofs.put_place.Goals as goal
 
 pub returns-then-p-eq0 : goal.returns-then-p-eq0

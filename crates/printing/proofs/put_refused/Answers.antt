@@ -1,7 +1,6 @@
 -- `printing::put_refused` meets its contract.
 use Rattle.answers.specs.Numbers.{place_told}
 use Rattle.printing.proofs.Putting.{refused_law}
-use borrow.Author.Rules.{rules}
 use Rattle.printing.proofs.put_refused.Goals as goal
 
 pub returns : goal.returns

@@ -1,7 +1,6 @@
 -- `printing::put_step_line` meets its contract.
 -- src/lib.rt:129:9
 use Rattle.printing.proofs.Putting.{step_law}
-use borrow.Author.Rules.{rules}
 use Rattle.printing.proofs.put_step_line.Goals as goal
 
 -- src/lib.rt:130:9

@@ -1,9 +1,6 @@
 -- `printing::put_steps` meets its contract.
 use native.Mathlib.Omega.{arith}
-use Prim.Native.Nat.{◌-◌}
-use lib.ListN.{length}
-use Rattle.printing.proofs.Putting.{Spaced, spaced_start, spaced_more, spaced_end}
-use borrow.Author.Rules.{rules}
+use Rattle.printing.proofs.Putting.{spaced_start, spaced_more, spaced_end}
 use Rattle.printing.proofs.put_steps.Goals as goal
 
 pub loop-i-init : goal.loop-i-init

@@ -1,8 +1,6 @@
-use native.Mathlib.Omega.{arith}
 use Prim.Native.Nat.{◌-◌}
 use lib.ListN.{length}
-use Rattle.printing.proofs.Putting.{Spaced, spaced_start, spaced_more, spaced_end}
-use borrow.Author.Rules.{rules}
+use Rattle.printing.proofs.Putting.{Spaced}
 use Rattle.printing.proofs.put_steps.Given as goal
 
 abbrev pub invariant-loop-i : goal.invariant-loop-i

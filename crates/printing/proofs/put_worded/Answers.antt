@@ -1,6 +1,5 @@
 -- `printing::put_worded` meets its contract.
 use Rattle.printing.proofs.Putting.{worded_law}
-use borrow.Author.Rules.{rules}
 use Rattle.printing.proofs.put_worded.Goals as goal
 
 pub returns : goal.returns

@@ -1,7 +1,6 @@
 -- `printing::say_circle` meets its contract.
 use mathlib.Core.Path.{◌∙◌}
 use Rattle.printing.proofs.Putting.{said_circle}
-use borrow.Author.Rules.{rules}
 use Rattle.printing.proofs.say_circle.Goals as goal
 
 pub returns : goal.returns

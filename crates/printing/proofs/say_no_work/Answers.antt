@@ -1,6 +1,5 @@
 -- `printing::say_no_work` meets its contract.
 use Rattle.printing.proofs.Putting.{ended_law}
-use borrow.Author.Rules.{rules}
 use Rattle.printing.proofs.say_no_work.Goals as goal
 
 pub returns : goal.returns

@@ -1,7 +1,6 @@
 -- `printing::say_refused` meets its contract.
 use Rattle.answers.specs.Numbers.{place_told}
 use Rattle.printing.proofs.Putting.{said_refused}
-use borrow.Author.Rules.{rules}
 use Rattle.printing.proofs.say_refused.Goals as goal
 
 pub returns : goal.returns

@@ -1,9 +1,6 @@
 -- `report_lines::text_lines` meets its contract.
-use Prim.Native.Nat.{◌-◌}
-use lib.ListN.{length}
 use mathlib.Core.Path.{◌∙◌}
-use Rattle.report_lines.proofs.Lining.{Lining, lining_start, lining_from, lining_to, lining_room, lining_on, lining_end}
-use borrow.Author.Rules.{rules}
+use Rattle.report_lines.proofs.Lining.{lining_start, lining_from, lining_to, lining_room, lining_on, lining_end}
 use Rattle.report_lines.proofs.text_lines.Goals as goal
 
 pub loop-i-init : goal.loop-i-init

@@ -1,8 +1,6 @@
 use Prim.Native.Nat.{◌-◌}
 use lib.ListN.{length}
-use mathlib.Core.Path.{◌∙◌}
-use Rattle.report_lines.proofs.Lining.{Lining, lining_start, lining_from, lining_to, lining_room, lining_on, lining_end}
-use borrow.Author.Rules.{rules}
+use Rattle.report_lines.proofs.Lining.{Lining}
 use Rattle.report_lines.proofs.text_lines.Given as goal
 
 abbrev pub invariant-loop-i : goal.invariant-loop-i

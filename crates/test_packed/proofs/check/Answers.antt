@@ -1,7 +1,4 @@
 -- `test_packed::check` meets its contract.
-use Prim.Native.Nat.{◌-◌, ◌≤◌}
-use mathlib.Core.Path.{◌≡◌}
-use lib.ListN.{length}
 use borrow.Author.Rules.{rules}
 use Rattle.test_packed.proofs.check.Goals as goal
 

@@ -1,7 +1,6 @@
 -- `cases::holds_bytes` meets its contract.
 use mathlib.Core.Path.{sym}
 use lib.Seq.{length-take-le}
-use borrow.Author.Rules.{rules}
 use Rattle.test_packed.proofs.holds_bytes.Goals as goal
 
 pub slice_bounds-equal-end : goal.slice_bounds-equal-end

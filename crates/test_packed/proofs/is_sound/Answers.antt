@@ -1,7 +1,6 @@
 -- `test_packed::is_sound` meets its contract.
 use mathlib.Core.Path.{refl}
 use Rattle.lists.specs.Tests.{differ}
-use borrow.Author.Rules.{rules}
 use Rattle.test_packed.proofs.is_sound.Goals as goal
 
 pub returns-then-h : goal.returns-then-h

@@ -2,7 +2,6 @@
 use mathlib.Core.Path.{refl, sym}
 use lib.Seq.{length-take-le}
 use Rattle.lists.specs.Tests.{differ}
-use borrow.Author.Rules.{rules}
 use Rattle.test_packed.proofs.read_part.Goals as goal
 
 pub returns-then-buf-n : goal.returns-then-buf-n
