@@ -1,5 +1,6 @@
 // The place of an answer for whoever reads it: a number by itself, or an offset in one of the lent texts.
 #![tactic(auto)]
+
 ghost use Rattle.answers.specs.Numbers.{said};
 ghost use Rattle.scan_bundle.specs.Bundles.{record_place_of};
 ghost use Rattle.answer_places.specs.Places.{HasPlace, PlacedIn};

@@ -1,5 +1,6 @@
 // The answers of the two asks as document 01's numbers, for whoever prints or compares them.
 #![tactic(auto)]
+
 ghost use Rattle.std.specs.Prelude.{◌≡◌};
 ghost use Rattle.spec.specs.Answers.{refusal_says, plan_says, text_says};
 ghost use Rattle.answers.specs.Numbers.{saying, said};

@@ -1,5 +1,6 @@
 // The refusals under 8 of a build line: an empty path, an output of an earlier step, two equal outputs.
 #![tactic(auto)]
+
 ghost use Rattle.lists.specs.Lent.{Spare, Leaves};
 ghost use Rattle.apply_bad_paths.specs.Asks.{BuildLineAsks, InputsChecked, PathsChecked};
 ghost use Rattle.hold_reading.specs.Buffers.{buffers};

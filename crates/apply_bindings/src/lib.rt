@@ -1,5 +1,6 @@
 // What every line that binds a name shares: its limits, and its entry in the table of bindings.
 #![tactic(auto)]
+
 ghost use Rattle.std.specs.Prelude.{◌≡◌, ◌≤◌};
 ghost use Rattle.spec.specs.Limits.{max_bindings, max_written};
 ghost use Rattle.hold_bindings.specs.Log.{logged};

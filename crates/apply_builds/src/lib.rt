@@ -1,5 +1,6 @@
 // Build lines: the rule is declared (7), no path is empty and no output made twice (8), and only then the step is written, within the limits (9).
 #![tactic(auto)]
+
 ghost use Rattle.lists.specs.Lent.{Spare, Leaves};
 ghost use Rattle.spec.specs.Forms.{BuildLine};
 ghost use Rattle.spec.specs.Statements.{add_step, expanded_line};

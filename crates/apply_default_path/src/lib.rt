@@ -1,5 +1,6 @@
 // One path of a default line: its limits, and the output's number behind the defaults.
 #![tactic(auto)]
+
 ghost use Rattle.lists.specs.Lent.{Spare, Leaves};
 ghost use Rattle.apply_path_checks.specs.Checks.{RawAsks};
 ghost use Rattle.apply_default_path.specs.Defaults.{PutAsks, PutsDefault, NamesDefault};

@@ -1,5 +1,6 @@
 // Default lines: "`default PATHS`, one at least, each the output of an earlier step."
 #![tactic(auto)]
+
 ghost use Rattle.std.specs.Prelude.{List, ℕ};
 ghost use Rattle.lists.specs.Lent.{Spare, Leaves};
 ghost use Rattle.spec.specs.Statements.{add_defaults, expanded};

@@ -1,5 +1,6 @@
 // Two equal outputs in a line. The outputs so far stand in a table that is sorted by what they expand to, so each is compared with few others.
 #![tactic(auto)]
+
 ghost use Rattle.apply_equal_outputs.specs.Sorted.{EntryAsks, PathOrdered, SortedAsks, PlaceIn, AddAsks, PathAdded, TableAsks, ComparesOutputs, RoomAsks, Twice};
 
 use arena::insert;

@@ -1,5 +1,6 @@
 // One path of a line is put into the graph's columns: its limits, its number by first mention, and no maker where it is new.
 #![tactic(auto)]
+
 ghost use Rattle.std.specs.Prelude.{◌≡◌, ◌+◌, ◌≤◌, ◌<◌, length};
 ghost use Rattle.lists.specs.Lent.{Spare, Leaves};
 ghost use Rattle.spec.specs.Limits.{max_mentions, max_written, max_files};

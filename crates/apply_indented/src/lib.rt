@@ -1,5 +1,6 @@
 // Indented lines: "An indented line belongs to the open rule or build block; with none open it is refused with 4."
 #![tactic(auto)]
+
 ghost use Rattle.lists.specs.Lent.{Spare, Leaves};
 ghost use Rattle.spec.specs.Manifest.{read_indented};
 ghost use Rattle.scan_cursor.specs.Spans.{line_of};

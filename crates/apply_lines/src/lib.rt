@@ -1,5 +1,6 @@
 // A line by its kind: a comment, a blank line, an indented line or a statement.
 #![tactic(auto)]
+
 ghost use Rattle.lists.specs.Lent.{Spare, Leaves};
 ghost use Rattle.spec.specs.Manifest.{read_line};
 ghost use Rattle.scan_cursor.specs.Spans.{line_of};

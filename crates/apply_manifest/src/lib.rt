@@ -1,5 +1,6 @@
 // The reader of a bundle of manifest texts: 19, 2 and 3 for the whole of it, then the lines of the top file and of those that it opens.
 #![tactic(auto)]
+
 ghost use Rattle.lists.specs.Lent.{Spare, Leaves};
 ghost use Rattle.apply_manifest.specs.Manifests.{Roomy, LinesAsk, LinesRead, IsRead};
 ghost use Rattle.hold_reading.specs.Buffers.{SameRoom, buffers};

@@ -1,5 +1,6 @@
 // Files mentioned by a line: each path is expanded and marked in the graph's columns.
 #![tactic(auto)]
+
 ghost use Rattle.lists.specs.Lent.{Spare, Leaves};
 ghost use Rattle.apply_mentions.specs.Asks.{MentionAsks, Mentions, MentionListAsks, MentionsAll};
 ghost use Rattle.hold_reading.specs.Buffers.{SameRoom, buffers};

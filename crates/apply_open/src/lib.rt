@@ -1,5 +1,6 @@
 // A line that opens a file: the record that its path names, the scope that is entered for it, and the way back.
 #![tactic(auto)]
+
 ghost use Rattle.std.specs.Prelude.{◌≡◌, ◌≤◌};
 ghost use Rattle.lists.specs.Lent.{Spare, Leaves};
 ghost use Rattle.spec.specs.Limits.{max_written};

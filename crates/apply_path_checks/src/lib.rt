@@ -1,5 +1,6 @@
 // The refusals under 8 that a path has by itself. Each path of a list is cut and expanded once, and looked at for what its kind is refused for.
 #![tactic(auto)]
+
 ghost use Rattle.std.specs.Prelude.{◌≡◌, List};
 ghost use Rattle.lists.specs.Lent.{Spare, Leaves};
 ghost use Rattle.spec.specs.Reading.{Reading, is_made};

@@ -1,6 +1,7 @@
 // Rule blocks: "`rule NAME`, then indented `key = value` lines: `command` (needed), `description`, `generator`, each at most once, kept unexpanded."
 // Document 02 has one key more: "Accept `depfile`."
 #![tactic(auto)]
+
 ghost use Rattle.lists.specs.Lent.{Spare, Leaves};
 ghost use Rattle.spec.specs.Statements.{start_rule, block_line};
 ghost use Rattle.spec.specs.Manifest.{close};

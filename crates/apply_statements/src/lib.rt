@@ -1,5 +1,6 @@
 // Lines without indent: they close the open block before their own fault, and then are cut and applied.
 #![tactic(auto)]
+
 ghost use Rattle.lists.specs.Lent.{Spare, Leaves};
 ghost use Rattle.spec.specs.Manifest.{close, and_then, read_statement};
 ghost use Rattle.scan_cursor.specs.Spans.{line_of};

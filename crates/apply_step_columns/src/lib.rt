@@ -1,5 +1,6 @@
 // A step is put into the graph's columns: the makers of its outputs, phony or not, and its rule's number with its scope.
 #![tactic(auto)]
+
 ghost use Rattle.std.specs.Prelude.{◌≡◌, List};
 ghost use Rattle.hold_bindings.specs.Log.{Logged};
 ghost use Rattle.hold_bindings.specs.Held.{HoldsBindings, SoundBindings};

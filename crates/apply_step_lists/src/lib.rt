@@ -1,5 +1,6 @@
 // The lists of a build line are mentioned, each with its end behind it.
 #![tactic(auto)]
+
 ghost use Rattle.lists.specs.Lent.{Spare, Leaves};
 ghost use Rattle.apply_step_lists.specs.Lists.{StepListAsks, MentionsList, TwoAsks, Two, FourAsks, Four};
 ghost use Rattle.hold_reading.specs.Buffers.{SameRoom, buffers};

@@ -1,5 +1,6 @@
 // A build line is written: its files are mentioned, and its step is put into the graph's columns.
 #![tactic(auto)]
+
 ghost use Rattle.lists.specs.Lent.{Spare, Leaves};
 ghost use Rattle.apply_steps.specs.Asks.{StepAsks, WritesStep};
 ghost use Rattle.hold_reading.specs.Buffers.{SameRoom, buffers};

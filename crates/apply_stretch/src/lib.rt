@@ -1,6 +1,7 @@
 // Lines that were found, up to the first that opens a file. This loop stands apart from the files that open files: into a function that calls itself the
 // compiler builds little, and here it is to build all that a line takes.
 #![tactic(auto)]
+
 ghost use Rattle.lists.specs.Lent.{Spare, Leaves};
 ghost use Rattle.apply_stretch.specs.Stretches.{StretchAsk, StretchMeets};
 ghost use Rattle.hold_reading.specs.Buffers.{SameRoom, buffers};

@@ -1,5 +1,6 @@
 // A text of a bundle: its lines, some at a time, and the files that they open, each read whole before the lines behind.
 #![tactic(auto)]
+
 ghost use Rattle.lists.specs.Lent.{Spare, Leaves};
 ghost use Rattle.spec.specs.Bundle.{bundle_texts};
 ghost use Rattle.spec.specs.Manifest.{read_lines, text_lines};

@@ -1,5 +1,6 @@
 // Variables, and the lines of build blocks: a value is expanded at once with the file's variables as they then stand.
 #![tactic(auto)]
+
 ghost use Rattle.std.specs.Prelude.{◌≡◌};
 ghost use Rattle.lists.specs.Lent.{Spare, Leaves};
 ghost use Rattle.spec.specs.Dollars.{expand};

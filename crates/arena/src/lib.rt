@@ -1,5 +1,6 @@
 // Several tables in one lent slice: specs and laws, the one store, and a number put in within a table.
 #![tactic(auto)]
+
 ghost use Rattle.std.specs.Prelude.{◌≡◌, ◌≤◌, ◌<◌, length, set};
 ghost use Rattle.arena.specs.Inserted.{Shifted};
 

@@ -1,5 +1,6 @@
 // Whether anything that was read is called `depfile`: where nothing is, there are no header lists to look for.
 #![tactic(auto)]
+
 ghost use Rattle.std.specs.Prelude.{◌≡◌, List};
 ghost use Rattle.hold_bindings.specs.Log.{Logged};
 ghost use Rattle.hold_bindings.specs.Held.{HoldsBindings, SoundBindings};

@@ -1,5 +1,6 @@
 // The name of a step's depfile, by the text of its rule's key (document 02, [4]).
 #![tactic(auto)]
+
 ghost use Rattle.std.specs.Prelude.{List, ℕ};
 ghost use Rattle.spec.specs.TextAsk.{TextOutcome};
 ghost use Rattle.hold_reading.specs.Buffers.{buffers};

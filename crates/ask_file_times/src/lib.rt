@@ -1,5 +1,6 @@
 // The card's time of each file that a manifest mentions.
 #![tactic(auto)]
+
 ghost use Rattle.ask_file_times.specs.Times.{TimesAsked, Timed};
 
 use hold_names::file_name;

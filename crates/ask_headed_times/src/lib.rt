@@ -1,5 +1,6 @@
 // The times by which the steps with their listed inputs are judged: the card's, but those of the outputs that a depfile makes stale.
 #![tactic(auto)]
+
 ghost use Rattle.ask_headed_times.specs.Times.{HeadedAsked, HeadedTimes};
 
 use ask_file_times::fill_times;

@@ -1,5 +1,6 @@
 // The listed inputs of all steps: names and second columns as they are with them, or the first refusal (document 02, [4]).
 #![tactic(auto)]
+
 ghost use Rattle.std.specs.Prelude.{◌+◌, ◌≤◌, length};
 ghost use Rattle.lists.specs.Lent.{Spare, Leaves};
 ghost use Rattle.hold_reading.specs.Buffers.{buffers};

@@ -1,6 +1,7 @@
 // The listed inputs of one step: its depfile is looked up by its name, the names that it lists are mentioned, and the step is copied into the second
 // columns with them behind its implicit inputs.
 #![tactic(auto)]
+
 ghost use Rattle.std.specs.Prelude.{◌≡◌};
 ghost use Rattle.lists.specs.Lent.{Spare, Leaves};
 ghost use Rattle.ask_header_list.specs.Places.{start_in, places_in, PlacesAsk};

@@ -1,5 +1,6 @@
 // The names that a depfile lists, each a mention more: its limits, its number by first mention, and that at the end of the second mentions.
 #![tactic(auto)]
+
 ghost use Rattle.lists.specs.Lent.{Spare, Leaves};
 ghost use Rattle.ask_header_names.specs.Names.{HeaderAsks, AddsHeader, HeaderListAsks, AddsHeaderList};
 

@@ -1,5 +1,6 @@
 // The times by which steps are judged: a step that a depfile makes stale counts as one whose outputs are missing.
 #![tactic(auto)]
+
 ghost use Rattle.std.specs.Prelude.{◌≡◌, length, ◌<◌};
 ghost use Rattle.lists.specs.Lent.{Spare, Leaves};
 ghost use Rattle.ask_judged_times.specs.Lists.{listed_part, some_absent, forced_in, marked_maker, AbsentAsked, ListedAsked, JudgedAsked, MarksAsked, MarkedAsked, ClearAsked, ForcedMarked, TimesCleared, TimesJudged};

@@ -1,5 +1,6 @@
 // The plan ask: 20 at 0 for the bundle of header lists; then the manifest is read into buffers of the ask's own, and the list is planned from them.
 #![tactic(auto)]
+
 ghost use Rattle.std.specs.Prelude.{◌≡◌, ◌≤◌, length};
 ghost use Rattle.spec.specs.Limits.{least_list};
 ghost use Rattle.spec.specs.Headers.{sound_headers};

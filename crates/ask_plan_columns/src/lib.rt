@@ -1,5 +1,6 @@
 // A stage of the plan ask: the graph's columns as the reader leaves them are cut once for the choice of the roots; 13, then the header lists.
 #![tactic(auto)]
+
 ghost use Rattle.lists.specs.Lent.{Spare, Leaves};
 ghost use Rattle.hold_reading.specs.Buffers.{buffers};
 ghost use Rattle.ask_plan_columns.specs.Columns.{ChoiceAskedIn, ChoiceSpace, FoundIn, ColumnsAsked, RootsSpaceAsked, PlansColumns};

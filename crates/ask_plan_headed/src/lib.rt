@@ -1,5 +1,6 @@
 // A stage of the plan ask, behind the header lists: the times by which steps are judged, then 14.
 #![tactic(auto)]
+
 ghost use Rattle.lists.specs.Lent.{Spare, Leaves};
 ghost use Rattle.ask_plan_headed.specs.Headed.{HeadedPlanAsked, HeadedSpaceAsked, PlansHeaded};
 

@@ -1,5 +1,6 @@
 // A stage of the plan ask: the header lists (16, 17 and 20 at a step), then 14 on the graph with the listed inputs.
 #![tactic(auto)]
+
 ghost use Rattle.lists.specs.Lent.{Spare, Leaves};
 ghost use Rattle.scan_bundle.specs.Bundles.{BundleIndexed};
 ghost use Rattle.hold_reading.specs.Buffers.{buffers};

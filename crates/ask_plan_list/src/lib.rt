@@ -1,5 +1,6 @@
 // The last stage of the plan ask: the list, where no check refuses.
 #![tactic(auto)]
+
 ghost use Rattle.ask_plan_list.specs.Stages.{OrderAsked, PlansListed};
 
 use graph_list::list_stale;

@@ -1,5 +1,6 @@
 // Two stages of the plan ask, from what has been read of the manifest on: 11, then 12, then what the graph's columns give.
 #![tactic(auto)]
+
 ghost use Rattle.lists.specs.Lent.{Spare, Leaves};
 ghost use Rattle.hold_reading.specs.Buffers.{buffers};
 ghost use Rattle.ask_plan_reading.specs.Asked.{ReadAsked, TargetsAsked, NumbersSpaceAsked, PlansTargets, PlansRead};

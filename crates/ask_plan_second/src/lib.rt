@@ -1,5 +1,6 @@
 // A stage of the plan ask, behind the header lists: what the depfiles tell in two columns, then 14 on the columns with the listed inputs.
 #![tactic(auto)]
+
 ghost use Rattle.lists.specs.Lent.{Spare, Leaves};
 ghost use Rattle.ask_plan_second.specs.Second.{SecondAsked, SecondSpaceAsked, PlansSecond};
 

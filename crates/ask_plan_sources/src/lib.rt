@@ -1,5 +1,6 @@
 // A stage of the plan ask: 15, then the list.
 #![tactic(auto)]
+
 ghost use Rattle.ask_plan_sources.specs.Sources.{SourcesAsked, PlansSources};
 
 use ask_plan_list::plan_listed;

@@ -1,5 +1,6 @@
 // A stage of the plan ask where nothing is called `depfile`: the card's times, then 14 on the columns as they were read.
 #![tactic(auto)]
+
 ghost use Rattle.lists.specs.Lent.{Spare, Leaves};
 ghost use Rattle.ask_plan_unlisted.specs.Unlisted.{CardPlanAsked, PlansByCard, UnlistedAsked, PlansUnlisted};
 

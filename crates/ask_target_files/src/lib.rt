@@ -1,5 +1,6 @@
 // The names of a target list as numbers of files, or 12.
 #![tactic(auto)]
+
 ghost use Rattle.lists.specs.Lent.{Spare, Leaves};
 ghost use Rattle.ask_target_files.specs.Numbered.{NumberingAsked, NumbersTargets};
 

@@ -1,5 +1,6 @@
 // The text ask: the manifest is read into buffers of the ask's own, and the step's text is written from them.
 #![tactic(auto)]
+
 ghost use Rattle.std.specs.Prelude.{◌≤◌, length};
 ghost use Rattle.spec.specs.Limits.{max_text};
 ghost use Rattle.spec.specs.Promises.{TextPromise};

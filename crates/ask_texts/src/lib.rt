@@ -1,5 +1,6 @@
 // The texts ask: the manifest is read into buffers of the ask's own, once, and the steps' texts are written from them.
 #![tactic(auto)]
+
 ghost use Rattle.std.specs.Prelude.{◌≤◌, length};
 ghost use Rattle.spec.specs.Limits.{max_text};
 ghost use Rattle.text_batch.specs.TextsPromise.{TextsPromise};

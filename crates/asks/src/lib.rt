@@ -1,5 +1,6 @@
 // The three asks on lent bytes. None asks anything of what it is given: it refuses.
 #![tactic(auto)]
+
 ghost use Rattle.spec.specs.Answers.{plan_says, text_says};
 ghost use Rattle.spec.specs.PlanAsk.{inputs_of};
 ghost use Rattle.spec.specs.Demands.{PlanDemands, TextDemands};

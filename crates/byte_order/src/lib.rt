@@ -1,5 +1,6 @@
 // Two slices of bytes: whether they are equal, and which comes first.
 #![tactic(auto)]
+
 ghost use Rattle.std.specs.Prelude.{◌≡◌, min, length};
 ghost use Rattle.lists.specs.Bytes.{eq_bytes, less_bytes};
 ghost use Rattle.lists.specs.Order.{order_bytes};

@@ -1,6 +1,7 @@
 // Puts every case of the folder cases/ to both asks, from the packed file that `pack` of second/ writes, and compares the answers and
 // the whole of each lent buffer with what is expected.
 #![tactic(auto)]
+
 ghost use Rattle.std.specs.Prelude.{length};
 ghost use Rattle.test_packed.specs.Parts.{PartsBehind};
 

@@ -1,5 +1,6 @@
 // `rule NAME` and `NAME = value`.
 #![tactic(auto)]
+
 ghost use Rattle.std.specs.Prelude.{◌≡◌, ◌≤◌, length, drop};
 ghost use Rattle.lists.specs.Parts.{part};
 ghost use Rattle.lists.specs.Runs.{Reads};

@@ -1,5 +1,6 @@
 // `build OUTS: RULE INS | IMPLICIT || ORDERONLY`.
 #![tactic(auto)]
+
 ghost use Rattle.std.specs.Prelude.{◌≡◌, List, ℕ, ◌≤◌, length, drop};
 ghost use Rattle.spec.specs.Forms.{BuildLine, cut_inputs, cut_build};
 ghost use Rattle.cut_forms.specs.Inputs.{one_bar, bars_at, cut_order_only, after_implicit, after_inputs};

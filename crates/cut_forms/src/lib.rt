@@ -1,5 +1,6 @@
 // The forms that a line is cut into, where their parts stand in it, and the cut of a list of paths or of one path.
 #![tactic(auto)]
+
 pub mod opens;
 pub mod paths;
 

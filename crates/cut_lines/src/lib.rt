@@ -1,5 +1,6 @@
 // A line cut into its form by its bytes alone: refusals 4, 5 and 6. A line is lent without the newline that ends it.
 #![tactic(auto)]
+
 ghost use Rattle.std.specs.Prelude.{◌≡◌};
 ghost use Rattle.spec.specs.Forms.{cut_statement, cut_indented};
 ghost use Rattle.scan_classes.specs.Table.{classes};

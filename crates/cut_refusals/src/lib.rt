@@ -1,5 +1,6 @@
 // A line of the manifest cut, with its 4, 5 or 6 in the manifest's own places.
 #![tactic(auto)]
+
 ghost use Rattle.std.specs.Prelude.{◌≡◌};
 ghost use Rattle.scan_cursor.specs.Spans.{line_of};
 ghost use Rattle.cut_refusals.specs.Cuts.{Near, refusal_of, CutAsks, FileLineAt, BlockLineAt};

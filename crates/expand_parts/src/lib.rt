@@ -1,5 +1,6 @@
 // The runs of bytes that an expansion is made of.
 #![tactic(auto)]
+
 ghost use Rattle.std.specs.Prelude.{List, ℕ, ◌<◌, length};
 ghost use Rattle.hold_bindings.specs.Held.{SoundBindings};
 ghost use Rattle.expand_parts.specs.Runs.{BeginsRun, Variable, ExpandReady, Going, Filled};

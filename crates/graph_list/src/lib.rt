@@ -1,5 +1,6 @@
 // The list of the pending steps.
 #![tactic(auto)]
+
 ghost use Rattle.std.specs.Prelude.{◌≡◌, ◌<◌, length};
 ghost use Rattle.lists.specs.Lent.{Spare, Leaves};
 ghost use Rattle.hold_columns.specs.Columns.{FilesMade, inputs_in, Shown};

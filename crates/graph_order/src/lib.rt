@@ -1,5 +1,6 @@
 // The graph of steps: the order of the needed ones, or a circle among them.
 #![tactic(auto)]
+
 ghost use Rattle.std.specs.Prelude.{◌≡◌, ◌+◌, ◌≤◌, length, take};
 ghost use Rattle.hold_columns.specs.Columns.{FilesMade, Shown};
 ghost use Rattle.lists.specs.Lent.{Spare, Leaves};

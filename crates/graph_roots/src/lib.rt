@@ -1,5 +1,6 @@
 // Roots where neither targets nor defaults are named: the outputs that are no step's input.
 #![tactic(auto)]
+
 ghost use Rattle.std.specs.Prelude.{ℕ, ◌<◌, length, get_or};
 ghost use Rattle.lists.specs.Lent.{Spare, Leaves};
 ghost use Rattle.graph_roots.specs.Tops.{MarkedToo, MarkAsked, InputsMarked, AppendAsked, Appended, TopsAsked, TopsFound};

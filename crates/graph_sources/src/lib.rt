@@ -1,5 +1,6 @@
 // Sources: the lowest missing one that is needed.
 #![tactic(auto)]
+
 ghost use Rattle.std.specs.Prelude.{◌≡◌, [], ◌∷◌, ℕ, ◌<◌, length, get_or};
 ghost use Rattle.graph_sources.specs.Sources.{Lowered, LowestMissing, SourceAsked};
 

@@ -1,5 +1,6 @@
 // Which steps are stale.
 #![tactic(auto)]
+
 ghost use Rattle.std.specs.Prelude.{◌≡◌, ℕ, ◌<◌, max, length, get_or};
 ghost use Rattle.lists.specs.Members.{◌∈◌};
 ghost use Rattle.hold_columns.specs.Columns.{bit, FilesMade, PartsPlaced};

@@ -1,5 +1,6 @@
 // The table of everything that a manifest binds: file variables, rules with their keys, and the lines of steps' blocks.
 #![tactic(auto)]
+
 ghost use Rattle.std.specs.Prelude.{◌≡◌, List, [], ◌∷◌, ℕ, ◌+◌, ◌*◌, ◌^◌, ◌≤◌, ◌<◌, length, set};
 ghost use Rattle.lists.specs.Bytes.{less_bytes};
 ghost use Rattle.hold_bindings.specs.Log.{Logged, logged, entering, back_to, entry_at, is_named, newest, Scoping, scoping_of, newest_from};

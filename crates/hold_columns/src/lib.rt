@@ -1,5 +1,6 @@
 // The columns of a read graph: a step's parts of the mentions.
 #![tactic(auto)]
+
 ghost use Rattle.std.specs.Prelude.{◌≡◌, ◌^◌, ◌<◌, length, get_or};
 ghost use Rattle.hold_columns.specs.Columns.{PartsPlaced, last_end, end_place, end_at, step_start, outs_in, non_order_only_in, inputs_in, maker_at};
 

@@ -1,5 +1,6 @@
 // The second columns of the graph, which have the listed inputs: what they tell of a step's depfile. `specs/Headed.antt` says what they hold.
 #![tactic(auto)]
+
 ghost use Rattle.std.specs.Prelude.{◌≡◌, ◌+◌, ◌<◌, length};
 ghost use Rattle.hold_reading.specs.Held.{rule_start};
 ghost use Rattle.hold_headers.specs.Headed.{listed_in};

@@ -1,5 +1,6 @@
 // The keys of a rule: each by its number, and the other way round.
 #![tactic(auto)]
+
 ghost use Rattle.std.specs.Prelude.{◌≡◌, [], ◌<◌, get_or};
 ghost use Rattle.spec.specs.Text.{key_name, key_names, rule_keys, key_number};
 ghost use Rattle.hold_keys.specs.Names.{names_joined};

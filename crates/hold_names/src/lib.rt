@@ -1,6 +1,7 @@
 // The table of file names: a number for each path, by first mention. The bytes of the names lie end to end in `names`. `index` has where each ends;
 // then for each bucket two names, as one number; then, sorted and in blocks, the numbers of those that found no room in their bucket.
 #![tactic(auto)]
+
 ghost use Rattle.std.specs.Prelude.{◌≡◌, ◌+◌, ◌-◌, ◌^◌, ◌≤◌, ◌<◌, length, drop};
 ghost use Rattle.lists.specs.Fill.{zeroed};
 ghost use Rattle.spec.specs.Limits.{max_files};

@@ -1,5 +1,6 @@
 // The columns of the graph as parts of their buffer.
 #![tactic(auto)]
+
 ghost use Rattle.std.specs.Prelude.{◌≡◌};
 ghost use Rattle.hold_parts.specs.Parts.{mentions_in, ends_in, phony_in, made_in, ColumnsCut};
 

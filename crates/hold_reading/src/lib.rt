@@ -1,5 +1,6 @@
 // What the reader keeps beside its lent buffers: counts and the open block. `specs/Held.antt` says what the buffers hold.
 #![tactic(auto)]
+
 ghost use Rattle.std.specs.Prelude.{◌≡◌};
 
 pub mod columns;

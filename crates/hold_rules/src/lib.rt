@@ -1,5 +1,6 @@
 // What is looked up among the bindings for a rule: whether it is declared, and whether it has a key.
 #![tactic(auto)]
+
 ghost use Rattle.std.specs.Prelude.{◌≡◌, List};
 ghost use Rattle.lists.specs.Text.{bytes};
 ghost use Rattle.spec.specs.Reading.{Reading, declared};

@@ -1,6 +1,7 @@
 // The three asks and the status line for C and Rust: numbers and slices alone. None asks anything of its caller, and each says what documents 01 and 02 say in three
 // numbers.
 #![tactic(auto)]
+
 ghost use Rattle.std.specs.Prelude.{◌≡◌, [], length};
 ghost use Rattle.spec.specs.Answers.{plain};
 ghost use Rattle.spec.specs.Bundle.{bundle_texts};

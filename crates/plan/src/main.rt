@@ -1,5 +1,6 @@
 // The program: reads `build.ninja` and `times.card` by name and the targets from standard input, and writes the plan.
 #![tactic(auto)]
+
 ghost use Rattle.std.specs.Prelude.{◌≤◌};
 ghost use Rattle.io.specs.Counts.{IsPrefixLen};
 ghost use Rattle.report.specs.Begins.{AnswerRooms};

@@ -1,5 +1,6 @@
 // What the program writes: document 01's section "Gauges on the bench", from the lent bytes to lines in a lent buffer.
 #![tactic(auto)]
+
 ghost use Rattle.spec.specs.Bundle.{no_lists};
 ghost use Rattle.spec.specs.PlanAsk.{inputs_of};
 ghost use Rattle.answers.specs.Numbers.{said};

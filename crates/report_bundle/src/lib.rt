@@ -1,5 +1,6 @@
 // What the program lends: the bundle of `build.ninja` alone, and no header lists.
 #![tactic(auto)]
+
 ghost use Rattle.std.specs.Prelude.{◌≤◌, ◌≡◌, length};
 ghost use Rattle.spec.specs.Bundle.{no_lists};
 ghost use Rattle.report_bundle.specs.Lends.{alone_room, LendsAlone};

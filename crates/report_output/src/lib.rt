@@ -1,5 +1,6 @@
 // All that the program writes, as definitions; and its output where it is a refusal, in a lent line.
 #![tactic(auto)]
+
 ghost use Rattle.std.specs.Prelude.{◌≤◌, length};
 ghost use Rattle.answers.specs.Numbers.{said};
 ghost use Rattle.printing.specs.Lines.{circle_output};

@@ -1,5 +1,6 @@
 // The runner's table as numbers in lent columns, and what is decided on them: the record that changes, and the answer.
 #![tactic(auto)]
+
 ghost use Rattle.std.specs.Prelude.{◌≡◌, ◌<◌, ◌+◌, ◌*◌, length, get_or};
 ghost use Rattle.lists.specs.Lent.{Spare, Leaves};
 ghost use Rattle.run_rules.specs.Runner.{next_start, finish_of};

@@ -1,5 +1,6 @@
 // The runner on numbers: the table as three numbers a record, the graph as rows, passes over both, and the lowest step that may start.
 #![tactic(auto)]
+
 ghost use Rattle.std.specs.Prelude.{◌≡◌, ◌+◌, ◌*◌, ◌<◌, ltb, length, get_or};
 ghost use Rattle.lists.specs.Lent.{Spare, Leaves};
 ghost use Rattle.run_rules.specs.Runner.{heavy_load, running_jobs, failure_forbids, lowest_step, next_start, job_is, finish_of};

@@ -1,6 +1,7 @@
 // A lent bundle: whether its bytes are a sound one, its names and texts as parts of it, the record of a name by halving, places in its texts, and the
 // bundle of one record written.
 #![tactic(auto)]
+
 ghost use Rattle.std.specs.Prelude.{◌≡◌, [], ◌+◌, ◌%◌, ◌≤◌, ◌<◌, length, get_or};
 ghost use Rattle.std.proofs.Math.Seq.{paste};
 ghost use Rattle.spec.specs.Answers.{base_of, spot};

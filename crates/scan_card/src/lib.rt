@@ -1,5 +1,6 @@
 // The time card: whether its bytes are a sound one.
 #![tactic(auto)]
+
 ghost use Rattle.std.specs.Prelude.{◌≡◌, ◌+◌, ◌≤◌, length};
 ghost use Rattle.spec.specs.Card.{record_at, sound_layout, sound_header, sound_record, sound_names, sound_card};
 ghost use Rattle.scan_card.specs.Fields.{Headed};

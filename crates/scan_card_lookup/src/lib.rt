@@ -1,5 +1,6 @@
 // The time of a file on a sound card, by halving.
 #![tactic(auto)]
+
 ghost use Rattle.std.specs.Prelude.{◌≡◌, true};
 ghost use Rattle.lists.specs.Order.{order_bytes};
 ghost use Rattle.spec.specs.Card.{sound_card, card_entries, time_in};

@@ -1,5 +1,6 @@
 // The 256 byte classes.
 #![tactic(auto)]
+
 ghost use Rattle.std.specs.Prelude.{◌≡◌};
 ghost use Rattle.spec.specs.Bytes.{class_of};
 ghost use Rattle.scan_classes.specs.Table.{classes};

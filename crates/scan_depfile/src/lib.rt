@@ -1,5 +1,6 @@
 // Make-style texts: the names that a text lists, one after another. A byte is gone over once.
 #![tactic(auto)]
+
 ghost use Rattle.std.specs.Prelude.{◌≡◌, ◌≤◌, ◌<◌, length, drop, get_or, set};
 ghost use Rattle.depfile.specs.Depfile.{dollar_byte, backslash_byte, marks_of, blank_lines, behind_blank};
 ghost use Rattle.scan_depfile.specs.Walk.{behind_gaps, rule_ends};

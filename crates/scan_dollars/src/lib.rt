@@ -1,5 +1,6 @@
 // What a `$` begins: an escaped byte, a join, a name, or nothing sound.
 #![tactic(auto)]
+
 ghost use Rattle.std.specs.Prelude.{◌≡◌, ◌≤◌, length, drop};
 ghost use Rattle.spec.specs.Forms.{name_of, after_name};
 ghost use Rattle.scan_classes.specs.Table.{classes};

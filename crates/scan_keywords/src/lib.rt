@@ -1,5 +1,6 @@
 // Words where a rule or a key is named.
 #![tactic(auto)]
+
 ghost use Rattle.std.specs.Prelude.{◌≡◌};
 ghost use Rattle.spec.specs.Forms.{keyword, later_keyword, later_key, rule_word, key_word};
 ghost use Rattle.scan_keywords.specs.Words.{word_cut};

@@ -1,5 +1,6 @@
 // Where a line ends, and what kind of line it is.
 #![tactic(auto)]
+
 ghost use Rattle.std.specs.Prelude.{◌≡◌, ◌≤◌, length};
 ghost use Rattle.spec.specs.Lines.{comment, body};
 ghost use Rattle.scan_classes.specs.Table.{classes};

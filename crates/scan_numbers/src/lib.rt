@@ -1,5 +1,6 @@
 // "Numbers are little-endian": the numbers in four and in eight lent bytes.
 #![tactic(auto)]
+
 ghost use Rattle.std.specs.Prelude.{◌+◌, ◌≤◌, length};
 ghost use Rattle.windows.specs.Windows.{Byte};
 ghost use Rattle.scan_numbers.specs.Numbers.{NumberIs};

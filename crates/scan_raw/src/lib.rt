@@ -1,6 +1,7 @@
 // Raw paths and raw values of a line, and the bytes of a whole manifest: each scanner goes from a place of a lent slice to a place, or
 // answers what it found there.
 #![tactic(auto)]
+
 pub mod manifest;
 pub mod texts;
 

@@ -1,5 +1,6 @@
 // The target list: whether it has the form of one, and its names one after another, as parts of the caller's slice.
 #![tactic(auto)]
+
 ghost use Rattle.std.specs.Prelude.{◌≡◌, [], ◌≤◌, length, drop};
 ghost use Rattle.lists.specs.Runs.{Reads, after_run};
 ghost use Rattle.spec.specs.Targets.{malformed, targets_from};

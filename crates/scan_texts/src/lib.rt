@@ -1,5 +1,6 @@
 // What a bundle of manifest texts is refused for before any line: 19 at 0, then 2, then 3.
 #![tactic(auto)]
+
 ghost use Rattle.std.specs.Prelude.{true, ◌≡◌, map, List, ℕ, length};
 ghost use Rattle.spec.specs.Basics.{sum};
 ghost use Rattle.spec.specs.Limits.{max_bundle};

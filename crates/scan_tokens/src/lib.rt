@@ -1,5 +1,6 @@
 // Spaces, joins and names in a line.
 #![tactic(auto)]
+
 ghost use Rattle.std.specs.Prelude.{◌≡◌, ◌≤◌, length};
 ghost use Rattle.lists.specs.Runs.{after_run, Reads};
 ghost use Rattle.spec.specs.Bytes.{short_byte, class_of};

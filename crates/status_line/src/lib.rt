@@ -1,5 +1,6 @@
 // "Print the manual's status placeholders": a format and the status record give a line in the lent buffer, or a refusal.
 #![tactic(auto)]
+
 ghost use Rattle.std.specs.Prelude.{◌≡◌, false, ◌-◌, length};
 ghost use Rattle.text_buffer.specs.Puts.{OpenText, PutsText};
 ghost use Rattle.status_line.specs.Pieces.{percent_of, digit_of, decimal_of, tenths_text, seconds_text, rate_piece, piece_of, piece_text};

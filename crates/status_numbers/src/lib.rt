@@ -1,6 +1,7 @@
 // The status record as numbers, for callers in C and Rust, and each event and the line on it. Any numbers are taken: those that no sequence of events gives count as the nearest
 // that one can give.
 #![tactic(auto)]
+
 ghost use Rattle.std.specs.Prelude.{◌≡◌, min, length};
 ghost use Rattle.answers.specs.Numbers.{said};
 ghost use Rattle.status_record.specs.Record.{first_status, moved_to, start_at, finish_at};

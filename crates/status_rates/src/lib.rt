@@ -1,5 +1,6 @@
 // Seconds, rates and their tenths. Each operation on floats rounds once; the definitions name it, and the laws say how far from the fraction it ends.
 #![tactic(auto)]
+
 ghost use Rattle.std.specs.Prelude.{◌≡◌};
 ghost use Rattle.status_rates.specs.Rates.{whole_float, seconds_of, rate_of, tenths_of};
 

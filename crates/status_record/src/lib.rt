@@ -1,5 +1,6 @@
 // The status record by value: started, finished, and the clock moved to the time of printing. Nothing is kept anywhere else.
 #![tactic(auto)]
+
 ghost use Rattle.std.specs.Prelude.{◌≡◌, ◌≤◌, min, max};
 ghost use Rattle.status_record.specs.Record.{taken_time, first_status, moved_to, counting, start_at, slid, held_times, current_of, finish_at, finish_noted, SoundStatus};
 

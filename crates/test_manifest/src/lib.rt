@@ -1,5 +1,6 @@
 // The manifest reader for Rust: the buffers come from outside, so their room is checked first.
 #![tactic(auto)]
+
 ghost use Rattle.std.specs.Prelude.{◌≡◌};
 ghost use Rattle.apply_manifest.specs.Manifests.{Roomy};
 ghost use Rattle.test_manifest.specs.Numbers.{bare_numbers, in_numbers, Cleared, JudgesRoom, ReadWhole, ReadsManifest};

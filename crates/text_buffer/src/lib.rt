@@ -1,6 +1,7 @@
 // A text written into the lent buffer, one part after another. "expanded text over 8,192 bytes" (17): a place past that says that it is too long, and
 // nothing more is written then.
 #![tactic(auto)]
+
 ghost use Rattle.std.specs.Prelude.{List, [], ◌∷◌, ℕ, ◌<◌, ◌≡◌, length, get_or};
 ghost use Rattle.spec.specs.Text.{quote, safe_byte, inside_quotes, quoted, joined_by, spelled_by};
 ghost use Rattle.hold_names.specs.Table.{HoldsNames};

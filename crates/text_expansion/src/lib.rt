@@ -1,5 +1,6 @@
 // A step's text written into the lent buffer: a name's text as it is, or a rule's text expanded by the same lookup. Each rule key is expanded once.
 #![tactic(auto)]
+
 ghost use Rattle.text_expansion.specs.Asks.{RawTextAsk, NameTextAsk, WritesText, WritesName};
 ghost use Rattle.hold_reading.specs.Buffers.{buffers};
 

@@ -1,5 +1,6 @@
 // A step's lookup: what a name in its text stands for.
 #![tactic(auto)]
+
 ghost use Rattle.spec.specs.Text.{lookup_by};
 ghost use Rattle.text_lookup.specs.Scope.{InScope, LooksUp, from_file, from_rule, from_block};
 

@@ -1,5 +1,6 @@
 // A text being written, with where in it the texts of the rule's keys already stand: each of them is expanded once, and copied where it comes again.
 #![tactic(auto)]
+
 ghost use Rattle.std.specs.Prelude.{◌≡◌};
 ghost use Rattle.lists.specs.Parts.{part};
 ghost use Rattle.text_buffer.specs.Puts.{OpenText, PutsText};

@@ -1,5 +1,6 @@
 // Whether a step's text has no end: "a rule's text leads back, by the lookup, to a rule key already under expansion" (16).
 #![tactic(auto)]
+
 ghost use Rattle.std.specs.Prelude.{◌≡◌, List, []};
 ghost use Rattle.lists.specs.Members.{any};
 ghost use Rattle.spec.specs.Dollars.{refs};

@@ -1,5 +1,6 @@
 // The pieces of a raw text, one after another: bytes of its own, and references to names.
 #![tactic(auto)]
+
 ghost use Rattle.std.specs.Prelude.{◌<◌, length};
 ghost use Rattle.text_references.specs.Begins.{ReferencesReady, BeginsPiece};
 

@@ -1,5 +1,6 @@
 // The text of a step from what a manifest was read into: 18, 16, 17, or the text.
 #![tactic(auto)]
+
 ghost use Rattle.std.specs.Prelude.{◌≡◌};
 ghost use Rattle.spec.specs.Text.{key_name, spelled_by, spelling_for};
 ghost use Rattle.spec.specs.TextAsk.{wanted_key};

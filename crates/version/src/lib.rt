@@ -1,5 +1,6 @@
 // The version that a manifest asks for: read from bytes, and compared.
 #![tactic(auto)]
+
 ghost use Rattle.std.specs.Prelude.{◌≡◌, drop};
 ghost use Rattle.version.specs.Version.{version_digit, number, minor_from, patch_from, read_version, above, refused_version};
 ghost use Rattle.version.specs.Part.{part_of};

@@ -1,5 +1,6 @@
 // Slices of bytes compared by eight bytes at a time, since what is compared often begins alike.
 #![tactic(auto)]
+
 ghost use Rattle.std.specs.Prelude.{◌≡◌, ◌+◌, ◌≤◌, min, length};
 ghost use Rattle.lists.specs.Bytes.{eq_bytes};
 ghost use Rattle.lists.specs.Order.{order_bytes};

@@ -9,7 +9,6 @@ push-requires c = ready_room c.requires
 
 pub returns : goal.returns
 returns c =
-    
     record {
       counted = refl;
       held = λ log rd b. c.push.ensures log (fits_room b c.requires.fits);

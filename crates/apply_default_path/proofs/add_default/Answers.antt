@@ -47,7 +47,7 @@ shape_of-word c = c.expand-n.auto.word
 pub returns : goal.returns
 returns c = let inside : path_over c.expand-n.result c.args.c ≡ false = sym c.path_over.ensures ∙ c.if-path_over.false in
     record {
-  space = (record { long = (c.put_default.auto.graph) }, record { long = (c.expand-n.auto.word) });
-  promise = let w = path_within _ _ (inside) in
-      default_added c.args.raw.now c.expand-n.ensures (omega (arith, w.short, c.requires.room)) (inside) c.put_default.ensures;
-}
+      space = (record { long = (c.put_default.auto.graph) }, record { long = (c.expand-n.auto.word) });
+      promise = let w = path_within _ _ (inside) in
+          default_added c.args.raw.now c.expand-n.ensures (omega (arith, w.short, c.requires.room)) (inside) c.put_default.ensures;
+    }

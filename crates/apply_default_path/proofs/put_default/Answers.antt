@@ -16,7 +16,6 @@ overflow_add-c c = let limits : Within (length c.args.path.now) c.args.c = path_
 pub put-requires : goal.put-requires
 put-requires c =
     let limits : Within (length c.args.path.now) c.args.c = path_within (length c.args.path.now) c.args.c c.requires.within in
-    
     (default_room c.requires.files.filed.graphed (limits).few, omega (arith, entry_low c.requires.files.filed c.find_name.ensures c.in-At.is))
 
 pub overflow_add-result : goal.overflow_add-result

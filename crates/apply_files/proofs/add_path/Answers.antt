@@ -12,7 +12,6 @@ use Rattle.apply_files.proofs.add_path.Goals as goal
 pub note_again-requires : goal.note_again-requires
 note_again-requires c =
     let within : Within (length c.args.path.now) c.args.c = path_within _ _ c.requires.within in
-    
     let w = c.requires.writing in
     let l = within in
     (old_low c.add.ensures l w c.in-Old.is, omega (arith, w.paths_counted, mentions_short w c.args.path.now l), l.few, l.low, graph_long w.columns)
@@ -20,7 +19,6 @@ note_again-requires c =
 pub note_first-requires : goal.note_first-requires
 note_first-requires c =
     let within : Within (length c.args.path.now) c.args.c = path_within _ _ c.requires.within in
-    
     let w = c.requires.writing in
     let l = within in
     let n = new_low c.add.ensures l w c.in-New.is in

@@ -40,7 +40,6 @@ slice_bounds-push_binding-end-2 c = let inside : binding_over (length c.args.nam
 pub push_binding-d-requires : goal.push_binding-d-requires
 push_binding-d-requires c =
     let inside : binding_over (length c.args.name.now) c.expand-len.result c.args.c ≡ false = sym c.binding_over.ensures ∙ c.if-binding_over.false in
-    
     line_ready c.requires.sound c.args.name.now _ (rw (value_counted c.requires _ _ (inside) c.expand-len.ensures) (inside))
 
 pub shape_of-texts : goal.shape_of-texts
@@ -52,8 +51,8 @@ shape_of-bind c = c.push_binding-d.auto.bind
 pub returns : goal.returns
 returns c = let inside : binding_over (length c.args.name.now) c.expand-len.result c.args.c ≡ false = sym c.binding_over.ensures ∙ c.if-binding_over.false in
     record {
-  space = (record { long = (c.push_binding-d.auto.texts) }, record { long = (c.push_binding-d.auto.bind) }, record { long = (search rules) });
-  promise = 
-      let a = c.args in
-      line_goes a.start a.name.now a.raw.now c.expand-len.ensures (value_fits c.requires _ _ (inside)) (rw (value_counted c.requires _ _ (inside) c.expand-len.ensures) (inside)) c.push_binding-d.ensures;
-}
+      space = (record { long = (c.push_binding-d.auto.texts) }, record { long = (c.push_binding-d.auto.bind) }, record { long = (search rules) });
+      promise =
+          let a = c.args in
+          line_goes a.start a.name.now a.raw.now c.expand-len.ensures (value_fits c.requires _ _ (inside)) (rw (value_counted c.requires _ _ (inside) c.expand-len.ensures) (inside)) c.push_binding-d.ensures;
+    }

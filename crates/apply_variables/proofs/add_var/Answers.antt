@@ -37,7 +37,6 @@ slice_bounds-set_var-end-2 c = let inside : binding_over (length c.args.name.now
 pub set_var-requires : goal.set_var-requires
 set_var-requires c =
     let inside : binding_over (length c.args.name.now) c.expand-n.result c.args.c ≡ false = sym c.binding_over.ensures ∙ c.if-binding_over.false in
-    
     record { sound = c.requires.sound; within = rw (value_counted c.requires _ _ (inside) c.expand-n.ensures) (inside) }
 
 pub shape_of-texts : goal.shape_of-texts
@@ -49,8 +48,8 @@ shape_of-bind c = c.set_var.auto.bind
 pub returns : goal.returns
 returns c = let inside : binding_over (length c.args.name.now) c.expand-n.result c.args.c ≡ false = sym c.binding_over.ensures ∙ c.if-binding_over.false in
     record {
-  space = (record { long = (c.set_var.auto.texts) }, record { long = (c.set_var.auto.bind) }, record { long = (search rules) });
-  promise = 
-      let a = c.args in
-      var_valued a.start a.name.now a.raw.now c.expand-n.ensures (value_fits c.requires _ _ (inside)) c.set_var.ensures.promise;
-}
+      space = (record { long = (c.set_var.auto.texts) }, record { long = (c.set_var.auto.bind) }, record { long = (search rules) });
+      promise =
+          let a = c.args in
+          var_valued a.start a.name.now a.raw.now c.expand-n.ensures (value_fits c.requires _ _ (inside)) c.set_var.ensures.promise;
+    }

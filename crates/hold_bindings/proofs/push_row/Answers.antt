@@ -23,13 +23,11 @@ copy_at-requires c = let fits : c.start-from.result + length c.args.name.now + l
 pub copy_at-requires-2 : goal.copy_at-requires-2
 copy_at-requires-2 c =
     let fits : c.start-from.result + length c.args.name.now + length c.args.value.now ≤ max_texts = omega (arith, c.start-from.ensures, room_fits _ c.requires.room _ _ refl refl) in
-    
     omega (arith, fits, c.requires.room.held, c.copy_at.auto)
 
 pub put_row-requires : goal.put_row-requires
 put_row-requires c =
     let fits : c.start-from.result + length c.args.name.now + length c.args.value.now ≤ max_texts = omega (arith, c.start-from.ensures, room_fits _ c.requires.room _ _ refl refl) in
-    
     omega (arith, fits, c.requires.room)
 
 pub returns : goal.returns

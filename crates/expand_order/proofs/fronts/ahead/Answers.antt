@@ -14,15 +14,12 @@ slice_bounds-compare-end-2 c = sym (length-take-le _ c.args.q.now (omega (arith,
 
 pub returns-in-Less : goal.returns-in-Less
 returns-in-Less c =
-    
     fronts_less c.args.p.now c.args.q.now c.lesser-n.ensures c.compare.ensures c.in-Less.is
 
 pub returns-in-Equal : goal.returns-in-Equal
 returns-in-Equal c =
-    
     fronts_same c.args.p.now c.args.q.now c.lesser-n.ensures c.compare.ensures c.in-Equal.is
 
 pub returns-in-Greater : goal.returns-in-Greater
 returns-in-Greater c =
-    
     fronts_greater c.args.p.now c.args.q.now c.lesser-n.ensures c.compare.ensures c.in-Greater.is
