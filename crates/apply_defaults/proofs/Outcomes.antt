@@ -2,7 +2,7 @@
 use Prim.Native.Nat.{ℕ, suc, ◌+◌}
 use mathlib.Core.Bool.{true, false, ◌||◌}
 use mathlib.Core.List.{List, [], ◌∷◌, map, append_assoc, append-nil}
-use mathlib.Core.Path.{◌≡◌}
+use mathlib.Core.Path.{◌≡◌, ap}
 use native.Mathlib.Omega.{arith}
 use borrow.Author.Tests.{le-ltb}
 use lib.Dec.{ltb}
@@ -53,7 +53,9 @@ module _ {log : List Logged} {bs : Buffers} {c : Counts} {rd : Reading} (h : Hol
     defaults_on =
         let a : rd.mentions + suc (length qs) ≡ rd.mentions + 1 + length qs = omega arith in
         let b : rd.written + (length p + sum (map (λ (q : List ℕ). length q) qs)) ≡ rd.written + length p + sum (map (λ (q : List ℕ). length q) qs) = omega arith in
-        rw (again, a, b, number_mention p rd.files qs (made_among h p m), append_assoc rd.defaults (number_of p rd.files ∷ []) (numbers_of (mention rd.files qs) qs))
+        let d : number_of p (mention rd.files (p ∷ qs)) ∷ numbers_of (mention rd.files (p ∷ qs)) qs ≡ number_of p rd.files ∷ numbers_of (mention rd.files qs) qs =
+            rw (again, number_mention p rd.files qs (made_among h p m)) in
+        rw (d, again, a, b, append_assoc rd.defaults (number_of p rd.files ∷ []) (numbers_of (mention rd.files qs) qs))
 
     pub sound_on : path_over (length p) c ≡ false → sound_defaults start (p ∷ qs) rd ≡ sound_defaults start qs (defaulted (number_of p rd.files) (length p) rd)
     unfolding sound_defaults path_over over_paths longer_than any

@@ -30,7 +30,7 @@ pub loop-k-init : goal.loop-k-init
 loop-k-init c = none_begin _ _
 
 pub record_name-requires : goal.record_name-requires
-record_name-requires c = (c.requires, omega (arith, c.word-n.ensures.is, c.loop-k-test.true))
+record_name-requires c = record { laid_bundle = c.requires; k_bound = omega (arith, c.word-n.ensures.is, c.loop-k-test.true) }
 
 pub equal-requires : goal.equal-requires
 equal-requires c = tt

@@ -7,7 +7,7 @@ pub returns-then-name-eq0 : goal.returns-then-name-eq0
 returns-then-name-eq0 c = find_unnamed c.if-name-eq0.true
 
 pub record_text-requires : goal.record_text-requires
-record_text-requires c = (c.requires.indexed.laid, find_low _ _ c.find_record.ensures c.in-At.is)
+record_text-requires c = record { laid_bundle = c.requires.indexed.laid; k_bound = find_low _ _ c.find_record.ensures c.in-At.is }
 
 pub returns-in-At : goal.returns-in-At
 returns-in-At c = find_text c.if-name-eq0.false c.find_record.ensures c.in-At.is c.record_text.ensures c.file_name.ensures c.list_start.ensures

@@ -5,7 +5,7 @@ use Rattle.ask_header_list.proofs.Telling.{tells_unnamed, tells_absent, tells_ma
 use Rattle.ask_header_list.proofs.mention_listed.Goals as goal
 
 pub record_text-text-requires : goal.record_text-text-requires
-record_text-text-requires c = (c.requires.laid, told_low c.requires c.in-Lists.is)
+record_text-text-requires c = record { laid_bundle = c.requires.laid; k_bound = told_low c.requires c.in-Lists.is }
 
 pub add_header_list-requires : goal.add_header_list-requires
 add_header_list-requires c = told_asks c.requires c.in-Lists.is c.record_text-text.ensures

@@ -13,7 +13,7 @@ loop-i-init c = mark_begin
 
 pub offset_bounds-marks-at : goal.offset_bounds-marks-at
 offset_bounds-marks-at c = let low : c.at.result < length c.args.marks.now = rw c.at.ensures (c.requires c.loop-i.i c.loop-i-test.true) in
-    omega (arith, low, c.well-formed)
+    omega (arith, low)
 
 pub bounds-marks-at : goal.bounds-marks-at
 bounds-marks-at c = let low : c.at.result < length c.args.marks.now = rw c.at.ensures (c.requires c.loop-i.i c.loop-i-test.true) in

@@ -32,7 +32,7 @@ pub shape_of-out-then-not-write : goal.shape_of-out-then-not-write
 shape_of-out-then-not-write g c = c.next_lines-made.auto.out ∙ c.loop-place.invariant.2
 
 pub overflow_add-place : goal.overflow_add-place
-overflow_add-place g c = omega (arith, c.well-formed, rounds_more c.loop-place.invariant.3 c.next_lines-made.ensures)
+overflow_add-place g c = omega (arith, rounds_more c.loop-place.invariant.3 c.next_lines-made.ensures)
 
 pub loop-place-smaller : goal.loop-place-smaller
 loop-place-smaller g c = omega (arith, rounds_more c.loop-place.invariant.3 c.next_lines-made.ensures)

@@ -23,7 +23,7 @@ pub returns-then-n-steps : goal.returns-then-n-steps
 returns-then-n-steps c = checking_all c.loop-i-test.true c.loop-i.invariant _ _ _ c.if-n-steps.true (rw c.in-Held.is at c.ask_texts.ensures)
 
 pub overflow_add-i : goal.overflow_add-i
-overflow_add-i c = omega (arith, c.well-formed, checking_more c.loop-i-test.true c.loop-i.invariant _ _ _ (rw c.in-Held.is at c.ask_texts.ensures))
+overflow_add-i c = omega (arith, checking_more c.loop-i-test.true c.loop-i.invariant _ _ _ (rw c.in-Held.is at c.ask_texts.ensures))
 
 pub loop-i-smaller : goal.loop-i-smaller
 loop-i-smaller c = omega (arith, checking_more c.loop-i-test.true c.loop-i.invariant _ _ _ (rw c.in-Held.is at c.ask_texts.ensures))

@@ -38,13 +38,13 @@ pub loop-k-init : goal.loop-k-init
 loop-k-init c = bad_begin _
 
 pub record_text-requires : goal.record_text-requires
-record_text-requires c = (laid _ c.requires.sound, omega (arith, c.word-n.ensures.is, c.loop-k-test.true))
+record_text-requires c = record { laid_bundle = laid _ c.requires.sound; k_bound = omega (arith, c.word-n.ensures.is, c.loop-k-test.true) }
 
 pub bad_byte-requires : goal.bad_byte-requires
 bad_byte-requires c = tt
 
 pub text_base-requires : goal.text_base-requires
-text_base-requires c = (laid _ c.requires.sound, omega (arith, c.word-n.ensures.is, c.loop-k-test.true))
+text_base-requires c = record { laid_bundle = laid _ c.requires.sound; k_bound = omega (arith, c.word-n.ensures.is, c.loop-k-test.true) }
 
 pub overflow_add-result : goal.overflow_add-result
 overflow_add-result c = omega (arith, bad_near c.args.b.now c.requires _ (omega (arith, c.word-n.ensures.is, c.loop-k-test.true)) c.record_text.ensures _ c.bad_byte.ensures c.in-At.is c.text_base.ensures)

@@ -22,7 +22,7 @@ pub copy_at-requires : goal.copy_at-requires
 copy_at-requires c = omega (arith, text_part c.text_of.ensures c.in-Written.is c.requires.asked (omega (arith, c.requires.asked.room, c.text_of.auto)), c.requires.before, c.requires.within, c.if-room-end.false)
 
 pub overflow_add-result : goal.overflow_add-result
-overflow_add-result c = omega (arith, c.if-room-end.false, c.requires.before, c.requires.within, c.well-formed)
+overflow_add-result c = omega (arith, c.if-room-end.false, c.requires.before, c.requires.within)
 
 pub shape_of-one-else-room-end : goal.shape_of-one-else-room-end
 shape_of-one-else-room-end c = c.text_of.auto.buffer

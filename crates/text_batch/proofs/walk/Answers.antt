@@ -24,10 +24,10 @@ overflow_cast-ends c = let low : c.in-Ends.e ≤ c.args.b.room = end_within c.re
     omega (arith, low, c.requires.low)
 
 pub offset_bounds-ends-i : goal.offset_bounds-ends-i
-offset_bounds-ends-i c = omega (arith, c.if-ends-i.false, c.loop-i.invariant.2.long, c.well-formed)
+offset_bounds-ends-i c = omega (arith, c.if-ends-i.false, c.loop-i.invariant.2.long)
 
 pub overflow_add-i : goal.overflow_add-i
-overflow_add-i c = omega (arith, c.loop-i-test.true, c.well-formed)
+overflow_add-i c = omega (arith, c.loop-i-test.true)
 
 pub loop-i-preserved : goal.loop-i-preserved
 loop-i-preserved c = let low : c.in-Ends.e ≤ c.args.b.room = end_within c.requires (rw c.in-Ends.is at c.put_text.ensures.promise) in

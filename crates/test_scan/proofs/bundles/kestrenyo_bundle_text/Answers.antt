@@ -10,7 +10,7 @@ pub returns-then-records_in-k : goal.returns-then-records_in-k
 returns-then-records_in-k c = text_none _ _ c.records_in.ensures c.if-records_in-k.true _
 
 pub record_text-requires : goal.record_text-requires
-record_text-requires c = let s = sounds _ c.records_in.ensures (omega arith) in (s.laid, omega (arith, s.count))
+record_text-requires c = let s = sounds _ c.records_in.ensures (omega arith) in record { laid_bundle = s.laid; k_bound = omega (arith, s.count) }
 
 pub returns-then-not-equal : goal.returns-then-not-equal
 returns-then-not-equal c = text_other _ _ c.records_in.ensures c.if-records_in-k.false _ (rw (← c.record_text.ensures) (sym c.equal.ensures ∙ c.if-not-equal.true))
