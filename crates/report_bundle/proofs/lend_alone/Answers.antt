@@ -1,7 +1,6 @@
 -- `report_bundle::lend_alone` meets its contract.
 use mathlib.Core.Path.{refl}
-use Rattle.report_bundle.proofs.Lending.{all_fits, cut_long, cut_fits, lends, lends_all}
-use borrow.Author.Rules.{rules}
+use Rattle.report_bundle.proofs.Lending.{all_fits, cut_fits, lends, lends_all}
 use Rattle.report_bundle.proofs.lend_alone.Goals as goal
 
 pub wrap-requires : goal.wrap-requires

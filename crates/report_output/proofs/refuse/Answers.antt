@@ -1,6 +1,5 @@
 -- `report_output::refuse` meets its contract.
 use Rattle.report_output.proofs.Refusals.{refuses_so}
-use borrow.Author.Rules.{rules}
 use Rattle.report_output.proofs.refuse.Goals as goal
 
 pub returns : goal.returns

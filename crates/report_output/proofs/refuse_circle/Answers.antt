@@ -1,6 +1,5 @@
 -- `report_output::refuse_circle` meets its contract.
 use Rattle.report_output.proofs.Refusals.{opens_refusal}
-use borrow.Author.Rules.{rules}
 use Rattle.report_output.proofs.refuse_circle.Goals as goal
 
 pub returns : goal.returns
