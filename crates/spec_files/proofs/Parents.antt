@@ -38,6 +38,7 @@ clean_back : (vs : Variables) (o : Outcome) → Ends (entered true vs) o → Cle
 unfolding and_then back_in
 clean_back vs (goes_on rd b) (ends_on k) = clean_on (untouched vs rd.vars k)
 clean_back vs (refused r) ends_off = clean_off
+clean_back vs (opens _ _ _ _) x5 = elim x5 [ ]
 
 clean_opener : (names texts : List (List ℕ)) (more start : ℕ) (raw : List ℕ) (rd : Reading) → InScope rd.vars
     → Clean rd.vars (opener names texts more start true raw rd)

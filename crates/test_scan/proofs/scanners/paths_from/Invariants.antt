@@ -12,7 +12,7 @@ use Rattle.test_scan.proofs.Numbers.{paths_next, paths_stop, paths_bad}
 use Rattle.test_scan.proofs.scanners.paths_from.Given as goal
 
 abbrev pub invariant-loop-end : goal.invariant-loop-end
-invariant-loop-end l = Going (λ (l : List ℕ). paths_number l.s (paths l)) l.s l.from l.i
+invariant-loop-end l = Going (λ (rest : List ℕ). paths_number l.s (paths rest)) l.s l.from l.i
 
 abbrev pub decreases-loop-end : goal.decreases-loop-end
 decreases-loop-end l = length l.s - l.i
