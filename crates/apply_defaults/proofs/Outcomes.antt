@@ -2,7 +2,7 @@
 use Prim.Native.Nat.{ℕ, suc, ◌+◌}
 use mathlib.Core.Bool.{true, false, ◌||◌}
 use mathlib.Core.List.{List, [], ◌∷◌, map, append_assoc, append-nil}
-use mathlib.Core.Path.{◌≡◌, ap}
+use mathlib.Core.Path.{◌≡◌}
 use native.Mathlib.Omega.{arith}
 use borrow.Author.Tests.{le-ltb}
 use lib.Dec.{ltb}
@@ -54,7 +54,7 @@ module _ {log : List Logged} {bs : Buffers} {c : Counts} {rd : Reading} (h : Hol
         let a : rd.mentions + suc (length qs) ≡ rd.mentions + 1 + length qs = omega arith in
         let b : rd.written + (length p + sum (map (λ (q : List ℕ). length q) qs)) ≡ rd.written + length p + sum (map (λ (q : List ℕ). length q) qs) = omega arith in
         let d : number_of p (mention rd.files (p ∷ qs)) ∷ numbers_of (mention rd.files (p ∷ qs)) qs ≡ number_of p rd.files ∷ numbers_of (mention rd.files qs) qs =
-            rw (again, number_mention p rd.files qs (made_among h p m)) in
+        rw (again, number_mention p rd.files qs (made_among h p m)) in
         rw (d, again, a, b, append_assoc rd.defaults (number_of p rd.files ∷ []) (numbers_of (mention rd.files qs) qs))
 
     pub sound_on : path_over (length p) c ≡ false → sound_defaults start (p ∷ qs) rd ≡ sound_defaults start qs (defaulted (number_of p rd.files) (length p) rd)

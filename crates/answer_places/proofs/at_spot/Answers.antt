@@ -1,6 +1,5 @@
 -- `answer_places::at_spot` meets its contract.
 use Rattle.answer_places.proofs.Placing.{spot_in_text, spot_past_all}
-use borrow.Author.Rules.{rules}
 use Rattle.answer_places.proofs.at_spot.Goals as goal
 
 pub returns-then-s-count : goal.returns-then-s-count

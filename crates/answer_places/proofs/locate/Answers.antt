@@ -2,7 +2,6 @@
 use borrow.Author.Tests.{not-true, not-false}
 use Rattle.scan_bundle.proofs.Laws.{opened, malformed_is}
 use Rattle.answer_places.proofs.Placing.{spot_asked, placed_outside, placed_malformed, placed_inside}
-use borrow.Author.Rules.{rules}
 use Rattle.answer_places.proofs.locate.Goals as goal
 
 pub returns-then-not-n : goal.returns-then-not-n

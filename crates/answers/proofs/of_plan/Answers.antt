@@ -1,7 +1,6 @@
 -- `answers::of_plan` meets its contract.
 use Rattle.spec.specs.Answers.{plan_says}
 use mathlib.Core.Path.{sym, ap, ◌∙◌}
-use borrow.Author.Rules.{rules}
 use Rattle.answers.proofs.of_plan.Goals as goal
 
 pub returns-in-Listed : goal.returns-in-Listed

@@ -1,7 +1,6 @@
 -- `answers::of_refusal` meets its contract.
 use Rattle.spec.specs.Answers.{refusal_says, number_of_refusal, place_of_refusal}
 use mathlib.Core.Path.{sym, ap, ◌∙◌}
-use borrow.Author.Rules.{rules}
 use Rattle.answers.proofs.of_refusal.Goals as goal
 
 pub returns-in-ShortBuffer : goal.returns-in-ShortBuffer

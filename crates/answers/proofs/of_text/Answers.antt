@@ -1,7 +1,6 @@
 -- `answers::of_text` meets its contract.
 use Rattle.spec.specs.Answers.{text_says}
 use mathlib.Core.Path.{sym, ap, ◌∙◌}
-use borrow.Author.Rules.{rules}
 use Rattle.answers.proofs.of_text.Goals as goal
 
 pub returns-in-Written : goal.returns-in-Written

@@ -1,7 +1,6 @@
 -- `apply_bindings::binding_over` meets its contract.
 use Prim.Native.Nat.{◌+◌}
 use native.Mathlib.Omega.{arith}
-use borrow.Author.Rules.{rules}
 use borrow.Author.Tests.{lt-ltb, le-ltb}
 use Rattle.spec.specs.Limits.{max_bindings}
 use Rattle.apply_bindings.specs.Limits.{binding_over}

@@ -1,6 +1,5 @@
 -- `apply_bindings::push_binding` meets its contract.
 use mathlib.Core.Path.{refl}
-use borrow.Author.Rules.{rules}
 use Rattle.apply_bindings.proofs.Entries.{ready_room, fits_room}
 use Rattle.apply_bindings.proofs.push_binding.Goals as goal
 

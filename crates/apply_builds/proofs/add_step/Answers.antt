@@ -1,7 +1,6 @@
 -- `apply_builds::add_step` meets its contract.
 use mathlib.Core.Path.{◌∙◌, refl}
 use borrow.Author.Rules.{rules}
-use borrow.Author.Tests.{not-true, not-false}
 use Rattle.apply_builds.proofs.Lines.{line_unknown, line_bad, line_written, step_asks}
 use Rattle.apply_builds.proofs.add_step.Goals as goal
 

@@ -3,7 +3,6 @@
 use mathlib.Core.Bool.{false}
 use mathlib.Core.Path.{◌≡◌, sym, ◌∙◌, refl}
 use native.Mathlib.Omega.{arith}
-use borrow.Author.Rules.{rules}
 use Rattle.apply_path_checks.proofs.Makers.{word_counted, files_held}
 use Rattle.apply_files.specs.Path.{path_over}
 use Rattle.apply_files.proofs.Limits.{path_within}

@@ -1,7 +1,6 @@
 -- `apply_default_path::put_default` meets its contract.
 -- the path is within the limits
 use native.Mathlib.Omega.{arith}
-use borrow.Author.Rules.{rules}
 use lib.ListN.{length}
 use Rattle.apply_path_checks.proofs.Makers.{entry_low}
 use Rattle.apply_files.proofs.Limits.{Within, path_within}

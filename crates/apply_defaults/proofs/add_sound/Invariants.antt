@@ -1,12 +1,7 @@
 use Prim.Native.Nat.{◌-◌}
-use mathlib.Core.Path.{◌≡◌, refl}
-use native.Mathlib.Omega.{arith}
-use borrow.Author.Rules.{rules}
+use mathlib.Core.Path.{◌≡◌}
 use lib.ListN.{length}
-use Rattle.cut_forms.proofs.Walks.{goes_on, stops}
-use Rattle.apply_path_checks.proofs.Walking.{ready_path, table_held}
-use Rattle.scan_raw.specs.Texts.{PathNext}
-use Rattle.apply_defaults.proofs.Adding.{Adding, add_begin, add_whole, add_on, add_over, add_end}
+use Rattle.apply_defaults.proofs.Adding.{Adding}
 use Rattle.hold_reading.specs.Buffers.{buffers}
 use Rattle.apply_defaults.proofs.add_sound.Given as goal
 

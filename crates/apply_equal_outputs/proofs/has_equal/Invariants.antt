@@ -1,10 +1,6 @@
-use native.Mathlib.Omega.{arith}
 use Prim.Native.Nat.{◌-◌}
 use lib.ListN.{length}
-use Rattle.scan_raw.specs.Texts.{PathNext}
-use Rattle.apply_equal_outputs.proofs.Sorting.{path_asks, Scanning, scan_begin, scan_room, scan_found, scan_on, scan_end}
-use Rattle.cut_forms.proofs.Walks.{goes_on, stops}
-use borrow.Author.Rules.{rules}
+use Rattle.apply_equal_outputs.proofs.Sorting.{Scanning}
 use Rattle.apply_equal_outputs.proofs.has_equal.Given as goal
 
 abbrev pub invariant-loop-from : goal.invariant-loop-from

@@ -1,7 +1,6 @@
 -- `apply_equal_outputs::has_equal_outputs` meets its contract.
 use native.Mathlib.Omega.{arith}
 use Rattle.apply_equal_outputs.proofs.Sorting.{lent_back}
-use borrow.Author.Rules.{rules}
 use Rattle.apply_equal_outputs.proofs.has_equal_outputs.Goals as goal
 
 pub returns : goal.returns

@@ -4,7 +4,6 @@ use native.Mathlib.Omega.{arith}
 use lib.ListN.{length-take}
 use lib.Seq.{length-take-le}
 use Rattle.apply_equal_outputs.proofs.Sorting.{entry_small, path_taken, path_added}
-use borrow.Author.Rules.{rules}
 use Rattle.apply_equal_outputs.proofs.is_taken.Goals as goal
 
 pub slice_bounds-place_for-end-2 : goal.slice_bounds-place_for-end-2

@@ -1,6 +1,5 @@
 -- `apply_equal_outputs::order_at` meets its contract.
 use Rattle.apply_equal_outputs.proofs.Sorting.{entry_ready, order_held}
-use borrow.Author.Rules.{rules}
 use Rattle.apply_equal_outputs.proofs.order_at.Goals as goal
 
 pub order-requires : goal.order-requires

@@ -1,8 +1,6 @@
 -- `apply_equal_outputs::place_for` meets its contract: the entries before `low` are less than the path, those from `high` on are greater.
 use native.Mathlib.Omega.{arith}
-use Prim.Native.Nat.{◌-◌}
-use Rattle.apply_equal_outputs.proofs.Sorting.{Halving, half_begin, half_lower, half_higher, half_found, half_end}
-use borrow.Author.Rules.{rules}
+use Rattle.apply_equal_outputs.proofs.Sorting.{half_begin, half_lower, half_higher, half_found, half_end}
 use Rattle.apply_equal_outputs.proofs.place_for.Goals as goal
 
 pub loop-low-init : goal.loop-low-init

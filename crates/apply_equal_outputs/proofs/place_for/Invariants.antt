@@ -1,7 +1,5 @@
-use native.Mathlib.Omega.{arith}
 use Prim.Native.Nat.{◌-◌}
-use Rattle.apply_equal_outputs.proofs.Sorting.{Halving, half_begin, half_lower, half_higher, half_found, half_end}
-use borrow.Author.Rules.{rules}
+use Rattle.apply_equal_outputs.proofs.Sorting.{Halving}
 use Rattle.apply_equal_outputs.proofs.place_for.Given as goal
 
 abbrev pub invariant-loop-low : goal.invariant-loop-low

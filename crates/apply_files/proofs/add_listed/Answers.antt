@@ -3,7 +3,6 @@
 use mathlib.Core.Path.{refl}
 use native.Mathlib.Omega.{arith}
 use lib.ListN.{length}
-use borrow.Author.Rules.{rules}
 use Rattle.apply_files.proofs.Columns.{graph_long}
 use Rattle.apply_files.proofs.Limits.{Within, path_within}
 use Rattle.apply_files.proofs.Adding.{mentions_short, path_old, path_new, path_full, old_low, new_low}

@@ -1,7 +1,6 @@
 -- `apply_files::path_over` meets its contract.
 use Prim.Native.Nat.{◌+◌}
 use native.Mathlib.Omega.{arith}
-use borrow.Author.Rules.{rules}
 use borrow.Author.Tests.{lt-ltb, le-ltb}
 use Rattle.spec.specs.Limits.{max_path, max_mentions}
 use Rattle.apply_files.specs.Path.{path_over}

@@ -4,7 +4,6 @@ use native.Mathlib.Omega.{arith}
 use Rattle.scan_cursor.specs.Spans.{line_of}
 use Rattle.cut_refusals.proofs.Cut.{setting_told, wrong_told}
 use Rattle.apply_indented.proofs.Outcomes.{line_applied, value_asks, wrong_setting}
-use borrow.Author.Rules.{rules}
 use Rattle.apply_indented.proofs.read_setting.Goals as goal
 
 pub raw_value-raw-requires : goal.raw_value-raw-requires

@@ -1,7 +1,6 @@
 -- src/lib.rt:77:9
 use Rattle.apply_manifest.proofs.Answers.{not_sound, too_long, short, bad_bytes, lines_refused, lines_accepted, lines_ask}
 use Rattle.apply_manifest.specs.Manifests.{IsRead}
-use borrow.Author.Tests.{not-true, not-false}
 use mathlib.Core.Path.{sym, ◌∙◌}
 use borrow.Author.Rules.{rules}
 use Rattle.apply_manifest.proofs.read_manifest.Goals as goal

@@ -3,7 +3,6 @@
 use mathlib.Core.Bool.{false}
 use mathlib.Core.Path.{◌≡◌, sym, ◌∙◌, refl}
 use native.Mathlib.Omega.{arith}
-use borrow.Author.Rules.{rules}
 use Rattle.apply_files.specs.Path.{path_over}
 use Rattle.apply_mentions.proofs.Mentioning.{mention_over, path_fits, path_counted, mention_fits, mention_marked}
 use Rattle.apply_mentions.proofs.mention.Goals as goal

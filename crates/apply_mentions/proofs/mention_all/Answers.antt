@@ -1,13 +1,10 @@
 -- `apply_mentions::mention_all` meets its contract.
 use mathlib.Core.Path.{refl}
-use Prim.Native.Nat.{◌-◌}
 use native.Mathlib.Omega.{arith}
-use lib.ListN.{length}
 use borrow.Author.Rules.{rules}
 use Rattle.scan_raw.specs.Texts.{PathNext}
 use Rattle.cut_forms.proofs.Walks.{goes_on, stops}
-use Rattle.apply_mentions.proofs.Passing.{Passing, pass_begin, pass_within, pass_asks, pass_on, pass_over, pass_end}
-use Rattle.hold_reading.specs.Buffers.{buffers}
+use Rattle.apply_mentions.proofs.Passing.{pass_begin, pass_within, pass_asks, pass_on, pass_over, pass_end}
 use Rattle.apply_mentions.proofs.mention_all.Goals as goal
 
 pub loop-from-init : goal.loop-from-init

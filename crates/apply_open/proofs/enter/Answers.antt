@@ -2,7 +2,6 @@
 use Rattle.apply_open.proofs.Entering.{scope_asked, scope_room, not_entered, is_entered}
 use native.Mathlib.Omega.{arith}
 use mathlib.Core.Path.{refl}
-use borrow.Author.Rules.{rules}
 use Rattle.apply_open.proofs.enter.Goals as goal
 
 -- src/lib.rt:98:19

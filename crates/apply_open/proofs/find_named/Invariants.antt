@@ -1,7 +1,5 @@
-use Rattle.apply_open.proofs.Finding.{head_room, name_below, names_end, NoneYet, none_begin, none_end, none_here, none_on}
+use Rattle.apply_open.proofs.Finding.{NoneYet}
 use Rattle.spec.specs.Bundle.{bundle_names}
-use native.Mathlib.Omega.{arith}
-use mathlib.Core.Path.{sym, ◌∙◌}
 use Prim.Native.Nat.{◌-◌}
 use Rattle.apply_open.proofs.find_named.Given as goal
 

@@ -1,7 +1,6 @@
 -- src/lib.rt:128:9
 use Rattle.apply_open.proofs.Entering.{leave_room, not_left, is_left}
 use mathlib.Core.Path.{refl}
-use borrow.Author.Rules.{rules}
 use Rattle.apply_open.proofs.leave.Goals as goal
 
 -- src/lib.rt:130:22

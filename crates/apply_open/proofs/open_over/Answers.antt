@@ -3,7 +3,6 @@ use Rattle.apply_open.specs.Opens.{open_over}
 use Rattle.spec.specs.Limits.{max_path}
 use borrow.Author.Tests.{lt-ltb, le-ltb}
 use native.Mathlib.Omega.{arith}
-use borrow.Author.Rules.{rules}
 use Rattle.apply_open.proofs.open_over.Goals as goal
 
 -- src/lib.rt:59:15

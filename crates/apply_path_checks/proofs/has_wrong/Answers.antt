@@ -1,13 +1,10 @@
 -- `apply_path_checks::has_wrong` meets its contract.
-use Prim.Native.Nat.{◌-◌}
-use mathlib.Core.Path.{◌≡◌, refl}
+use mathlib.Core.Path.{refl}
 use native.Mathlib.Omega.{arith}
 use borrow.Author.Rules.{rules}
-use lib.ListN.{length}
 use Rattle.scan_raw.specs.Texts.{PathNext}
 use Rattle.cut_forms.proofs.Walks.{goes_on, stops}
-use Rattle.apply_path_checks.proofs.Walking.{ready_path, table_held, Looked, look_begin, look_more, look_found, look_end}
-use Rattle.hold_reading.specs.Buffers.{buffers}
+use Rattle.apply_path_checks.proofs.Walking.{ready_path, table_held, look_begin, look_more, look_found, look_end}
 use Rattle.apply_path_checks.proofs.has_wrong.Goals as goal
 
 -- the path of this turn

@@ -1,11 +1,7 @@
 use Prim.Native.Nat.{◌-◌}
-use mathlib.Core.Path.{◌≡◌, refl}
-use native.Mathlib.Omega.{arith}
-use borrow.Author.Rules.{rules}
+use mathlib.Core.Path.{◌≡◌}
 use lib.ListN.{length}
-use Rattle.scan_raw.specs.Texts.{PathNext}
-use Rattle.cut_forms.proofs.Walks.{goes_on, stops}
-use Rattle.apply_path_checks.proofs.Walking.{ready_path, table_held, Looked, look_begin, look_more, look_found, look_end}
+use Rattle.apply_path_checks.proofs.Walking.{Looked}
 use Rattle.hold_reading.specs.Buffers.{buffers}
 use Rattle.apply_path_checks.proofs.has_wrong.Given as goal
 

@@ -1,7 +1,6 @@
 -- `apply_path_checks::is_made` meets its contract.
 use mathlib.Core.Path.{sym}
 use native.Mathlib.Omega.{arith}
-use borrow.Author.Rules.{rules}
 use lib.Seq.{length-take-le}
 use Rattle.apply_path_checks.proofs.Makers.{long_held, made_held}
 use Rattle.apply_path_checks.proofs.is_made.Goals as goal

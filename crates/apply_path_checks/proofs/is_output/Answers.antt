@@ -1,6 +1,5 @@
 -- `apply_path_checks::is_output` meets its contract.
 use native.Mathlib.Omega.{arith}
-use borrow.Author.Rules.{rules}
 use Rattle.apply_path_checks.proofs.Makers.{entry_low, entry_within, found_made, missing_unmade}
 use Rattle.apply_path_checks.proofs.is_output.Goals as goal
 

@@ -1,5 +1,4 @@
 -- `apply_path_checks::is_wrong` meets its contract.
-use borrow.Author.Rules.{rules}
 use Rattle.apply_path_checks.proofs.Makers.{made_asks, empty_wrong, input_right, output_wrong, default_wrong}
 use Rattle.apply_path_checks.proofs.is_wrong.Goals as goal
 

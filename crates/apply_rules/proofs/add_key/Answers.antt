@@ -1,6 +1,5 @@
 -- `apply_rules::add_key` meets its contract.
 use mathlib.Core.Path.{sym, ◌∙◌, refl}
-use borrow.Author.Rules.{rules}
 use native.Mathlib.Omega.{arith}
 use Rattle.apply_rules.proofs.Outcomes.{of_rule_law, key_ready, keys_bad, keys_over, keys_go}
 use Rattle.apply_rules.proofs.add_key.Goals as goal

@@ -1,6 +1,5 @@
 -- `apply_rules::start_rule` meets its contract.
 use mathlib.Core.Path.{refl}
-use borrow.Author.Rules.{rules}
 use Rattle.apply_rules.proofs.Outcomes.{start_room, start_twice, start_long, start_many, start_goes}
 use Rattle.apply_rules.proofs.start_rule.Goals as goal
 

@@ -4,7 +4,6 @@ use native.Mathlib.Omega.{arith}
 use Rattle.apply_statements.proofs.Outcomes.{between_sound, turn_met, rule_read, build_read, default_read, open_read, var_read, wrong_read, build_asks, default_asks, value_asks}
 use Rattle.cut_refusals.proofs.Cut.{rule_told, build_told, default_told, open_told, binding_told, refused_told}
 use Rattle.scan_cursor.specs.Spans.{line_of}
-use borrow.Author.Rules.{rules}
 use Rattle.apply_statements.proofs.read_statement.Goals as goal
 
 -- src/lib.rt:43:24

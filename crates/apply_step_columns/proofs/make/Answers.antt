@@ -1,8 +1,6 @@
 -- `apply_step_columns::make` meets its contract.
-use Prim.Native.Nat.{◌-◌}
 use native.Mathlib.Omega.{arith}
-use borrow.Author.Rules.{rules}
-use Rattle.apply_step_columns.proofs.Making.{Making, make_begin, make_in, make_low, make_fits, make_on, make_end}
+use Rattle.apply_step_columns.proofs.Making.{make_begin, make_in, make_low, make_fits, make_on, make_end}
 use Rattle.apply_step_columns.proofs.make.Goals as goal
 
 pub loop-i-init : goal.loop-i-init

@@ -1,7 +1,5 @@
 use Prim.Native.Nat.{◌-◌}
-use native.Mathlib.Omega.{arith}
-use borrow.Author.Rules.{rules}
-use Rattle.apply_step_columns.proofs.Making.{Making, make_begin, make_in, make_low, make_fits, make_on, make_end}
+use Rattle.apply_step_columns.proofs.Making.{Making}
 use Rattle.apply_step_columns.proofs.make.Given as goal
 
 abbrev pub invariant-loop-i : goal.invariant-loop-i

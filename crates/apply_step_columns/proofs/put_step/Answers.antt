@@ -2,7 +2,6 @@
 use native.Mathlib.Omega.{arith}
 use Rattle.apply_files.proofs.Columns.{graph_long}
 use Rattle.apply_step_columns.proofs.Making.{put_make, put_first, put_second, put_done}
-use borrow.Author.Rules.{rules}
 use Rattle.apply_step_columns.proofs.put_step.Goals as goal
 
 pub step_end-to-requires : goal.step_end-to-requires

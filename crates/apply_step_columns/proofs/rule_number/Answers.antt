@@ -1,7 +1,6 @@
 -- `apply_step_columns::rule_number` meets its contract.
 use mathlib.Core.Path.{sym, ◌∙◌}
 use native.Mathlib.Omega.{arith}
-use borrow.Author.Rules.{rules}
 use Rattle.spec.specs.Reading.{is_phony}
 use Rattle.hold_bindings.proofs.Lookups.{newest_below}
 use Rattle.apply_step_columns.proofs.Numbered.{number_phony, number_at, number_missing}

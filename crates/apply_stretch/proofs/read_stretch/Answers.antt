@@ -1,13 +1,8 @@
 -- `apply_stretch::read_stretch` meets its contract.
 use native.Mathlib.Omega.{arith}
 use mathlib.Core.Path.{◌∙◌}
-use Prim.Native.Nat.{◌-◌, ◌≤◌}
-use lib.ListN.{length}
-use Rattle.spec.specs.Manifest.{Opener}
-use Rattle.hold_reading.specs.Buffers.{buffers}
-use Rattle.apply_stretch.proofs.Each.{Same, same_begin, EachFrom, turn_answered, each_begin, each_end, each_refused, each_goes, each_pair, each_forward, each_within, each_asks, each_on, no_files, opens_at}
+use Rattle.apply_stretch.proofs.Each.{same_begin, turn_answered, each_begin, each_end, each_refused, each_goes, each_pair, each_forward, each_within, each_asks, each_on, no_files, opens_at}
 use Rattle.apply_stretch.specs.Stretches.{stretch_answers}
-use borrow.Author.Rules.{rules}
 use Rattle.apply_stretch.proofs.read_stretch.Goals as goal
 
 pub loop-k-init : goal.loop-k-init

@@ -1,12 +1,8 @@
-use native.Mathlib.Omega.{arith}
-use mathlib.Core.Path.{◌∙◌}
 use Prim.Native.Nat.{◌-◌, ◌≤◌}
 use lib.ListN.{length}
 use Rattle.spec.specs.Manifest.{Opener}
 use Rattle.hold_reading.specs.Buffers.{buffers}
-use Rattle.apply_stretch.proofs.Each.{Same, same_begin, EachFrom, turn_answered, each_begin, each_end, each_refused, each_goes, each_pair, each_forward, each_within, each_asks, each_on, no_files, opens_at}
-use Rattle.apply_stretch.specs.Stretches.{stretch_answers}
-use borrow.Author.Rules.{rules}
+use Rattle.apply_stretch.proofs.Each.{Same, EachFrom}
 use Rattle.apply_stretch.proofs.read_stretch.Given as goal
 
 abbrev pub invariant-loop-k : goal.invariant-loop-k

@@ -1,6 +1,5 @@
 -- `apply_variables::is_wrong_version` meets its contract.
 use mathlib.Core.Path.{sym, ◌∙◌}
-use borrow.Author.Rules.{rules}
 use Rattle.spec.specs.Statements.{wrong_version}
 use Rattle.apply_variables.proofs.is_wrong_version.Goals as goal
 

@@ -1,6 +1,5 @@
 -- `arena::insert` meets its contract.
-use Rattle.arena.proofs.Shifting.{Shifting, shift_begin, shift_on, shift_end}
-use borrow.Author.Rules.{rules}
+use Rattle.arena.proofs.Shifting.{shift_begin, shift_on, shift_end}
 use Rattle.arena.proofs.insert.Goals as goal
 
 pub loop-i-init : goal.loop-i-init

@@ -1,5 +1,4 @@
-use Rattle.arena.proofs.Shifting.{Shifting, shift_begin, shift_on, shift_end}
-use borrow.Author.Rules.{rules}
+use Rattle.arena.proofs.Shifting.{Shifting}
 use Rattle.arena.proofs.insert.Given as goal
 
 abbrev pub invariant-loop-i : goal.invariant-loop-i

@@ -1,8 +1,6 @@
 -- `ask_depfile_bound::depfile_bound` meets its contract.
-use Prim.Native.Nat.{◌-◌}
 use Rattle.spec.specs.Text.{key_name}
-use Rattle.ask_depfile_bound.proofs.Bound.{Seen, begun, one_found, one_more, none_found}
-use borrow.Author.Rules.{rules}
+use Rattle.ask_depfile_bound.proofs.Bound.{begun, one_found, one_more, none_found}
 use Rattle.ask_depfile_bound.proofs.depfile_bound.Goals as goal
 
 pub loop-k-init : goal.loop-k-init

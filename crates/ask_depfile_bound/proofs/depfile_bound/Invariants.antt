@@ -1,7 +1,5 @@
 use Prim.Native.Nat.{◌-◌}
-use Rattle.spec.specs.Text.{key_name}
-use Rattle.ask_depfile_bound.proofs.Bound.{Seen, begun, one_found, one_more, none_found}
-use borrow.Author.Rules.{rules}
+use Rattle.ask_depfile_bound.proofs.Bound.{Seen}
 use Rattle.ask_depfile_bound.proofs.depfile_bound.Given as goal
 
 abbrev pub invariant-loop-k : goal.invariant-loop-k

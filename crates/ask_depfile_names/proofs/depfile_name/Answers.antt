@@ -1,7 +1,6 @@
 -- `ask_depfile_names::depfile_name` meets its contract.
 use Rattle.text_step.proofs.Picking.{asked_none, asked_step}
 use Rattle.ask_depfile_names.proofs.Laws.{reads, no_command, step_asked, step_named}
-use borrow.Author.Rules.{rules}
 use Rattle.ask_depfile_names.proofs.depfile_name.Goals as goal
 
 pub asked-requires : goal.asked-requires

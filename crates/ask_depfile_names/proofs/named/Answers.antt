@@ -1,5 +1,4 @@
 -- `ask_depfile_names::named` meets its contract.
-use borrow.Author.Rules.{rules}
 use Rattle.ask_depfile_names.proofs.Naming.{name_none, name_written, name_refused}
 use Rattle.ask_depfile_names.proofs.named.Goals as goal
 

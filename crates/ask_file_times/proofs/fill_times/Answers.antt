@@ -1,7 +1,5 @@
 -- `ask_file_times::fill_times` meets its contract.
-use Prim.Native.Nat.{◌-◌}
-use Rattle.ask_file_times.proofs.Filling.{Filling, fill_begin, fill_more, fill_end}
-use borrow.Author.Rules.{rules}
+use Rattle.ask_file_times.proofs.Filling.{fill_begin, fill_more, fill_end}
 use Rattle.ask_file_times.proofs.fill_times.Goals as goal
 
 pub loop-f-init : goal.loop-f-init

@@ -1,6 +1,5 @@
 use Prim.Native.Nat.{◌-◌}
-use Rattle.ask_file_times.proofs.Filling.{Filling, fill_begin, fill_more, fill_end}
-use borrow.Author.Rules.{rules}
+use Rattle.ask_file_times.proofs.Filling.{Filling}
 use Rattle.ask_file_times.proofs.fill_times.Given as goal
 
 abbrev pub invariant-loop-f : goal.invariant-loop-f

@@ -1,6 +1,5 @@
 -- `ask_headed_times::headed_times` meets its contract.
 use Rattle.ask_headed_times.proofs.Judging.{headed}
-use borrow.Author.Rules.{rules}
 use Rattle.ask_headed_times.proofs.headed_times.Goals as goal
 
 pub returns : goal.returns

@@ -1,6 +1,5 @@
 -- `ask_header_graph::begin_columns` meets its contract.
 use Rattle.ask_header_graph.proofs.Filling.{begin_columns}
-use borrow.Author.Rules.{rules}
 use Rattle.ask_header_graph.proofs.begin_columns.Goals as goal
 
 pub returns : goal.returns

@@ -1,8 +1,5 @@
 -- `ask_header_graph::fill_column` meets its contract.
-use Rattle.ask_header_graph.proofs.Filling.{Filling, fill_begin, fill_more, fill_end}
-use lib.ListN.{length}
-use Prim.Native.Nat.{◌-◌}
-use borrow.Author.Rules.{rules}
+use Rattle.ask_header_graph.proofs.Filling.{fill_begin, fill_more, fill_end}
 use Rattle.ask_header_graph.proofs.fill_column.Goals as goal
 
 pub loop-i-init : goal.loop-i-init

@@ -1,7 +1,6 @@
-use Rattle.ask_header_graph.proofs.Filling.{Filling, fill_begin, fill_more, fill_end}
+use Rattle.ask_header_graph.proofs.Filling.{Filling}
 use lib.ListN.{length}
 use Prim.Native.Nat.{◌-◌}
-use borrow.Author.Rules.{rules}
 use Rattle.ask_header_graph.proofs.fill_column.Given as goal
 
 abbrev pub invariant-loop-i : goal.invariant-loop-i

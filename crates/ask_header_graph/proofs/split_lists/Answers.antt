@@ -1,8 +1,6 @@
 -- `ask_header_graph::split_lists` meets its contract.
-use Rattle.ask_header_graph.proofs.Splitting.{Splitting, split_begin, split_more, split_end}
+use Rattle.ask_header_graph.proofs.Splitting.{split_begin, split_more, split_end}
 use native.Mathlib.Omega.{arith}
-use Prim.Native.Nat.{◌-◌}
-use borrow.Author.Rules.{rules}
 use Rattle.ask_header_graph.proofs.split_lists.Goals as goal
 
 pub loop-s-init : goal.loop-s-init

@@ -1,7 +1,5 @@
-use Rattle.ask_header_graph.proofs.Splitting.{Splitting, split_begin, split_more, split_end}
-use native.Mathlib.Omega.{arith}
+use Rattle.ask_header_graph.proofs.Splitting.{Splitting}
 use Prim.Native.Nat.{◌-◌}
-use borrow.Author.Rules.{rules}
 use Rattle.ask_header_graph.proofs.split_lists.Given as goal
 
 abbrev pub invariant-loop-s : goal.invariant-loop-s

@@ -1,10 +1,7 @@
 -- `ask_header_graph::walk_steps` meets its contract.
-use Rattle.ask_header_graph.proofs.Walking.{Walking, walk_begin, turn_asked, walk_more, walk_refused, walk_end}
-use Rattle.hold_reading.specs.Buffers.{buffers}
+use Rattle.ask_header_graph.proofs.Walking.{walk_begin, turn_asked, walk_more, walk_refused, walk_end}
 use native.Mathlib.Omega.{arith}
 use mathlib.Core.Path.{◌∙◌}
-use Prim.Native.Nat.{◌-◌}
-use borrow.Author.Rules.{rules}
 use Rattle.ask_header_graph.proofs.walk_steps.Goals as goal
 
 pub loop-s-init : goal.loop-s-init

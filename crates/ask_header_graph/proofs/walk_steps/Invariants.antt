@@ -1,9 +1,6 @@
-use Rattle.ask_header_graph.proofs.Walking.{Walking, walk_begin, turn_asked, walk_more, walk_refused, walk_end}
+use Rattle.ask_header_graph.proofs.Walking.{Walking}
 use Rattle.hold_reading.specs.Buffers.{buffers}
-use native.Mathlib.Omega.{arith}
-use mathlib.Core.Path.{◌∙◌}
 use Prim.Native.Nat.{◌-◌}
-use borrow.Author.Rules.{rules}
 use Rattle.ask_header_graph.proofs.walk_steps.Given as goal
 
 abbrev pub invariant-loop-s : goal.invariant-loop-s

@@ -1,7 +1,6 @@
 -- `ask_header_list::close_step` meets its contract.
 use mathlib.Core.Path.{◌∙◌}
 use Rattle.ask_header_list.proofs.Ending.{close_copies, close_ends_by, close_step_by}
-use borrow.Author.Rules.{rules}
 use Rattle.ask_header_list.proofs.close_step.Goals as goal
 
 pub copy_mentions-d-requires : goal.copy_mentions-d-requires

@@ -1,8 +1,6 @@
 -- `ask_header_list::copy_mentions` meets its contract.
-use Prim.Native.Nat.{◌-◌}
 use native.Mathlib.Omega.{arith}
-use Rattle.ask_header_list.proofs.Copying.{Copying, copy_begin, copy_low, copy_more, copy_end}
-use borrow.Author.Rules.{rules}
+use Rattle.ask_header_list.proofs.Copying.{copy_begin, copy_low, copy_more, copy_end}
 use Rattle.ask_header_list.proofs.copy_mentions.Goals as goal
 
 pub loop-i-init : goal.loop-i-init

@@ -1,7 +1,5 @@
 use Prim.Native.Nat.{◌-◌}
-use native.Mathlib.Omega.{arith}
-use Rattle.ask_header_list.proofs.Copying.{Copying, copy_begin, copy_low, copy_more, copy_end}
-use borrow.Author.Rules.{rules}
+use Rattle.ask_header_list.proofs.Copying.{Copying}
 use Rattle.ask_header_list.proofs.copy_mentions.Given as goal
 
 abbrev pub invariant-loop-i : goal.invariant-loop-i

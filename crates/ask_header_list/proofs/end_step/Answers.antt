@@ -1,6 +1,5 @@
 -- `ask_header_list::end_step` meets its contract.
 use Rattle.ask_header_list.proofs.Ending.{ends_stored}
-use borrow.Author.Rules.{rules}
 use Rattle.ask_header_list.proofs.end_step.Goals as goal
 
 pub returns : goal.returns

@@ -1,6 +1,5 @@
 -- `ask_header_list::find_depfile` meets its contract.
 use Rattle.ask_header_list.proofs.Finding.{find_low, find_unnamed, find_absent, find_text}
-use borrow.Author.Rules.{rules}
 use Rattle.ask_header_list.proofs.find_depfile.Goals as goal
 
 pub returns-then-name-eq0 : goal.returns-then-name-eq0

@@ -1,7 +1,6 @@
 -- `ask_header_list::list_start` meets its contract.
 use Rattle.scan_depfile.proofs.Laws.{list_from, list_refused}
 use Rattle.ask_header_list.proofs.Finding.{starts_at, starts_not}
-use borrow.Author.Rules.{rules}
 use Rattle.ask_header_list.proofs.list_start.Goals as goal
 
 pub returns-in-Names : goal.returns-in-Names

@@ -1,6 +1,5 @@
 -- `ask_header_list::places_of` meets its contract.
 use Rattle.ask_header_list.proofs.Placing.{places_from}
-use borrow.Author.Rules.{rules}
 use Rattle.ask_header_list.proofs.places_of.Goals as goal
 
 pub returns : goal.returns

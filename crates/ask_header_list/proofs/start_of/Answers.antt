@@ -1,7 +1,6 @@
 -- `ask_header_list::start_of` meets its contract.
 use mathlib.Core.Path.{◌∙◌}
 use Rattle.ask_header_list.proofs.Placing.{start_zero, start_suc}
-use borrow.Author.Rules.{rules}
 use Rattle.ask_header_list.proofs.start_of.Goals as goal
 
 pub returns-then-s-eq0 : goal.returns-then-s-eq0

@@ -2,7 +2,6 @@
 -- past the limits
 use mathlib.Core.Bool.{false}
 use mathlib.Core.Path.{◌≡◌, refl, sym, ◌∙◌}
-use borrow.Author.Rules.{rules}
 use Rattle.apply_files.specs.Path.{path_over}
 use Rattle.ask_header_names.proofs.Naming.{header_over, name_counted, header_fits, header_added}
 use Rattle.ask_header_names.proofs.add_header.Goals as goal

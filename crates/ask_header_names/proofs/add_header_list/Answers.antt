@@ -1,11 +1,9 @@
 -- `ask_header_names::add_header_list` meets its contract.
-use Prim.Native.Nat.{◌-◌}
 use native.Mathlib.Omega.{arith}
-use lib.ListN.{length}
 use borrow.Author.Rules.{rules}
 use Rattle.scan_depfile.proofs.Laws.{name_listed, list_over, list_malformed}
 use Rattle.ask_header_names.proofs.Listing as loop
-use Rattle.ask_header_names.proofs.Listing.{Listing, list_begin, list_asks, list_on, list_end, list_bad}
+use Rattle.ask_header_names.proofs.Listing.{list_begin, list_asks, list_on, list_end, list_bad}
 use Rattle.ask_header_names.proofs.add_header_list.Goals as goal
 
 pub loop-next-init : goal.loop-next-init

@@ -1,9 +1,6 @@
 -- `ask_judged_times::clear_times` meets its contract.
-use Prim.Native.Nat.{◌-◌}
 use mathlib.Core.Path.{sym, ◌∙◌}
-use lib.ListN.{length}
-use Rattle.ask_judged_times.proofs.Clearing.{Clearing, clear_begin, clear_off, clear_on, clear_end}
-use borrow.Author.Rules.{rules}
+use Rattle.ask_judged_times.proofs.Clearing.{clear_begin, clear_off, clear_on, clear_end}
 use Rattle.ask_judged_times.proofs.clear_times.Goals as goal
 
 pub loop-f-init : goal.loop-f-init

@@ -1,6 +1,5 @@
 -- `ask_judged_times::is_forced` meets its contract.
 use Rattle.ask_judged_times.proofs.Forcing.{by_missing, by_listed, ask_listed, ask_absent}
-use borrow.Author.Rules.{rules}
 use Rattle.ask_judged_times.proofs.is_forced.Goals as goal
 
 pub returns-then-at-eq1 : goal.returns-then-at-eq1

@@ -2,7 +2,6 @@
 use mathlib.Core.Path.{sym}
 use Rattle.spec.specs.Limits.{max_steps}
 use Rattle.hold_columns.proofs.Blank.{length_blank}
-use borrow.Author.Rules.{rules}
 use Rattle.ask_judged_times.proofs.judge_times.Goals as goal
 
 pub slice_bounds-mark_then_clear-end : goal.slice_bounds-mark_then_clear-end

@@ -1,6 +1,5 @@
 -- `ask_judged_times::listed_files` meets its contract.
 use Rattle.ask_judged_times.specs.Lists.{listed_part}
-use borrow.Author.Rules.{rules}
 use Rattle.ask_judged_times.proofs.listed_files.Goals as goal
 
 pub returns : goal.returns

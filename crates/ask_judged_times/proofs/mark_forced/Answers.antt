@@ -1,10 +1,7 @@
 -- `ask_judged_times::mark_forced` meets its contract.
-use Prim.Native.Nat.{◌-◌}
 use mathlib.Core.Path.{sym, ap, ◌∙◌}
-use lib.ListN.{length}
 use Rattle.hold_columns.specs.Columns.{bit}
-use Rattle.ask_judged_times.proofs.Forcing.{Forcing, force_begin, force_more, force_end}
-use borrow.Author.Rules.{rules}
+use Rattle.ask_judged_times.proofs.Forcing.{force_begin, force_more, force_end}
 use Rattle.ask_judged_times.proofs.mark_forced.Goals as goal
 
 pub loop-s-init : goal.loop-s-init

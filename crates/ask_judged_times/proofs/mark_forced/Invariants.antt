@@ -1,9 +1,6 @@
 use Prim.Native.Nat.{◌-◌}
-use mathlib.Core.Path.{sym, ap, ◌∙◌}
 use lib.ListN.{length}
-use Rattle.hold_columns.specs.Columns.{bit}
-use Rattle.ask_judged_times.proofs.Forcing.{Forcing, force_begin, force_more, force_end}
-use borrow.Author.Rules.{rules}
+use Rattle.ask_judged_times.proofs.Forcing.{Forcing}
 use Rattle.ask_judged_times.proofs.mark_forced.Given as goal
 
 abbrev pub invariant-loop-s : goal.invariant-loop-s

@@ -1,6 +1,5 @@
 -- `ask_judged_times::marked_maker` meets its contract.
 use Rattle.ask_judged_times.proofs.Clearing.{unmade, by_mark}
-use borrow.Author.Rules.{rules}
 use Rattle.ask_judged_times.proofs.marked_maker.Goals as goal
 
 pub returns-then-m-eq0 : goal.returns-then-m-eq0

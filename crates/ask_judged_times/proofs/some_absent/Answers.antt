@@ -1,10 +1,6 @@
 -- `ask_judged_times::some_absent` meets its contract.
-use Prim.Native.Nat.{◌-◌}
-use lib.ListN.{length}
-use Rattle.hold_columns.proofs.Looking.{Looking, look_begin, look_more, look_found, look_end}
-use Rattle.ask_judged_times.specs.Lists.{some_absent}
+use Rattle.hold_columns.proofs.Looking.{look_begin, look_more, look_found, look_end}
 use Rattle.ask_judged_times.proofs.Forcing.{with_maker, absent_there, present_there, none_absent}
-use borrow.Author.Rules.{rules}
 use Rattle.ask_judged_times.proofs.some_absent.Goals as goal
 
 pub loop-i-init : goal.loop-i-init

@@ -1,9 +1,7 @@
 use Prim.Native.Nat.{◌-◌}
 use lib.ListN.{length}
-use Rattle.hold_columns.proofs.Looking.{Looking, look_begin, look_more, look_found, look_end}
+use Rattle.hold_columns.proofs.Looking.{Looking}
 use Rattle.ask_judged_times.specs.Lists.{some_absent}
-use Rattle.ask_judged_times.proofs.Forcing.{with_maker, absent_there, present_there, none_absent}
-use borrow.Author.Rules.{rules}
 use Rattle.ask_judged_times.proofs.some_absent.Given as goal
 
 abbrev pub invariant-loop-i : goal.invariant-loop-i

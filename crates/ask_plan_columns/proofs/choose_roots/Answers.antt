@@ -2,7 +2,6 @@
 use Rattle.spec.specs.Limits.{max_files}
 use Rattle.hold_columns.proofs.Blank.{length_blank}
 use Rattle.ask_plan_columns.proofs.Columns.{few_files, marked}
-use borrow.Author.Rules.{rules}
 use Rattle.ask_plan_columns.proofs.choose_roots.Goals as goal
 
 pub slice_bounds-find_in-end : goal.slice_bounds-find_in-end

@@ -1,6 +1,5 @@
 -- `ask_plan_list::plan_listed` meets its contract.
 use Rattle.ask_plan_list.proofs.Listed.{ask_list, listed}
-use borrow.Author.Rules.{rules}
 use Rattle.ask_plan_list.proofs.plan_listed.Goals as goal
 
 pub list_stale-n-requires : goal.list_stale-n-requires

@@ -2,7 +2,6 @@
 use mathlib.Core.Path.{sym}
 use Rattle.spec.specs.Limits.{max_steps}
 use Rattle.hold_columns.proofs.Blank.{length_blank}
-use borrow.Author.Rules.{rules}
 use Rattle.ask_plan_order.proofs.plan_ordered.Goals as goal
 
 pub slice_bounds-sort_then_plan-end : goal.slice_bounds-sort_then_plan-end

@@ -1,7 +1,6 @@
 -- `ask_plan_reading::plan_read` meets its contract.
 use mathlib.Core.Path.{refl, sym, ◌∙◌}
 use Rattle.ask_plan_reading.proofs.Outcomes.{bad_card, good_card}
-use borrow.Author.Tests.{not-true, not-false}
 use Rattle.ask_plan_reading.proofs.plan_read.Goals as goal
 
 pub sound-requires : goal.sound-requires

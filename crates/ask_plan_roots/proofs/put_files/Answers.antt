@@ -1,9 +1,6 @@
 -- `ask_plan_roots::put_files` meets its contract.
-use Prim.Native.Nat.{◌-◌}
 use mathlib.Core.Path.{refl}
-use lib.ListN.{length}
-use Rattle.ask_plan_roots.proofs.Choosing.{Putting, put_begin, put_more, put_end}
-use borrow.Author.Rules.{rules}
+use Rattle.ask_plan_roots.proofs.Choosing.{put_begin, put_more, put_end}
 use Rattle.ask_plan_roots.proofs.put_files.Goals as goal
 
 pub loop-i-init : goal.loop-i-init

@@ -1,8 +1,6 @@
 use Prim.Native.Nat.{◌-◌}
-use mathlib.Core.Path.{refl}
 use lib.ListN.{length}
-use Rattle.ask_plan_roots.proofs.Choosing.{Putting, put_begin, put_more, put_end}
-use borrow.Author.Rules.{rules}
+use Rattle.ask_plan_roots.proofs.Choosing.{Putting}
 use Rattle.ask_plan_roots.proofs.put_files.Given as goal
 
 abbrev pub invariant-loop-i : goal.invariant-loop-i

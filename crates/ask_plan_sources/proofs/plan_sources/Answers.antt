@@ -1,6 +1,5 @@
 -- `ask_plan_sources::plan_sources` meets its contract.
 use Rattle.ask_plan_sources.proofs.Outcomes.{ask_missing, missing, goes_on}
-use borrow.Author.Rules.{rules}
 use Rattle.ask_plan_sources.proofs.plan_sources.Goals as goal
 
 pub missing_source-f-requires : goal.missing_source-f-requires

@@ -1,9 +1,7 @@
 -- `ask_target_files::number_targets` meets its contract.
 use mathlib.Core.Path.{refl, sym, ◌∙◌}
 use native.Mathlib.Omega.{arith}
-use Prim.Native.Nat.{◌+◌, ◌-◌}
-use lib.ListN.{length}
-use Rattle.ask_target_files.proofs.Numbering.{Walked, form_bad, begin, ended, bad, turn, unknown, known, more}
+use Rattle.ask_target_files.proofs.Numbering.{form_bad, begin, ended, bad, turn, unknown, known, more}
 use borrow.Author.Rules.{rules}
 use Rattle.ask_target_files.proofs.number_targets.Goals as goal
 

@@ -1,9 +1,6 @@
-use mathlib.Core.Path.{refl, sym, ◌∙◌}
-use native.Mathlib.Omega.{arith}
 use Prim.Native.Nat.{◌+◌, ◌-◌}
 use lib.ListN.{length}
-use Rattle.ask_target_files.proofs.Numbering.{Walked, form_bad, begin, ended, bad, turn, unknown, known, more}
-use borrow.Author.Rules.{rules}
+use Rattle.ask_target_files.proofs.Numbering.{Walked}
 use Rattle.ask_target_files.proofs.number_targets.Given as goal
 
 abbrev pub invariant-loop-end : goal.invariant-loop-end

@@ -1,6 +1,5 @@
 -- `asks::texts` meets its contract.
 use Rattle.asks.proofs.Short.{short_texts}
-use borrow.Author.Rules.{rules}
 use Rattle.asks.proofs.texts.Goals as goal
 
 pub returns-then-bytes-lt-TEXT : goal.returns-then-bytes-lt-TEXT

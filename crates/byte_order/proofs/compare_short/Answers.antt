@@ -1,9 +1,6 @@
 -- `byte_order::compare_short` meets its contract.
-use Prim.Native.Nat.{◌-◌}
 use native.Mathlib.Omega.{arith}
-use borrow.Author.Rules.{rules}
-use Rattle.lists.specs.Order.{order_bytes}
-use Rattle.byte_order.proofs.Comparing.{Comparing, compare_begin, order_lower, order_higher, order_more, order_shorter, order_longer, order_end}
+use Rattle.byte_order.proofs.Comparing.{compare_begin, order_lower, order_higher, order_more, order_shorter, order_longer, order_end}
 use Rattle.byte_order.proofs.compare_short.Goals as goal
 
 pub loop-i-init : goal.loop-i-init

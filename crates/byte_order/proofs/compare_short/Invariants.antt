@@ -1,8 +1,6 @@
 use Prim.Native.Nat.{◌-◌}
-use native.Mathlib.Omega.{arith}
-use borrow.Author.Rules.{rules}
 use Rattle.lists.specs.Order.{order_bytes}
-use Rattle.byte_order.proofs.Comparing.{Comparing, compare_begin, order_lower, order_higher, order_more, order_shorter, order_longer, order_end}
+use Rattle.byte_order.proofs.Comparing.{Comparing}
 use Rattle.byte_order.proofs.compare_short.Given as goal
 
 abbrev pub invariant-loop-i : goal.invariant-loop-i

@@ -1,5 +1,4 @@
 -- `byte_order::equal` meets its contract.
-use borrow.Author.Rules.{rules}
 use Rattle.byte_order.proofs.Comparing.{equal_length}
 use Rattle.byte_order.proofs.equal.Goals as goal
 

@@ -1,10 +1,6 @@
 -- `byte_order::equal_short` meets its contract.
-use Prim.Native.Nat.{◌-◌}
 use native.Mathlib.Omega.{arith}
-use borrow.Author.Rules.{rules}
-use lib.ListN.{length}
-use Rattle.lists.specs.Bytes.{eq_bytes}
-use Rattle.byte_order.proofs.Comparing.{Comparing, compare_begin, equal_end, equal_differ, equal_more}
+use Rattle.byte_order.proofs.Comparing.{compare_begin, equal_end, equal_differ, equal_more}
 use Rattle.byte_order.proofs.equal_short.Goals as goal
 
 pub loop-i-init : goal.loop-i-init

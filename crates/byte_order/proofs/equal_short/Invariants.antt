@@ -1,9 +1,7 @@
 use Prim.Native.Nat.{◌-◌}
-use native.Mathlib.Omega.{arith}
-use borrow.Author.Rules.{rules}
 use lib.ListN.{length}
 use Rattle.lists.specs.Bytes.{eq_bytes}
-use Rattle.byte_order.proofs.Comparing.{Comparing, compare_begin, equal_end, equal_differ, equal_more}
+use Rattle.byte_order.proofs.Comparing.{Comparing}
 use Rattle.byte_order.proofs.equal_short.Given as goal
 
 abbrev pub invariant-loop-i : goal.invariant-loop-i

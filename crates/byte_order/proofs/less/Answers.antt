@@ -1,6 +1,5 @@
 -- `byte_order::less` meets its contract.
 use mathlib.Core.Path.{sym, ◌∙◌}
-use borrow.Author.Rules.{rules}
 use Rattle.lists.specs.Bytes.{eq_less, less_asym}
 use Rattle.lists.specs.Order.{order_less, order_equal, order_greater}
 use Rattle.byte_order.proofs.less.Goals as goal

@@ -1,10 +1,7 @@
 -- `cases::ask_all` meets its contract.
-use Prim.Native.Nat.{◌-◌, ◌≤◌}
-use mathlib.Core.Path.{◌≡◌, sym}
+use mathlib.Core.Path.{sym}
 use native.Mathlib.Omega.{arith}
-use lib.ListN.{length}
 use lib.Seq.{length-take-le}
-use borrow.Author.Rules.{rules}
 use Rattle.cases.proofs.ask_all.Goals as goal
 
 pub slice_bounds-name-end : goal.slice_bounds-name-end

@@ -1,7 +1,6 @@
 -- `cases::ask_next` meets its contract.
 use mathlib.Core.Path.{sym}
 use lib.Seq.{length-take-le}
-use borrow.Author.Rules.{rules}
 use Rattle.cases.proofs.ask_next.Goals as goal
 
 pub slice_bounds-ask_plan-end-then-a-eq0 : goal.slice_bounds-ask_plan-end-then-a-eq0

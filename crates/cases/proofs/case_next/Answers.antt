@@ -1,6 +1,4 @@
 -- `cases::case_next` meets its contract.
-use borrow.Author.Tests.{not-false}
-use borrow.Author.Rules.{rules}
 use Rattle.cases.proofs.case_next.Goals as goal
 
 pub ask_all-requires : goal.ask_all-requires

@@ -1,9 +1,6 @@
 -- `cases::fill_bytes` meets its contract.
-use lib.ListN.{length-set, length}
+use lib.ListN.{length-set}
 use native.Mathlib.Omega.{arith}
-use Prim.Native.Nat.{◌-◌, ◌≤◌}
-use mathlib.Core.Path.{◌≡◌}
-use borrow.Author.Rules.{rules}
 use Rattle.cases.proofs.fill_bytes.Goals as goal
 
 pub loop-i-smaller : goal.loop-i-smaller

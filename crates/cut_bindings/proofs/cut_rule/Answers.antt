@@ -1,6 +1,5 @@
 -- `cut_bindings::cut_rule` meets its contract.
 use mathlib.Core.Path.{subst}
-use borrow.Author.Rules.{rules}
 use Rattle.cut_forms.specs.Statements.{NameEnds, NamedAt, StatementAt}
 use Rattle.cut_forms.proofs.Faults.{no_form_law}
 use Rattle.cut_forms.proofs.Words.{rule_wrong, rule_more, rule_ends_law}

@@ -1,7 +1,6 @@
 -- `cut_bindings::cut_value` meets its contract.
 use mathlib.Core.Path.{subst}
 use native.Mathlib.Omega.{arith}
-use borrow.Author.Rules.{rules}
 use Rattle.scan_classes.proofs.Sorted.{sorted, in_class, not_in_class}
 use Rattle.scan_raw.specs.Texts.{ValueBad, ValueScanned}
 use Rattle.cut_forms.specs.Statements.{AssignmentAt}

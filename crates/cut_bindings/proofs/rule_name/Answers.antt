@@ -1,6 +1,5 @@
 -- `cut_bindings::rule_name` meets its contract.
 use mathlib.Core.Path.{◌∙◌, ap}
-use borrow.Author.Rules.{rules}
 use Rattle.spec.specs.Forms.{rule_word}
 use Rattle.scan_keywords.proofs.Answers.{word_name, word_no_form, word_not_yet}
 use Rattle.scan_tokens.proofs.Names.{part_name}

@@ -1,5 +1,5 @@
 -- `cut_builds::after_implicit` meets its contract.
-use mathlib.Core.Path.{subst, ap}
+use mathlib.Core.Path.{ap}
 use borrow.Author.Rules.{rules}
 use Rattle.cut_forms.specs.Inputs.{after_implicit}
 use Rattle.cut_forms.specs.Statements.{BarEnds, BarsAt, StatementAt}

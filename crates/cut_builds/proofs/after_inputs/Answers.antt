@@ -1,5 +1,5 @@
 -- `cut_builds::after_inputs` meets its contract.
-use mathlib.Core.Path.{subst, ap}
+use mathlib.Core.Path.{ap}
 use mathlib.Core.List.{[]}
 use borrow.Author.Rules.{rules}
 use Rattle.cut_forms.specs.Inputs.{after_inputs}

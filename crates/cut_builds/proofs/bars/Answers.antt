@@ -1,5 +1,4 @@
 -- `cut_builds::bars` meets its contract.
-use borrow.Author.Rules.{rules}
 use Rattle.cut_forms.specs.Statements.{BarsAt}
 use Rattle.cut_builds.proofs.Builds.{bars_end, bars_other, bars_last, bars_two, bars_one}
 use Rattle.cut_builds.proofs.bars.Goals as goal

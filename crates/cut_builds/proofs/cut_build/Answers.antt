@@ -1,7 +1,5 @@
 -- `cut_builds::cut_build` meets its contract.
 use mathlib.Core.Path.{subst}
-use borrow.Author.Tests.{not-true, not-false}
-use borrow.Author.Rules.{rules}
 use Rattle.cut_forms.specs.Paths.{ListEnds, ListedAt}
 use Rattle.cut_forms.specs.Statements.{StatementAt}
 use Rattle.cut_forms.proofs.Faults.{no_form_law}

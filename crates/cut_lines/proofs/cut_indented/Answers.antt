@@ -1,5 +1,4 @@
 -- `cut_lines::cut_indented` meets its contract.
-use borrow.Author.Rules.{rules}
 use Rattle.cut_lines.proofs.Begins.{indented_is}
 use Rattle.cut_lines.proofs.cut_indented.Goals as goal
 

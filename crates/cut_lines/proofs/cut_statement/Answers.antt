@@ -1,6 +1,5 @@
 -- `cut_lines::cut_statement` meets its contract.
 use mathlib.Core.Path.{sym, ◌∙◌, subst}
-use borrow.Author.Rules.{rules}
 use lib.Seq.{length-take-le}
 use Rattle.cut_forms.specs.Statements.{StatementAt, AssignmentAt}
 use Rattle.cut_lines.proofs.Begins.{statement_rule, statement_build, statement_default, statement_include, statement_subninja, statement_binding}

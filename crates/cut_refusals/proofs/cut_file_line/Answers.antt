@@ -5,7 +5,6 @@ use Rattle.scan_cursor.specs.Spans.{line_of}
 use Rattle.cut_refusals.specs.Cuts.{FileLineAt}
 use Rattle.cut_refusals.proofs.Dollars.{sound_statement}
 use Rattle.cut_refusals.proofs.Cut.{line_wrong, line_open, line_binds, fault_near}
-use borrow.Author.Rules.{rules}
 use Rattle.cut_refusals.proofs.cut_file_line.Goals as goal
 
 pub returns-then-ended : goal.returns-then-ended

@@ -1,8 +1,5 @@
 -- `expand_dollars::expand` meets its contract.
-use Prim.Native.Nat.{◌-◌}
-use borrow.Author.Rules.{rules}
-use lib.ListN.{length}
-use Rattle.expand_dollars.proofs.Expanding.{Expanding, expand_begin, expand_on, expand_done}
+use Rattle.expand_dollars.proofs.Expanding.{expand_begin, expand_on, expand_done}
 use Rattle.expand_dollars.proofs.expand.Goals as goal
 
 pub loop-i-init : goal.loop-i-init

@@ -1,7 +1,6 @@
 use Prim.Native.Nat.{◌-◌}
-use borrow.Author.Rules.{rules}
 use lib.ListN.{length}
-use Rattle.expand_dollars.proofs.Expanding.{Expanding, expand_begin, expand_on, expand_done}
+use Rattle.expand_dollars.proofs.Expanding.{Expanding}
 use Rattle.expand_dollars.proofs.expand.Given as goal
 
 abbrev pub invariant-loop-i : goal.invariant-loop-i

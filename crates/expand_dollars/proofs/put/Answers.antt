@@ -1,7 +1,6 @@
 -- `expand_dollars::put` meets its contract.
 use mathlib.Core.Path.{sym, ◌∙◌}
 use native.Mathlib.Omega.{arith}
-use borrow.Author.Rules.{rules}
 use lib.ListN.{length-take}
 use lib.Seq.{length-take-le}
 use Rattle.expand_dollars.proofs.Laid.{laid_past, laid_whole, laid_part}

@@ -1,5 +1,4 @@
 -- `expand_dollars::put_run` meets its contract.
-use borrow.Author.Rules.{rules}
 use Rattle.expand_parts.specs.Runs.{bytes_of}
 use Rattle.expand_dollars.proofs.put_run.Goals as goal
 

@@ -1,8 +1,6 @@
 -- `expand_order::order` meets its contract.
 use native.Mathlib.Omega.{arith}
-use borrow.Author.Rules.{rules}
-use Rattle.expand_order.proofs.Matching.{shorter, Matching, match_begin, match_lower, match_higher, match_end, match_on, match_less}
-use Rattle.expand_parts.specs.Runs.{most}
+use Rattle.expand_order.proofs.Matching.{shorter, match_begin, match_lower, match_higher, match_end, match_on, match_less}
 use Rattle.expand_order.proofs.order.Goals as goal
 
 pub loop-n-init : goal.loop-n-init

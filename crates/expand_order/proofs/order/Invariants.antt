@@ -1,6 +1,4 @@
-use native.Mathlib.Omega.{arith}
-use borrow.Author.Rules.{rules}
-use Rattle.expand_order.proofs.Matching.{shorter, Matching, match_begin, match_lower, match_higher, match_end, match_on, match_less}
+use Rattle.expand_order.proofs.Matching.{Matching}
 use Rattle.expand_parts.specs.Runs.{most}
 use Rattle.expand_order.proofs.order.Given as goal
 

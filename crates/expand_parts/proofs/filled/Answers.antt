@@ -1,8 +1,5 @@
 -- `expand_parts::filled` meets its contract.
-use Prim.Native.Nat.{◌-◌}
-use borrow.Author.Rules.{rules}
-use lib.ListN.{length}
-use Rattle.expand_parts.proofs.Filling.{closer, Filling, fill_on}
+use Rattle.expand_parts.proofs.Filling.{closer, fill_on}
 use Rattle.expand_parts.proofs.filled.Goals as goal
 
 pub loop-x-smaller : goal.loop-x-smaller

@@ -1,7 +1,6 @@
 use Prim.Native.Nat.{◌-◌}
-use borrow.Author.Rules.{rules}
 use lib.ListN.{length}
-use Rattle.expand_parts.proofs.Filling.{closer, Filling, fill_on}
+use Rattle.expand_parts.proofs.Filling.{Filling}
 use Rattle.expand_parts.proofs.filled.Given as goal
 
 abbrev pub invariant-loop-x : goal.invariant-loop-x

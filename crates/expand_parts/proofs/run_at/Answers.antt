@@ -1,6 +1,5 @@
 -- `expand_parts::run_at` meets its contract.
 use native.Mathlib.Omega.{arith}
-use borrow.Author.Rules.{rules}
 use Rattle.scan_dollars.proofs.Answers.{tells_byte, tells_join, tells_name, tells_bad}
 use Rattle.expand_parts.proofs.Begin.{plain_begins, literal_begins, join_begins, name_begins, none_begins}
 use Rattle.expand_parts.proofs.run_at.Goals as goal

@@ -1,5 +1,4 @@
 -- `expand_parts::variable` meets its contract.
-use borrow.Author.Rules.{rules}
 use Rattle.expand_parts.proofs.Variables.{found_entry, found_value, unset_value}
 use Rattle.expand_parts.proofs.variable.Goals as goal
 

@@ -1,12 +1,8 @@
 -- `graph_list::all_clear` meets its contract.
-use Prim.Native.Nat.{◌-◌}
 use native.Mathlib.Omega.{arith}
-use lib.ListN.{length}
 use Rattle.hold_columns.proofs.Makers.{maker_low}
-use Rattle.hold_columns.proofs.Looking.{Looking, look_begin, look_more, look_found, look_end}
-use Rattle.graph_list.specs.Listing.{all_clear}
+use Rattle.hold_columns.proofs.Looking.{look_begin, look_more, look_found, look_end}
 use Rattle.graph_list.proofs.Looks.{clear_none, clear_not, clear_more, clear_end}
-use borrow.Author.Rules.{rules}
 use Rattle.graph_list.proofs.all_clear.Goals as goal
 
 pub loop-i-init : goal.loop-i-init

@@ -1,11 +1,10 @@
 -- `graph_list::list_pending` meets its contract.
-use Prim.Native.Nat.{◌-◌, ◌≤◌, ◌<◌}
+use Prim.Native.Nat.{◌≤◌, ◌<◌}
 use mathlib.Core.Path.{◌∙◌, sym}
 use native.Mathlib.Omega.{arith}
 use lib.ListN.{length}
 use Rattle.spec.specs.Limits.{max_steps}
-use Rattle.graph_list.proofs.Listing.{Listing, list_ask, list_begin, list_room, list_again, list_more, list_end}
-use borrow.Author.Rules.{rules}
+use Rattle.graph_list.proofs.Listing.{list_ask, list_begin, list_room, list_again, list_more, list_end}
 use Rattle.graph_list.proofs.list_pending.Goals as goal
 
 -- the step to list

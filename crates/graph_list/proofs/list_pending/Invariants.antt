@@ -1,10 +1,6 @@
-use Prim.Native.Nat.{◌-◌, ◌≤◌, ◌<◌}
-use mathlib.Core.Path.{◌∙◌, sym}
-use native.Mathlib.Omega.{arith}
+use Prim.Native.Nat.{◌-◌}
 use lib.ListN.{length}
-use Rattle.spec.specs.Limits.{max_steps}
-use Rattle.graph_list.proofs.Listing.{Listing, list_ask, list_begin, list_room, list_again, list_more, list_end}
-use borrow.Author.Rules.{rules}
+use Rattle.graph_list.proofs.Listing.{Listing}
 use Rattle.graph_list.proofs.list_pending.Given as goal
 
 abbrev pub invariant-loop-s : goal.invariant-loop-s

@@ -1,7 +1,6 @@
 -- `graph_list::list_stale` meets its contract.
 use Rattle.spec.specs.Limits.{max_steps}
 use Rattle.hold_columns.proofs.Blank.{take_blank, length_blank}
-use borrow.Author.Rules.{rules}
 use Rattle.graph_list.proofs.list_stale.Goals as goal
 
 pub slice_bounds-list_marked-end : goal.slice_bounds-list_marked-end

@@ -1,11 +1,9 @@
 -- `graph_list::look` meets its contract.
 use native.Mathlib.Omega.{arith}
-use borrow.Author.Tests.{not-true, not-false}
 use mathlib.Core.Path.{ap, ◌∙◌}
 use Rattle.hold_columns.proofs.Held.{inputs_low}
 use Rattle.graph_list.specs.Listing.{all_clear}
 use Rattle.graph_list.proofs.Looks.{look_clear, look_blocked, look_free, look_lower, look_higher}
-use borrow.Author.Rules.{rules}
 use Rattle.graph_list.proofs.look.Goals as goal
 
 pub returns-then-at-eq1 : goal.returns-then-at-eq1

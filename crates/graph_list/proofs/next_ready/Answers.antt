@@ -1,9 +1,6 @@
 -- `graph_list::next_ready` meets its contract.
-use Prim.Native.Nat.{◌-◌}
 use mathlib.Core.Path.{◌∙◌, sym}
-use lib.ListN.{length}
-use Rattle.graph_list.proofs.Passing.{Passing, pass_begin, pass_ask, pass_more, pass_end}
-use borrow.Author.Rules.{rules}
+use Rattle.graph_list.proofs.Passing.{pass_begin, pass_ask, pass_more, pass_end}
 use Rattle.graph_list.proofs.next_ready.Goals as goal
 
 pub loop-i-init : goal.loop-i-init

@@ -1,8 +1,6 @@
 use Prim.Native.Nat.{◌-◌}
-use mathlib.Core.Path.{◌∙◌, sym}
 use lib.ListN.{length}
-use Rattle.graph_list.proofs.Passing.{Passing, pass_begin, pass_ask, pass_more, pass_end}
-use borrow.Author.Rules.{rules}
+use Rattle.graph_list.proofs.Passing.{Passing}
 use Rattle.graph_list.proofs.next_ready.Given as goal
 
 abbrev pub invariant-loop-i : goal.invariant-loop-i

@@ -1,10 +1,9 @@
 -- `graph_order::explore` meets its contract.
 use lib.ListN.{length-set, length, take}
-use Prim.Native.Nat.{◌+◌, ◌*◌, ◌-◌, ◌<◌}
+use Prim.Native.Nat.{◌-◌, ◌<◌}
 use native.Mathlib.Omega.{arith}
 use Rattle.graph_order.specs.Walk.{Explored}
-use Rattle.graph_order.proofs.Exploring.{Exploring, Turn, explore_begin, top_low, top_files, top_start, numbers, open_low, open_maker, push_room, explore_push, explore_circle, pop_room, explore_pop, explore_end}
-use borrow.Author.Rules.{rules}
+use Rattle.graph_order.proofs.Exploring.{Turn, explore_begin, top_low, top_files, top_start, numbers, open_low, open_maker, push_room, explore_push, explore_circle, pop_room, explore_pop, explore_end}
 use Rattle.graph_order.proofs.explore.Goals as goal
 
 -- what holds after the search for an open input

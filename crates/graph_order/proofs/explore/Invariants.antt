@@ -1,9 +1,6 @@
-use lib.ListN.{length-set, length, take}
-use Prim.Native.Nat.{◌+◌, ◌*◌, ◌-◌, ◌<◌}
-use native.Mathlib.Omega.{arith}
-use Rattle.graph_order.specs.Walk.{Explored}
-use Rattle.graph_order.proofs.Exploring.{Exploring, Turn, explore_begin, top_low, top_files, top_start, numbers, open_low, open_maker, push_room, explore_push, explore_circle, pop_room, explore_pop, explore_end}
-use borrow.Author.Rules.{rules}
+use lib.ListN.{length, take}
+use Prim.Native.Nat.{◌+◌, ◌*◌, ◌-◌}
+use Rattle.graph_order.proofs.Exploring.{Exploring}
 use Rattle.graph_order.proofs.explore.Given as goal
 
 abbrev pub invariant-loop-depth : goal.invariant-loop-depth

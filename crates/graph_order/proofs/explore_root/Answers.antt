@@ -2,7 +2,6 @@
 use native.Mathlib.Omega.{arith}
 use Rattle.graph_order.specs.Walk.{RootSeen}
 use Rattle.graph_order.proofs.Roots.{root_low, root_none, root_done, root_starts, root_found}
-use borrow.Author.Rules.{rules}
 use Rattle.graph_order.proofs.explore_root.Goals as goal
 
 pub maker-k-requires : goal.maker-k-requires

@@ -1,9 +1,6 @@
 -- `graph_order::fill` meets its contract.
-use Prim.Native.Nat.{◌-◌}
 use mathlib.Core.Path.{◌∙◌}
-use lib.ListN.{length}
-use Rattle.graph_order.proofs.Filling.{Filling, fill_begin, fill_more, fill_end}
-use borrow.Author.Rules.{rules}
+use Rattle.graph_order.proofs.Filling.{fill_begin, fill_more, fill_end}
 use Rattle.graph_order.proofs.fill.Goals as goal
 
 pub loop-i-init : goal.loop-i-init

@@ -1,10 +1,7 @@
 -- `graph_order::next_open` meets its contract.
 use Rattle.hold_columns.proofs.Makers.{maker_low}
-use Prim.Native.Nat.{◌-◌}
 use native.Mathlib.Omega.{arith}
-use lib.ListN.{length}
-use Rattle.graph_order.proofs.Opens.{Opening, opening, open_none, open_done, open_found, open_end}
-use borrow.Author.Rules.{rules}
+use Rattle.graph_order.proofs.Opens.{opening, open_none, open_done, open_found, open_end}
 use Rattle.graph_order.proofs.next_open.Goals as goal
 
 pub loop-i-init : goal.loop-i-init

@@ -2,7 +2,6 @@
 use mathlib.Core.Path.{sym}
 use Rattle.spec.specs.Limits.{max_steps}
 use Rattle.hold_columns.proofs.Blank.{take_blank, length_blank}
-use borrow.Author.Rules.{rules}
 use Rattle.graph_order.proofs.order_needed.Goals as goal
 
 pub slice_bounds-sort_or_show-end : goal.slice_bounds-sort_or_show-end

@@ -1,10 +1,7 @@
 -- `graph_order::place` meets its contract.
-use Prim.Native.Nat.{ℕ, ◌-◌, ◌≤◌, ◌<◌}
-use mathlib.Core.Path.{◌≡◌, sym, ◌∙◌}
+use mathlib.Core.Path.{sym, ◌∙◌}
 use native.Mathlib.Omega.{arith}
 use borrow.Author.Count.{below_more}
-use lib.ListN.{length, get_or}
-use borrow.Author.Rules.{rules}
 use Rattle.graph_order.proofs.place.Goals as goal
 
 pub loop-j-init : goal.loop-j-init

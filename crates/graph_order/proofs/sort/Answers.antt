@@ -1,10 +1,7 @@
 -- `graph_order::sort` meets its contract.
-use Prim.Native.Nat.{◌-◌}
 use native.Mathlib.Omega.{arith}
-use lib.ListN.{length}
 use Rattle.graph_order.specs.Walk.{FindsOrder}
-use Rattle.graph_order.proofs.Roots.{Rooting, asked_lengths, roots_begin, roots_ask, roots_more, roots_circle, roots_end}
-use borrow.Author.Rules.{rules}
+use Rattle.graph_order.proofs.Roots.{asked_lengths, roots_begin, roots_ask, roots_more, roots_circle, roots_end}
 use Rattle.graph_order.proofs.sort.Goals as goal
 
 pub loop-i-init : goal.loop-i-init

@@ -1,9 +1,6 @@
 use Prim.Native.Nat.{◌-◌}
-use native.Mathlib.Omega.{arith}
 use lib.ListN.{length}
-use Rattle.graph_order.specs.Walk.{FindsOrder}
-use Rattle.graph_order.proofs.Roots.{Rooting, asked_lengths, roots_begin, roots_ask, roots_more, roots_circle, roots_end}
-use borrow.Author.Rules.{rules}
+use Rattle.graph_order.proofs.Roots.{Rooting}
 use Rattle.graph_order.proofs.sort.Given as goal
 
 abbrev pub invariant-loop-i : goal.invariant-loop-i

@@ -1,10 +1,9 @@
 -- `graph_roots::append_unmarked` meets its contract.
-use Prim.Native.Nat.{◌-◌, ◌≤◌, ◌<◌}
+use Prim.Native.Nat.{◌≤◌, ◌<◌}
 use native.Mathlib.Omega.{arith}
 use lib.ListN.{length}
 use Rattle.spec.specs.Limits.{max_files}
-use Rattle.graph_roots.proofs.Appending.{Appending, append_begin, append_skip, append_more, append_end}
-use borrow.Author.Rules.{rules}
+use Rattle.graph_roots.proofs.Appending.{append_begin, append_skip, append_more, append_end}
 use Rattle.graph_roots.proofs.append_unmarked.Goals as goal
 
 -- the file of a turn

@@ -1,9 +1,6 @@
-use Prim.Native.Nat.{◌-◌, ◌≤◌, ◌<◌}
-use native.Mathlib.Omega.{arith}
+use Prim.Native.Nat.{◌-◌}
 use lib.ListN.{length}
-use Rattle.spec.specs.Limits.{max_files}
-use Rattle.graph_roots.proofs.Appending.{Appending, append_begin, append_skip, append_more, append_end}
-use borrow.Author.Rules.{rules}
+use Rattle.graph_roots.proofs.Appending.{Appending}
 use Rattle.graph_roots.proofs.append_unmarked.Given as goal
 
 abbrev pub invariant-loop-i : goal.invariant-loop-i

@@ -1,9 +1,8 @@
 -- `graph_roots::mark` meets its contract.
-use Prim.Native.Nat.{◌-◌, ◌<◌}
+use Prim.Native.Nat.{◌<◌}
 use native.Mathlib.Omega.{arith}
 use lib.ListN.{length}
-use Rattle.graph_roots.proofs.Marking.{Marking, mark_begin, mark_more, mark_end}
-use borrow.Author.Rules.{rules}
+use Rattle.graph_roots.proofs.Marking.{mark_begin, mark_more, mark_end}
 use Rattle.graph_roots.proofs.mark.Goals as goal
 
 -- the file of a turn

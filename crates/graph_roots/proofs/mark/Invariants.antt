@@ -1,8 +1,6 @@
-use Prim.Native.Nat.{◌-◌, ◌<◌}
-use native.Mathlib.Omega.{arith}
+use Prim.Native.Nat.{◌-◌}
 use lib.ListN.{length}
-use Rattle.graph_roots.proofs.Marking.{Marking, mark_begin, mark_more, mark_end}
-use borrow.Author.Rules.{rules}
+use Rattle.graph_roots.proofs.Marking.{Marking}
 use Rattle.graph_roots.proofs.mark.Given as goal
 
 abbrev pub invariant-loop-i : goal.invariant-loop-i

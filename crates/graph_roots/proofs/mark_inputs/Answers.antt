@@ -1,10 +1,7 @@
 -- `graph_roots::mark_inputs` meets its contract.
-use Prim.Native.Nat.{◌-◌}
 use mathlib.Core.Path.{◌∙◌, sym}
-use lib.ListN.{length}
 use Rattle.hold_columns.proofs.Held.{inputs_low}
-use Rattle.graph_roots.proofs.Marking.{Inputs, inputs_begin, inputs_more, inputs_end}
-use borrow.Author.Rules.{rules}
+use Rattle.graph_roots.proofs.Marking.{inputs_begin, inputs_more, inputs_end}
 use Rattle.graph_roots.proofs.mark_inputs.Goals as goal
 
 pub loop-s-init : goal.loop-s-init

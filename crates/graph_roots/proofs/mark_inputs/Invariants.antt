@@ -1,9 +1,6 @@
 use Prim.Native.Nat.{◌-◌}
-use mathlib.Core.Path.{◌∙◌, sym}
 use lib.ListN.{length}
-use Rattle.hold_columns.proofs.Held.{inputs_low}
-use Rattle.graph_roots.proofs.Marking.{Inputs, inputs_begin, inputs_more, inputs_end}
-use borrow.Author.Rules.{rules}
+use Rattle.graph_roots.proofs.Marking.{Inputs}
 use Rattle.graph_roots.proofs.mark_inputs.Given as goal
 
 abbrev pub invariant-loop-s : goal.invariant-loop-s

@@ -1,7 +1,5 @@
 -- `graph_roots::tops` meets its contract.
-use Prim.Native.Nat.{◌-◌}
-use lib.ListN.{length}
-use Rattle.graph_roots.proofs.Gathering.{Gathering, gather_begin, gather_ask, gather_more, gather_end}
+use Rattle.graph_roots.proofs.Gathering.{gather_begin, gather_ask, gather_more, gather_end}
 use borrow.Author.Rules.{rules}
 use Rattle.graph_roots.proofs.tops.Goals as goal
 

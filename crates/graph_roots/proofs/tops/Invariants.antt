@@ -1,7 +1,6 @@
 use Prim.Native.Nat.{◌-◌}
 use lib.ListN.{length}
-use Rattle.graph_roots.proofs.Gathering.{Gathering, gather_begin, gather_ask, gather_more, gather_end}
-use borrow.Author.Rules.{rules}
+use Rattle.graph_roots.proofs.Gathering.{Gathering}
 use Rattle.graph_roots.proofs.tops.Given as goal
 
 abbrev pub invariant-loop-s : goal.invariant-loop-s

@@ -1,7 +1,6 @@
 -- `graph_sources::lower` meets its contract.
 use mathlib.Core.Path.{sym, ◌∙◌}
 use Rattle.graph_sources.proofs.Absent.{lower_kept, lower_found}
-use borrow.Author.Rules.{rules}
 use Rattle.graph_sources.proofs.lower.Goals as goal
 
 pub returns-then-low-f : goal.returns-then-low-f

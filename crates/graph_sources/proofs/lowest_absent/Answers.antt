@@ -1,8 +1,5 @@
 -- `graph_sources::lowest_absent` meets its contract.
-use Prim.Native.Nat.{◌-◌}
-use lib.ListN.{length}
-use Rattle.graph_sources.proofs.Absent.{Lowering, lower_begin, lower_more, lower_end}
-use borrow.Author.Rules.{rules}
+use Rattle.graph_sources.proofs.Absent.{lower_begin, lower_more, lower_end}
 use Rattle.graph_sources.proofs.lowest_absent.Goals as goal
 
 pub loop-i-init : goal.loop-i-init

@@ -1,7 +1,6 @@
 use Prim.Native.Nat.{◌-◌}
 use lib.ListN.{length}
-use Rattle.graph_sources.proofs.Absent.{Lowering, lower_begin, lower_more, lower_end}
-use borrow.Author.Rules.{rules}
+use Rattle.graph_sources.proofs.Absent.{Lowering}
 use Rattle.graph_sources.proofs.lowest_absent.Given as goal
 
 abbrev pub invariant-loop-i : goal.invariant-loop-i

@@ -1,9 +1,6 @@
 -- `graph_sources::missing_source` meets its contract.
-use Prim.Native.Nat.{◌-◌}
-use lib.ListN.{length}
 use Rattle.hold_columns.proofs.Held.{inputs_low}
-use Rattle.graph_sources.proofs.Absent.{Searching, lowest_begin, lowest_more, lowest_end}
-use borrow.Author.Rules.{rules}
+use Rattle.graph_sources.proofs.Absent.{lowest_begin, lowest_more, lowest_end}
 use Rattle.graph_sources.proofs.missing_source.Goals as goal
 
 pub lowest_absent-low-requires : goal.lowest_absent-low-requires

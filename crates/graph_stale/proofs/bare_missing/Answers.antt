@@ -1,7 +1,6 @@
 -- `graph_stale::bare_missing` meets its contract.
 use Rattle.hold_columns.proofs.Held.{outs_low}
 use Rattle.graph_stale.proofs.Judging.{bare_not, bare_is}
-use borrow.Author.Rules.{rules}
 use Rattle.graph_stale.proofs.bare_missing.Goals as goal
 
 pub returns-then-fs-gt0 : goal.returns-then-fs-gt0

@@ -1,6 +1,5 @@
 -- `graph_stale::file_time` meets its contract.
 use Rattle.graph_stale.proofs.Times.{time_own, time_none, time_command, time_phony}
-use borrow.Author.Rules.{rules}
 use Rattle.graph_stale.proofs.file_time.Goals as goal
 
 pub returns-then-t-ne0 : goal.returns-then-t-ne0

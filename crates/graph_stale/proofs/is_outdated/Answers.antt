@@ -1,10 +1,6 @@
 -- `graph_stale::is_outdated` meets its contract.
-use Prim.Native.Nat.{◌-◌}
-use lib.ListN.{length}
-use Rattle.hold_columns.proofs.Looking.{Looking, look_begin, look_more, look_found, look_end}
-use Rattle.graph_stale.specs.Judge.{outdated}
+use Rattle.hold_columns.proofs.Looking.{look_begin, look_more, look_found, look_end}
 use Rattle.graph_stale.proofs.Times.{time_missing, time_older, time_kept, outdated_none}
-use borrow.Author.Rules.{rules}
 use Rattle.graph_stale.proofs.is_outdated.Goals as goal
 
 pub loop-i-init : goal.loop-i-init

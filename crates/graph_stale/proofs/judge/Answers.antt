@@ -1,7 +1,6 @@
 -- `graph_stale::judge` meets its contract.
 use Rattle.hold_columns.proofs.Held.{non_order_only_low, outs_low}
 use Rattle.graph_stale.proofs.Judging.{judge_maker, judge_phony, judge_command}
-use borrow.Author.Rules.{rules}
 use Rattle.graph_stale.proofs.judge.Goals as goal
 
 pub non_order_only-fs-requires : goal.non_order_only-fs-requires

@@ -1,10 +1,9 @@
 -- `graph_stale::judge_all` meets its contract.
-use Prim.Native.Nat.{◌-◌, ◌≤◌, ◌<◌}
+use Prim.Native.Nat.{◌≤◌, ◌<◌}
 use native.Mathlib.Omega.{arith}
 use lib.ListN.{length}
 use Rattle.spec.specs.Limits.{max_steps}
-use Rattle.graph_stale.proofs.Along.{Telling, tell_begin, tell_more, tell_end, ask_judge}
-use borrow.Author.Rules.{rules}
+use Rattle.graph_stale.proofs.Along.{tell_begin, tell_more, tell_end, ask_judge}
 use Rattle.graph_stale.proofs.judge_all.Goals as goal
 
 -- the step of a turn

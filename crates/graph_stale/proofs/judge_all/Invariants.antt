@@ -1,9 +1,6 @@
-use Prim.Native.Nat.{◌-◌, ◌≤◌, ◌<◌}
-use native.Mathlib.Omega.{arith}
+use Prim.Native.Nat.{◌-◌}
 use lib.ListN.{length}
-use Rattle.spec.specs.Limits.{max_steps}
-use Rattle.graph_stale.proofs.Along.{Telling, tell_begin, tell_more, tell_end, ask_judge}
-use borrow.Author.Rules.{rules}
+use Rattle.graph_stale.proofs.Along.{Telling}
 use Rattle.graph_stale.proofs.judge_all.Given as goal
 
 abbrev pub invariant-loop-i : goal.invariant-loop-i

@@ -1,9 +1,6 @@
 -- `graph_stale::keep_commands` meets its contract.
-use Prim.Native.Nat.{◌-◌}
 use mathlib.Core.Path.{◌∙◌, sym}
-use lib.ListN.{length}
-use Rattle.graph_stale.proofs.Marking.{Keeping, keep_begin, keep_off, keep_on, keep_end}
-use borrow.Author.Rules.{rules}
+use Rattle.graph_stale.proofs.Marking.{keep_begin, keep_off, keep_on, keep_end}
 use Rattle.graph_stale.proofs.keep_commands.Goals as goal
 
 pub loop-s-init : goal.loop-s-init

@@ -1,8 +1,6 @@
 use Prim.Native.Nat.{◌-◌}
-use mathlib.Core.Path.{◌∙◌, sym}
 use lib.ListN.{length}
-use Rattle.graph_stale.proofs.Marking.{Keeping, keep_begin, keep_off, keep_on, keep_end}
-use borrow.Author.Rules.{rules}
+use Rattle.graph_stale.proofs.Marking.{Keeping}
 use Rattle.graph_stale.proofs.keep_commands.Given as goal
 
 abbrev pub invariant-loop-s : goal.invariant-loop-s

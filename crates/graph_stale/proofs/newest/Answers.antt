@@ -1,8 +1,5 @@
 -- `graph_stale::newest` meets its contract.
-use Prim.Native.Nat.{◌-◌}
-use lib.ListN.{length}
-use Rattle.graph_stale.proofs.Times.{Newest, newest_begin, newest_more, newest_end_law, file_asked}
-use borrow.Author.Rules.{rules}
+use Rattle.graph_stale.proofs.Times.{newest_begin, newest_more, newest_end_law, file_asked}
 use Rattle.graph_stale.proofs.newest.Goals as goal
 
 pub loop-i-init : goal.loop-i-init

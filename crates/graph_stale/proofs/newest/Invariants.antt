@@ -1,7 +1,6 @@
 use Prim.Native.Nat.{◌-◌}
 use lib.ListN.{length}
-use Rattle.graph_stale.proofs.Times.{Newest, newest_begin, newest_more, newest_end_law, file_asked}
-use borrow.Author.Rules.{rules}
+use Rattle.graph_stale.proofs.Times.{Newest}
 use Rattle.graph_stale.proofs.newest.Given as goal
 
 abbrev pub invariant-loop-i : goal.invariant-loop-i

@@ -5,7 +5,6 @@ use Rattle.lists.specs.Fill.{length_zeros}
 use Rattle.spec.specs.Limits.{max_steps}
 use Rattle.hold_columns.proofs.Blank.{length_blank}
 use Rattle.graph_stale.proofs.Marking.{all_marked}
-use borrow.Author.Rules.{rules}
 use Rattle.graph_stale.proofs.stale_commands.Goals as goal
 
 pub slice_bounds-judge_all-end : goal.slice_bounds-judge_all-end

@@ -1,12 +1,8 @@
 -- `graph_stale::stale_maker` meets its contract.
-use Prim.Native.Nat.{◌-◌}
 use native.Mathlib.Omega.{arith}
-use lib.ListN.{length}
 use Rattle.hold_columns.proofs.Makers.{maker_low}
-use Rattle.hold_columns.proofs.Looking.{Looking, look_begin, look_more, look_found, look_end}
-use Rattle.graph_stale.specs.Judge.{stale_maker}
+use Rattle.hold_columns.proofs.Looking.{look_begin, look_more, look_found, look_end}
 use Rattle.graph_stale.proofs.Times.{maker_none, maker_stale_law, maker_fresh, maker_end}
-use borrow.Author.Rules.{rules}
 use Rattle.graph_stale.proofs.stale_maker.Goals as goal
 
 pub loop-i-init : goal.loop-i-init

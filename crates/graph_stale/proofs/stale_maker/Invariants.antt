@@ -1,11 +1,7 @@
 use Prim.Native.Nat.{◌-◌}
-use native.Mathlib.Omega.{arith}
 use lib.ListN.{length}
-use Rattle.hold_columns.proofs.Makers.{maker_low}
-use Rattle.hold_columns.proofs.Looking.{Looking, look_begin, look_more, look_found, look_end}
+use Rattle.hold_columns.proofs.Looking.{Looking}
 use Rattle.graph_stale.specs.Judge.{stale_maker}
-use Rattle.graph_stale.proofs.Times.{maker_none, maker_stale_law, maker_fresh, maker_end}
-use borrow.Author.Rules.{rules}
 use Rattle.graph_stale.proofs.stale_maker.Given as goal
 
 abbrev pub invariant-loop-i : goal.invariant-loop-i

@@ -1,6 +1,5 @@
 -- `hold_bindings::add_entry` meets its contract.
 use Rattle.hold_bindings.proofs.Entries.{added}
-use borrow.Author.Rules.{rules}
 use Rattle.hold_bindings.proofs.add_entry.Goals as goal
 
 pub returns : goal.returns

@@ -1,7 +1,6 @@
 -- `hold_bindings::back_to` meets its contract.
 use native.Mathlib.Omega.{arith}
 use Rattle.hold_bindings.proofs.Marks.{mark_room, back_kept, mark_held}
-use borrow.Author.Rules.{rules}
 use Rattle.hold_bindings.proofs.back_to.Goals as goal
 
 pub add_entry-requires : goal.add_entry-requires

@@ -1,6 +1,5 @@
 -- `hold_bindings::begin_bindings` meets its contract.
 use native.Mathlib.Omega.{arith}
-use borrow.Author.Rules.{rules}
 use lib.ListN.{length-set}
 use Rattle.hold_bindings.proofs.begin_bindings.Goals as goal
 

@@ -1,7 +1,6 @@
 -- `hold_bindings::enter_scope` meets its contract.
 use native.Mathlib.Omega.{arith}
 use Rattle.hold_bindings.proofs.Marks.{mark_room, free_kept, mark_held}
-use borrow.Author.Rules.{rules}
 use Rattle.hold_bindings.proofs.enter_scope.Goals as goal
 
 pub add_entry-requires : goal.add_entry-requires

@@ -3,7 +3,6 @@
 use mathlib.Core.Path.{◌∙◌}
 use Rattle.hold_bindings.proofs.Entries.{row_at}
 use Rattle.hold_bindings.proofs.Seeking.{owner_before, owner_after, owner_same}
-use borrow.Author.Rules.{rules}
 use Rattle.hold_bindings.proofs.is_before.Goals as goal
 
 pub returns-then-owner-o : goal.returns-then-owner-o

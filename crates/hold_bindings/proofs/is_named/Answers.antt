@@ -1,6 +1,5 @@
 -- `hold_bindings::is_named` meets its contract.
 use mathlib.Core.Path.{◌∙◌}
-use borrow.Author.Rules.{rules}
 use Rattle.hold_bindings.proofs.Entries.{row_at}
 use Rattle.hold_bindings.proofs.Seeking.{not_owned, owned}
 use Rattle.hold_bindings.proofs.is_named.Goals as goal

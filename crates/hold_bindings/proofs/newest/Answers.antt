@@ -2,7 +2,6 @@
 -- `hold_bindings::newest` meets its contract.
 use native.Mathlib.Omega.{arith}
 use Rattle.hold_bindings.proofs.Seeking.{index_below, seek_none, seek_found, seek_other}
-use borrow.Author.Rules.{rules}
 use Rattle.hold_bindings.proofs.newest.Goals as goal
 
 pub returns-then-p-eq0 : goal.returns-then-p-eq0

@@ -1,7 +1,6 @@
 -- `hold_bindings::newest_from` meets its contract.
 use native.Mathlib.Omega.{arith}
-use borrow.Author.Rules.{rules}
-use Rattle.hold_bindings.proofs.Scopes.{Outward, out_begin, out_found, out_none, out_less, out_more}
+use Rattle.hold_bindings.proofs.Scopes.{out_begin, out_found, out_none, out_less, out_more}
 use Rattle.hold_bindings.proofs.newest_from.Goals as goal
 
 pub loop-e-init : goal.loop-e-init

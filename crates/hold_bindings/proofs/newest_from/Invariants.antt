@@ -1,6 +1,4 @@
-use native.Mathlib.Omega.{arith}
-use borrow.Author.Rules.{rules}
-use Rattle.hold_bindings.proofs.Scopes.{Outward, out_begin, out_found, out_none, out_less, out_more}
+use Rattle.hold_bindings.proofs.Scopes.{Outward}
 use Rattle.hold_bindings.proofs.newest_from.Given as goal
 
 abbrev pub invariant-loop-e : goal.invariant-loop-e

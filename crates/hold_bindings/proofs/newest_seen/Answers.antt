@@ -2,7 +2,6 @@
 use Prim.Native.Nat.{ℕ}
 use mathlib.Core.Path.{◌∙◌, ap}
 use native.Mathlib.Omega.{arith}
-use borrow.Author.Rules.{rules}
 use Rattle.hold_bindings.specs.Log.{scoping_of, newest_from}
 use Rattle.hold_bindings.proofs.newest_seen.Goals as goal
 

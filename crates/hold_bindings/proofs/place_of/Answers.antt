@@ -1,9 +1,7 @@
 -- `hold_bindings::place_of` meets its contract.
 -- `hold_bindings::place_of` meets its contract.
-use Prim.Native.Nat.{◌-◌}
 use native.Mathlib.Omega.{arith}
-use Rattle.hold_bindings.proofs.Seeking.{Halving, index_below, half_begin, half_lower, half_higher, half_end}
-use borrow.Author.Rules.{rules}
+use Rattle.hold_bindings.proofs.Seeking.{index_below, half_begin, half_lower, half_higher, half_end}
 use Rattle.hold_bindings.proofs.place_of.Goals as goal
 
 pub loop-low-init : goal.loop-low-init

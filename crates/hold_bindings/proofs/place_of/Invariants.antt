@@ -1,7 +1,5 @@
 use Prim.Native.Nat.{◌-◌}
-use native.Mathlib.Omega.{arith}
-use Rattle.hold_bindings.proofs.Seeking.{Halving, index_below, half_begin, half_lower, half_higher, half_end}
-use borrow.Author.Rules.{rules}
+use Rattle.hold_bindings.proofs.Seeking.{Halving}
 use Rattle.hold_bindings.proofs.place_of.Given as goal
 
 abbrev pub invariant-loop-low : goal.invariant-loop-low

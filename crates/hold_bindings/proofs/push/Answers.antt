@@ -1,6 +1,5 @@
 -- `hold_bindings::push` meets its contract.
 use Rattle.hold_bindings.proofs.Entries.{entry_row, entry_held}
-use borrow.Author.Rules.{rules}
 use Rattle.hold_bindings.proofs.push.Goals as goal
 
 pub add_entry-requires : goal.add_entry-requires

@@ -2,7 +2,6 @@
 use Prim.Native.Nat.{◌+◌, ◌≤◌}
 use mathlib.Core.Path.{refl}
 use native.Mathlib.Omega.{arith}
-use borrow.Author.Rules.{rules}
 use lib.ListN.{length}
 use Rattle.hold_bindings.proofs.Entries.{room_fits, pushed}
 use Rattle.hold_bindings.specs.Held.{max_texts}

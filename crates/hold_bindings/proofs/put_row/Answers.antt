@@ -1,6 +1,5 @@
 -- `hold_bindings::put_row` meets its contract.
 use native.Mathlib.Omega.{arith}
-use borrow.Author.Rules.{rules}
 use lib.ListN.{length-set}
 use Rattle.hold_bindings.proofs.put_row.Goals as goal
 

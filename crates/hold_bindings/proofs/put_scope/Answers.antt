@@ -2,7 +2,6 @@
 use native.Mathlib.Omega.{arith}
 use lib.ListN.{length-set}
 use Rattle.hold_bindings.proofs.Marks.{scoped_new}
-use borrow.Author.Rules.{rules}
 use Rattle.hold_bindings.proofs.put_scope.Goals as goal
 
 pub bounds-bind-5120 : goal.bounds-bind-5120

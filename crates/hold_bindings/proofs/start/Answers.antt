@@ -1,6 +1,5 @@
 -- `hold_bindings::start` meets its contract.
 use mathlib.Core.Path.{◌∙◌}
-use borrow.Author.Rules.{rules}
 use Rattle.hold_bindings.proofs.Entries.{start_later}
 use Rattle.hold_bindings.specs.Held.{entry_start}
 use Rattle.hold_bindings.proofs.start.Goals as goal

@@ -1,6 +1,5 @@
 -- `hold_bindings::value_place` meets its contract.
 use native.Mathlib.Omega.{arith}
-use borrow.Author.Rules.{rules}
 use Rattle.hold_bindings.proofs.Entries.{row_of_law, row_at}
 use Rattle.hold_bindings.proofs.value_place.Goals as goal
 

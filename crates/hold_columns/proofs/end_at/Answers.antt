@@ -1,5 +1,4 @@
 -- `hold_columns::end_at` meets its contract.
-use borrow.Author.Rules.{rules}
 use Rattle.hold_columns.proofs.end_at.Goals as goal
 
 pub returns : goal.returns

@@ -1,6 +1,5 @@
 -- `hold_columns::inputs` meets its contract.
 use Rattle.hold_columns.specs.Columns.{inputs_in}
-use borrow.Author.Rules.{rules}
 use Rattle.hold_columns.proofs.inputs.Goals as goal
 
 pub returns : goal.returns

@@ -1,5 +1,4 @@
 -- `hold_columns::maker` meets its contract.
-use borrow.Author.Rules.{rules}
 use Rattle.hold_columns.proofs.maker.Goals as goal
 
 pub returns : goal.returns

@@ -1,6 +1,5 @@
 -- `hold_columns::non_order_only` meets its contract.
 use Rattle.hold_columns.specs.Columns.{non_order_only_in}
-use borrow.Author.Rules.{rules}
 use Rattle.hold_columns.proofs.non_order_only.Goals as goal
 
 pub returns : goal.returns

@@ -1,6 +1,5 @@
 -- `hold_columns::outs` meets its contract.
 use Rattle.hold_columns.specs.Columns.{outs_in}
-use borrow.Author.Rules.{rules}
 use Rattle.hold_columns.proofs.outs.Goals as goal
 
 pub returns : goal.returns

@@ -1,7 +1,6 @@
 -- `hold_columns::start` meets its contract.
 use mathlib.Core.Path.{◌∙◌}
 use Rattle.hold_columns.proofs.Places.{start_zero, start_suc}
-use borrow.Author.Rules.{rules}
 use Rattle.hold_columns.proofs.start.Goals as goal
 
 pub returns-then-s-eq0 : goal.returns-then-s-eq0

@@ -4,7 +4,6 @@ use native.Mathlib.Omega.{arith}
 use Rattle.spec.specs.Basics.{concat}
 use Rattle.spec.specs.Text.{key_name, key_names}
 use Rattle.hold_keys.specs.Names.{names_joined}
-use borrow.Author.Rules.{rules}
 use Rattle.hold_keys.proofs.key_name.Goals as goal
 
 pub returns-then-k-eq0 : goal.returns-then-k-eq0

@@ -2,7 +2,6 @@
 use mathlib.Core.Path.{sym, ◌∙◌}
 use Rattle.spec.specs.Reading.{number_of}
 use Rattle.spec.specs.Text.{key_name, key_names, key_number}
-use borrow.Author.Rules.{rules}
 use Rattle.hold_keys.proofs.key_number.Goals as goal
 
 pub returns-then-equal : goal.returns-then-equal

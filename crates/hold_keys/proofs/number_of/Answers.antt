@@ -2,7 +2,6 @@
 use Rattle.lists.specs.Bytes.{eq_bytes}
 use Rattle.spec.specs.Reading.{number_of}
 use Rattle.spec.specs.Text.{key_name, key_names, key_number}
-use borrow.Author.Rules.{rules}
 use Rattle.hold_keys.proofs.number_of.Goals as goal
 
 pub returns-in-Command : goal.returns-in-Command

@@ -4,7 +4,6 @@ use native.Mathlib.Omega.{arith}
 use Rattle.hold_names.proofs.Buckets.{bucket_small}
 use Rattle.hold_names.proofs.Lies.{used_held}
 use Rattle.hold_names.proofs.Steps.{sought_at, sought_none, add_old, full_files, full_bytes, add_new}
-use borrow.Author.Rules.{rules}
 use Rattle.hold_names.proofs.add.Goals as goal
 
 pub seek-s-requires : goal.seek-s-requires

@@ -1,10 +1,6 @@
 -- `hold_names::bucket` meets its contract: the number so far is the sum of the bytes passed.
-use Prim.Native.Nat.{◌-◌, ◌≤◌}
 use native.Mathlib.Omega.{arith}
-use lib.ListN.{length}
-use Rattle.hold_names.specs.Table.{Summed}
 use Rattle.hold_names.proofs.Buckets.{sum_begin, sum_then, bucket_is}
-use borrow.Author.Rules.{rules}
 use Rattle.hold_names.proofs.bucket.Goals as goal
 
 pub loop-i-init : goal.loop-i-init

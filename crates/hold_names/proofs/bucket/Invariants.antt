@@ -1,9 +1,6 @@
 use Prim.Native.Nat.{◌-◌, ◌≤◌}
-use native.Mathlib.Omega.{arith}
 use lib.ListN.{length}
 use Rattle.hold_names.specs.Table.{Summed}
-use Rattle.hold_names.proofs.Buckets.{sum_begin, sum_then, bucket_is}
-use borrow.Author.Rules.{rules}
 use Rattle.hold_names.proofs.bucket.Given as goal
 
 abbrev pub invariant-loop-i : goal.invariant-loop-i

@@ -3,7 +3,6 @@ use Prim.Native.Nat.{◌+◌}
 use mathlib.Core.Path.{◌∙◌, ap}
 use Rattle.hold_names.specs.Table.{compared_of}
 use Rattle.hold_names.proofs.Halving.{compares_name}
-use borrow.Author.Rules.{rules}
 use Rattle.hold_names.proofs.compare_name.Goals as goal
 
 pub returns : goal.returns

@@ -1,6 +1,5 @@
 -- `hold_names::counted` meets its contract.
 use Rattle.hold_names.proofs.Halving.{tell_before, tell_same, tell_behind}
-use borrow.Author.Rules.{rules}
 use Rattle.hold_names.proofs.counted.Goals as goal
 
 pub returns-in-Less : goal.returns-in-Less

@@ -1,6 +1,5 @@
 -- `hold_names::enter` meets its contract: a law for each room that a name may find.
 use Rattle.hold_names.proofs.Entering.{spare_asked, spare_shape, enter_first, enter_second, enter_spare}
-use borrow.Author.Rules.{rules}
 use Rattle.hold_names.proofs.enter.Goals as goal
 
 pub returns-then-pair-eq0 : goal.returns-then-pair-eq0

@@ -1,6 +1,5 @@
 -- `hold_names::file_name` meets its contract.
 use native.Mathlib.Omega.{arith}
-use borrow.Author.Rules.{rules}
 use Rattle.hold_names.proofs.Lies.{name_within, names_answer}
 use Rattle.hold_names.proofs.file_name.Goals as goal
 

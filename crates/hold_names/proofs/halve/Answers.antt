@@ -1,7 +1,6 @@
 -- `hold_names::halve` meets its contract: a compare with the name in the middle leaves one half of the sorted names.
-use Prim.Native.Nat.{◌-◌}
 use native.Mathlib.Omega.{arith}
-use Rattle.hold_names.proofs.Halving.{Halving, half_begin, half_lower, half_higher, half_found, half_end, mid_inside, mid_below, made_few}
+use Rattle.hold_names.proofs.Halving.{half_begin, half_lower, half_higher, half_found, half_end, mid_inside, mid_below, made_few}
 use borrow.Author.Rules.{rules}
 use Rattle.hold_names.proofs.halve.Goals as goal
 

@@ -1,7 +1,5 @@
 use Prim.Native.Nat.{◌-◌}
-use native.Mathlib.Omega.{arith}
-use Rattle.hold_names.proofs.Halving.{Halving, half_begin, half_lower, half_higher, half_found, half_end, mid_inside, mid_below, made_few}
-use borrow.Author.Rules.{rules}
+use Rattle.hold_names.proofs.Halving.{Halving}
 use Rattle.hold_names.proofs.halve.Given as goal
 
 abbrev pub invariant-loop-low : goal.invariant-loop-low

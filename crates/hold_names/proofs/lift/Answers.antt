@@ -1,6 +1,5 @@
 -- `hold_names::lift` meets its contract.
-use Rattle.hold_names.proofs.Lifting.{Lifting, lift_begin, lift_on, lift_end}
-use borrow.Author.Rules.{rules}
+use Rattle.hold_names.proofs.Lifting.{lift_begin, lift_on, lift_end}
 use Rattle.hold_names.proofs.lift.Goals as goal
 
 pub loop-i-init : goal.loop-i-init

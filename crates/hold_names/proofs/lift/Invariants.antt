@@ -1,5 +1,4 @@
-use Rattle.hold_names.proofs.Lifting.{Lifting, lift_begin, lift_on, lift_end}
-use borrow.Author.Rules.{rules}
+use Rattle.hold_names.proofs.Lifting.{Lifting}
 use Rattle.hold_names.proofs.lift.Given as goal
 
 abbrev pub invariant-loop-i : goal.invariant-loop-i

@@ -1,7 +1,6 @@
 -- `hold_names::make_room` meets its contract.
 use native.Mathlib.Omega.{arith}
 use Rattle.hold_names.proofs.Lifting.{room_kept, room_made}
-use borrow.Author.Rules.{rules}
 use Rattle.hold_names.proofs.make_room.Goals as goal
 
 pub returns-then-n-place : goal.returns-then-n-place

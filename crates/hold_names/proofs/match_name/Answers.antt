@@ -1,6 +1,5 @@
 -- `hold_names::match_name` meets its contract.
 use Rattle.hold_names.proofs.Seeking.{matches_name}
-use borrow.Author.Rules.{rules}
 use Rattle.hold_names.proofs.match_name.Goals as goal
 
 pub returns : goal.returns

@@ -1,6 +1,5 @@
 -- `hold_names::part_block` meets its contract.
 use Rattle.hold_names.proofs.Lifting.{parted}
-use borrow.Author.Rules.{rules}
 use Rattle.hold_names.proofs.part_block.Goals as goal
 
 pub returns : goal.returns

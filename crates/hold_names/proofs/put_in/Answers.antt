@@ -1,7 +1,6 @@
 -- `hold_names::put_in` meets its contract.
 use native.Mathlib.Omega.{arith}
 use Rattle.hold_names.proofs.Lifting.{put_in}
-use borrow.Author.Rules.{rules}
 use Rattle.hold_names.proofs.put_in.Goals as goal
 
 pub returns : goal.returns

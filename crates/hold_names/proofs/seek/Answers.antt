@@ -2,7 +2,6 @@
 use native.Mathlib.Omega.{arith}
 use Rattle.hold_names.proofs.Buckets.{bucket_small}
 use Rattle.hold_names.proofs.Seeking.{passed, first_low, second_low, seek_none, seek_same, seek_on}
-use borrow.Author.Rules.{rules}
 use Rattle.hold_names.proofs.seek.Goals as goal
 
 pub overflow_add-b : goal.overflow_add-b

@@ -1,7 +1,6 @@
 -- `hold_names::seek_second` meets its contract: a law for each way out.
 use native.Mathlib.Omega.{arith}
 use Rattle.hold_names.proofs.Seeking.{passed, second_none, second_same, second_on}
-use borrow.Author.Rules.{rules}
 use Rattle.hold_names.proofs.seek_second.Goals as goal
 
 pub returns-then-second-eq0 : goal.returns-then-second-eq0

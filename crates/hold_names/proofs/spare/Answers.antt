@@ -1,7 +1,6 @@
 -- `hold_names::spare` meets its contract: a block that is full is parted.
 use native.Mathlib.Omega.{arith}
 use Rattle.hold_names.proofs.Blocks.{part_asked, spared_parted, spared_whole}
-use borrow.Author.Rules.{rules}
 use Rattle.hold_names.proofs.spare.Goals as goal
 
 pub put_in-requires : goal.put_in-requires

@@ -1,6 +1,5 @@
 -- `hold_names::start` meets its contract.
 use mathlib.Core.Path.{◌∙◌}
-use borrow.Author.Rules.{rules}
 use Rattle.hold_names.proofs.Lies.{start_none, start_one}
 use Rattle.hold_names.proofs.start.Goals as goal
 

@@ -1,6 +1,5 @@
 -- `hold_names::sum_four` meets its contract.
 use Rattle.hold_names.proofs.Buckets.{sum_four}
-use borrow.Author.Rules.{rules}
 use Rattle.hold_names.proofs.sum_four.Goals as goal
 
 pub returns : goal.returns

@@ -1,10 +1,6 @@
 -- `hold_names::sum_rest` meets its contract.
-use Prim.Native.Nat.{◌-◌}
 use native.Mathlib.Omega.{arith}
-use lib.ListN.{length}
-use Rattle.hold_names.specs.Table.{Summed}
 use Rattle.hold_names.proofs.Buckets.{sum_begin, sum_on, sum_end}
-use borrow.Author.Rules.{rules}
 use Rattle.hold_names.proofs.sum_rest.Goals as goal
 
 pub loop-i-init : goal.loop-i-init

@@ -1,5 +1,4 @@
 -- `hold_rules::has_command` meets its contract.
-use borrow.Author.Rules.{rules}
 use Rattle.hold_rules.proofs.has_command.Goals as goal
 
 pub returns : goal.returns

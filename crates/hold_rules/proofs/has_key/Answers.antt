@@ -1,5 +1,4 @@
 -- `hold_rules::has_key` meets its contract.
-use borrow.Author.Rules.{rules}
 use Rattle.hold_rules.specs.Tests.{keyed}
 use Rattle.hold_rules.proofs.has_key.Goals as goal
 

@@ -1,6 +1,5 @@
 -- `hold_rules::has_line` meets its contract.
 use mathlib.Core.Path.{sym, ◌∙◌}
-use borrow.Author.Rules.{rules}
 use Rattle.hold_bindings.specs.Log.{is_at}
 use Rattle.hold_rules.proofs.has_line.Goals as goal
 

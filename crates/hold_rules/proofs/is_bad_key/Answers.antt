@@ -1,7 +1,5 @@
 -- `hold_rules::is_bad_key` meets its contract.
 use mathlib.Core.Path.{sym, ◌∙◌}
-use borrow.Author.Rules.{rules}
-use borrow.Author.Tests.{not-true, not-false}
 use Rattle.hold_rules.specs.Tests.{bad_key}
 use Rattle.hold_rules.proofs.is_bad_key.Goals as goal
 

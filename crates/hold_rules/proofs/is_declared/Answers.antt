@@ -1,6 +1,5 @@
 -- `hold_rules::is_declared` meets its contract.
 use mathlib.Core.Path.{sym, ◌∙◌}
-use borrow.Author.Rules.{rules}
 use Rattle.hold_rules.proofs.Lookups.{declared_held}
 use Rattle.spec.specs.Reading.{is_phony}
 use Rattle.hold_rules.proofs.is_declared.Goals as goal

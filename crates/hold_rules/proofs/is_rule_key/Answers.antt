@@ -1,6 +1,5 @@
 -- `hold_rules::is_rule_key` meets its contract.
 use mathlib.Core.Path.{sym}
-use borrow.Author.Rules.{rules}
 use Rattle.hold_keys.proofs.Numbers.{rule_key_law}
 use Rattle.hold_rules.proofs.is_rule_key.Goals as goal
 

@@ -1,6 +1,5 @@
 -- `kestrenyo_plan` meets its contract: what the ask ensures, with three numbers for the answer.
 use Rattle.kestrenyo.proofs.Telling.{tells_plan}
-use borrow.Author.Rules.{rules}
 use Rattle.kestrenyo.proofs.kestrenyo_plan.Goals as goal
 
 pub returns : goal.returns

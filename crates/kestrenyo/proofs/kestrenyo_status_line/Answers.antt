@@ -1,5 +1,4 @@
 -- `kestrenyo_status_line` meets its contract: what the line ensures, with three numbers for the answer.
-use borrow.Author.Rules.{rules}
 use Rattle.kestrenyo.proofs.Telling.{tells_outside}
 use Rattle.kestrenyo.proofs.kestrenyo_status_line.Goals as goal
 

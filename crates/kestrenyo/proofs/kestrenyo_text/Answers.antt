@@ -1,6 +1,5 @@
 -- `kestrenyo_text` meets its contract: what the ask ensures, with three numbers for the answer and one for what is wanted.
 use Rattle.kestrenyo.proofs.Telling.{tells_text}
-use borrow.Author.Rules.{rules}
 use Rattle.kestrenyo.proofs.kestrenyo_text.Goals as goal
 
 pub returns : goal.returns

@@ -1,6 +1,5 @@
 -- `kestrenyo_texts` meets its contract: the ask's promise, with three numbers for the answer and one for what is wanted.
 use Rattle.kestrenyo.proofs.Telling.{tells_texts}
-use borrow.Author.Rules.{rules}
 use Rattle.kestrenyo.proofs.kestrenyo_texts.Goals as goal
 
 pub returns : goal.returns

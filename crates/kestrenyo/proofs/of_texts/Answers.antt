@@ -1,7 +1,6 @@
 -- `of_texts` meets its contract.
 use mathlib.Core.Path.{sym, ap, ◌∙◌}
 use Rattle.text_batch.specs.TextsPromise.{texts_says}
-use borrow.Author.Rules.{rules}
 use Rattle.kestrenyo.proofs.of_texts.Goals as goal
 
 pub returns-in-Written : goal.returns-in-Written

@@ -3,7 +3,6 @@ use mathlib.Core.Path.{sym}
 use lib.Seq.{length-take-le}
 use Rattle.report.proofs.Beginning.{whole_within, refusal_within, steps_within, steps_held}
 use Rattle.report.proofs.Rounds.{rounds_start, rooms_kept}
-use borrow.Author.Rules.{rules}
 use Rattle.plan.proofs.answer.Goals as goal
 
 pub begin-requires : goal.begin-requires

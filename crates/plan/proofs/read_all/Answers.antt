@@ -1,10 +1,6 @@
 -- `plan::read_all` meets its contract.
 use Rattle.io.proofs.Counting.{prefix_len_of_le}
 use native.Mathlib.Omega.{arith}
-use Prim.Native.Nat.{◌-◌, ◌≤◌}
-use mathlib.Core.Path.{◌≡◌}
-use lib.ListN.{length}
-use borrow.Author.Rules.{rules}
 use Rattle.plan.proofs.read_all.Goals as goal
 
 pub returns-then-n-eq0 : goal.returns-then-n-eq0

@@ -1,13 +1,9 @@
 -- `plan::write_steps` meets its contract.
-use Prim.Native.Nat.{◌-◌}
 use native.Mathlib.Omega.{arith}
-use mathlib.Core.Path.{◌≡◌, refl, sym, ◌∙◌}
-use lib.ListN.{length}
+use mathlib.Core.Path.{refl, sym, ◌∙◌}
 use lib.Seq.{length-take-le}
 use Rattle.printing.proofs.Putting.{leaves_within}
-use Rattle.report.specs.Held.{ToWrite}
 use Rattle.report.proofs.Rounds.{rounds_more, rounds_next}
-use borrow.Author.Rules.{rules}
 use Rattle.plan.proofs.write_steps.Goals as goal
 
 pub loop-place-init : goal.loop-place-init

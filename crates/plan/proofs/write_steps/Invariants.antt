@@ -1,12 +1,7 @@
 use Prim.Native.Nat.{◌-◌}
-use native.Mathlib.Omega.{arith}
-use mathlib.Core.Path.{◌≡◌, refl, sym, ◌∙◌}
+use mathlib.Core.Path.{◌≡◌}
 use lib.ListN.{length}
-use lib.Seq.{length-take-le}
-use Rattle.printing.proofs.Putting.{leaves_within}
 use Rattle.report.specs.Held.{ToWrite}
-use Rattle.report.proofs.Rounds.{rounds_more, rounds_next}
-use borrow.Author.Rules.{rules}
 use Rattle.plan.proofs.write_steps.Given as goal
 
 abbrev pub invariant-loop-place : goal.invariant-loop-place

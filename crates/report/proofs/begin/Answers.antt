@@ -2,7 +2,6 @@
 use Rattle.spec.specs.Bundle.{no_lists}
 use Rattle.spec.specs.PlanAsk.{inputs_of}
 use Rattle.report.proofs.Beginning.{planned, begins}
-use borrow.Author.Rules.{rules}
 use Rattle.report.proofs.begin.Goals as goal
 
 pub no_lists-lists-requires : goal.no_lists-lists-requires

@@ -1,6 +1,5 @@
 -- `report::begin_list` meets its contract.
 use Rattle.report.proofs.Beginning.{list_none, list_fine, list_stopped}
-use borrow.Author.Rules.{rules}
 use Rattle.report.proofs.begin_list.Goals as goal
 
 pub returns-then-steps-eq0 : goal.returns-then-steps-eq0

@@ -4,7 +4,6 @@ use native.Mathlib.Omega.{arith}
 use lib.Seq.{length-take-le}
 use Rattle.answers.specs.Numbers.{said}
 use Rattle.report.proofs.Beginning.{opens_list, opens_circle, opens_refused}
-use borrow.Author.Rules.{rules}
 use Rattle.report.proofs.begin_planned.Goals as goal
 
 pub slice_bounds-begin_list-end : goal.slice_bounds-begin_list-end

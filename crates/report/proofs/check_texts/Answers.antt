@@ -1,10 +1,7 @@
 -- `report::check_texts` meets its contract.
-use Prim.Native.Nat.{◌-◌}
 use native.Mathlib.Omega.{arith}
 use mathlib.Core.Path.{◌∙◌}
-use lib.ListN.{length}
-use Rattle.report.proofs.Rounds.{Checking, checking_start, checking_asks, checking_more, checking_on, checking_all, checking_stops, checking_end}
-use borrow.Author.Rules.{rules}
+use Rattle.report.proofs.Rounds.{checking_start, checking_asks, checking_more, checking_on, checking_all, checking_stops, checking_end}
 use Rattle.report.proofs.check_texts.Goals as goal
 
 pub loop-i-init : goal.loop-i-init

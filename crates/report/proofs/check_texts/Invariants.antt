@@ -1,9 +1,6 @@
 use Prim.Native.Nat.{◌-◌}
-use native.Mathlib.Omega.{arith}
-use mathlib.Core.Path.{◌∙◌}
 use lib.ListN.{length}
-use Rattle.report.proofs.Rounds.{Checking, checking_start, checking_asks, checking_more, checking_on, checking_all, checking_stops, checking_end}
-use borrow.Author.Rules.{rules}
+use Rattle.report.proofs.Rounds.{Checking}
 use Rattle.report.proofs.check_texts.Given as goal
 
 abbrev pub invariant-loop-i : goal.invariant-loop-i

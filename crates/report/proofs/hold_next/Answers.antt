@@ -1,6 +1,5 @@
 -- `report::hold_next` meets its contract.
 use Rattle.report.proofs.Rounds.{next_held, next_asked, next_refused}
-use borrow.Author.Rules.{rules}
 use Rattle.report.proofs.hold_next.Goals as goal
 
 pub returns-then-held-ne0 : goal.returns-then-held-ne0

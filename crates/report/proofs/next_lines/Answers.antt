@@ -2,7 +2,6 @@
 use mathlib.Core.Path.{sym}
 use lib.Seq.{length-take-le}
 use Rattle.report.proofs.Rounds.{lines_next, lines_placed_law, lines_cut, lines_made}
-use borrow.Author.Rules.{rules}
 use Rattle.report.proofs.next_lines.Goals as goal
 
 pub hold_next-steps_held-requires : goal.hold_next-steps_held-requires

@@ -1,10 +1,7 @@
 -- `run_columns::copy_depths` meets its contract.
 use lib.ListN.{length-set}
 use native.Mathlib.Omega.{arith}
-use Prim.Native.Nat.{◌-◌}
-use lib.ListN.{length}
-use Rattle.run_columns.proofs.Answers.{DepthsTo, depths_begin, depths_more, depths_end}
-use borrow.Author.Rules.{rules}
+use Rattle.run_columns.proofs.Answers.{depths_begin, depths_more, depths_end}
 use Rattle.run_columns.proofs.copy_depths.Goals as goal
 
 pub loop-i-init : goal.loop-i-init

@@ -1,6 +1,5 @@
 -- `run_columns::finish_at` meets its contract.
 use Rattle.run_columns.proofs.Answers.{finish_noted_law, finish_refused}
-use borrow.Author.Rules.{rules}
 use Rattle.run_columns.proofs.finish_at.Goals as goal
 
 pub returns-in-Noted : goal.returns-in-Noted

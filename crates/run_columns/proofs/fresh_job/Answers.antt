@@ -1,7 +1,6 @@
 -- `run_columns::fresh_job` meets its contract.
 use mathlib.Core.Path.{ap₂}
 use Rattle.run_rules.specs.Runner.{waiting_job}
-use borrow.Author.Rules.{rules}
 use Rattle.run_columns.proofs.fresh_job.Goals as goal
 
 pub returns : goal.returns

@@ -2,7 +2,6 @@
 use mathlib.Core.Path.{sym, ◌∙◌}
 use Rattle.run_columns.specs.Columns.{note_at}
 use Rattle.run_columns.proofs.Tables.{row_room}
-use borrow.Author.Rules.{rules}
 use Rattle.run_columns.proofs.note.Goals as goal
 
 pub store-requires : goal.store-requires

@@ -3,7 +3,6 @@ use Prim.Native.Nat.{ℕ}
 use mathlib.Core.Path.{sym}
 use lib.ListN.{length-replicate}
 use Rattle.run_columns.proofs.Answers.{start_spaced}
-use borrow.Author.Rules.{rules}
 use Rattle.run_columns.proofs.start_at.Goals as goal
 
 pub slice_bounds-copy_depths-end : goal.slice_bounds-copy_depths-end

@@ -2,7 +2,6 @@
 use lib.ListN.{length}
 use Rattle.run_core.specs.Numbers.{jobs_in}
 use Rattle.run_columns.proofs.Answers.{start_gated}
-use borrow.Author.Rules.{rules}
 use Rattle.run_columns.proofs.start_in.Goals as goal
 
 pub returns : goal.returns

@@ -1,6 +1,5 @@
 -- `run_columns::start_made` meets its contract.
 use Rattle.run_columns.proofs.Answers.{start_none, start_some}
-use borrow.Author.Rules.{rules}
 use Rattle.run_columns.proofs.start_made.Goals as goal
 
 pub returns-in-NoneStarts : goal.returns-in-NoneStarts

@@ -3,7 +3,6 @@ use mathlib.Core.Path.{refl}
 use native.Mathlib.Omega.{arith}
 use lib.ListN.{length-set}
 use Rattle.run_columns.specs.Columns.{stored_at}
-use borrow.Author.Rules.{rules}
 use Rattle.run_columns.proofs.store.Goals as goal
 
 pub bounds-columns-i-2 : goal.bounds-columns-i-2

@@ -1,8 +1,5 @@
 -- `run_core::any_failed` meets its contract.
-use Prim.Native.Nat.{◌-◌}
-use Rattle.run_core.specs.Numbers.{jobs_in}
-use Rattle.run_core.proofs.Steps.{SoughtTo, seek_begin, seek_found, seek_more, seek_end}
-use borrow.Author.Rules.{rules}
+use Rattle.run_core.proofs.Steps.{seek_begin, seek_found, seek_more, seek_end}
 use Rattle.run_core.proofs.any_failed.Goals as goal
 
 pub job_count-n-requires : goal.job_count-n-requires

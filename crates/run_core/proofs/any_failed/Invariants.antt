@@ -1,7 +1,6 @@
 use Prim.Native.Nat.{◌-◌}
 use Rattle.run_core.specs.Numbers.{jobs_in}
-use Rattle.run_core.proofs.Steps.{SoughtTo, seek_begin, seek_found, seek_more, seek_end}
-use borrow.Author.Rules.{rules}
+use Rattle.run_core.proofs.Steps.{SoughtTo}
 use Rattle.run_core.proofs.any_failed.Given as goal
 
 abbrev pub invariant-loop-i : goal.invariant-loop-i

@@ -1,7 +1,5 @@
 -- `run_core::count_running` meets its contract.
-use Prim.Native.Nat.{◌-◌}
-use Rattle.run_core.specs.Numbers.{jobs_in}
-use Rattle.run_core.proofs.Steps.{CountedTo, count_begin, count_one, count_skip, count_end}
+use Rattle.run_core.proofs.Steps.{count_begin, count_one, count_skip, count_end}
 use borrow.Author.Rules.{rules}
 use Rattle.run_core.proofs.count_running.Goals as goal
 

@@ -1,7 +1,6 @@
 use Prim.Native.Nat.{◌-◌}
 use Rattle.run_core.specs.Numbers.{jobs_in}
-use Rattle.run_core.proofs.Steps.{CountedTo, count_begin, count_one, count_skip, count_end}
-use borrow.Author.Rules.{rules}
+use Rattle.run_core.proofs.Steps.{CountedTo}
 use Rattle.run_core.proofs.count_running.Given as goal
 
 abbrev pub invariant-loop-i : goal.invariant-loop-i

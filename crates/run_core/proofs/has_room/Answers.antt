@@ -1,6 +1,5 @@
 -- `run_core::has_room` meets its contract.
 use Rattle.run_core.proofs.Steps.{room_free, room_none, room_some}
-use borrow.Author.Rules.{rules}
 use Rattle.run_core.proofs.has_room.Goals as goal
 
 pub returns-then-p-eq0 : goal.returns-then-p-eq0

@@ -1,7 +1,5 @@
 -- `run_core::is_clear` meets its contract.
-use mathlib.Core.Path.{refl}
 use Rattle.run_core.proofs.Steps.{clear_past}
-use borrow.Author.Rules.{rules}
 use Rattle.run_core.proofs.is_clear.Goals as goal
 
 pub returns-then-marks-s : goal.returns-then-marks-s

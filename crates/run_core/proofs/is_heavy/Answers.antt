@@ -3,7 +3,6 @@ use Rattle.run_rules.specs.declared.Gate.{Gate}
 use mathlib.Core.Path.{sym, ap, ◌∙◌}
 use Rattle.run_rules.specs.Runner.{heavy_load}
 use Rattle.run_core.proofs.Steps.{heavy_nan, heavy_above, heavy_off}
-use borrow.Author.Rules.{rules}
 use Rattle.run_core.proofs.is_heavy.Goals as goal
 
 pub returns-then-load : goal.returns-then-load

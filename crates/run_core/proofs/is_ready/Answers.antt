@@ -1,8 +1,6 @@
 -- `run_core::is_ready` meets its contract.
 use mathlib.Core.Path.{◌∙◌}
-use borrow.Author.Tests.{not-true, not-false}
 use Rattle.run_core.proofs.Steps.{ready_late, ready_blocked, ready_room}
-use borrow.Author.Rules.{rules}
 use Rattle.run_core.proofs.is_ready.Goals as goal
 
 pub returns-then-j-ne0 : goal.returns-then-j-ne0

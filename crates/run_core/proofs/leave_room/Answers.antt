@@ -1,10 +1,6 @@
 -- `run_core::leave_room` meets its contract.
-use Prim.Native.Nat.{◌-◌}
-use Rattle.run_core.specs.Numbers.{jobs_in}
-use Rattle.run_core.specs.Passes.{room_left}
-use Rattle.run_core.proofs.Table.{PassedTo, pass_begin}
+use Rattle.run_core.proofs.Table.{pass_begin}
 use Rattle.run_core.proofs.Steps.{room_more, room_end, room_long}
-use borrow.Author.Rules.{rules}
 use Rattle.run_core.proofs.leave_room.Goals as goal
 
 pub job_count-n-requires : goal.job_count-n-requires

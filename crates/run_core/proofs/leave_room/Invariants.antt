@@ -1,9 +1,7 @@
 use Prim.Native.Nat.{◌-◌}
 use Rattle.run_core.specs.Numbers.{jobs_in}
 use Rattle.run_core.specs.Passes.{room_left}
-use Rattle.run_core.proofs.Table.{PassedTo, pass_begin}
-use Rattle.run_core.proofs.Steps.{room_more, room_end, room_long}
-use borrow.Author.Rules.{rules}
+use Rattle.run_core.proofs.Table.{PassedTo}
 use Rattle.run_core.proofs.leave_room.Given as goal
 
 abbrev pub invariant-loop-i : goal.invariant-loop-i

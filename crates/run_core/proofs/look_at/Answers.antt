@@ -1,7 +1,6 @@
 -- `run_core::look_at` meets its contract.
 use mathlib.Core.Path.{◌∙◌}
 use Rattle.run_core.proofs.Steps.{look_taken, look_left}
-use borrow.Author.Rules.{rules}
 use Rattle.run_core.proofs.look_at.Goals as goal
 
 pub returns-then-is_ready : goal.returns-then-is_ready

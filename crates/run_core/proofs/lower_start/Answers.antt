@@ -2,7 +2,6 @@
 use mathlib.Core.Path.{sym, ap, ◌∙◌}
 use Rattle.run_core.specs.Passes.{lower_start}
 use Rattle.run_core.proofs.Steps.{lower_first, lower_old, lower_new}
-use borrow.Author.Rules.{rules}
 use Rattle.run_core.proofs.lower_start.Goals as goal
 
 pub returns-then-s-step : goal.returns-then-s-step

@@ -1,8 +1,6 @@
 -- `run_core::lowest_ready` meets its contract.
 use native.Mathlib.Omega.{arith}
-use Rattle.run_core.specs.Numbers.{jobs_in}
-use Rattle.run_core.proofs.Deciding.{LookedFrom, look_begin, look_more, look_end}
-use borrow.Author.Rules.{rules}
+use Rattle.run_core.proofs.Deciding.{look_begin, look_more, look_end}
 use Rattle.run_core.proofs.lowest_ready.Goals as goal
 
 pub job_count-i-requires : goal.job_count-i-requires

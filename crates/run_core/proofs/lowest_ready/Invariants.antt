@@ -1,7 +1,5 @@
-use native.Mathlib.Omega.{arith}
 use Rattle.run_core.specs.Numbers.{jobs_in}
-use Rattle.run_core.proofs.Deciding.{LookedFrom, look_begin, look_more, look_end}
-use borrow.Author.Rules.{rules}
+use Rattle.run_core.proofs.Deciding.{LookedFrom}
 use Rattle.run_core.proofs.lowest_ready.Given as goal
 
 abbrev pub invariant-loop-i : goal.invariant-loop-i

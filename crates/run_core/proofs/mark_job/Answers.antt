@@ -1,6 +1,5 @@
 -- `run_core::mark_job` meets its contract.
 use Rattle.run_core.proofs.Steps.{mark_done, mark_one, mark_past}
-use borrow.Author.Rules.{rules}
 use Rattle.run_core.proofs.mark_job.Goals as goal
 
 pub returns-then-j-eq2 : goal.returns-then-j-eq2

@@ -1,10 +1,6 @@
 -- `run_core::mark_pending` meets its contract.
-use Prim.Native.Nat.{◌-◌}
-use Rattle.run_core.specs.Numbers.{jobs_in}
-use Rattle.run_core.specs.Passes.{pending_marks}
-use Rattle.run_core.proofs.Table.{PassedTo, pass_begin}
+use Rattle.run_core.proofs.Table.{pass_begin}
 use Rattle.run_core.proofs.Steps.{mark_more, mark_end, mark_long}
-use borrow.Author.Rules.{rules}
 use Rattle.run_core.proofs.mark_pending.Goals as goal
 
 pub job_count-n-requires : goal.job_count-n-requires

@@ -1,9 +1,7 @@
 use Prim.Native.Nat.{◌-◌}
 use Rattle.run_core.specs.Numbers.{jobs_in}
 use Rattle.run_core.specs.Passes.{pending_marks}
-use Rattle.run_core.proofs.Table.{PassedTo, pass_begin}
-use Rattle.run_core.proofs.Steps.{mark_more, mark_end, mark_long}
-use borrow.Author.Rules.{rules}
+use Rattle.run_core.proofs.Table.{PassedTo}
 use Rattle.run_core.proofs.mark_pending.Given as goal
 
 abbrev pub invariant-loop-i : goal.invariant-loop-i

@@ -1,8 +1,5 @@
 -- `run_core::pass_rows` meets its contract.
-use Prim.Native.Nat.{◌-◌}
-use lib.ListN.{length}
-use Rattle.run_core.proofs.Steps.{RowsTo, rows_begin, rows_more, rows_end, rows_long}
-use borrow.Author.Rules.{rules}
+use Rattle.run_core.proofs.Steps.{rows_begin, rows_more, rows_end, rows_long}
 use Rattle.run_core.proofs.pass_rows.Goals as goal
 
 pub loop-i-init : goal.loop-i-init

@@ -1,7 +1,6 @@
 use Prim.Native.Nat.{◌-◌}
 use lib.ListN.{length}
-use Rattle.run_core.proofs.Steps.{RowsTo, rows_begin, rows_more, rows_end, rows_long}
-use borrow.Author.Rules.{rules}
+use Rattle.run_core.proofs.Steps.{RowsTo}
 use Rattle.run_core.proofs.pass_rows.Given as goal
 
 abbrev pub invariant-loop-i : goal.invariant-loop-i

@@ -1,8 +1,5 @@
 -- `run_core::place_of` meets its contract.
-use Prim.Native.Nat.{◌-◌}
-use Rattle.run_core.specs.Numbers.{jobs_in}
-use Rattle.run_core.proofs.Steps.{PlacedTo, place_begin, place_found, place_more, place_end}
-use borrow.Author.Rules.{rules}
+use Rattle.run_core.proofs.Steps.{place_begin, place_found, place_more, place_end}
 use Rattle.run_core.proofs.place_of.Goals as goal
 
 pub job_count-n-requires : goal.job_count-n-requires

@@ -1,7 +1,6 @@
 use Prim.Native.Nat.{◌-◌}
 use Rattle.run_core.specs.Numbers.{jobs_in}
-use Rattle.run_core.proofs.Steps.{PlacedTo, place_begin, place_found, place_more, place_end}
-use borrow.Author.Rules.{rules}
+use Rattle.run_core.proofs.Steps.{PlacedTo}
 use Rattle.run_core.proofs.place_of.Given as goal
 
 abbrev pub invariant-loop-i : goal.invariant-loop-i

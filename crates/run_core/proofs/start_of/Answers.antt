@@ -6,7 +6,6 @@ use Rattle.run_core.specs.Numbers.{jobs_in}
 use Rattle.run_core.proofs.Rows.{length_pending, length_rows}
 use Rattle.run_core.proofs.Rooms.{length_left}
 use Rattle.run_core.proofs.Steps.{start_shut, start_lowest}
-use borrow.Author.Rules.{rules}
 use Rattle.run_core.proofs.start_of.Goals as goal
 
 pub starts_shut-requires : goal.starts_shut-requires

@@ -1,6 +1,5 @@
 -- `run_core::take_room` meets its contract.
 use Rattle.run_core.proofs.Steps.{room_same, room_less, room_empty, room_past}
-use borrow.Author.Rules.{rules}
 use Rattle.run_core.proofs.take_room.Goals as goal
 
 pub returns-then-j-ne1 : goal.returns-then-j-ne1

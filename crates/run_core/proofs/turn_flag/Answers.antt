@@ -1,6 +1,5 @@
 -- `run_core::turn_flag` meets its contract.
 use Rattle.run_core.proofs.Steps.{flag_end, flag_clear, flag_past, flag_set}
-use borrow.Author.Rules.{rules}
 use Rattle.run_core.proofs.turn_flag.Goals as goal
 
 pub returns-then-v-eq1 : goal.returns-then-v-eq1

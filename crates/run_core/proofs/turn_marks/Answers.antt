@@ -1,6 +1,5 @@
 -- `run_core::turn_marks` meets its contract.
 use Rattle.run_core.proofs.Steps.{turn_row, turn_end, turn_past}
-use borrow.Author.Rules.{rules}
 use Rattle.run_core.proofs.turn_marks.Goals as goal
 
 pub returns-then-v-eq0 : goal.returns-then-v-eq0

@@ -1,9 +1,7 @@
 -- `scan_bundle::end_of` meets its contract: what is left of the extents ends as all of them do.
-use Prim.Native.Nat.{◌-◌}
 use native.Mathlib.Omega.{arith}
 use Rattle.spec.specs.Bundle.{extent_at}
-use Rattle.scan_bundle.proofs.Running.{Running, run_begin, run_broken, run_on, run_end}
-use borrow.Author.Rules.{rules}
+use Rattle.scan_bundle.proofs.Running.{run_begin, run_broken, run_on, run_end}
 use Rattle.scan_bundle.proofs.end_of.Goals as goal
 
 pub loop-k-init : goal.loop-k-init

@@ -1,8 +1,5 @@
 use Prim.Native.Nat.{◌-◌}
-use native.Mathlib.Omega.{arith}
-use Rattle.spec.specs.Bundle.{extent_at}
-use Rattle.scan_bundle.proofs.Running.{Running, run_begin, run_broken, run_on, run_end}
-use borrow.Author.Rules.{rules}
+use Rattle.scan_bundle.proofs.Running.{Running}
 use Rattle.scan_bundle.proofs.end_of.Given as goal
 
 abbrev pub invariant-loop-k : goal.invariant-loop-k

@@ -2,7 +2,6 @@
 use mathlib.Core.Path.{sym, ◌∙◌}
 use Rattle.scan_bundle.proofs.Lying.{length_names}
 use Rattle.scan_bundle.proofs.Sorting.{find_at, find_none}
-use borrow.Author.Rules.{rules}
 use Rattle.scan_bundle.proofs.find_record.Goals as goal
 
 pub returns-in-Taken : goal.returns-in-Taken

@@ -1,7 +1,6 @@
 -- `scan_bundle::has_sound_extents` meets its contract: the names end to end, then the texts.
 use native.Mathlib.Omega.{arith}
 use Rattle.scan_bundle.proofs.Checking.{names_broken, names_small, texts_broken, texts_done}
-use borrow.Author.Rules.{rules}
 use Rattle.scan_bundle.proofs.has_sound_extents.Goals as goal
 
 pub end_of-requires-in-End : goal.end_of-requires-in-End

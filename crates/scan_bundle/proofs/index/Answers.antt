@@ -1,11 +1,9 @@
 -- `scan_bundle::index` meets its contract: the header and the extents, then the names sorted.
 use mathlib.Core.Path.{sym, ◌∙◌}
 use native.Mathlib.Omega.{arith}
-use borrow.Author.Tests.{not-true, not-false}
 use Rattle.scan_card.proofs.Rules.{layout}
 use Rattle.scan_bundle.proofs.Lying.{laid_layout, laid_few}
 use Rattle.scan_bundle.proofs.Checking.{index_unlaid, index_twice, index_sound}
-use borrow.Author.Rules.{rules}
 use Rattle.scan_bundle.proofs.index.Goals as goal
 
 pub returns-then-not-is_laid : goal.returns-then-not-is_laid

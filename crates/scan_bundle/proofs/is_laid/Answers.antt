@@ -1,12 +1,10 @@
 -- `scan_bundle::is_laid` meets its contract: each test is a rule of the header; the extents last.
 use mathlib.Core.Path.{sym, ◌∙◌}
 use native.Mathlib.Omega.{arith}
-use borrow.Author.Tests.{not-true, not-false}
 use Rattle.lists.specs.Tests.{differ}
 use Rattle.scan_card.proofs.Rules.{refuted, layout}
 use Rattle.scan_bundle.proofs.Lying.{laid_layout, laid_enough, laid_few}
 use Rattle.scan_bundle.proofs.Checking.{run_asks, laid_is}
-use borrow.Author.Rules.{rules}
 use Rattle.scan_bundle.proofs.is_laid.Goals as goal
 
 pub returns-then-not-sound_layout : goal.returns-then-not-sound_layout

@@ -1,6 +1,5 @@
 -- `scan_bundle::part_at` meets its contract.
 use Rattle.scan_bundle.proofs.Lying.{part_lies}
-use borrow.Author.Rules.{rules}
 use Rattle.scan_bundle.proofs.part_at.Goals as goal
 
 pub returns : goal.returns

@@ -1,10 +1,7 @@
 -- `scan_bundle::place_of` meets its contract: a compare with the name in the middle leaves one half of the sorted names.
-use Prim.Native.Nat.{◌-◌}
 use mathlib.Core.Path.{refl}
 use native.Mathlib.Omega.{arith}
-use Rattle.spec.specs.Bundle.{bundle_names}
-use Rattle.scan_bundle.proofs.Sorting.{Halving, half_begin, half_lower, half_higher, half_found, half_end, mid_below}
-use borrow.Author.Rules.{rules}
+use Rattle.scan_bundle.proofs.Sorting.{half_begin, half_lower, half_higher, half_found, half_end, mid_below}
 use Rattle.scan_bundle.proofs.place_of.Goals as goal
 
 pub loop-low-init : goal.loop-low-init

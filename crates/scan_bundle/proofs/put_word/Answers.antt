@@ -2,7 +2,6 @@
 use native.Mathlib.Omega.{arith}
 use lib.ListN.{length-set}
 use Rattle.scan_bundle.proofs.Wrapping.{word_put}
-use borrow.Author.Rules.{rules}
 use Rattle.scan_bundle.proofs.put_word.Goals as goal
 
 pub bounds-out-p-2 : goal.bounds-out-p-2

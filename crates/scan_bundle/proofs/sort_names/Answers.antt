@@ -1,10 +1,8 @@
 -- `scan_bundle::sort_names` meets its contract: the records so far are sorted, and each next one is put in.
-use Prim.Native.Nat.{◌-◌}
 use mathlib.Core.Path.{sym}
 use native.Mathlib.Omega.{arith}
 use lib.Seq.{length-take-le}
-use Rattle.scan_bundle.proofs.Sorting.{Sorting, sort_begin, sort_end, sort_twice, free_within, sort_more}
-use borrow.Author.Rules.{rules}
+use Rattle.scan_bundle.proofs.Sorting.{sort_begin, sort_end, sort_twice, free_within, sort_more}
 use Rattle.scan_bundle.proofs.sort_names.Goals as goal
 
 pub loop-k-init : goal.loop-k-init

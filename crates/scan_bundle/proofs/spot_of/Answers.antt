@@ -1,9 +1,7 @@
 -- `scan_bundle::spot_of` meets its contract: what is left of the place lies as far in the texts that are left.
-use Prim.Native.Nat.{◌-◌}
 use native.Mathlib.Omega.{arith}
 use Rattle.scan_bundle.proofs.Lying.{laid_room}
-use Rattle.scan_bundle.proofs.Places.{Spotting, spot_begin, spot_past, spot_here, spot_on}
-use borrow.Author.Rules.{rules}
+use Rattle.scan_bundle.proofs.Places.{spot_begin, spot_past, spot_here, spot_on}
 use Rattle.scan_bundle.proofs.spot_of.Goals as goal
 
 pub loop-k-init : goal.loop-k-init

@@ -1,8 +1,5 @@
 use Prim.Native.Nat.{◌-◌}
-use native.Mathlib.Omega.{arith}
-use Rattle.scan_bundle.proofs.Lying.{laid_room}
-use Rattle.scan_bundle.proofs.Places.{Spotting, spot_begin, spot_past, spot_here, spot_on}
-use borrow.Author.Rules.{rules}
+use Rattle.scan_bundle.proofs.Places.{Spotting}
 use Rattle.scan_bundle.proofs.spot_of.Given as goal
 
 abbrev pub invariant-loop-k : goal.invariant-loop-k

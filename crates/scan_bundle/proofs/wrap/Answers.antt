@@ -1,7 +1,6 @@
 -- `scan_bundle::wrap` meets its contract.
 use mathlib.Core.Path.{refl}
 use Rattle.scan_bundle.proofs.Wrapping.{record_wrapped}
-use borrow.Author.Rules.{rules}
 use Rattle.scan_bundle.proofs.wrap.Goals as goal
 
 pub returns : goal.returns

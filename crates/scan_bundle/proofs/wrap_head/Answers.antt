@@ -1,6 +1,5 @@
 -- `scan_bundle::wrap_head` meets its contract.
 use Rattle.scan_bundle.proofs.Wrapping.{head_wrapped}
-use borrow.Author.Rules.{rules}
 use Rattle.scan_bundle.proofs.wrap_head.Goals as goal
 
 pub returns : goal.returns

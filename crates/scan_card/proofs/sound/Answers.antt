@@ -1,8 +1,6 @@
 -- `scan_card::sound` meets its contract: the header first, then the names.
 use mathlib.Core.Path.{sym, ◌∙◌}
 use native.Mathlib.Omega.{arith}
-use borrow.Author.Rules.{rules}
-use borrow.Author.Tests.{not-true, not-false}
 use Rattle.scan_card.proofs.Places.{bad_header, good_header, headed}
 use Rattle.scan_card.proofs.Rules.{header}
 use Rattle.scan_card.proofs.sound.Goals as goal

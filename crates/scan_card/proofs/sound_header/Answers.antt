@@ -1,8 +1,6 @@
 -- `scan_card::sound_header` meets its contract: the layout, and the bounds of a card.
 use mathlib.Core.Path.{sym, ◌∙◌}
 use native.Mathlib.Omega.{arith}
-use borrow.Author.Rules.{rules}
-use borrow.Author.Tests.{not-true, not-false}
 use Rattle.lists.specs.Tests.{differ}
 use Rattle.scan_card.proofs.Rules.{refuted, layout, header, header_layout, sound_header_law}
 use Rattle.scan_card.proofs.sound_header.Goals as goal

@@ -1,6 +1,5 @@
 -- `scan_card::sound_layout` meets its contract: each test is a rule of the header.
 use native.Mathlib.Omega.{arith}
-use borrow.Author.Rules.{rules}
 use Rattle.scan_card.proofs.Rules.{refuted, layout, sound_layout_law}
 use Rattle.scan_card.proofs.sound_layout.Goals as goal
 

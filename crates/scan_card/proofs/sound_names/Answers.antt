@@ -1,12 +1,9 @@
 -- `scan_card::sound_names` meets its contract: what is left of the rules stays the same from turn to turn.
-use Prim.Native.Nat.{◌-◌}
 use mathlib.Core.Path.{sym, ◌∙◌}
 use native.Mathlib.Omega.{arith}
-use borrow.Author.Rules.{rules}
-use borrow.Author.Tests.{not-true, not-false}
 use Rattle.lists.specs.Tests.{differ}
 use Rattle.spec.specs.Card.{record_at}
-use Rattle.scan_card.proofs.Naming.{Naming, naming_begin, naming_end, turn, turned}
+use Rattle.scan_card.proofs.Naming.{naming_begin, naming_end, turn, turned}
 use Rattle.scan_card.proofs.Rules.{refuted}
 use Rattle.scan_card.proofs.sound_names.Goals as goal
 

@@ -1,6 +1,5 @@
 -- `scan_card::sound_record` meets its contract: each test is a rule of a record.
 use native.Mathlib.Omega.{arith}
-use borrow.Author.Rules.{rules}
 use Rattle.spec.specs.Card.{record_at}
 use Rattle.scan_card.proofs.Rules.{refuted, fair, sound_record_law}
 use Rattle.scan_card.proofs.sound_record.Goals as goal

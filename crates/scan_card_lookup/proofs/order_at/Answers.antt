@@ -1,5 +1,4 @@
 -- `scan_card_lookup::order_at` meets its contract.
-use borrow.Author.Rules.{rules}
 use Rattle.scan_card_lookup.proofs.order_at.Goals as goal
 
 pub returns : goal.returns

@@ -1,7 +1,6 @@
 -- `scan_depfile::backslash_at` meets its contract.
 use Rattle.scan_depfile.specs.Answers.{MarkAt}
 use Rattle.scan_depfile.proofs.Places.{last_backslash, joined_here, escaped_space, escaped_hash, backslash_here}
-use borrow.Author.Rules.{rules}
 use Rattle.scan_depfile.proofs.backslash_at.Goals as goal
 
 pub returns-then-s-next : goal.returns-then-s-next

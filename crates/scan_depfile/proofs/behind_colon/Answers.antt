@@ -1,13 +1,10 @@
 -- `scan_depfile::behind_colon` meets its contract.
-use Prim.Native.Nat.{◌-◌}
 use mathlib.Core.Path.{refl}
 use native.Mathlib.Omega.{arith}
-use lib.ListN.{length}
 use Rattle.scan_depfile.specs.Walk.{behind_colon}
 use Rattle.scan_depfile.specs.Answers.{NextMark, ColonAt}
 use Rattle.scan_depfile.proofs.Told.{mark_byte, mark_gap, mark_line, mark_lone}
-use Rattle.scan_depfile.proofs.Walking.{Walking, walk_begin, walk_on, colon_found, colon_on, colon_none, colon_end}
-use borrow.Author.Rules.{rules}
+use Rattle.scan_depfile.proofs.Walking.{walk_begin, walk_on, colon_found, colon_on, colon_none, colon_end}
 use Rattle.scan_depfile.proofs.behind_colon.Goals as goal
 
 pub loop-i-init : goal.loop-i-init

@@ -2,7 +2,6 @@
 use Rattle.scan_depfile.specs.Answers.{TargetHere, StartsList}
 use Rattle.scan_depfile.proofs.Told.{target_here, target_other}
 use Rattle.scan_depfile.proofs.Listing.{start_empty, start_other, start_on}
-use borrow.Author.Rules.{rules}
 use Rattle.scan_depfile.proofs.depfile_start.Goals as goal
 
 pub returns-then-out-eq0 : goal.returns-then-out-eq0

@@ -1,7 +1,6 @@
 -- `scan_depfile::dollar_at` meets its contract.
 use Rattle.scan_depfile.specs.Answers.{MarkAt}
 use Rattle.scan_depfile.proofs.Places.{last_dollar, dollars_here, lone_here}
-use borrow.Author.Rules.{rules}
 use Rattle.scan_depfile.proofs.dollar_at.Goals as goal
 
 pub returns-then-s-next : goal.returns-then-s-next

@@ -1,7 +1,6 @@
 -- `scan_depfile::keep_byte` meets its contract.
 use mathlib.Core.Path.{sym}
 use Rattle.scan_depfile.proofs.Naming.{set_past}
-use borrow.Author.Rules.{rules}
 use Rattle.scan_depfile.proofs.keep_byte.Goals as goal
 
 pub returns-else-n-word : goal.returns-else-n-word

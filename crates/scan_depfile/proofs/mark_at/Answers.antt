@@ -2,7 +2,6 @@
 use native.Mathlib.Omega.{arith}
 use Rattle.scan_depfile.specs.Answers.{MarkAt}
 use Rattle.scan_depfile.proofs.Places.{space_here, newline_here, byte_here}
-use borrow.Author.Rules.{rules}
 use Rattle.scan_depfile.proofs.mark_at.Goals as goal
 
 pub returns-then-b-gt92 : goal.returns-then-b-gt92

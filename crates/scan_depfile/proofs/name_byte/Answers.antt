@@ -2,7 +2,6 @@
 use Rattle.scan_depfile.specs.Answers.{NameByteAt}
 use Rattle.scan_depfile.proofs.Told.{mark_byte, mark_gap, mark_line, mark_lone}
 use Rattle.scan_depfile.proofs.Naming.{any_in, other_in, over_colon, over_gap, over_line_law, over_lone, over_end}
-use borrow.Author.Rules.{rules}
 use Rattle.scan_depfile.proofs.name_byte.Goals as goal
 
 pub returns-then-s-i : goal.returns-then-s-i

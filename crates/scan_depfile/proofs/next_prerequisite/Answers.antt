@@ -2,7 +2,6 @@
 use mathlib.Core.Path.{sym, ◌∙◌}
 use Rattle.scan_depfile.specs.Answers.{NextPrerequisite}
 use Rattle.scan_depfile.proofs.Listing.{next_name, next_end, next_malformed}
-use borrow.Author.Rules.{rules}
 use Rattle.scan_depfile.proofs.next_prerequisite.Goals as goal
 
 pub returns-then-name-ne0 : goal.returns-then-name-ne0

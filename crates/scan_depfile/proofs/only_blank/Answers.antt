@@ -1,6 +1,5 @@
 -- `scan_depfile::only_blank` meets its contract.
 use Rattle.scan_depfile.proofs.Listing.{only_blank}
-use borrow.Author.Rules.{rules}
 use Rattle.scan_depfile.proofs.only_blank.Goals as goal
 
 pub returns : goal.returns

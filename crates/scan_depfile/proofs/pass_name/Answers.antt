@@ -1,14 +1,11 @@
 -- `scan_depfile::pass_name` meets its contract.
 use Rattle.scan_depfile.proofs.Naming.{naming_long}
-use Prim.Native.Nat.{◌-◌}
 use mathlib.Core.Bool.{false}
 use mathlib.Core.Path.{refl}
 use native.Mathlib.Omega.{arith}
-use lib.ListN.{length}
 use Rattle.scan_depfile.specs.Answers.{InName}
 use Rattle.scan_depfile.proofs.Told.{name_in, name_over}
-use Rattle.scan_depfile.proofs.Naming.{Naming, naming_begin, naming_on, naming_end}
-use borrow.Author.Rules.{rules}
+use Rattle.scan_depfile.proofs.Naming.{naming_begin, naming_on, naming_end}
 use Rattle.scan_depfile.proofs.pass_name.Goals as goal
 
 pub loop-b-init : goal.loop-b-init

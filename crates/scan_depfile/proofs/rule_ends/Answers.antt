@@ -5,7 +5,6 @@ use Rattle.scan_depfile.specs.Walk.{rule_ends}
 use Rattle.scan_depfile.specs.Answers.{NextMark}
 use Rattle.scan_depfile.proofs.Told.{mark_byte, mark_gap, mark_line, mark_lone}
 use Rattle.scan_depfile.proofs.Listing.{ends_text, ends_line_law, ends_not}
-use borrow.Author.Rules.{rules}
 use Rattle.scan_depfile.proofs.rule_ends.Goals as goal
 
 pub returns-then-s-i : goal.returns-then-s-i

@@ -1,13 +1,10 @@
 -- `scan_depfile::skip_gaps` meets its contract.
-use Prim.Native.Nat.{◌-◌}
 use mathlib.Core.Path.{refl}
 use native.Mathlib.Omega.{arith}
-use lib.ListN.{length}
 use Rattle.scan_depfile.specs.Walk.{behind_gaps}
 use Rattle.scan_depfile.specs.Answers.{NextMark}
 use Rattle.scan_depfile.proofs.Told.{mark_byte, mark_gap, mark_line, mark_lone}
-use Rattle.scan_depfile.proofs.Walking.{Walking, walk_begin, walk_on, walk_stop, walk_end}
-use borrow.Author.Rules.{rules}
+use Rattle.scan_depfile.proofs.Walking.{walk_begin, walk_on, walk_stop, walk_end}
 use Rattle.scan_depfile.proofs.skip_gaps.Goals as goal
 
 pub loop-i-init : goal.loop-i-init

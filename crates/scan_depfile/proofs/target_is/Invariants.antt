@@ -1,10 +1,6 @@
 use Prim.Native.Nat.{◌-◌}
-use mathlib.Core.Bool.{true}
 use lib.ListN.{length}
-use Rattle.scan_depfile.specs.Answers.{TargetIs}
-use Rattle.scan_depfile.proofs.Told.{name_in, name_over}
-use Rattle.scan_depfile.proofs.Naming.{Matching, matching_begin, matching_on, matching_other, matching_short, matching_long, matching_end}
-use borrow.Author.Rules.{rules}
+use Rattle.scan_depfile.proofs.Naming.{Matching}
 use Rattle.scan_depfile.proofs.target_is.Given as goal
 
 abbrev pub invariant-loop-k : goal.invariant-loop-k

@@ -1,11 +1,6 @@
 -- `scan_dollars::braced` meets its contract.
-use Prim.Native.Nat.{◌-◌}
 use native.Mathlib.Omega.{arith}
-use borrow.Author.Rules.{rules}
-use lib.ListN.{length}
-use Rattle.lists.specs.Runs.{Scanning, scan_begin, scan_more, scan_stop, scan_end}
-use Rattle.spec.specs.Bytes.{class_of}
-use Rattle.scan_classes.specs.Table.{class_up_to}
+use Rattle.lists.specs.Runs.{scan_begin, scan_more, scan_stop, scan_end}
 use Rattle.scan_classes.proofs.Sorted.{sorted, in_class, not_in_class}
 use Rattle.scan_tokens.proofs.Names.{range_below, range_above, range_in, name_run}
 use Rattle.scan_dollars.specs.Element.{TellsElement}

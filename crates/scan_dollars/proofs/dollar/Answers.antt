@@ -1,5 +1,4 @@
 -- `scan_dollars::dollar` meets its contract.
-use borrow.Author.Rules.{rules}
 use Rattle.scan_dollars.specs.Element.{TellsElement}
 use Rattle.scan_dollars.proofs.Elements.{nothing_begins, short_begins, brace_begins, join_begins, byte_begins, other_begins}
 use Rattle.scan_dollars.proofs.dollar.Goals as goal

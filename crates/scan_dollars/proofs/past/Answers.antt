@@ -1,5 +1,4 @@
 -- `scan_dollars::past` meets its contract.
-use borrow.Author.Rules.{rules}
 use Rattle.scan_dollars.specs.Element.{PastAt}
 use Rattle.scan_dollars.proofs.Answers.{tells_byte, tells_join, tells_name, tells_bad}
 use Rattle.scan_dollars.proofs.Elements.{passed_byte, passed_join, passed_name, passed_bad}

@@ -1,6 +1,6 @@
 -- `scan_keywords::later_key` meets its contract.
 use mathlib.Core.Bool.{or-false}
-use mathlib.Core.Path.{refl, sym, ◌∙◌}
+use mathlib.Core.Path.{sym, ◌∙◌}
 use Rattle.lists.specs.Members.{any}
 use Rattle.spec.specs.Basics.{among}
 use Rattle.spec.specs.Forms.{later_key}

@@ -1,5 +1,4 @@
 -- `scan_keywords::later_keyword` meets its contract.
-use mathlib.Core.Path.{refl}
 use Rattle.spec.specs.Forms.{later_keyword}
 use Rattle.scan_keywords.proofs.later_keyword.Goals as goal
 

@@ -1,6 +1,5 @@
 -- `scan_keywords::rule_word` meets its contract.
 use mathlib.Core.Path.{sym, ◌∙◌}
-use borrow.Author.Rules.{rules}
 use Rattle.spec.specs.Forms.{rule_word}
 use Rattle.scan_keywords.specs.Words.{word_cut}
 use Rattle.scan_tokens.proofs.Places.{empty, not_empty}

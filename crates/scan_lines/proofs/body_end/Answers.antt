@@ -1,11 +1,8 @@
 -- `scan_lines::body_end` meets its contract.
-use Prim.Native.Nat.{◌-◌}
 use mathlib.Core.Path.{refl}
-use borrow.Author.Rules.{rules}
-use lib.ListN.{length}
 use Rattle.spec.specs.Lines.{body, ends_line}
-use Rattle.scan_lines.specs.Endings.{end_from, EndAt}
-use Rattle.scan_tokens.proofs.Places.{Going, going_begin}
+use Rattle.scan_lines.specs.Endings.{EndAt}
+use Rattle.scan_tokens.proofs.Places.{going_begin}
 use Rattle.scan_lines.proofs.Ends.{open_end, line_ends, body_more, body_escape, body_dollar}
 use Rattle.scan_lines.proofs.body_end.Goals as goal
 

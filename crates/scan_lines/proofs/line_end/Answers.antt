@@ -1,5 +1,4 @@
 -- `scan_lines::line_end` meets its contract.
-use borrow.Author.Rules.{rules}
 use Rattle.scan_classes.proofs.Sorted.{sorted, in_class, not_in_class}
 use Rattle.scan_lines.specs.Endings.{LineAt}
 use Rattle.scan_lines.proofs.Ends.{line_of_spaces, line_of_comment, line_of_body}

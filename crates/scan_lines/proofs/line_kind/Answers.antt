@@ -1,5 +1,4 @@
 -- `scan_lines::line_kind` meets its contract.
-use borrow.Author.Rules.{rules}
 use Rattle.scan_classes.proofs.Sorted.{sorted, in_class, not_in_class}
 use Rattle.scan_lines.proofs.LineKinds.{kind_blank, kind_comment, kind_indented, kind_statement}
 use Rattle.scan_lines.proofs.line_kind.Goals as goal

@@ -1,5 +1,4 @@
 -- `scan_numbers::long` meets its contract.
-use borrow.Author.Rules.{rules}
 use Rattle.scan_numbers.proofs.Endian.{long_is}
 use Rattle.scan_numbers.proofs.long.Goals as goal
 

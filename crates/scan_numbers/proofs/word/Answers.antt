@@ -1,5 +1,4 @@
 -- `scan_numbers::word` meets its contract.
-use borrow.Author.Rules.{rules}
 use Rattle.scan_numbers.proofs.Endian.{word_is}
 use Rattle.scan_numbers.proofs.word.Goals as goal
 

@@ -1,5 +1,4 @@
 -- `scan_targets::bad_form` meets its contract.
-use borrow.Author.Rules.{rules}
 use Rattle.scan_targets.proofs.Runs.{form_long, form_none, form_last}
 use Rattle.scan_targets.proofs.bad_form.Goals as goal
 

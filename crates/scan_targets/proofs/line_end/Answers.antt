@@ -1,10 +1,6 @@
 -- `scan_targets::line_end` meets its contract: a scan for a newline.
-use Prim.Native.Nat.{◌-◌}
-use borrow.Author.Rules.{rules}
-use lib.ListN.{length}
-use Rattle.lists.specs.Runs.{Scanning, scan_begin, scan_more, scan_stop, scan_end}
+use Rattle.lists.specs.Runs.{scan_begin, scan_more, scan_stop, scan_end}
 use Rattle.scan_targets.proofs.Runs.{is_other, is_newline}
-use Rattle.scan_targets.specs.Next.{other}
 use Rattle.scan_targets.proofs.line_end.Goals as goal
 
 pub loop-i-init : goal.loop-i-init

@@ -1,8 +1,6 @@
 use Prim.Native.Nat.{◌-◌}
-use borrow.Author.Rules.{rules}
 use lib.ListN.{length}
-use Rattle.lists.specs.Runs.{Scanning, scan_begin, scan_more, scan_stop, scan_end}
-use Rattle.scan_targets.proofs.Runs.{is_other, is_newline}
+use Rattle.lists.specs.Runs.{Scanning}
 use Rattle.scan_targets.specs.Next.{other}
 use Rattle.scan_targets.proofs.line_end.Given as goal
 

@@ -1,6 +1,5 @@
 -- `scan_targets::name_at` meets its contract: a law for each way out.
 use native.Mathlib.Omega.{arith}
-use borrow.Author.Rules.{rules}
 use Rattle.scan_targets.proofs.Walk.{past_end, at_end, at_empty, at_long, at_name}
 use Rattle.scan_targets.proofs.name_at.Goals as goal
 

@@ -1,7 +1,6 @@
 -- src/lib.rt:38:9
 use Rattle.scan_texts.proofs.Texts.{bundle_head, texts_before, texts_together}
 use native.Mathlib.Omega.{arith}
-use borrow.Author.Rules.{rules}
 use Rattle.scan_texts.proofs.bytes_together.Goals as goal
 
 -- src/lib.rt:39:9

@@ -1,8 +1,6 @@
-use Rattle.scan_texts.proofs.Texts.{laid, bundle_head, BadLeft, bad_begin, bad_end, bad_here, bad_on, bad_near}
+use Rattle.scan_texts.proofs.Texts.{laid, bundle_head, bad_begin, bad_end, bad_here, bad_on, bad_near}
 use Rattle.scan_bundle.proofs.Lying.{length_texts}
-use Rattle.spec.specs.Bundle.{bundle_texts}
 use native.Mathlib.Omega.{arith}
-use Prim.Native.Nat.{◌-◌}
 use Rattle.scan_texts.proofs.first_bad.Goals as goal
 
 -- src/lib.rt:48:9

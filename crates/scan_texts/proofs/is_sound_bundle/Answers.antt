@@ -4,7 +4,6 @@ use lib.ListN.{length-replicate}
 use native.Mathlib.Omega.{arith}
 use mathlib.Core.Path.{sym}
 use Prim.Native.Nat.{ℕ}
-use borrow.Author.Rules.{rules}
 use Rattle.scan_texts.proofs.is_sound_bundle.Goals as goal
 
 -- src/lib.rt:27:11

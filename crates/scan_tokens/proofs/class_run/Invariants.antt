@@ -1,10 +1,8 @@
 use Prim.Native.Nat.{◌-◌}
-use borrow.Author.Rules.{rules}
 use lib.ListN.{length}
-use Rattle.lists.specs.Runs.{Scanning, scan_begin, scan_more, scan_stop, scan_end}
+use Rattle.lists.specs.Runs.{Scanning}
 use Rattle.spec.specs.Bytes.{class_of}
 use Rattle.scan_classes.specs.Table.{class_up_to}
-use Rattle.scan_tokens.proofs.Names.{range_below, range_above, range_in}
 use Rattle.scan_tokens.proofs.class_run.Given as goal
 
 abbrev pub invariant-loop-i : goal.invariant-loop-i

@@ -1,9 +1,5 @@
 -- `scan_tokens::gap` meets its contract.
-use Prim.Native.Nat.{◌-◌}
-use borrow.Author.Rules.{rules}
-use lib.ListN.{length}
-use Rattle.spec.specs.Forms.{gap}
-use Rattle.scan_tokens.proofs.Places.{Going, going_begin}
+use Rattle.scan_tokens.proofs.Places.{going_begin}
 use Rattle.scan_tokens.proofs.Gaps.{skip_end, skip_space, skip_other, skip_last, skip_dollar, skip_join}
 use Rattle.scan_tokens.proofs.gap.Goals as goal
 

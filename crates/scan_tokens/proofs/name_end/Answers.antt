@@ -1,5 +1,4 @@
 -- `scan_tokens::name_end` meets its contract.
-use borrow.Author.Rules.{rules}
 use Rattle.scan_tokens.proofs.Names.{name_run}
 use Rattle.scan_tokens.proofs.name_end.Goals as goal
 

@@ -1,5 +1,4 @@
 -- `scan_tokens::short_name` meets its contract.
-use borrow.Author.Rules.{rules}
 use Rattle.scan_tokens.proofs.Names.{short_run}
 use Rattle.scan_tokens.proofs.short_name.Goals as goal
 

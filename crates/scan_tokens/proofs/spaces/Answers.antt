@@ -1,10 +1,6 @@
 -- `scan_tokens::spaces` meets its contract.
-use Prim.Native.Nat.{◌-◌}
 use borrow.Author.Tests.{eq-eqb, ne_eqb}
-use borrow.Author.Rules.{rules}
-use lib.ListN.{length}
-use Rattle.lists.specs.Runs.{Scanning, scan_begin, scan_more, scan_stop, scan_end}
-use Rattle.spec.specs.Lines.{is_space}
+use Rattle.lists.specs.Runs.{scan_begin, scan_more, scan_stop, scan_end}
 use Rattle.scan_tokens.proofs.spaces.Goals as goal
 
 pub loop-i-init : goal.loop-i-init

@@ -1,8 +1,6 @@
 use Prim.Native.Nat.{◌-◌}
-use borrow.Author.Tests.{eq-eqb, ne_eqb}
-use borrow.Author.Rules.{rules}
 use lib.ListN.{length}
-use Rattle.lists.specs.Runs.{Scanning, scan_begin, scan_more, scan_stop, scan_end}
+use Rattle.lists.specs.Runs.{Scanning}
 use Rattle.spec.specs.Lines.{is_space}
 use Rattle.scan_tokens.proofs.spaces.Given as goal
 

@@ -1,7 +1,6 @@
 -- `digit` meets its contract.
 use mathlib.Core.Path.{refl}
 use Rattle.status_line.specs.Pieces.{digit_of}
-use borrow.Author.Rules.{rules}
 use Rattle.status_line.proofs.digit.Goals as goal
 
 pub returns : goal.returns

@@ -1,6 +1,5 @@
 -- `fill_line` meets its contract.
 use Rattle.status_line.proofs.Filling.{fill_over, fill_fits}
-use borrow.Author.Rules.{rules}
 use Rattle.status_line.proofs.fill_line.Goals as goal
 
 pub put_line-n-requires : goal.put_line-n-requires

@@ -1,10 +1,7 @@
 -- `first_wrong` meets its contract.
-use Prim.Native.Nat.{◌-◌}
 use mathlib.Core.Path.{sym, ◌∙◌}
 use native.Mathlib.Omega.{arith}
-use lib.ListN.{length}
-use Rattle.status_line.proofs.Wrong.{Looking, look_begin, look_bad, look_on, look_open, look_end, bad_after}
-use borrow.Author.Rules.{rules}
+use Rattle.status_line.proofs.Wrong.{look_begin, look_bad, look_on, look_open, look_end, bad_after}
 use Rattle.status_line.proofs.first_wrong.Goals as goal
 
 pub loop-i-init : goal.loop-i-init

@@ -1,9 +1,6 @@
 use Prim.Native.Nat.{◌-◌}
-use mathlib.Core.Path.{sym, ◌∙◌}
-use native.Mathlib.Omega.{arith}
 use lib.ListN.{length}
-use Rattle.status_line.proofs.Wrong.{Looking, look_begin, look_bad, look_on, look_open, look_end, bad_after}
-use borrow.Author.Rules.{rules}
+use Rattle.status_line.proofs.Wrong.{Looking}
 use Rattle.status_line.proofs.first_wrong.Given as goal
 
 abbrev pub invariant-loop-i : goal.invariant-loop-i

@@ -2,7 +2,6 @@
 use mathlib.Core.Path.{sym, ◌∙◌}
 use native.Mathlib.Omega.{arith}
 use Rattle.status_line.proofs.Filling.{line_short, line_wrong, line_sound}
-use borrow.Author.Rules.{rules}
 use Rattle.status_line.proofs.line.Goals as goal
 
 pub returns-then-buffer-lt-TEXT : goal.returns-then-buffer-lt-TEXT

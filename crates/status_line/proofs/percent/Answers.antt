@@ -2,7 +2,6 @@
 use borrow.Author.Tests.{eq-eqb, ne_eqb}
 use native.Mathlib.Omega.{arith}
 use Rattle.status_line.specs.Pieces.{percent_of}
-use borrow.Author.Rules.{rules}
 use Rattle.status_line.proofs.percent.Goals as goal
 
 pub returns-then-total-eq0 : goal.returns-then-total-eq0

@@ -1,7 +1,6 @@
 -- `piece_at` meets its contract: key by key.
 use borrow.Author.Tests.{eq-eqb, ne_eqb}
 use Rattle.status_line.specs.Pieces.{piece_of}
-use borrow.Author.Rules.{rules}
 use Rattle.status_line.proofs.piece_at.Goals as goal
 
 pub returns-then-key-eq115 : goal.returns-then-key-eq115

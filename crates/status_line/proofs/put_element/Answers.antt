@@ -1,6 +1,5 @@
 -- `put_element` meets its contract.
 use Rattle.status_line.proofs.Lining.{element_piece, element_none, element_byte}
-use borrow.Author.Rules.{rules}
 use Rattle.status_line.proofs.put_element.Goals as goal
 
 pub put_piece-requires : goal.put_piece-requires

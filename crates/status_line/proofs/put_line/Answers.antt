@@ -1,8 +1,5 @@
 -- `put_line` meets its contract.
-use Prim.Native.Nat.{◌-◌}
-use lib.ListN.{length}
-use Rattle.status_line.proofs.Lining.{Lining, line_begin, line_on, line_over, line_end_law, line_open}
-use borrow.Author.Rules.{rules}
+use Rattle.status_line.proofs.Lining.{line_begin, line_on, line_over, line_end_law, line_open}
 use Rattle.status_line.proofs.put_line.Goals as goal
 
 pub loop-i-init : goal.loop-i-init

@@ -1,7 +1,6 @@
 use Prim.Native.Nat.{◌-◌}
 use lib.ListN.{length}
-use Rattle.status_line.proofs.Lining.{Lining, line_begin, line_on, line_over, line_end_law, line_open}
-use borrow.Author.Rules.{rules}
+use Rattle.status_line.proofs.Lining.{Lining}
 use Rattle.status_line.proofs.put_line.Given as goal
 
 abbrev pub invariant-loop-i : goal.invariant-loop-i

@@ -1,6 +1,5 @@
 -- `put_piece` meets its contract: by the piece.
 use Rattle.status_line.proofs.Decimal.{piece_number, piece_tenths, piece_seconds, piece_byte}
-use borrow.Author.Rules.{rules}
 use Rattle.status_line.proofs.put_piece.Goals as goal
 
 pub put_decimal-requires : goal.put_decimal-requires

@@ -1,7 +1,6 @@
 -- `put_seconds` meets its contract.
 use Rattle.text_buffer.proofs.Parts.{open_on}
 use Rattle.status_line.proofs.Decimal.{after_over, seconds_is, seconds_on}
-use borrow.Author.Rules.{rules}
 use Rattle.status_line.proofs.put_seconds.Goals as goal
 
 pub returns-then-next-gt-TEXT : goal.returns-then-next-gt-TEXT

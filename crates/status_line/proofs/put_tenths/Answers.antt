@@ -1,7 +1,6 @@
 -- `put_tenths` meets its contract.
 use Rattle.text_buffer.proofs.Parts.{open_on}
 use Rattle.status_line.proofs.Decimal.{after_over, tenths_is, tenths_on}
-use borrow.Author.Rules.{rules}
 use Rattle.status_line.proofs.put_tenths.Goals as goal
 
 pub returns-then-next-gt-TEXT : goal.returns-then-next-gt-TEXT

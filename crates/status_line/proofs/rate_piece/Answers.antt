@@ -1,7 +1,6 @@
 -- `rate_piece` meets its contract.
 use mathlib.Core.Path.{sym, ap}
 use Rattle.status_line.specs.Pieces.{rate_piece}
-use borrow.Author.Rules.{rules}
 use Rattle.status_line.proofs.rate_piece.Goals as goal
 
 pub returns-in-Known : goal.returns-in-Known

@@ -1,6 +1,5 @@
 -- `waiting` meets its contract.
 use native.Mathlib.Omega.{arith}
-use borrow.Author.Rules.{rules}
 use Rattle.status_line.proofs.waiting.Goals as goal
 
 pub returns-then-total-started : goal.returns-then-total-started

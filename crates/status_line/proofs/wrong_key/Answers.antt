@@ -1,7 +1,6 @@
 -- `wrong_key` meets its contract.
 use mathlib.Core.Path.{sym, ◌∙◌}
 use Rattle.status_line.specs.Line.{wrong_key}
-use borrow.Author.Rules.{rules}
 use Rattle.status_line.proofs.wrong_key.Goals as goal
 
 pub returns-then-known_key : goal.returns-then-known_key

@@ -1,7 +1,6 @@
 -- `first_record` meets its contract.
 use mathlib.Core.Path.{ap, ◌∙◌}
 use Rattle.status_numbers.specs.Numbers.{record_of}
-use borrow.Author.Rules.{rules}
 use Rattle.status_numbers.proofs.first_record.Goals as goal
 
 pub returns : goal.returns

@@ -1,7 +1,6 @@
 -- `of_line` meets its contract.
 use mathlib.Core.Path.{sym, ap, ◌∙◌}
 use Rattle.status_line.specs.LineAsk.{line_says}
-use borrow.Author.Rules.{rules}
 use Rattle.status_numbers.proofs.of_line.Goals as goal
 
 pub returns-in-Written : goal.returns-in-Written

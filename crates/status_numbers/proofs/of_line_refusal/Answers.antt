@@ -1,7 +1,6 @@
 -- `of_line_refusal` meets its contract.
 use mathlib.Core.Path.{sym, ap}
 use Rattle.status_line.specs.LineAsk.{line_refusal_says}
-use borrow.Author.Rules.{rules}
 use Rattle.status_numbers.proofs.of_line_refusal.Goals as goal
 
 pub returns-in-ShortBuffer : goal.returns-in-ShortBuffer

@@ -1,7 +1,6 @@
 -- `rate_flag` meets its contract.
 use mathlib.Core.Path.{sym, ap}
 use Rattle.status_numbers.specs.Numbers.{rate_flag}
-use borrow.Author.Rules.{rules}
 use Rattle.status_numbers.proofs.rate_flag.Goals as goal
 
 pub returns-in-Unknown : goal.returns-in-Unknown

@@ -2,7 +2,6 @@
 use mathlib.Core.Path.{sym, ap, ◌∙◌}
 use Rattle.status_rates.proofs.Constants.{nought}
 use Rattle.status_numbers.specs.Numbers.{rate_number}
-use borrow.Author.Rules.{rules}
 use Rattle.status_numbers.proofs.rate_number.Goals as goal
 
 pub returns-in-Unknown : goal.returns-in-Unknown

@@ -4,7 +4,6 @@ use Rattle.status_record.specs.Record.{SoundStatus, finish_at}
 use Rattle.status_record.specs.declared.Status.{Status}
 use Rattle.status_numbers.specs.Numbers.{record_of}
 use Rattle.status_numbers.proofs.Held.{held_sound}
-use borrow.Author.Rules.{rules}
 use Rattle.status_numbers.proofs.record_finished.Goals as goal
 
 pub finish_at-requires : goal.finish_at-requires

@@ -1,5 +1,4 @@
 -- `record_line` meets its contract.
-use borrow.Author.Rules.{rules}
 use Rattle.status_numbers.proofs.record_line.Goals as goal
 
 pub returns : goal.returns

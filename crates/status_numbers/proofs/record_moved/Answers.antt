@@ -3,7 +3,6 @@ use mathlib.Core.Path.{ap, ◌∙◌}
 use Rattle.status_record.specs.Record.{moved_to}
 use Rattle.status_record.specs.declared.Status.{Status}
 use Rattle.status_numbers.specs.Numbers.{record_of}
-use borrow.Author.Rules.{rules}
 use Rattle.status_numbers.proofs.record_moved.Goals as goal
 
 pub returns : goal.returns

@@ -1,6 +1,5 @@
 -- `record_of` meets its contract.
 use Rattle.status_numbers.specs.Numbers.{record_of}
-use borrow.Author.Rules.{rules}
 use Rattle.status_numbers.proofs.record_of.Goals as goal
 
 pub returns : goal.returns

@@ -4,7 +4,6 @@ use Rattle.status_record.specs.Record.{SoundStatus, start_at}
 use Rattle.status_record.specs.declared.Status.{Status}
 use Rattle.status_numbers.specs.Numbers.{record_of}
 use Rattle.status_numbers.proofs.Held.{held_sound}
-use borrow.Author.Rules.{rules}
 use Rattle.status_numbers.proofs.record_started.Goals as goal
 
 pub start_at-requires : goal.start_at-requires

@@ -1,7 +1,6 @@
 -- `status_held` meets its contract.
 use native.Mathlib.Omega.{arith}
 use Rattle.status_numbers.specs.Numbers.{status_held}
-use borrow.Author.Rules.{rules}
 use Rattle.status_numbers.proofs.status_held.Goals as goal
 
 pub overflow_sub-running : goal.overflow_sub-running

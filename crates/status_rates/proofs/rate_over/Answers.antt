@@ -1,5 +1,4 @@
 -- `rate_over` meets its contract.
-use borrow.Author.Rules.{rules}
 use Rattle.status_rates.specs.Rates.{rate_of}
 use Rattle.status_rates.proofs.Constants.{nought}
 use Rattle.status_rates.proofs.rate_over.Goals as goal

@@ -1,12 +1,10 @@
 -- `tenths` meets its contract: what is looked for stays between the two ends, until they meet.
-use Prim.Native.Nat.{◌-◌}
 use mathlib.Core.Path.{ap, ◌∙◌}
 use native.Mathlib.Omega.{arith}
-use borrow.Author.Rules.{rules}
 use lib.Ieee.{Float, binary64, mul, to_unsigned}
 use Rattle.status_rates.specs.Rates.{tenths_of}
 use Rattle.status_rates.proofs.Constants.{ten}
-use Rattle.status_rates.proofs.Cut.{Halving, halving_begin, halving_up, halving_down, halving_end}
+use Rattle.status_rates.proofs.Cut.{halving_begin, halving_up, halving_down, halving_end}
 use Rattle.status_rates.proofs.tenths.Goals as goal
 
 pub loop-low-init : goal.loop-low-init

@@ -1,7 +1,6 @@
 -- `current_rate` meets its contract.
 use borrow.Author.Tests.{eq-eqb, ne_eqb}
 use Rattle.status_record.specs.Record.{current_of}
-use borrow.Author.Rules.{rules}
 use Rattle.status_record.proofs.current_rate.Goals as goal
 
 pub returns-then-n-eq0 : goal.returns-then-n-eq0

@@ -1,7 +1,6 @@
 -- `finish_at` meets its contract.
 use borrow.Author.Tests.{eq-eqb, ne_eqb}
 use Rattle.status_record.specs.Record.{finish_at}
-use borrow.Author.Rules.{rules}
 use Rattle.status_record.proofs.finish_at.Goals as goal
 
 pub returns-then-s-eq0 : goal.returns-then-s-eq0

@@ -3,7 +3,6 @@ use Rattle.status_record.proofs.Steps.{noted_law}
 use Prim.Native.Nat.{ℕ, ◌≤◌}
 use mathlib.Core.Path.{sym, subst}
 use Rattle.status_record.proofs.Steps.{held_few}
-use borrow.Author.Rules.{rules}
 use Rattle.status_record.proofs.finish_noted.Goals as goal
 
 pub current_rate-current-requires : goal.current_rate-current-requires

@@ -2,7 +2,6 @@
 use mathlib.Core.Path.{◌∙◌}
 use native.Mathlib.Omega.{arith}
 use Rattle.status_record.specs.Record.{held_times}
-use borrow.Author.Rules.{rules}
 use Rattle.status_record.proofs.held_times.Goals as goal
 
 pub returns-then-jobs-gt16 : goal.returns-then-jobs-gt16

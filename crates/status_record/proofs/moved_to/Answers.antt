@@ -1,6 +1,5 @@
 -- `moved_to` meets its contract.
 use Rattle.status_record.specs.Record.{moved_to}
-use borrow.Author.Rules.{rules}
 use Rattle.status_record.proofs.moved_to.Goals as goal
 
 pub returns : goal.returns

@@ -1,5 +1,4 @@
 -- `slid` meets its contract.
-use native.Mathlib.Omega.{arith}
 use Rattle.status_record.proofs.Steps.{slid_law, spread}
 use borrow.Author.Rules.{rules}
 use Rattle.status_record.proofs.slid.Goals as goal

@@ -1,7 +1,6 @@
 -- `start_at` meets its contract.
 use borrow.Author.Tests.{le-leb, lt-leb}
 use Rattle.status_record.specs.Record.{start_at}
-use borrow.Author.Rules.{rules}
 use Rattle.status_record.proofs.start_at.Goals as goal
 
 pub returns-then-s : goal.returns-then-s

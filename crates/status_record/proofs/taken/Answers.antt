@@ -2,7 +2,6 @@
 use mathlib.Core.Path.{◌∙◌}
 use native.Mathlib.Omega.{arith}
 use Rattle.status_record.specs.Record.{taken_time}
-use borrow.Author.Rules.{rules}
 use Rattle.status_record.proofs.taken.Goals as goal
 
 pub returns-then-t-gt86400000 : goal.returns-then-t-gt86400000

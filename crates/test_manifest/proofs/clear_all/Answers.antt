@@ -1,5 +1,4 @@
 -- `test_manifest::clear_all` meets its contract.
-use borrow.Author.Rules.{rules}
 use Rattle.test_manifest.proofs.Clearing.{all_zero}
 use Rattle.test_manifest.proofs.clear_all.Goals as goal
 

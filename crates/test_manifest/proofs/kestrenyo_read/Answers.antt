@@ -1,6 +1,5 @@
 -- `test_manifest::kestrenyo_read` meets its contract.
 use mathlib.Core.Path.{refl}
-use borrow.Author.Tests.{not-true, not-false}
 use Rattle.test_manifest.proofs.Judging.{too_small, has_read, lent}
 use Rattle.test_manifest.proofs.kestrenyo_read.Goals as goal
 

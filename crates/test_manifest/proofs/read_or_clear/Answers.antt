@@ -1,6 +1,5 @@
 -- `test_manifest::read_or_clear` meets its contract.
 use mathlib.Core.Path.{◌∙◌}
-use borrow.Author.Rules.{rules}
 use Rattle.test_manifest.proofs.Clearing.{kept_whole, cleared_whole}
 use Rattle.test_manifest.proofs.read_or_clear.Goals as goal
 

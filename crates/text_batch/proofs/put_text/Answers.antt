@@ -3,7 +3,6 @@ use mathlib.Core.Path.{sym}
 use Rattle.text_batch.proofs.Putting.{text_part}
 use native.Mathlib.Omega.{arith}
 use Rattle.text_batch.proofs.Putting.{text_short, put_long, put_ends, put_refused}
-use borrow.Author.Rules.{rules}
 use Rattle.text_batch.proofs.put_text.Goals as goal
 
 pub shape_of-one-then-room-end : goal.shape_of-one-then-room-end

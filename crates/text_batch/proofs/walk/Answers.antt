@@ -1,10 +1,8 @@
 -- `text_batch::walk` meets its contract.
-use Rattle.hold_reading.specs.Buffers.{buffers}
-use lib.ListN.{length}
-use Prim.Native.Nat.{◌-◌, ◌≤◌}
+use Prim.Native.Nat.{◌≤◌}
 use native.Mathlib.Omega.{arith}
-use mathlib.Core.Path.{◌≡◌, refl}
-use Rattle.text_batch.proofs.Walking.{Walking, walk_begin, walk_end, walk_on, walk_full, walk_long, walk_refused, walk_asks, end_within}
+use mathlib.Core.Path.{refl}
+use Rattle.text_batch.proofs.Walking.{walk_begin, walk_end, walk_on, walk_full, walk_long, walk_refused, walk_asks, end_within}
 use borrow.Author.Rules.{rules}
 use Rattle.text_batch.proofs.walk.Goals as goal
 

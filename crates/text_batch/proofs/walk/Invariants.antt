@@ -1,10 +1,8 @@
 use Rattle.hold_reading.specs.Buffers.{buffers}
 use lib.ListN.{length}
-use Prim.Native.Nat.{◌-◌, ◌≤◌}
-use native.Mathlib.Omega.{arith}
-use mathlib.Core.Path.{◌≡◌, refl}
-use Rattle.text_batch.proofs.Walking.{Walking, walk_begin, walk_end, walk_on, walk_full, walk_long, walk_refused, walk_asks, end_within}
-use borrow.Author.Rules.{rules}
+use Prim.Native.Nat.{◌-◌}
+use mathlib.Core.Path.{◌≡◌}
+use Rattle.text_batch.proofs.Walking.{Walking}
 use Rattle.text_batch.proofs.walk.Given as goal
 
 abbrev pub invariant-loop-i : goal.invariant-loop-i

@@ -2,7 +2,6 @@
 use mathlib.Core.List.{[], ◌∷◌}
 use native.Mathlib.Omega.{arith}
 use Rattle.text_buffer.proofs.Parts.{puts_long, puts_byte}
-use borrow.Author.Rules.{rules}
 use Rattle.text_buffer.proofs.put_byte.Goals as goal
 
 pub returns-then-place-ge-TEXT : goal.returns-then-place-ge-TEXT

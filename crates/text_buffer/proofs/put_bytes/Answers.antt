@@ -1,7 +1,6 @@
 -- `text_buffer::put_bytes` meets its contract.
 use native.Mathlib.Omega.{arith}
 use Rattle.text_buffer.proofs.Parts.{puts_long, puts_bytes}
-use borrow.Author.Rules.{rules}
 use Rattle.text_buffer.proofs.put_bytes.Goals as goal
 
 pub returns-then-place-s : goal.returns-then-place-s

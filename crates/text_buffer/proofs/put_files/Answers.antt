@@ -1,9 +1,6 @@
 -- `text_buffer::put_files` meets its contract.
-use Prim.Native.Nat.{◌-◌}
-use lib.ListN.{length}
 use Rattle.spec.specs.Text.{spelled_by}
-use Rattle.text_buffer.proofs.Joining.{Joining, join_begin, join_on, join_over, join_end}
-use borrow.Author.Rules.{rules}
+use Rattle.text_buffer.proofs.Joining.{join_begin, join_on, join_over, join_end}
 use Rattle.text_buffer.proofs.put_files.Goals as goal
 
 pub loop-i-init : goal.loop-i-init

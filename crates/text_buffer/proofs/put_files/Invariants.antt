@@ -1,8 +1,7 @@
 use Prim.Native.Nat.{◌-◌}
 use lib.ListN.{length}
 use Rattle.spec.specs.Text.{spelled_by}
-use Rattle.text_buffer.proofs.Joining.{Joining, join_begin, join_on, join_over, join_end}
-use borrow.Author.Rules.{rules}
+use Rattle.text_buffer.proofs.Joining.{Joining}
 use Rattle.text_buffer.proofs.put_files.Given as goal
 
 abbrev pub invariant-loop-i : goal.invariant-loop-i

@@ -1,7 +1,6 @@
 -- `text_buffer::put_in_quotes` meets its contract.
 use Rattle.text_buffer.specs.Puts.{to_close}
 use Rattle.text_buffer.proofs.Parts.{puts_over, puts_then, open_on}
-use borrow.Author.Rules.{rules}
 use Rattle.text_buffer.proofs.put_in_quotes.Goals as goal
 
 pub returns-then-n-gt-TEXT : goal.returns-then-n-gt-TEXT

@@ -1,6 +1,5 @@
 -- `text_buffer::put_inside` meets its contract.
 use Rattle.text_buffer.proofs.Quoting.{inside_quote, inside_other}
-use borrow.Author.Rules.{rules}
 use Rattle.text_buffer.proofs.put_inside.Goals as goal
 
 pub returns-then-b-eq39 : goal.returns-then-b-eq39

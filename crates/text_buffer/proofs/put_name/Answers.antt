@@ -1,6 +1,5 @@
 -- `text_buffer::put_name` meets its contract.
 use mathlib.Core.Path.{sym}
-use borrow.Author.Rules.{rules}
 use Rattle.text_buffer.proofs.put_name.Goals as goal
 
 pub returns-then-plain : goal.returns-then-plain

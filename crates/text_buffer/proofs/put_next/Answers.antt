@@ -2,7 +2,6 @@
 use Rattle.spec.specs.Text.{spelled_by}
 use Rattle.text_buffer.proofs.Parts.{open_on}
 use Rattle.text_buffer.proofs.Joining.{name_ask, head_first, head_over, head_on}
-use borrow.Author.Rules.{rules}
 use Rattle.text_buffer.proofs.put_next.Goals as goal
 
 pub put_name-requires : goal.put_name-requires

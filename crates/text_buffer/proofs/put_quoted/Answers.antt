@@ -1,10 +1,6 @@
 -- `text_buffer::put_quoted` meets its contract.
-use Prim.Native.Nat.{◌-◌}
 use mathlib.Core.Path.{sym, ◌∙◌}
-use lib.ListN.{length}
-use borrow.Author.Tests.{not-true, not-false}
-use Rattle.text_buffer.proofs.Quoting.{quoted_long, Copying, copy_begin, copy_open, copy_on, copy_quoted, copy_end}
-use borrow.Author.Rules.{rules}
+use Rattle.text_buffer.proofs.Quoting.{quoted_long, copy_begin, copy_open, copy_on, copy_quoted, copy_end}
 use Rattle.text_buffer.proofs.put_quoted.Goals as goal
 
 pub returns-then-place-name : goal.returns-then-place-name

@@ -1,8 +1,5 @@
 -- `text_buffer::put_to_close` meets its contract.
-use Prim.Native.Nat.{◌-◌}
-use lib.ListN.{length}
-use Rattle.text_buffer.proofs.Quoting.{ToClose, close_begin, close_on, close_over, close_end}
-use borrow.Author.Rules.{rules}
+use Rattle.text_buffer.proofs.Quoting.{close_begin, close_on, close_over, close_end}
 use Rattle.text_buffer.proofs.put_to_close.Goals as goal
 
 pub loop-i-init : goal.loop-i-init

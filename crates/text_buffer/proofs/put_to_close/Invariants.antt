@@ -1,7 +1,6 @@
 use Prim.Native.Nat.{◌-◌}
 use lib.ListN.{length}
-use Rattle.text_buffer.proofs.Quoting.{ToClose, close_begin, close_on, close_over, close_end}
-use borrow.Author.Rules.{rules}
+use Rattle.text_buffer.proofs.Quoting.{ToClose}
 use Rattle.text_buffer.proofs.put_to_close.Given as goal
 
 abbrev pub invariant-loop-i : goal.invariant-loop-i

@@ -1,7 +1,6 @@
 -- `text_lookup::lookup` meets its contract.
 use mathlib.Core.Path.{sym, ◌∙◌}
 use Rattle.text_lookup.proofs.Newest.{looks_inputs, looks_lines, looks_outputs, looks_on}
-use borrow.Author.Rules.{rules}
 use Rattle.text_lookup.proofs.lookup.Goals as goal
 
 pub returns-then-equal : goal.returns-then-equal

@@ -1,6 +1,5 @@
 -- `text_lookup::of_block` meets its contract.
 use Rattle.text_lookup.proofs.Newest.{block_found, block_missing}
-use borrow.Author.Rules.{rules}
 use Rattle.text_lookup.proofs.of_block.Goals as goal
 
 pub returns-in-At : goal.returns-in-At

@@ -1,6 +1,5 @@
 -- `text_lookup::of_file` meets its contract.
 use Rattle.text_lookup.proofs.Newest.{file_found, file_unset}
-use borrow.Author.Rules.{rules}
 use Rattle.text_lookup.proofs.of_file.Goals as goal
 
 pub newest_from-requires : goal.newest_from-requires

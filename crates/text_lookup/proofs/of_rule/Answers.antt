@@ -1,6 +1,5 @@
 -- `text_lookup::of_rule` meets its contract.
 use Rattle.text_lookup.proofs.Newest.{rule_found, rule_missing}
-use borrow.Author.Rules.{rules}
 use Rattle.text_lookup.proofs.of_rule.Goals as goal
 
 pub returns-in-At : goal.returns-in-At

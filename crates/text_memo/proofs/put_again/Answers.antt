@@ -1,8 +1,6 @@
 -- `text_memo::put_again` meets its contract.
-use Prim.Native.Nat.{◌-◌}
 use mathlib.Core.Path.{refl}
-use Rattle.text_memo.proofs.Again.{Copying, copy_begin, copy_on, copy_over, copy_end}
-use borrow.Author.Rules.{rules}
+use Rattle.text_memo.proofs.Again.{copy_begin, copy_on, copy_over, copy_end}
 use Rattle.text_memo.proofs.put_again.Goals as goal
 
 pub loop-i-init : goal.loop-i-init

@@ -1,7 +1,5 @@
 use Prim.Native.Nat.{◌-◌}
-use mathlib.Core.Path.{refl}
-use Rattle.text_memo.proofs.Again.{Copying, copy_begin, copy_on, copy_over, copy_end}
-use borrow.Author.Rules.{rules}
+use Rattle.text_memo.proofs.Again.{Copying}
 use Rattle.text_memo.proofs.put_again.Given as goal
 
 abbrev pub invariant-loop-i : goal.invariant-loop-i

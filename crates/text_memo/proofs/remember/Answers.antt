@@ -1,6 +1,5 @@
 -- `text_memo::remember` meets its contract.
 use Rattle.text_memo.proofs.Spans.{remember_key, remember_nothing}
-use borrow.Author.Rules.{rules}
 use Rattle.text_memo.proofs.remember.Goals as goal
 
 pub returns-then-k-ge-RULE_KEYS : goal.returns-then-k-ge-RULE_KEYS

@@ -1,6 +1,5 @@
 -- `text_memo::span_of` meets its contract.
 use Rattle.text_memo.proofs.Spans.{span_key, span_none}
-use borrow.Author.Rules.{rules}
 use Rattle.text_memo.proofs.span_of.Goals as goal
 
 pub returns-then-k-lt-RULE_KEYS : goal.returns-then-k-lt-RULE_KEYS

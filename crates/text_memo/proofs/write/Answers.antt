@@ -1,6 +1,5 @@
 -- `text_memo::write` meets its contract.
 use Rattle.text_memo.proofs.Spans.{moved_writes}
-use borrow.Author.Rules.{rules}
 use Rattle.text_memo.proofs.write.Goals as goal
 
 pub returns : goal.returns

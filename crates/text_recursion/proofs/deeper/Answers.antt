@@ -1,8 +1,5 @@
 -- `text_recursion::deeper` meets its contract.
-use Prim.Native.Nat.{◌-◌}
-use Rattle.spec.specs.Text.{rule_keys}
-use Rattle.text_recursion.proofs.Levels.{Marking, mark_begin, mark_on, mark_end}
-use borrow.Author.Rules.{rules}
+use Rattle.text_recursion.proofs.Levels.{mark_begin, mark_on, mark_end}
 use Rattle.text_recursion.proofs.deeper.Goals as goal
 
 pub loop-k-init : goal.loop-k-init

@@ -1,7 +1,6 @@
 use Prim.Native.Nat.{◌-◌}
 use Rattle.spec.specs.Text.{rule_keys}
-use Rattle.text_recursion.proofs.Levels.{Marking, mark_begin, mark_on, mark_end}
-use borrow.Author.Rules.{rules}
+use Rattle.text_recursion.proofs.Levels.{Marking}
 use Rattle.text_recursion.proofs.deeper.Given as goal
 
 abbrev pub invariant-loop-k : goal.invariant-loop-k

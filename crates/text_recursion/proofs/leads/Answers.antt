@@ -5,7 +5,6 @@ use native.Mathlib.Omega.{arith}
 use Rattle.text_lookup.proofs.Standing.{text_ready}
 use Rattle.text_recursion.specs.Depth.{marks}
 use Rattle.text_recursion.proofs.Referring.{leads_text, leads_not}
-use borrow.Author.Rules.{rules}
 use Rattle.text_recursion.proofs.leads.Goals as goal
 
 pub value-requires : goal.value-requires

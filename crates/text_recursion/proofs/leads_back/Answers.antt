@@ -1,14 +1,9 @@
 -- `text_recursion::leads_back` meets its contract.
-use Prim.Native.Nat.{◌-◌}
 use native.Mathlib.Omega.{arith}
-use mathlib.Core.Bool.{false}
-use lib.ListN.{get_or}
-use Rattle.spec.specs.Text.{key_name, deep}
+use Rattle.spec.specs.Text.{key_name}
 use Rattle.hold_keys.proofs.Numbers.{key_low}
 use Rattle.text_recursion.specs.Depth.{marks}
-use Rattle.text_recursion.proofs.Levels.{Level, level_begin, level_on, level_end, level_out}
-use borrow.Author.Rules.{rules}
-use borrow.Author.Tests.{not-true}
+use Rattle.text_recursion.proofs.Levels.{level_begin, level_on, level_end, level_out}
 use Rattle.text_recursion.proofs.leads_back.Goals as goal
 
 pub loop-k-init : goal.loop-k-init

@@ -1,6 +1,5 @@
 -- `text_recursion::marked` meets its contract.
 use native.Mathlib.Omega.{arith}
-use borrow.Author.Rules.{rules}
 use Rattle.hold_keys.proofs.Numbers.{key_most}
 use Rattle.text_recursion.specs.Depth.{marks}
 use Rattle.text_recursion.proofs.marked.Goals as goal

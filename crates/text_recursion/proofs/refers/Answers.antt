@@ -1,12 +1,9 @@
 -- `text_recursion::refers` meets its contract.
-use Prim.Native.Nat.{◌-◌}
 use mathlib.Core.Path.{sym, ◌∙◌}
 use native.Mathlib.Omega.{arith}
-use lib.ListN.{length}
 use Rattle.text_references.proofs.Turns.{as_bytes, as_name}
 use Rattle.text_recursion.specs.Depth.{marks}
-use Rattle.text_recursion.proofs.Referring.{Referring, refer_begin, refer_bytes, refer_name, refer_found, refer_end}
-use borrow.Author.Rules.{rules}
+use Rattle.text_recursion.proofs.Referring.{refer_begin, refer_bytes, refer_name, refer_found, refer_end}
 use Rattle.text_recursion.proofs.refers.Goals as goal
 
 pub loop-i-init : goal.loop-i-init

@@ -1,7 +1,6 @@
 -- `text_references::piece_at` meets its contract.
 use Rattle.scan_dollars.proofs.Answers.{tells_byte, tells_join, tells_name, tells_bad}
 use Rattle.text_references.proofs.Beginnings.{plain_begins, literal_begins, join_begins, name_begins, none_begins}
-use borrow.Author.Rules.{rules}
 use Rattle.text_references.proofs.piece_at.Goals as goal
 
 pub returns-then-raw-i-ne36 : goal.returns-then-raw-i-ne36

@@ -1,7 +1,6 @@
 -- `text_step::is_plain` meets its contract.
 use Rattle.lists.specs.Bytes.{eq_bytes}
 use Rattle.spec.specs.Text.{key_name, spelling_for}
-use borrow.Author.Rules.{rules}
 use Rattle.text_step.proofs.is_plain.Goals as goal
 
 pub returns-in-Command : goal.returns-in-Command

@@ -1,7 +1,6 @@
 -- `text_step::text_at` meets its contract.
 use Rattle.text_step.proofs.Wanting.{leads_asked}
 use Rattle.text_step.proofs.Answering.{in_endless, wants, in_long, in_text_law}
-use borrow.Author.Rules.{rules}
 use Rattle.text_step.proofs.text_at.Goals as goal
 
 pub leads_back-requires : goal.leads_back-requires

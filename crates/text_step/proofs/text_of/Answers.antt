@@ -1,7 +1,6 @@
 -- `text_step::text_of` meets its contract.
 use Rattle.text_step.proofs.Picking.{asked_none, asked_step}
 use Rattle.text_step.proofs.Answering.{reads, no_command, step_asked, step_text}
-use borrow.Author.Rules.{rules}
 use Rattle.text_step.proofs.text_of.Goals as goal
 
 pub asked-requires : goal.asked-requires

@@ -1,5 +1,4 @@
 -- `text_step::wanted_key` meets its contract.
-use borrow.Author.Rules.{rules}
 use Rattle.spec.specs.TextAsk.{wanted_key}
 use Rattle.text_step.proofs.wanted_key.Goals as goal
 

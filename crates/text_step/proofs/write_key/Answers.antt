@@ -1,6 +1,5 @@
 -- `text_step::write_key` meets its contract.
 use Rattle.text_step.proofs.Wanting.{number_low, key_asked, key_written}
-use borrow.Author.Rules.{rules}
 use Rattle.text_step.proofs.write_key.Goals as goal
 
 pub key_name-requires : goal.key_name-requires

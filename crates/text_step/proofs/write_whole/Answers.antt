@@ -1,6 +1,5 @@
 -- `text_step::write_whole` meets its contract.
 use Rattle.text_step.proofs.Wanting.{whole_asked, whole_written}
-use borrow.Author.Rules.{rules}
 use Rattle.text_step.proofs.write_whole.Goals as goal
 
 pub write_name-x-requires : goal.write_name-x-requires

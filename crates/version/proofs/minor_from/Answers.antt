@@ -1,5 +1,4 @@
 -- `version::minor_from` meets its contract.
-use borrow.Author.Rules.{rules}
 use Rattle.version.specs.Version.{minor_from}
 use Rattle.version.proofs.Steps.{none_read, last_read, one_read}
 use Rattle.version.proofs.minor_from.Goals as goal

@@ -1,14 +1,8 @@
 -- `version::number` meets its contract: each turn keeps what is left to be read the same.
-use Prim.Native.Nat.{◌-◌}
-use mathlib.Core.Bool.{true}
-use mathlib.Core.Path.{◌≡◌, sym, ◌∙◌}
+use mathlib.Core.Path.{sym, ◌∙◌}
 use native.Mathlib.Omega.{arith}
-use borrow.Author.Rules.{rules}
-use borrow.Author.Tests.{not-true, not-false}
-use lib.ListN.{length, get_or}
 use Rattle.version.specs.Part.{part_of}
-use Rattle.version.specs.Version.{version_digit}
-use Rattle.version.proofs.Steps.{Reading, digit_range, no_byte, no_digit, begin, at_end, at_dot, no_number, over, more}
+use Rattle.version.proofs.Steps.{digit_range, no_byte, no_digit, begin, at_end, at_dot, no_number, over, more}
 use Rattle.version.proofs.number.Goals as goal
 
 pub returns-then-s-from : goal.returns-then-s-from

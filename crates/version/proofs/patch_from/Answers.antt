@@ -1,5 +1,4 @@
 -- `version::patch_from` meets its contract.
-use borrow.Author.Rules.{rules}
 use Rattle.version.specs.Version.{patch_from}
 use Rattle.version.proofs.Steps.{none_read, last_read, one_read}
 use Rattle.version.proofs.patch_from.Goals as goal

@@ -1,6 +1,5 @@
 -- `windows::compare_end` meets its contract: the last window decides, then the lengths.
 use native.Mathlib.Omega.{arith}
-use borrow.Author.Rules.{rules}
 use Rattle.windows.proofs.Windows.{window_lower, window_higher, window_same, end_shorter, end_longer, end_same}
 use Rattle.windows.proofs.compare_end.Goals as goal
 

@@ -1,8 +1,5 @@
 -- `windows::compare_long` meets its contract: all windows before the one at hand are the same.
-use Prim.Native.Nat.{◌-◌}
 use native.Mathlib.Omega.{arith}
-use borrow.Author.Rules.{rules}
-use Rattle.windows.specs.Windows.{Alike}
 use Rattle.windows.proofs.Windows.{alike_none, alike_to_end, window_lower, window_higher, window_same}
 use Rattle.windows.proofs.compare_long.Goals as goal
 

@@ -1,6 +1,5 @@
 -- `windows::equal_long` meets its contract.
 use mathlib.Core.Path.{sym, ◌∙◌}
-use borrow.Author.Rules.{rules}
 use Rattle.lists.specs.Bytes.{eq_eq_bytes, ne_eq_bytes, less_ne}
 use Rattle.lists.specs.Order.{order_less, order_equal, order_greater}
 use Rattle.windows.proofs.equal_long.Goals as goal

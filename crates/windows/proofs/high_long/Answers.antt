@@ -1,5 +1,4 @@
 -- `windows::high_long` meets its contract.
-use borrow.Author.Rules.{rules}
 use Rattle.windows.proofs.Windows.{high_long_is}
 use Rattle.windows.proofs.high_long.Goals as goal
 

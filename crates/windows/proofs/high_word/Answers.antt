@@ -1,5 +1,4 @@
 -- `windows::high_word` meets its contract.
-use borrow.Author.Rules.{rules}
 use Rattle.windows.proofs.Windows.{high_word_is}
 use Rattle.windows.proofs.high_word.Goals as goal
 

@@ -1,5 +1,4 @@
 -- `cut_forms::opens::cut_open` meets its contract.
-use borrow.Author.Rules.{rules}
 use Rattle.scan_raw.specs.Texts.{PathNext}
 use Rattle.scan_raw.proofs.Answers.{next_stop, next_path, next_bad}
 use Rattle.cut_forms.specs.Statements.{StatementAt}

@@ -1,12 +1,9 @@
 -- `cut_forms::paths::listed` meets its contract.
-use Prim.Native.Nat.{◌-◌}
 use native.Mathlib.Omega.{arith}
-use borrow.Author.Rules.{rules}
-use lib.ListN.{length}
 use Rattle.scan_raw.specs.Texts.{PathNext}
 use Rattle.scan_raw.proofs.Answers.{next_stop, next_path, next_bad}
 use Rattle.cut_forms.specs.Paths.{ListedAt}
-use Rattle.cut_forms.proofs.Walks.{Passing, pass_begin, pass_next, pass_stop, pass_bad}
+use Rattle.cut_forms.proofs.Walks.{pass_begin, pass_next, pass_stop, pass_bad}
 use Rattle.cut_forms.proofs.paths.listed.Goals as goal
 
 pub loop-to-init : goal.loop-to-init

@@ -1,5 +1,4 @@
 -- `cut_forms::paths::next_listed` meets its contract.
-use borrow.Author.Rules.{rules}
 use Rattle.scan_raw.proofs.Answers.{next_stop, next_path, next_bad}
 use Rattle.cut_forms.specs.Paths.{NextListed}
 use Rattle.cut_forms.proofs.Walks.{walk_stop, walk_bad}

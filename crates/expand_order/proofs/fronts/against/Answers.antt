@@ -1,5 +1,4 @@
 -- `expand_order::fronts::against` meets its contract.
-use borrow.Author.Rules.{rules}
 use Rattle.expand_parts.specs.Runs.{bytes_of}
 use Rattle.expand_order.proofs.fronts.against.Goals as goal
 

@@ -1,7 +1,6 @@
 -- `expand_order::fronts::ahead` meets its contract.
 use mathlib.Core.Path.{sym}
 use native.Mathlib.Omega.{arith}
-use borrow.Author.Rules.{rules}
 use lib.Seq.{length-take-le}
 use Rattle.expand_order.proofs.Agreeing.{fronts_less, fronts_same, fronts_greater}
 use Rattle.expand_order.proofs.fronts.ahead.Goals as goal

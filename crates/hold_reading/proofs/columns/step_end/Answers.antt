@@ -1,5 +1,4 @@
 -- `hold_reading::columns::step_end` meets its contract.
-use borrow.Author.Rules.{rules}
 use Rattle.hold_reading.proofs.columns.step_end.Goals as goal
 
 pub returns : goal.returns

@@ -1,9 +1,6 @@
 -- `scan_raw::manifest::bad_byte_in` meets its contract.
-use Prim.Native.Nat.{◌-◌}
-use borrow.Author.Rules.{rules}
-use lib.ListN.{length}
 use Rattle.scan_raw.specs.Texts.{place_of}
-use Rattle.scan_raw.proofs.Bytes.{Checking, check_begin, check_bad, check_more, check_ended, check_open}
+use Rattle.scan_raw.proofs.Bytes.{check_begin, check_bad, check_more, check_ended, check_open}
 use Rattle.scan_raw.proofs.manifest.bad_byte_in.Goals as goal
 
 pub loop-i-init : goal.loop-i-init

@@ -1,5 +1,4 @@
 -- `scan_raw::texts::next_path` meets its contract.
-use borrow.Author.Rules.{rules}
 use Rattle.scan_raw.specs.Texts.{NextPathAt}
 use Rattle.scan_raw.proofs.Answers.{path_to, path_wrong}
 use Rattle.scan_raw.proofs.PathLists.{stops, next, wrong_next, begins_not_end, begins_not, begins}

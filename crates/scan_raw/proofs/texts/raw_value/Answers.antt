@@ -1,6 +1,5 @@
 -- `scan_raw::texts::raw_value` meets its contract.
 use mathlib.Core.Path.{◌∙◌}
-use borrow.Author.Rules.{rules}
 use Rattle.lists.specs.Parts.{part_to_end}
 use Rattle.spec.specs.Forms.{raw_value}
 use Rattle.scan_raw.proofs.texts.raw_value.Goals as goal

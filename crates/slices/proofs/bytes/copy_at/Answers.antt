@@ -1,8 +1,5 @@
 -- `slices::bytes::copy_at` meets its contract.
-use Prim.Native.Nat.{◌-◌}
-use borrow.Author.Rules.{rules}
-use lib.ListN.{length}
-use Rattle.slices.proofs.Filling.{Copying, copy_begin, copy_more, copy_end}
+use Rattle.slices.proofs.Filling.{copy_begin, copy_more, copy_end}
 use Rattle.slices.proofs.bytes.copy_at.Goals as goal
 
 pub loop-i-init : goal.loop-i-init

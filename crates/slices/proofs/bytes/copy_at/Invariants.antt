@@ -1,7 +1,6 @@
 use Prim.Native.Nat.{◌-◌}
-use borrow.Author.Rules.{rules}
 use lib.ListN.{length}
-use Rattle.slices.proofs.Filling.{Copying, copy_begin, copy_more, copy_end}
+use Rattle.slices.proofs.Filling.{Copying}
 use Rattle.slices.proofs.bytes.copy_at.Given as goal
 
 abbrev pub invariant-loop-i : goal.invariant-loop-i

@@ -1,11 +1,8 @@
 -- `slices::bytes::find` meets its contract.
-use Prim.Native.Nat.{◌-◌}
 use mathlib.Core.Bool.{not}
 use mathlib.Core.Path.{ap}
-use borrow.Author.Rules.{rules}
 use borrow.Author.Tests.{eq-eqb, ne_eqb}
-use lib.ListN.{length}
-use Rattle.lists.specs.Runs.{Scanning, is_not, scan_begin, scan_more, scan_stop, scan_end}
+use Rattle.lists.specs.Runs.{scan_begin, scan_more, scan_stop, scan_end}
 use Rattle.slices.proofs.bytes.find.Goals as goal
 
 pub loop-i-init : goal.loop-i-init

@@ -1,6 +1,5 @@
 -- `slices::bytes::zero_bytes_from` meets its contract.
 use mathlib.Core.Path.{sym}
-use borrow.Author.Rules.{rules}
 use Rattle.lists.specs.Fill.{zeroed_past}
 use Rattle.slices.proofs.bytes.zero_bytes_from.Goals as goal
 

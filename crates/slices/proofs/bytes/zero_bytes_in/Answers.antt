@@ -1,7 +1,5 @@
 -- `slices::bytes::zero_bytes_in` meets its contract.
-use Prim.Native.Nat.{◌-◌}
-use borrow.Author.Rules.{rules}
-use Rattle.slices.proofs.Filling.{Zeroing, zero_begin, zero_more, zero_end}
+use Rattle.slices.proofs.Filling.{zero_begin, zero_more, zero_end}
 use Rattle.slices.proofs.bytes.zero_bytes_in.Goals as goal
 
 pub loop-i-init : goal.loop-i-init

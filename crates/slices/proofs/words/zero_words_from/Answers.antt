@@ -1,6 +1,5 @@
 -- `slices::words::zero_words_from` meets its contract.
 use mathlib.Core.Path.{sym}
-use borrow.Author.Rules.{rules}
 use Rattle.lists.specs.Fill.{zeroed_past}
 use Rattle.slices.proofs.words.zero_words_from.Goals as goal
 

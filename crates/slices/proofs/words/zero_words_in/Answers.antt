@@ -1,7 +1,5 @@
 -- `slices::words::zero_words_in` meets its contract.
-use Prim.Native.Nat.{◌-◌}
-use borrow.Author.Rules.{rules}
-use Rattle.slices.proofs.Filling.{Zeroing, zero_begin, zero_more, zero_end}
+use Rattle.slices.proofs.Filling.{zero_begin, zero_more, zero_end}
 use Rattle.slices.proofs.words.zero_words_in.Goals as goal
 
 pub loop-i-init : goal.loop-i-init

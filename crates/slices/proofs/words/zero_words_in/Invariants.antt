@@ -1,6 +1,5 @@
 use Prim.Native.Nat.{◌-◌}
-use borrow.Author.Rules.{rules}
-use Rattle.slices.proofs.Filling.{Zeroing, zero_begin, zero_more, zero_end}
+use Rattle.slices.proofs.Filling.{Zeroing}
 use Rattle.slices.proofs.words.zero_words_in.Given as goal
 
 abbrev pub invariant-loop-i : goal.invariant-loop-i

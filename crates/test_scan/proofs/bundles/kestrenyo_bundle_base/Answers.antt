@@ -1,7 +1,6 @@
 -- `test_scan::bundles::kestrenyo_bundle_base` meets its contract.
 use native.Mathlib.Omega.{arith}
 use Rattle.test_scan.proofs.Bundling.{sounds, base_none, base_at}
-use borrow.Author.Rules.{rules}
 use Rattle.test_scan.proofs.bundles.kestrenyo_bundle_base.Goals as goal
 
 pub returns-then-records_in-k : goal.returns-then-records_in-k

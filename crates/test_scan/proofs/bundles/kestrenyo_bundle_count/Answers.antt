@@ -1,7 +1,6 @@
 -- `test_scan::bundles::kestrenyo_bundle_count` meets its contract.
 use native.Mathlib.Omega.{arith}
 use Rattle.test_scan.proofs.Bundling.{count_over, sound_small, count_sound, count_malformed}
-use borrow.Author.Rules.{rules}
 use Rattle.test_scan.proofs.bundles.kestrenyo_bundle_count.Goals as goal
 
 pub returns-then-most-gt512 : goal.returns-then-most-gt512

@@ -2,7 +2,6 @@
 use native.Mathlib.Omega.{arith}
 use Rattle.scan_bundle.proofs.Laws.{opened}
 use Rattle.test_scan.proofs.Bundling.{find_malformed, find_missing, find_at, find_small}
-use borrow.Author.Rules.{rules}
 use Rattle.test_scan.proofs.bundles.kestrenyo_bundle_find.Goals as goal
 
 pub find_record-requires : goal.find_record-requires

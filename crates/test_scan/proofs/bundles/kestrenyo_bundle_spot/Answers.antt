@@ -1,7 +1,6 @@
 -- `test_scan::bundles::kestrenyo_bundle_spot` meets its contract.
 use native.Mathlib.Omega.{arith}
 use Rattle.test_scan.proofs.Bundling.{sounds, spot_none, spot_past, spot_in}
-use borrow.Author.Rules.{rules}
 use Rattle.test_scan.proofs.bundles.kestrenyo_bundle_spot.Goals as goal
 
 pub returns-then-n-eq0 : goal.returns-then-n-eq0

@@ -1,9 +1,7 @@
 -- `test_scan::bundles::kestrenyo_bundle_text` meets its contract.
 use mathlib.Core.Path.{sym, ◌∙◌}
 use native.Mathlib.Omega.{arith}
-use borrow.Author.Tests.{not-true, not-false}
 use Rattle.test_scan.proofs.Bundling.{sounds, text_none, text_other, text_same}
-use borrow.Author.Rules.{rules}
 use Rattle.test_scan.proofs.bundles.kestrenyo_bundle_text.Goals as goal
 
 pub returns-then-records_in-k : goal.returns-then-records_in-k

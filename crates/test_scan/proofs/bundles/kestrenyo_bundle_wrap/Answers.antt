@@ -1,7 +1,6 @@
 -- `test_scan::bundles::kestrenyo_bundle_wrap` meets its contract.
 use native.Mathlib.Omega.{arith}
 use Rattle.test_scan.proofs.Bundling.{wraps_fit, wraps_long, wraps_short}
-use borrow.Author.Rules.{rules}
 use Rattle.test_scan.proofs.bundles.kestrenyo_bundle_wrap.Goals as goal
 
 pub returns-then-size-gt4294967263 : goal.returns-then-size-gt4294967263

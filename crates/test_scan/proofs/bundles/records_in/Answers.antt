@@ -1,6 +1,5 @@
 -- `test_scan::bundles::records_in` meets its contract.
 use Rattle.test_scan.proofs.Bundling.{records_sound, records_none}
-use borrow.Author.Rules.{rules}
 use Rattle.test_scan.proofs.bundles.records_in.Goals as goal
 
 pub returns-in-Malformed : goal.returns-in-Malformed

@@ -1,7 +1,5 @@
 -- `test_scan::cards::count_listed` meets its contract.
-use Rattle.test_scan.proofs.Listing.{Counting, counting_begin, counting_end, counting_bad, counting_turn, counting_more}
-use lib.ListN.{length}
-use Prim.Native.Nat.{◌+◌, ◌-◌}
+use Rattle.test_scan.proofs.Listing.{counting_begin, counting_end, counting_bad, counting_turn, counting_more}
 use native.Mathlib.Omega.{arith}
 use borrow.Author.Rules.{rules}
 use Rattle.test_scan.proofs.cards.count_listed.Goals as goal

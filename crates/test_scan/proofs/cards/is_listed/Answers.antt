@@ -1,6 +1,5 @@
 -- `test_scan::cards::is_listed` meets its contract.
 use Rattle.test_scan.proofs.Listing.{not_listed, is_listed_law}
-use borrow.Author.Rules.{rules}
 use Rattle.test_scan.proofs.cards.is_listed.Goals as goal
 
 pub returns-then-time_of-eq0 : goal.returns-then-time_of-eq0

@@ -1,7 +1,5 @@
 -- `test_scan::cards::kestrenyo_card_listed` meets its contract.
-use borrow.Author.Tests.{not-true, not-false}
 use mathlib.Core.Path.{sym, ◌∙◌}
-use borrow.Author.Rules.{rules}
 use Rattle.test_scan.proofs.cards.kestrenyo_card_listed.Goals as goal
 
 pub returns-then-not-sound : goal.returns-then-not-sound

@@ -1,7 +1,5 @@
 -- `test_scan::cards::kestrenyo_card_time` meets its contract.
 use mathlib.Core.Path.{sym, ◌∙◌}
-use borrow.Author.Tests.{not-true, not-false}
-use borrow.Author.Rules.{rules}
 use Rattle.test_scan.proofs.cards.kestrenyo_card_time.Goals as goal
 
 pub returns-then-not-sound : goal.returns-then-not-sound

@@ -1,8 +1,6 @@
 -- `test_scan::name_tables::add_all` meets its contract.
-use mathlib.Core.Path.{◌≡◌, refl}
-use Rattle.test_scan.proofs.Adding.{Adding, adding_begin, adding_sound, adding_full, adding_end, adding_bad, adding_turn, adding_more}
-use lib.ListN.{length}
-use Prim.Native.Nat.{◌-◌}
+use mathlib.Core.Path.{refl}
+use Rattle.test_scan.proofs.Adding.{adding_begin, adding_sound, adding_full, adding_end, adding_bad, adding_turn, adding_more}
 use native.Mathlib.Omega.{arith}
 use borrow.Author.Rules.{rules}
 use Rattle.test_scan.proofs.name_tables.add_all.Goals as goal

@@ -1,9 +1,7 @@
-use mathlib.Core.Path.{◌≡◌, refl}
-use Rattle.test_scan.proofs.Adding.{Adding, adding_begin, adding_sound, adding_full, adding_end, adding_bad, adding_turn, adding_more}
+use mathlib.Core.Path.{◌≡◌}
+use Rattle.test_scan.proofs.Adding.{Adding}
 use lib.ListN.{length}
 use Prim.Native.Nat.{◌-◌}
-use native.Mathlib.Omega.{arith}
-use borrow.Author.Rules.{rules}
 use Rattle.test_scan.proofs.name_tables.add_all.Given as goal
 
 abbrev pub invariant-loop-n : goal.invariant-loop-n

@@ -1,6 +1,5 @@
 -- `test_scan::scanners::kestrenyo_bad_byte` meets its contract.
 use native.Mathlib.Omega.{arith}
-use borrow.Author.Rules.{rules}
 use Rattle.test_scan.proofs.Numbers.{no_bad_byte, bad_byte_law, bad_byte_within}
 use Rattle.test_scan.proofs.scanners.kestrenyo_bad_byte.Goals as goal
 

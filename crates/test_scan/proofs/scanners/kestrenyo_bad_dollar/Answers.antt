@@ -1,6 +1,5 @@
 -- `test_scan::scanners::kestrenyo_bad_dollar` meets its contract.
 use native.Mathlib.Omega.{arith}
-use borrow.Author.Rules.{rules}
 use Rattle.scan_raw.proofs.Answers.{value_sound, value_bad}
 use Rattle.test_scan.specs.Scanners.{or_none}
 use Rattle.test_scan.proofs.scanners.kestrenyo_bad_dollar.Goals as goal

@@ -1,6 +1,5 @@
 -- `test_scan::scanners::kestrenyo_dollar` meets its contract.
 use native.Mathlib.Omega.{arith}
-use borrow.Author.Rules.{rules}
 use Rattle.scan_dollars.proofs.Answers.{past_to, past_bad}
 use Rattle.test_scan.proofs.Numbers.{dollar_past, dollar_bad}
 use Rattle.test_scan.proofs.scanners.kestrenyo_dollar.Goals as goal

@@ -1,6 +1,5 @@
 -- `test_scan::scanners::kestrenyo_line_end` meets its contract.
 use native.Mathlib.Omega.{arith}
-use borrow.Author.Rules.{rules}
 use Rattle.scan_lines.proofs.Answers.{line_ended, line_comment, line_open}
 use Rattle.test_scan.proofs.Numbers.{line_ends, line_stays_open}
 use Rattle.test_scan.proofs.scanners.kestrenyo_line_end.Goals as goal

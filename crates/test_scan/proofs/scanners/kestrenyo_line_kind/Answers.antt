@@ -1,5 +1,4 @@
 -- `test_scan::scanners::kestrenyo_line_kind` meets its contract.
-use borrow.Author.Rules.{rules}
 use Rattle.test_scan.proofs.Numbers.{number_of_kind, kind}
 use Rattle.test_scan.proofs.scanners.kestrenyo_line_kind.Goals as goal
 

@@ -1,6 +1,5 @@
 -- `test_scan::scanners::kestrenyo_path` meets its contract.
 use native.Mathlib.Omega.{arith}
-use borrow.Author.Rules.{rules}
 use Rattle.scan_raw.proofs.Answers.{path_to, path_wrong}
 use Rattle.test_scan.proofs.Numbers.{path_ends, path_bad}
 use Rattle.test_scan.proofs.scanners.kestrenyo_path.Goals as goal

@@ -1,5 +1,4 @@
 -- `test_scan::scanners::kestrenyo_paths` meets its contract.
-use borrow.Author.Rules.{rules}
 use Rattle.test_scan.proofs.Numbers.{drop_start}
 use Rattle.test_scan.proofs.scanners.kestrenyo_paths.Goals as goal
 

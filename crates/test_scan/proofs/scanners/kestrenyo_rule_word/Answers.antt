@@ -1,5 +1,4 @@
 -- `test_scan::scanners::kestrenyo_rule_word` meets its contract.
-use borrow.Author.Rules.{rules}
 use Rattle.scan_keywords.proofs.Answers.{word_name, word_no_form, word_not_yet}
 use Rattle.test_scan.specs.Scanners.{word_number}
 use Rattle.test_scan.proofs.scanners.kestrenyo_rule_word.Goals as goal

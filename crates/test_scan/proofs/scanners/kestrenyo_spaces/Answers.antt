@@ -1,5 +1,4 @@
 -- `test_scan::scanners::kestrenyo_spaces` meets its contract.
-use borrow.Author.Rules.{rules}
 use Rattle.test_scan.proofs.Numbers.{token}
 use Rattle.test_scan.proofs.scanners.kestrenyo_spaces.Goals as goal
 

@@ -1,14 +1,9 @@
 use Prim.Native.Nat.{ℕ, ◌-◌}
 use mathlib.Core.List.{List}
-use mathlib.Core.Path.{sym, ◌∙◌}
-use native.Mathlib.Omega.{arith}
-use borrow.Author.Rules.{rules}
 use lib.ListN.{length}
 use Rattle.spec.specs.Forms.{paths}
-use Rattle.scan_tokens.proofs.Places.{Going, going_begin, going_on}
-use Rattle.scan_raw.proofs.Answers.{next_stop, next_path, next_bad}
+use Rattle.scan_tokens.proofs.Places.{Going}
 use Rattle.test_scan.specs.Scanners.{paths_number}
-use Rattle.test_scan.proofs.Numbers.{paths_next, paths_stop, paths_bad}
 use Rattle.test_scan.proofs.scanners.paths_from.Given as goal
 
 abbrev pub invariant-loop-end : goal.invariant-loop-end

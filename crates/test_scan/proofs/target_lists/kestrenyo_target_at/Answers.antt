@@ -1,7 +1,6 @@
 -- `test_scan::target_lists::kestrenyo_target_at` meets its contract.
 use mathlib.Core.Path.{sym, ◌∙◌}
 use native.Mathlib.Omega.{arith}
-use borrow.Author.Rules.{rules}
 use Rattle.scan_targets.proofs.Walk.{turn}
 use Rattle.test_scan.proofs.Numbers.{number_of_next, target}
 use Rattle.test_scan.proofs.target_lists.kestrenyo_target_at.Goals as goal

@@ -1,7 +1,6 @@
 -- `text_expansion::plain::write_files` meets its contract.
 use Rattle.text_memo.proofs.Spans.{moved_writes}
 use Rattle.text_expansion.proofs.Plainly.{part_ask}
-use borrow.Author.Rules.{rules}
 use Rattle.text_expansion.proofs.plain.write_files.Goals as goal
 
 pub put_files-n-requires : goal.put_files-n-requires

@@ -1,6 +1,5 @@
 -- `text_expansion::plain::write_plain` meets its contract.
 use Rattle.text_expansion.proofs.Plainly.{plain_inputs, plain_lines, plain_outputs, plain_value, plain_text, plain_unset}
-use borrow.Author.Rules.{rules}
 use Rattle.text_expansion.proofs.plain.write_plain.Goals as goal
 
 pub value-requires : goal.value-requires

@@ -1,6 +1,5 @@
 -- `text_step::steps::asked` meets its contract.
 use Rattle.text_step.proofs.Picking.{step_missing, rule_place, step_phony, pick_asked, step_picked}
-use borrow.Author.Rules.{rules}
 use Rattle.text_step.proofs.steps.asked.Goals as goal
 
 pub returns-then-c-step : goal.returns-then-c-step

@@ -1,6 +1,5 @@
 -- `text_step::steps::declaration` meets its contract.
 use Rattle.text_step.proofs.Picking.{rule_entry, rule_table, declares_at, declares_missing}
-use borrow.Author.Rules.{rules}
 use Rattle.text_step.proofs.steps.declaration.Goals as goal
 
 pub entry_name-requires : goal.entry_name-requires

@@ -1,7 +1,6 @@
 -- `text_step::steps::outputs_from` meets its contract.
 use mathlib.Core.Path.{◌∙◌}
 use Rattle.text_step.proofs.Picking.{outputs_first, outputs_later}
-use borrow.Author.Rules.{rules}
 use Rattle.text_step.proofs.steps.outputs_from.Goals as goal
 
 pub returns-then-step-eq0 : goal.returns-then-step-eq0

@@ -1,5 +1,4 @@
 -- `Version::read` meets its contract.
-use borrow.Author.Rules.{rules}
 use Rattle.version.specs.Version.{read_version, major_from}
 use Rattle.version.proofs.Steps.{none_read, last_read, one_read}
 use Rattle.version.proofs.Version.read.Goals as goal

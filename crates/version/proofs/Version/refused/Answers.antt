@@ -1,6 +1,5 @@
 -- `Version::refused` meets its contract.
 use mathlib.Core.Path.{sym, ◌∙◌, ap}
-use borrow.Author.Rules.{rules}
 use Rattle.version.specs.Version.{refused_version, too_new}
 use Rattle.version.proofs.Version.refused.Goals as goal
 
