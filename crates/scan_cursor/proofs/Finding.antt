@@ -1,5 +1,5 @@
 -- The reader goes from line to line: what was found so far, and that a turn finds one line more or passes a comment over.
-use Prim.Native.Nat.{ℕ, suc, ◌+◌, ◌-◌, ◌≤◌, ◌<◌}
+use Prim.Native.Nat.{ℕ, suc, ◌+◌, ◌-◌, ◌^◌, ◌≤◌, ◌<◌}
 use mathlib.Core.Bool.{Bool, true, false}
 use mathlib.Core.List.{List, [], ◌∷◌, ◌++◌}
 use mathlib.Core.Path.{◌≡◌, refl, sym, ◌∙◌, ap}
@@ -13,7 +13,7 @@ use Rattle.lists.specs.Tests.{split, differ}
 use Rattle.spec.specs.Lines.{Line}
 use Rattle.scan_lines.specs.Endings.{lines_at}
 use Rattle.scan_cursor.specs.Spans.{line_in, is_passed, LineSpan, LineHere}
-use Rattle.scan_cursor.specs.Found.{lines_in, Bounds, uncommented, put_at, LinePut, none, passed, put, FoundAsk}
+use Rattle.scan_cursor.specs.Found.{lines_in, Bounds, uncommented, LinePutAsk, put_at, LinePut, none, passed, put, FoundAsk, LinesFound}
 use Rattle.scan_cursor.specs.declared.LineBounds.{LineBounds}
 use Rattle.scan_cursor.specs.declared.Found.{Found}
 
@@ -86,6 +86,9 @@ find_begin a =
       lines = refl;
     }
 
+pub find_end : {m : List ℕ} {i : ℕ} {out out' : List ℕ} {f : Found} → Finding m i out out' f → f.more ≡ false → LinesFound m i out out' f
+find_end g e = record { on = λ h. g.on h e; within = g.within; long = g.long; fits = g.fits; bounds = g.bounds; lines = g.lines }
+
 abbrev one : Bool → ℕ
 one true = 1
 one false = 0
@@ -99,6 +102,9 @@ abbrev pub left : List ℕ → Found → ℕ
 left m f = length m - f.next + one f.more
 
 module _ {m : List ℕ} {i : ℕ} {out out' : List ℕ} {f : Found} (g : Finding m i out out' f) (e : f.more ≡ true) {s : LineBounds} (a : LineHere m f.next s) where
+  pub find_ask : length m < 2 ^ 32 → LinePutAsk out' f.filled s
+  find_ask h = record { room = g.room e; start_small = omega (arith, a.starts, g.within); end_small = omega (arith, a.within); past = λ q. omega (arith, a.starts, a.past q) }
+
   -- no line is left
   at_end : s.next ≤ s.start → length m ≤ f.next
   at_end h =
@@ -186,8 +192,14 @@ module _ {m : List ℕ} {i : ℕ} {out lent : List ℕ} {cursor : ℕ} {out' : L
     here : LineHere m f.next s
     here = rw (g.same, g.place) at a
 
+    pub read_ask : length m < 2 ^ 32 → LinePutAsk out' f.filled s
+    read_ask h = find_ask g.finding e here h
+
     pub read_turn : {out'' lent' : List ℕ} {cursor' : ℕ} {f' : Found} → LinePut out' f.filled s out'' f' → lent' ≡ lent → cursor' ≡ f'.next → Reading m i out lent' cursor' out'' f'
     read_turn p d k = record { same = d ∙ g.same; place = k; finding = find_turn g.finding e here p }
 
     pub read_less : {out'' : List ℕ} {f' : Found} → LinePut out' f.filled s out'' f' → left m f' < left m f
     read_less p = find_less g.finding e here p
+
+  pub read_end : f.more ≡ false → LinesFound m i out out' f
+  read_end e = find_end g.finding e

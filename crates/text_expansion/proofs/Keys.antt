@@ -12,15 +12,15 @@ use Rattle.hold_bindings.specs.Log.{Logged, entry_at}
 use Rattle.text_lookup.specs.declared.Asked.{Asked}
 use Rattle.text_lookup.specs.declared.Source.{Source}
 use Rattle.text_lookup.specs.declared.Source.TheVariants.{Inputs, InputLines, Outputs, Value, Text, Unset}
-use Rattle.text_lookup.specs.Scope.{meaning, There, LooksUp}
+use Rattle.text_lookup.specs.Scope.{InScope, meaning, There, LooksUp}
 use Rattle.text_lookup.proofs.Standing.{found_key, ValueOf}
 use Rattle.text_recursion.proofs.Depths.{not_zero, text_shallow, text_whole, text_as_is}
 use Rattle.text_memo.specs.declared.Span.{Span}
 use Rattle.text_memo.specs.declared.Draft.{Draft}
-use Rattle.text_memo.specs.Draft.{span_for, Remembered, Remembers, Drafted, WritesDraft}
+use Rattle.text_memo.specs.Draft.{span_for, Remembered, WrittenPart, Remembers, Drafted, WritesDraft}
 use Rattle.text_memo.proofs.Spans.{drafted_name}
 use Rattle.text_expansion.specs.Here.{asked_as, Here}
-use Rattle.text_expansion.specs.Asks.{spelling, text_in, WritesPlain, RawTextAsk, WritesText, NameTextAsk, WritesName}
+use Rattle.text_expansion.specs.Asks.{spelling, text_in, PlainAsk, WritesPlain, RawTextAsk, WritesText, NameTextAsk, WritesName}
 use Rattle.hold_reading.specs.Buffers.{Buffers}
 
 -- a rule's key, by its entry
@@ -66,6 +66,9 @@ here_as plain depth h =
 -- ---- a name
 
 module _ {t : List ℕ} {bs : Buffers} {name before : List ℕ} {a : Asked} {d : Draft} (w : NameTextAsk t bs a name before d) where
+  pub in_scope : InScope bs.texts bs.bind a
+  in_scope = let q = w.asking in record { log = q.log; reading = q.reading; step = q.step; scope = q.here.scope }
+
   module _ {source : Source} (l : LooksUp bs.texts bs.bind a (λ spell rd s. lookup_by spell rd s name) source) where
     pub key_asked : {k : ℕ} → source ≡ Text k → KeyAsk t bs a name k before d
     unfolding meaning
@@ -75,6 +78,11 @@ module _ {t : List ℕ} {bs : Buffers} {name before : List ℕ} {a : Asked} {d :
           there = l.text k e;
           found = λ spell log rd s h. l.means spell log rd s h.scope ∙ ap (meaning spell rd s log) e;
         }
+
+    pub plain_asked : PlainAsk bs a source before d
+    plain_asked =
+        let q = w.asking in
+        record { reading = q.reading; step = q.step; files = q.here.files; free = q.remembers.free; value = l.value }
 
     module _ {after : List ℕ} {r : Draft} (p : WritesPlain bs a source before d after r) where
       as_it_is : {log : List Logged} {rd : Reading} {s : Step} (v : List ℕ) → Here bs a log rd s → meaning (spelling a) rd s log source ≡ as_is v → Remembers (text_in a rd s) before d
@@ -101,6 +109,11 @@ module _ {t : List ℕ} {bs : Buffers} {name before : List ℕ} {a : Asked} {k :
   -- where it stands already
 
   module _ {span : Span} (e : span ≡ span_for d name) (b : span.from ≤ span.to) where
+    pub again_behind : WrittenPart before span.from span.to d.at
+    again_behind =
+        let q = w.ask.asking.remembers in
+        record { ordered = b; written = rw e (q.kept name (rw e at b)).written; free = q.free }
+
     pub again_written : {after : List ℕ} {r : Draft} → WritesDraft before d (part before span.from span.to) after r → WritesName bs a name before d after r
     again_written {after} {r} p =
         record {

@@ -2,8 +2,17 @@
 use native.Mathlib.Omega.{arith}
 use Rattle.text_references.proofs.Turns.{as_bytes, as_name}
 use Rattle.text_expansion.proofs.Writing.{write_begin, bytes_on, bytes_over, name_asked, name_on, name_over, write_end}
-use Rattle.text_expansion.proofs.Keys.{key_asked, plain_written, again_written, depth_left, text_asked, key_written}
+use Rattle.text_expansion.proofs.Keys.{in_scope, key_asked, plain_asked, plain_written, again_behind, again_written, depth_left, text_asked, key_written}
 use Rattle.text_expansion.proofs.+write_name_write_text.Goals as goal
+
+pub write_name-lookup-source-requires : goal.write_name-lookup-source-requires
+write_name-lookup-source-requires t c = in_scope c.requires
+
+pub write_name-write_again-requires : goal.write_name-write_again-requires
+write_name-write_again-requires t c = again_behind (key_asked c.requires c.lookup-source.ensures c.in-Text.is) c.span_of-span.ensures c.if-from-to.true
+
+pub write_name-write_plain-requires : goal.write_name-write_plain-requires
+write_name-write_plain-requires t c = plain_asked c.requires c.lookup-source.ensures
 
 pub write_name-returns-then-from-to : goal.write_name-returns-then-from-to
 write_name-returns-then-from-to t c = again_written (key_asked c.requires c.lookup-source.ensures c.in-Text.is) c.span_of-span.ensures c.if-from-to.true c.write_again.ensures
