@@ -6,7 +6,7 @@ ghost use Rattle.scan_bundle.specs.Bundles.{record_place_of};
 ghost use Rattle.answer_places.specs.Places.{HasPlace, PlacedIn};
 
 use answers::{Numbers, Placed};
-use scan_bundle::{BundleAnswer, Spot, index, spot_of};
+use scan_bundle::{Spot, index, spot_of};
 use spec::limits::BUNDLE;
 
 // A spot among so many texts.
@@ -27,8 +27,8 @@ fn at_spot(number: usize, count: usize, s: Spot) -> Placed
     }
 }
 
-// What an answer about a bundle says, with its place. The bundle is read only where the place stands in a text, and such an answer is given of a sound
-// bundle alone.
+// What an answer about a bundle says, with its place. The bundle is read only where the place stands in a text, and
+// such an answer is given of a sound bundle alone.
 pub fn locate(n: Numbers, bundle: &[u8]) -> Placed
     ensures { PlacedIn bundle.now (said n) result }
 {
@@ -42,7 +42,7 @@ pub fn locate(n: Numbers, bundle: &[u8]) -> Placed
     }
     let mut order = [0u32; BUNDLE];
     match index(bundle, 1, BUNDLE, &mut order) {
-        BundleAnswer::Sound(count) => at_spot(n.number, count, spot_of(bundle, count, n.value)),
-        BundleAnswer::Malformed => by_itself,
+        Some(count) => at_spot(n.number, count, spot_of(bundle, count, n.value)),
+        None => by_itself,
     }
 }

@@ -5,9 +5,10 @@ ghost use Rattle.std.specs.Prelude.{◌≡◌};
 ghost use Rattle.spec.specs.Answers.{refusal_says, plan_says, text_says};
 ghost use Rattle.answers.specs.Numbers.{saying, said};
 
-use spec::{PlanAnswer, Refusal, TextAnswer};
+use spec::Refusal;
 
-// A refusal's number, whether its place stands in a text, and its place; or 0 and the count that a plan or a text gives.
+// A refusal's number, whether its place stands in a text, and its place; or 0 and the count that a plan or a text
+// gives.
 #[derive(Clone, Copy)]
 pub struct Numbers {
     pub number: usize,
@@ -15,7 +16,8 @@ pub struct Numbers {
     pub value: usize,
 }
 
-// The same for callers outside: where its place stands in a text, the number of the text and one more; 0 where its value is a number by itself.
+// The same for callers outside: where its place stands in a text, the number of the text and one more; 0 where its
+// value is a number by itself.
 #[repr(C)]
 #[derive(Clone, Copy)]
 pub struct Placed {
@@ -62,20 +64,13 @@ pub fn of_refusal(r: Refusal) -> Numbers
     }
 }
 
-pub fn of_plan(a: PlanAnswer) -> Numbers
-    ensures { said result ≡ plan_says a }
+// What a plan or a text is answered with.
+pub fn of_reply(a: Result<usize, Refusal>) -> Numbers
+    ensures plan { said result ≡ plan_says a }
+    ensures text { said result ≡ text_says a }
 {
     match a {
-        PlanAnswer::Listed(n) => told(0, false, n),
-        PlanAnswer::Refused(r) => of_refusal(r),
-    }
-}
-
-pub fn of_text(a: TextAnswer) -> Numbers
-    ensures { said result ≡ text_says a }
-{
-    match a {
-        TextAnswer::Written(n) => told(0, false, n),
-        TextAnswer::Refused(r) => of_refusal(r),
+        Ok(n) => told(0, false, n),
+        Err(r) => of_refusal(r),
     }
 }

@@ -45,8 +45,8 @@ fn has_wrong_input(
     has_wrong(t, l, order, names, index, texts, bind, graph, word, c)
 }
 
-// "empty path, output made twice (also within one step)" (8), of a build line. The columns of the graph stay; behind them lies a table of the
-// outputs. The word buffer is working space.
+// "empty path, output made twice (also within one step)" (8), of a build line. The columns of the graph stay; behind
+// them lies a table of the outputs. The word buffer is working space.
 pub fn bad_paths(
     t: &[u8; 256],
     l: &[u8],

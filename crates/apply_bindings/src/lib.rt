@@ -10,7 +10,8 @@ use hold_bindings::push;
 use hold_reading::Counts;
 use spec::limits::{BINDINGS, NAME, VALUE, WRITTEN};
 
-// Whether a line is over a limit, whose name and value have so many bytes.
+// Whether a line is over a limit, whose name and value have so many bytes. The tests stand one by one: of four joined
+// by `||` the proof gets no names to cite.
 pub fn binding_over(name: usize, value: usize, c: Counts) -> bool
     requires { (c.bindings ≤ max_bindings) × (c.written ≤ max_written) }
     ensures { result ≡ binding_over name value c }

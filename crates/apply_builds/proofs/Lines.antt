@@ -1,4 +1,5 @@
 -- A build line: its 7, its 8s, then what is left.
+use Rattle.std.specs.Prelude.{Result, Err}
 use Prim.Native.Nat.{ℕ}
 use mathlib.Core.Bool.{Bool, true, false}
 use mathlib.Core.List.{List}
@@ -14,8 +15,6 @@ use Rattle.cut_forms.specs.declared.BuildPlaces.{BuildPlaces}
 use Rattle.cut_forms.specs.Statements.{Stands}
 use Rattle.hold_bindings.specs.Log.{Logged}
 use Rattle.hold_reading.specs.declared.Counts.{Counts}
-use Rattle.hold_reading.specs.declared.LineAnswer.{LineAnswer}
-use Rattle.hold_reading.specs.declared.LineAnswer.TheVariants.{Refused}
 use Rattle.hold_reading.specs.Held.{HoldsBound, HoldsReading, refuses}
 use Rattle.hold_reading.specs.Adds.{AddsFiles}
 use Rattle.apply_equal_outputs.specs.Kept.{ColumnsKept}
@@ -24,6 +23,8 @@ use Rattle.apply_equal_outputs.proofs.Behind.{held_kept, whole_kept}
 use Rattle.apply_steps.specs.Asks.{StepAsks, WritesStep}
 use Rattle.apply_builds.specs.Asks.{BuildAsks}
 use Rattle.hold_reading.specs.Buffers.{Buffers, with_graph}
+use Rattle.spec.specs.declared.Refusal.{Refusal}
+use Rattle.hold_reading.specs.declared.State.{State}
 
 module _ {l : List ℕ} {bs : Buffers} {c : Counts} {p : BuildPlaces} (start : ℕ) {r : Bool}
     (d : (log : List Logged) (rd : Reading) → HoldsBound log bs.texts bs.bind c rd → r ≡ declared (part l p.rule p.ins) rd) where
@@ -32,17 +33,17 @@ module _ {l : List ℕ} {bs : Buffers} {c : Counts} {p : BuildPlaces} (start : �
   rule_known {b} w {log} {rd} h = rw w.rule (sym (d log rd h.bound))
 
   pub line_unknown : r ≡ false → {b : BuildLine} → Stands l p b → {names' index' graph' : List ℕ}
-      → AddsFiles bs c (λ rd. add_step start (expanded_line rd b) rd) names' index' graph' (Refused (BadRule start))
+      → AddsFiles bs c (λ rd. add_step start (expanded_line rd b) rd) names' index' graph' (Err (BadRule start))
   unfolding add_step
   line_unknown e w = record { agrees = λ log rd h. rw (rule_known w h ∙ e) refuses }
 
   module _ (e : r ≡ true) {graph₁ : List ℕ} {s : Bool} (k : PathsChecked l bs c p graph₁ s) where
     pub line_bad : s ≡ true → {b : BuildLine} → Stands l p b → {names' index' graph' : List ℕ}
-        → AddsFiles bs c (λ rd. add_step start (expanded_line rd b) rd) names' index' graph' (Refused (BadPath start))
+        → AddsFiles bs c (λ rd. add_step start (expanded_line rd b) rd) names' index' graph' (Err (BadPath start))
     unfolding add_step
     line_bad f {b} w = record { agrees = λ log rd h. rw (rule_known w h ∙ e, sym (k.answer b w log rd h) ∙ f) refuses }
 
-    pub line_written : s ≡ false → {names' index' graph' : List ℕ} {x : LineAnswer} → WritesStep l (with_graph bs graph₁) c start p names' index' graph' x
+    pub line_written : s ≡ false → {names' index' graph' : List ℕ} {x : Result State Refusal} → WritesStep l (with_graph bs graph₁) c start p names' index' graph' x
         → {b : BuildLine} → Stands l p b → AddsFiles bs c (λ rd. add_step start (expanded_line rd b) rd) names' index' graph' x
     line_written f y {b} w =
         record {

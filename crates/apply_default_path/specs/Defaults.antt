@@ -1,13 +1,11 @@
 -- One path of a default line: what is held of it.
-use Rattle.std.specs.Prelude.{ℕ, ◌+◌, true, false, List, [], ◌∷◌, ◌++◌, ◌≡◌, length}
+use Rattle.std.specs.Prelude.{ℕ, ◌+◌, true, false, List, [], ◌∷◌, ◌++◌, ◌≡◌, length, Option, Some, None}
 use Rattle.spec.specs.Reading.{Reading, number_of, is_made}
 use Rattle.hold_bindings.specs.Log.{Logged}
 use Rattle.hold_reading.specs.Held.{HoldsReading}
 use Rattle.hold_reading.specs.declared.Counts.{Counts}
 use Rattle.apply_path_checks.specs.Checks.{path_of, FilesKnown}
 use Rattle.apply_files.specs.Path.{path_over}
-use Rattle.apply_default_path.specs.declared.AddedDefault.{AddedDefault}
-use Rattle.apply_default_path.specs.declared.AddedDefault.TheVariants.{Added, Over}
 use Rattle.hold_reading.specs.Buffers.{Buffers, buffers, with_graph}
 
 -- the reading with a default more: a file's number, and its path's bytes
@@ -39,11 +37,11 @@ pub record PutsDefault (names index graph : List ℕ) (c : Counts) (path graph' 
   pub held : (texts bind : List ℕ) (log : List Logged) (rd : Reading) → HoldsReading log (buffers names index texts bind graph) c rd → is_made path rd ≡ true
       → HoldsReading log (buffers names index texts bind graph') d (defaulted (number_of path rd.files) (length path) rd)
 
-unfoldable pub Named·is : (bs : Buffers) → Counts → (path : List ℕ) → List Logged → Reading → AddedDefault → Type 0
-Named·is bs c path log rd (Added d) =
+unfoldable pub Named·is : (bs : Buffers) → Counts → (path : List ℕ) → List Logged → Reading → Option Counts → Type 0
+Named·is bs c path log rd (Some d) =
     (path_over (length path) c ≡ false) × HoldsReading log bs d (defaulted (number_of path rd.files) (length path) rd)
-Named·is bs c path log rd Over = path_over (length path) c ≡ true
+Named·is bs c path log rd None = path_over (length path) c ≡ true
 
-pub record NamesDefault (bs : Buffers) (c : Counts) (raw graph' : List ℕ) (r : AddedDefault) : Type 0 where
+pub record NamesDefault (bs : Buffers) (c : Counts) (raw graph' : List ℕ) (r : Option Counts) : Type 0 where
   pub answer : (log : List Logged) (rd : Reading) → HoldsReading log bs c rd → is_made (path_of rd raw) rd ≡ true
       → Named·is (with_graph bs graph') c (path_of rd raw) log rd r

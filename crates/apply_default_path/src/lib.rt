@@ -9,37 +9,29 @@ ghost use Rattle.hold_reading.specs.Buffers.{buffers};
 use apply_files::path_over;
 use arena::put;
 use expand_dollars::expand;
-use hold_names::{FoundName, find_name};
+use hold_names::find_name;
 use hold_reading::Counts;
 use hold_reading::columns::DEFAULTS_START;
-
-// What a path of a default line does: it is a default more, or over a limit.
-#[derive(Clone, Copy)]
-pub enum AddedDefault {
-    Added(Counts),
-    Over,
-}
 
 // Writes the number of an output's path behind the defaults.
 fn put_default(names: &[u8], index: &[u32], graph: &mut [u32], c: Counts, path: &[u8]) -> Counts
     requires { PutAsks names.now index.now graph.old c path.now }
     ensures { PutsDefault names.now index.now graph.old c path.now graph.new result }
 {
-    match find_name(names, index, c.files, path) {
-        FoundName::At(k) => {
-            put(graph, DEFAULTS_START + c.defaults, k);
-            Counts {
-                defaults: c.defaults + 1,
-                mentions: c.mentions + 1,
-                written: c.written + path.len(),
-                ..c
-            }
-        }
-        FoundName::Missing => c,
+    let Some(k) = find_name(names, index, c.files, path) else {
+        return c;
+    };
+    put(graph, DEFAULTS_START + c.defaults, k);
+    Counts {
+        defaults: c.defaults + 1,
+        mentions: c.mentions + 1,
+        written: c.written + path.len(),
+        ..c
     }
 }
 
-// One path of a default line, which is an output's. The word buffer is working space.
+// One path of a default line, which is an output's: the counts with it, or `None` where it is over a limit. The word
+// buffer is working space.
 pub fn add_default(
     t: &[u8; 256],
     raw: &[u8],
@@ -50,13 +42,13 @@ pub fn add_default(
     graph: &mut [u32],
     word: &mut [u8],
     c: Counts,
-) -> AddedDefault
+) -> Option<Counts>
     requires { RawAsks t.now raw.now (buffers names.now index.now texts.now bind.now graph.old) word.old c }
     ensures { Leaves ((Spare graph.old graph.new) × (Spare word.old word.new)) (NamesDefault (buffers names.now index.now texts.now bind.now graph.old) c raw.now graph.new result) }
 {
     let n = expand(t, raw, texts, bind, c.entries, word);
     if path_over(n, c) {
-        return AddedDefault::Over;
+        return None;
     }
-    AddedDefault::Added(put_default(names, index, graph, c, &word[..n]))
+    Some(put_default(names, index, graph, c, &word[..n]))
 }

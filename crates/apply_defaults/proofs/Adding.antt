@@ -1,4 +1,5 @@
 -- A walk over the paths of a default line without an 8: what is held now, and what is left of the line.
+use Rattle.std.specs.Prelude.{Option, Some, None, Err}
 use Prim.Native.Nat.{ℕ, ◌≤◌}
 use mathlib.Core.Bool.{true, false, ◌||◌}
 use mathlib.Core.List.{List, [], ◌∷◌}
@@ -16,18 +17,16 @@ use Rattle.cut_forms.proofs.Walks.{walk_on}
 use Rattle.hold_bindings.specs.Log.{Logged}
 use Rattle.hold_reading.specs.declared.Counts.{Counts}
 use Rattle.hold_reading.specs.declared.Open.TheVariants.{Nothing}
-use Rattle.hold_reading.specs.declared.LineAnswer.TheVariants.{Goes, Refused}
 use Rattle.hold_reading.specs.Held.{joined, nothing, HoldsReading, goes, refuses}
 use Rattle.hold_reading.specs.Adds.{Whole, AddsFiles}
 use Rattle.apply_path_checks.specs.declared.PathKind.TheVariants.{Default}
 use Rattle.apply_path_checks.specs.Checks.{path_of, wrong_path, AnyWrong}
 use Rattle.apply_path_checks.proofs.Wrong.{expanded_cons, default_made}
-use Rattle.apply_default_path.specs.declared.AddedDefault.{AddedDefault}
-use Rattle.apply_default_path.specs.declared.AddedDefault.TheVariants.{Added, Over}
 use Rattle.apply_default_path.specs.Defaults.{defaulted, Named·is, NamesDefault}
 use Rattle.apply_defaults.specs.Sound.{sound_defaults}
 use Rattle.apply_defaults.proofs.Outcomes.{sound_over, sound_on, sound_end}
 use Rattle.hold_reading.specs.Buffers.{Buffers, with_graph}
+use Rattle.hold_reading.specs.Went.{went}
 
 -- The reading so far, and what is left of the line.
 pub record Reached (log : List Logged) (bs : Buffers) (d : Counts) (start : ℕ) (rd : Reading) (ps qs : List (List ℕ)) : Type 0 where
@@ -70,7 +69,7 @@ module _ {l : List ℕ} {bs : Buffers} {c : Counts} {start at : ℕ} {graph : Li
       let r = s h.log h.reading h.holds in
       record { log = h.log; reading = r.reading; holds = r.holds }
 
-  module _ {from to : ℕ} (n : PathNext l i from to) {graph' : List ℕ} {r : AddedDefault} (m : NamesDefault (with_graph bs graph) d (part l from to) graph' r) where
+  module _ {from to : ℕ} (n : PathNext l i from to) {graph' : List ℕ} {r : Option Counts} (m : NamesDefault (with_graph bs graph) d (part l from to) graph' r) where
     -- the path of this turn, and those behind it
     turn : (ps : List (List ℕ)) → PathsAt l at ps
         → (us : List (List ℕ)) × PathsAt l to us × ((log : List Logged) (rd : Reading) → HoldsReading log bs c rd → Reached log (with_graph bs graph) d start rd ps (part l from to ∷ us))
@@ -98,7 +97,7 @@ module _ {l : List ℕ} {bs : Buffers} {c : Counts} {start at : ℕ} {graph : Li
       left_cons : sound_defaults start (expanded rd ps) rd ≡ sound_defaults start (path_of z.reading (part l from to) ∷ expanded z.reading us) z.reading
       left_cons = z.left ∙ ap (λ (y : List (List ℕ)). sound_defaults start y z.reading) (expanded_cons z.reading (part l from to) us)
 
-      reach_on : {e : Counts} → r ≡ Added e → Reached log (with_graph bs graph') e start rd ps us
+      reach_on : {e : Counts} → r ≡ Some e → Reached log (with_graph bs graph') e start rd ps us
       unfolding Named·is
       reach_on e =
           let p = path_of z.reading (part l from to) in
@@ -114,13 +113,13 @@ module _ {l : List ℕ} {bs : Buffers} {c : Counts} {start at : ℕ} {graph : Li
                 ∙ sym (ap (λ (y : List (List ℕ)). sound_defaults start y (defaulted k (length p) z.reading)) (expanded_same k (length p) z.reading us));
           }
 
-      reach_over : r ≡ Over → sound_defaults start (expanded rd ps) rd ≡ refused (OverLimit start)
+      reach_over : r ≡ None → sound_defaults start (expanded rd ps) rd ≡ refused (OverLimit start)
       unfolding Named·is
       reach_over e =
           let p = path_of z.reading (part l from to) in
           left_cons ∙ sound_over z.holds start p (expanded z.reading us) (rw e at (m.answer log z.reading z.holds here_made))
 
-    pub add_on : {e : Counts} → r ≡ Added e → Adding l bs c start at graph' e to
+    pub add_on : {e : Counts} → r ≡ Some e → Adding l bs c start at graph' e to
     add_on e =
         record {
           within = n.within;
@@ -129,14 +128,14 @@ module _ {l : List ℕ} {bs : Buffers} {c : Counts} {start at : ℕ} {graph : Li
               (us, u, λ log rd h. reach_on (s log rd h) e);
         }
 
-    pub add_over : r ≡ Over → {ps : List (List ℕ)} → PathsAt l at ps → {graph'' : List ℕ}
-        → AddsFiles bs c (λ rd. sound_defaults start (expanded rd ps) rd) bs.names bs.index graph'' (Refused (OverLimit start))
+    pub add_over : r ≡ None → {ps : List (List ℕ)} → PathsAt l at ps → {graph'' : List ℕ}
+        → AddsFiles bs c (λ rd. sound_defaults start (expanded rd ps) rd) bs.names bs.index graph'' (Err (OverLimit start))
     add_over e {ps} w =
         let (us, u, s) = turn ps w in
         record { agrees = λ log rd h. rw (reach_over (s log rd h) e) refuses }
 
   pub add_end : ((ps : List (List ℕ)) → PathsAt l i ps → ps ≡ []) → {ps : List (List ℕ)} → PathsAt l at ps
-      → AddsFiles bs c (λ rd. sound_defaults start (expanded rd ps) rd) bs.names bs.index graph (Goes d Nothing)
+      → AddsFiles bs c (λ rd. sound_defaults start (expanded rd ps) rd) bs.names bs.index graph (went d Nothing)
   unfolding joined expanded
   add_end f {ps} w =
       let (qs, v, s) = x.rest ps w in

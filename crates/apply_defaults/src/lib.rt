@@ -10,11 +10,10 @@ ghost use Rattle.apply_defaults.specs.Asks.{DefaultAsks};
 ghost use Rattle.apply_defaults.specs.Sound.{sound_defaults, SoundAsks};
 ghost use Rattle.hold_reading.specs.Buffers.{buffers};
 
-use apply_default_path::{AddedDefault, add_default};
+use apply_default_path::add_default;
 use apply_path_checks::{PathKind, PathList, has_wrong};
-use cut_forms::ListPath;
 use cut_forms::paths::next_listed;
-use hold_reading::{Counts, LineAnswer, Open};
+use hold_reading::{Counts, Open, State};
 use spec::Refusal;
 
 // A default line: where it starts in the manifest, and where its paths start in it.
@@ -36,30 +35,23 @@ fn add_sound(
     graph: &mut [u32],
     word: &mut [u8],
     c: Counts,
-) -> LineAnswer
+) -> Result<State, Refusal>
     requires { SoundAsks t.now l.now (buffers names.now index.now texts.now bind.now graph.old) word.old c s.paths }
     ensures { Leaves ((Spare graph.old graph.new) × (Spare word.old word.new)) ((ps : List (List ℕ)) → PathsAt l.now s.paths ps → AddsFiles (buffers names.now index.now texts.now bind.now graph.old) c (λ rd. sound_defaults s.start (expanded rd ps) rd) names.now index.now graph.new result) }
 {
     let mut d = c;
     let mut i = s.paths;
-    loop {
-        match next_listed(t, l, i) {
-            ListPath::Path(from, to) => {
-                match add_default(t, &l[from..to], names, index, texts, bind, graph, word, d) {
-                    AddedDefault::Added(e) => {
-                        d = e;
-                        i = to;
-                    }
-                    AddedDefault::Over => {
-                        return LineAnswer::Refused(Refusal::OverLimit(s.start));
-                    }
-                }
-            }
-            ListPath::Stop => {
-                return LineAnswer::Goes(d, Open::Nothing);
-            }
-        }
+    while let Some((from, to)) = next_listed(t, l, i) {
+        let Some(e) = add_default(t, &l[from..to], names, index, texts, bind, graph, word, d) else {
+            return Err(Refusal::OverLimit(s.start));
+        };
+        d = e;
+        i = to;
     }
+    Ok(State {
+        counts: d,
+        open: Open::Nothing,
+    })
 }
 
 // `default PATHS`, where no block is open: its 8s first, for the whole line.
@@ -74,7 +66,7 @@ pub fn add_defaults(
     graph: &mut [u32],
     word: &mut [u8],
     c: Counts,
-) -> LineAnswer
+) -> Result<State, Refusal>
     requires { DefaultAsks t.now l.now (buffers names.now index.now texts.now bind.now graph.old) word.old c s.paths }
     ensures { Leaves ((Spare graph.old graph.new) × (Spare word.old word.new)) ((ps : List (List ℕ)) → PathsAt l.now s.paths ps → AddsFiles (buffers names.now index.now texts.now bind.now graph.old) c (λ rd. add_defaults s.start (expanded rd ps) rd) names.now index.now graph.new result) }
 {
@@ -83,7 +75,7 @@ pub fn add_defaults(
         kind: PathKind::Default,
     };
     if has_wrong(t, l, list, names, index, texts, bind, graph, word, c) {
-        return LineAnswer::Refused(Refusal::BadPath(s.start));
+        return Err(Refusal::BadPath(s.start));
     }
     add_sound(t, l, s, names, index, texts, bind, graph, word, c)
 }

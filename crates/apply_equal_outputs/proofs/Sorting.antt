@@ -1,4 +1,5 @@
 -- The sorted table of a line's outputs: each output is looked for among those before it, and put in where it belongs.
+use Rattle.std.specs.Prelude.{Some, None}
 use Prim.Native.Nat.{ℕ, zero, suc, ◌+◌, ◌-◌, ◌/◌, ◌%◌, ◌≤◌, ◌<◌}
 use mathlib.Core.Bool.{Bool, true, false}
 use mathlib.Core.List.{List, [], ◌∷◌, ◌++◌, map}
@@ -9,8 +10,8 @@ use lib.ListN.{length, take, drop, get_or, length-append, length-take, length-dr
 use lib.Seq.{take_at, length-take-le}
 use Rattle.lists.specs.Order.{order_bytes, order_less, order_greater, order_equal}
 use Rattle.lists.specs.Parts.{part}
-use Rattle.lists.specs.declared.Order.{Order}
-use Rattle.lists.specs.declared.Order.TheVariants.{Less, Equal, Greater}
+use Rattle.std.specs.declared.cmp.Ordering.{Ordering}
+use Rattle.std.specs.declared.cmp.Ordering.TheVariants.{Less, Equal, Greater}
 use Rattle.spec.specs.Basics.{among}
 use Rattle.spec.specs.Limits.{max_manifest}
 use Rattle.spec.specs.Reading.{Reading}
@@ -27,7 +28,6 @@ use Rattle.hold_bindings.specs.Held.{HoldsBindings}
 use Rattle.expand_parts.specs.Runs.{expanded_by, ExpandReady}
 use Rattle.hold_reading.specs.Held.{HoldsBound}
 use Rattle.hold_reading.specs.declared.Counts.{Counts}
-use Rattle.apply_equal_outputs.specs.declared.TablePlace.TheVariants.{Taken, Free}
 use Rattle.apply_path_checks.specs.Checks.{path_of}
 use Rattle.apply_equal_outputs.specs.Kept.{table_start}
 use Rattle.apply_equal_outputs.specs.Sorted.{entry_of, raw_of, OutputLies, paths_of, OutputsSorted, PlaceAsks, PathOrdered, Belongs, PlaceIn, PathAdded, TwiceAsks, ComparesOutputs, Twice}
@@ -104,7 +104,7 @@ entry_ready p h =
     }
 
 -- what `order` says of the path and that of an entry v
-pub order_held : {l texts bind : List ℕ} {c : Counts} {from to : ℕ} {table : List ℕ} {k v : ℕ} {r : Order} → v ≡ get_or table k 0
+pub order_held : {l texts bind : List ℕ} {c : Counts} {from to : ℕ} {table : List ℕ} {k v : ℕ} {r : Ordering} → v ≡ get_or table k 0
     → ((log : List Logged) → HoldsBindings log texts bind c.entries → r ≡ order_bytes (expanded_by log (part l from to)) (expanded_by log (part l (v / 65536) (v % 65536))))
     → PathOrdered l texts bind c from to table k r
 unfolding raw_of
@@ -127,9 +127,9 @@ half_begin l texts bind c from to table =
     }
 
 module _ {l texts bind : List ℕ} {c : Counts} {from to : ℕ} {table : List ℕ} {low high : ℕ} (x : Halving l texts bind c from to table low high) where
-  module _ (s : OutputsSorted l texts bind c table) {mid : ℕ} (above : low ≤ mid) (below : mid < high) {r : Order} (o : PathOrdered l texts bind c from to table mid r) where
+  module _ (s : OutputsSorted l texts bind c table) {mid : ℕ} (above : low ≤ mid) (below : mid < high) {r : Ordering} (o : PathOrdered l texts bind c from to table mid r) where
     -- the order of the path and that of the entry in the middle
-    compared : (log : List Logged) (rd : Reading) → HoldsBound log texts bind c rd → {q : Order} → r ≡ q → order_bytes (path_of rd (part l from to)) (get_or (paths_of rd l table) mid []) ≡ q
+    compared : (log : List Logged) (rd : Reading) → HoldsBound log texts bind c rd → {q : Ordering} → r ≡ q → order_bytes (path_of rd (part l from to)) (get_or (paths_of rd l table) mid []) ≡ q
     compared log rd b e = rw (path_in rd l table mid (omega (arith, x.within))) (sym (o.answer log rd b) ∙ e)
 
     pub half_lower : r ≡ Less → Halving l texts bind c from to table low mid
@@ -148,7 +148,7 @@ module _ {l texts bind : List ℕ} {c : Counts} {from to : ℕ} {table : List �
           between = λ log rd b. between_higher (x.between log rd b) (s.risen log rd b) below (order_greater _ _ (compared log rd b e));
         }
 
-    pub half_found : r ≡ Equal → PlaceIn l texts bind c from to table Taken
+    pub half_found : r ≡ Equal → PlaceIn l texts bind c from to table None
     half_found e =
         record {
           taken = λ _ log rd b.
@@ -156,7 +156,7 @@ module _ {l texts bind : List ℕ} {c : Counts} {from to : ℕ} {table : List �
           free = λ {p} q. absurd (let z : ◌≡◌ {A = ℕ} 0 1 = cc in omega arith);
         }
 
-  pub half_end : high ≤ low → PlaceIn l texts bind c from to table (Free low)
+  pub half_end : high ≤ low → PlaceIn l texts bind c from to table (Some low)
   half_end h =
       record {
         taken = λ q. absurd (let z : ◌≡◌ {A = ℕ} 0 1 = cc in omega arith);

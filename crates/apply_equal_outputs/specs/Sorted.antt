@@ -1,10 +1,10 @@
 -- Equal outputs in a line, found by a table of the outputs so far that is sorted by what they expand to.
-use Rattle.std.specs.Prelude.{ℕ, ◌+◌, ◌*◌, ◌/◌, ◌%◌, ◌≤◌, ◌<◌, Bool, true, false, ◌||◌, List, map, ◌≡◌, length, take, get_or}
+use Rattle.std.specs.Prelude.{ℕ, ◌+◌, ◌*◌, ◌/◌, ◌%◌, ◌≤◌, ◌<◌, Bool, true, false, ◌||◌, List, map, ◌≡◌, length, take, get_or, Option, Some, None}
 use Rattle.std.proofs.Math.Option.{none}
 use Rattle.lists.specs.Bytes.{eq_bytes}
 use Rattle.lists.specs.Order.{order_bytes}
 use Rattle.lists.specs.Parts.{part}
-use Rattle.lists.specs.declared.Order.{Order}
+use Rattle.std.specs.declared.cmp.Ordering.{Ordering}
 use Rattle.spec.specs.Basics.{among}
 use Rattle.spec.specs.Dollars.{bad_dollar}
 use Rattle.spec.specs.Limits.{max_manifest}
@@ -17,8 +17,6 @@ use Rattle.hold_bindings.specs.Log.{Logged}
 use Rattle.expand_parts.specs.Runs.{ExpandReady}
 use Rattle.hold_reading.specs.Held.{HoldsBound}
 use Rattle.hold_reading.specs.declared.Counts.{Counts}
-use Rattle.apply_equal_outputs.specs.declared.TablePlace.{TablePlace}
-use Rattle.apply_equal_outputs.specs.declared.TablePlace.TheVariants.{Taken, Free}
 use Rattle.apply_path_checks.specs.Checks.{path_of}
 use Rattle.apply_equal_outputs.specs.Kept.{table_start, ColumnsKept}
 
@@ -60,7 +58,7 @@ pub record EntryAsks (t l texts bind : List ℕ) (count from to : ℕ) (table : 
   pub lies : OutputLies l (get_or table k 0)
 
 -- how the path compares with that of entry k
-pub record PathOrdered (l texts bind : List ℕ) (c : Counts) (from to : ℕ) (table : List ℕ) (k : ℕ) (r : Order) : Type 0 where
+pub record PathOrdered (l texts bind : List ℕ) (c : Counts) (from to : ℕ) (table : List ℕ) (k : ℕ) (r : Ordering) : Type 0 where
   pub answer : (log : List Logged) (rd : Reading) → HoldsBound log texts bind c rd → r ≡ order_bytes (path_of rd (part l from to)) (path_of rd (raw_of l (get_or table k 0)))
 
 pub record SortedAsks (t l texts bind : List ℕ) (c : Counts) (from to : ℕ) (table : List ℕ) : Type 0 where
@@ -72,9 +70,9 @@ pub record Belongs (l texts bind : List ℕ) (c : Counts) (from to : ℕ) (table
   pub within : p ≤ length table
   pub between : (log : List Logged) (rd : Reading) → HoldsBound log texts bind c rd → PathBetween (paths_of rd l table) (path_of rd (part l from to)) p p
 
-pub record PlaceIn (l texts bind : List ℕ) (c : Counts) (from to : ℕ) (table : List ℕ) (r : TablePlace) : Type 0 where
-  pub taken : r ≡ Taken → (log : List Logged) (rd : Reading) → HoldsBound log texts bind c rd → among (path_of rd (part l from to)) (paths_of rd l table) ≡ true
-  pub free : {p : ℕ} → r ≡ Free p → Belongs l texts bind c from to table p
+pub record PlaceIn (l texts bind : List ℕ) (c : Counts) (from to : ℕ) (table : List ℕ) (r : Option ℕ) : Type 0 where
+  pub taken : r ≡ None → (log : List Logged) (rd : Reading) → HoldsBound log texts bind c rd → among (path_of rd (part l from to)) (paths_of rd l table) ≡ true
+  pub free : {p : ℕ} → r ≡ Some p → Belongs l texts bind c from to table p
 
 pub record AddAsks (t l texts bind : List ℕ) (c : Counts) (from to : ℕ) (table : List ℕ) (n : ℕ) : Type 0 where
   pub path : PlaceAsks t l texts bind c.entries from to

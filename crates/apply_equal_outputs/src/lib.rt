@@ -1,23 +1,16 @@
-// Two equal outputs in a line. The outputs so far stand in a table that is sorted by what they expand to, so each is compared with few others.
+// Two equal outputs in a line. The outputs so far stand in a table that is sorted by what they expand to, so each is
+// compared with few others.
 #![tactic(auto)]
 
 ghost use Rattle.apply_equal_outputs.specs.Sorted.{EntryAsks, PathOrdered, SortedAsks, PlaceIn, AddAsks, PathAdded, TableAsks, ComparesOutputs, RoomAsks, Twice};
 
 use arena::insert;
-use cut_forms::ListPath;
 use cut_forms::paths::next_listed;
 use expand_order::order;
 use hold_reading::Counts;
 use hold_reading::columns::COLUMNS_END;
-use lists::Order;
 use slices::words::at;
-
-// Where a path stands in a sorted table: an equal one is there, or it belongs at a place.
-#[derive(Clone, Copy)]
-pub enum TablePlace {
-    Taken,
-    Free(usize),
-}
+use std::cmp::Ordering;
 
 // How the path from one place to another compares with that of an entry.
 fn order_at(
@@ -30,7 +23,7 @@ fn order_at(
     c: Counts,
     table: &[u32],
     k: usize,
-) -> Order
+) -> Ordering
     requires { EntryAsks t.now l.now texts.now bind.now c.entries from to table.now k }
     ensures { PathOrdered l.now texts.now bind.now c from to table.now k result }
 {
@@ -40,7 +33,7 @@ fn order_at(
     order(t, &l[from..to], &l[a..b], texts, bind, c.entries)
 }
 
-// Where the path from one place to another stands in the table, by halving.
+// Where the path from one place to another belongs in the table, by halving; `None` if an equal one is there.
 fn place_for(
     t: &[u8; 256],
     l: &[u8],
@@ -50,7 +43,7 @@ fn place_for(
     bind: &[u32],
     c: Counts,
     table: &[u32],
-) -> TablePlace
+) -> Option<usize>
     requires { SortedAsks t.now l.now texts.now bind.now c from to table.now }
     ensures { PlaceIn l.now texts.now bind.now c from to table.now result }
 {
@@ -59,18 +52,18 @@ fn place_for(
     while low < high {
         let mid = low + (high - low) / 2;
         match order_at(t, l, from, to, texts, bind, c, table, mid) {
-            Order::Less => {
+            Ordering::Less => {
                 high = mid;
             }
-            Order::Greater => {
+            Ordering::Greater => {
                 low = mid + 1;
             }
-            Order::Equal => {
-                return TablePlace::Taken;
+            Ordering::Equal => {
+                return None;
             }
         }
     }
-    TablePlace::Free(low)
+    Some(low)
 }
 
 // Whether the path from one place to another is in the table of n entries. Where it is not, it is put in.
@@ -88,18 +81,17 @@ fn is_taken(
     requires { AddAsks t.now l.now texts.now bind.now c from to table.old n }
     ensures { PathAdded l.now texts.now bind.now c from to table.old n table.new result }
 {
-    match place_for(t, l, from, to, texts, bind, c, &table[..n]) {
-        TablePlace::Taken => true,
-        TablePlace::Free(p) => {
-            insert(table, n, p, from * 65536 + to);
-            false
-        }
-    }
+    let Some(p) = place_for(t, l, from, to, texts, bind, c, &table[..n]) else {
+        return true;
+    };
+    insert(table, n, p, from * 65536 + to);
+    false
 }
 
-// Whether two paths of a list are equal. The table has room for all of them. A turn is for two paths, so that `is_taken` is called at two places: the
-// compiler then leaves it a function of its own, with its compares in its loop, and the reader's function for a line, which this one is built into, stays
-// small enough to be built into its caller.
+// Whether two paths of a list are equal. The table has room for all of them. A turn is for two paths, so that
+// `is_taken` is called at two places: the compiler then leaves it a function of its own, with its compares in its
+// loop, and the reader's function for a line, which this one is built into, stays small enough to be built into its
+// caller.
 fn has_equal(
     t: &[u8; 256],
     l: &[u8],
@@ -114,31 +106,21 @@ fn has_equal(
 {
     let mut n = 0;
     let mut i = start;
-    loop {
-        match next_listed(t, l, i) {
-            ListPath::Path(from, to) => {
-                if is_taken(t, l, from, to, texts, bind, c, table, n) {
-                    return true;
-                }
-                n += 1;
-                match next_listed(t, l, to) {
-                    ListPath::Path(after, end) => {
-                        if is_taken(t, l, after, end, texts, bind, c, table, n) {
-                            return true;
-                        }
-                        n += 1;
-                        i = end;
-                    }
-                    ListPath::Stop => {
-                        return false;
-                    }
-                }
-            }
-            ListPath::Stop => {
-                return false;
-            }
+    while let Some((from, to)) = next_listed(t, l, i) {
+        if is_taken(t, l, from, to, texts, bind, c, table, n) {
+            return true;
         }
+        n += 1;
+        let Some((after, end)) = next_listed(t, l, to) else {
+            return false;
+        };
+        if is_taken(t, l, after, end, texts, bind, c, table, n) {
+            return true;
+        }
+        n += 1;
+        i = end;
     }
+    false
 }
 
 // Whether two paths of a list are equal. The table lies in the graph's buffer, behind its columns.

@@ -1,4 +1,5 @@
 -- One path more: what is held of it, by the answer of the table of names.
+use Rattle.std.specs.Prelude.{Some, None}
 use Prim.Native.Nat.{ℕ, ◌+◌, ◌≤◌, ◌<◌}
 use mathlib.Core.Bool.{true, false}
 use mathlib.Core.List.{List, [], ◌∷◌, ◌++◌}
@@ -18,7 +19,6 @@ use Rattle.hold_names.proofs.Laws as named
 use Rattle.hold_names.proofs.Laws.{after_old, after_new, after_full}
 use Rattle.hold_reading.specs.declared.Counts.{Counts}
 use Rattle.hold_reading.specs.Held.{HoldsBound}
-use Rattle.apply_files.specs.declared.Mentioned.TheVariants.{On, Over}
 use Rattle.apply_files.specs.Lines.{LineHeld, Columns, Writing, made_with, with_mention, with_paths, AddedPaths, on, over}
 use Rattle.apply_files.specs.Path.{counted_path, Again, First}
 use Rattle.apply_files.proofs.Columns.{push_mention, push_made}
@@ -108,7 +108,7 @@ module _ {bs : Buffers} {c : Counts} {h : LineHeld} (w : Writing bs c h) (p : Li
 
 module _ {names index graph path names' index' : List ℕ} {c : Counts} {r : Added} (a : AddsName names index c.files path names' index' r) (l : Within (length path) c)
     {texts bind : List ℕ} {h : LineHeld} (w : Writing (buffers names index texts bind graph) c h) where
-  pub path_old : {k : ℕ} {graph' : List ℕ} {d : Counts} → r ≡ Old k → Again graph c k (length path) graph' d → AddedPaths (buffers names' index' texts bind graph') h (path ∷ []) (On d)
+  pub path_old : {k : ℕ} {graph' : List ℕ} {d : Counts} → r ≡ Old k → Again graph c k (length path) graph' d → AddedPaths (buffers names' index' texts bind graph') h (path ∷ []) (Some d)
   unfolding with_paths
   path_old {k} e g =
       let m = after_old a w.named e in
@@ -116,7 +116,7 @@ module _ {names index graph path names' index' : List ℕ} {c : Counts} {r : Add
       rw (g.stored, g.counted)
       (on (path_held w path l m (rw z (push_mention w.columns k c.paths w.paths_counted (mentions_short w path l))) (rw z (w.filed ∙ sym w.named.counted))) (path_short path l))
 
-  pub path_new : {k : ℕ} {graph' : List ℕ} {d : Counts} → r ≡ New k → First graph c k (length path) graph' d → AddedPaths (buffers names' index' texts bind graph') h (path ∷ []) (On d)
+  pub path_new : {k : ℕ} {graph' : List ℕ} {d : Counts} → r ≡ New k → First graph c k (length path) graph' d → AddedPaths (buffers names' index' texts bind graph') h (path ∷ []) (Some d)
   unfolding with_paths
   path_new {k} e g =
       let m = after_new a w.named e in
@@ -129,7 +129,7 @@ module _ {names index graph path names' index' : List ℕ} {c : Counts} {r : Add
       (rw z (omega (arith, length-append h.made (0 ∷ []), w.filed, w.named.counted))))
       (path_short path l))
 
-  pub path_full : max_written ≤ length names → r ≡ Full → {graph' : List ℕ} → AddedPaths (buffers names' index' texts bind graph') h (path ∷ []) Over
+  pub path_full : max_written ≤ length names → r ≡ Full → {graph' : List ℕ} → AddedPaths (buffers names' index' texts bind graph') h (path ∷ []) None
   path_full n e =
       let x = after_full a w.named e (omega (arith, w.bound.shared, l.low)) in
       over (line_files path h.reading x.0 x.1)

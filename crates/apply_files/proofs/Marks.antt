@@ -1,4 +1,5 @@
 -- What the answer to mentions says, and one mention before others.
+use Rattle.std.specs.Prelude.{Option, Some, None}
 use mathlib.Core.Bool.{true, false}
 use mathlib.Core.List.{List, [], ◌∷◌, ◌++◌}
 use mathlib.Core.Path.{◌≡◌}
@@ -6,24 +7,22 @@ use Prim.Native.Nat.{ℕ}
 use Rattle.spec.specs.Statements.{over_paths}
 use Rattle.hold_reading.specs.declared.Counts.{Counts}
 use Rattle.hold_reading.specs.Buffers.{Buffers}
-use Rattle.apply_files.specs.declared.Mentioned.{Mentioned}
-use Rattle.apply_files.specs.declared.Mentioned.TheVariants.{On, Over}
 use Rattle.apply_files.specs.Lines.{LineHeld, Writing, with_mention, with_paths, over_line, AddedPaths, on, over}
 use Rattle.apply_files.proofs.Limits.{line_later, short_append}
 
 module _ {bs : Buffers} {h : LineHeld} {ps : List (List ℕ)} where
-  pub marks_on : {c : Counts} → AddedPaths bs h ps (On c) → Writing bs c (with_paths ps h)
+  pub marks_on : {c : Counts} → AddedPaths bs h ps (Some c) → Writing bs c (with_paths ps h)
   marks_on (on w s) = w
 
-  pub marks_short : {c : Counts} → AddedPaths bs h ps (On c) → over_paths ps ≡ false
+  pub marks_short : {c : Counts} → AddedPaths bs h ps (Some c) → over_paths ps ≡ false
   marks_short (on w s) = s
 
-  pub marks_over : AddedPaths bs h ps Over → (more : List (List ℕ)) → over_line (ps ++ more) h.reading ≡ true
+  pub marks_over : AddedPaths bs h ps None → (more : List (List ℕ)) → over_line (ps ++ more) h.reading ≡ true
   marks_over (over f) = f
 
 -- one path, then the others
 module _ {bs : Buffers} (p : List ℕ) (ps : List (List ℕ)) (h : LineHeld) where
-  pub marks_cons : {r : Mentioned} → over_paths (p ∷ []) ≡ false → AddedPaths bs (with_mention p h) ps r → AddedPaths bs h (p ∷ ps) r
+  pub marks_cons : {r : Option Counts} → over_paths (p ∷ []) ≡ false → AddedPaths bs (with_mention p h) ps r → AddedPaths bs h (p ∷ ps) r
   unfolding with_paths with_mention
   marks_cons q (on w s) = on w (short_append (p ∷ []) ps q s)
   marks_cons q (over f) = over (λ more. line_later (p ∷ []) (ps ++ more) h.reading (f more))

@@ -1,5 +1,5 @@
 -- What the buffers hold within a line that mentions files: the reading with the mentions so far, and the columns of the graph as they are then.
-use Rattle.std.specs.Prelude.{ℕ, ◌+◌, ◌≤◌, Bool, true, false, ◌||◌, List, [], ◌∷◌, ◌++◌, ◌≡◌, length}
+use Rattle.std.specs.Prelude.{ℕ, ◌+◌, ◌≤◌, Bool, true, false, ◌||◌, List, [], ◌∷◌, ◌++◌, ◌≡◌, length, Option, Some, None}
 use Rattle.lists.specs.Tests.{if_b}
 use Rattle.spec.specs.Basics.{among}
 use Rattle.spec.specs.Limits.{max_mentions}
@@ -10,8 +10,6 @@ use Rattle.hold_names.specs.Table.{HoldsNames}
 use Rattle.hold_bindings.specs.Log.{Logged}
 use Rattle.hold_reading.specs.declared.Counts.{Counts}
 use Rattle.hold_reading.specs.Held.{HoldsBound, capacities}
-use Rattle.apply_files.specs.declared.Mentioned.{Mentioned}
-use Rattle.apply_files.specs.declared.Mentioned.TheVariants.{On, Over}
 use Rattle.hold_reading.specs.Buffers.{Buffers}
 
 -- what is held: the log, the reading, and the columns of the graph but the defaults
@@ -67,6 +65,6 @@ unfoldable pub over_line : List (List ℕ) → Reading → Bool
 over_line ps rd = over_paths ps || over_counts (mentioned ps rd)
 
 -- The paths are mentioned, or the line is over a limit, whatever it mentions after them.
-pub data AddedPaths (bs : Buffers) (h : LineHeld) (ps : List (List ℕ)) : Mentioned → Type 0 where
-  on : {c : Counts} → Writing bs c (with_paths ps h) → over_paths ps ≡ false → AddedPaths bs h ps (On c)
-  over : ((more : List (List ℕ)) → over_line (ps ++ more) h.reading ≡ true) → AddedPaths bs h ps Over
+pub data AddedPaths (bs : Buffers) (h : LineHeld) (ps : List (List ℕ)) : Option Counts → Type 0 where
+  on : {c : Counts} → Writing bs c (with_paths ps h) → over_paths ps ≡ false → AddedPaths bs h ps (Some c)
+  over : ((more : List (List ℕ)) → over_line (ps ++ more) h.reading ≡ true) → AddedPaths bs h ps None

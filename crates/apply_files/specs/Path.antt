@@ -1,9 +1,8 @@
 -- One path: is it over a limit, what its mention stores and counts, and what the buffers hold then.
-use Rattle.std.specs.Prelude.{ℕ, ◌+◌, ◌≤◌, Bool, false, ◌||◌, List, [], ◌∷◌, ◌≡◌, ltb, length, set}
+use Rattle.std.specs.Prelude.{ℕ, ◌+◌, ◌≤◌, Bool, false, ◌||◌, List, [], ◌∷◌, ◌≡◌, ltb, length, set, Option}
 use Rattle.spec.specs.Limits.{max_mentions, max_path, max_written}
 use Rattle.hold_reading.specs.declared.Counts.{Counts}
 use Rattle.hold_reading.specs.Held.{made_start}
-use Rattle.apply_files.specs.declared.Mentioned.{Mentioned}
 use Rattle.apply_files.specs.Lines.{LineHeld, Writing, AddedPaths}
 use Rattle.hold_reading.specs.Buffers.{buffers}
 
@@ -46,5 +45,5 @@ pub record PathFits (path names index graph : List ℕ) (c : Counts) : Type 0 wh
   pub line : LineHeld
   pub writing : Writing (buffers names index texts bind graph) c line
 
-pub record AddsPath (path names index graph : List ℕ) (c : Counts) (names' index' graph' : List ℕ) (r : Mentioned) : Type 0 where
+pub record AddsPath (path names index graph : List ℕ) (c : Counts) (names' index' graph' : List ℕ) (r : Option Counts) : Type 0 where
   pub adds : (texts bind : List ℕ) (h : LineHeld) → Writing (buffers names index texts bind graph) c h → AddedPaths (buffers names' index' texts bind graph') h (path ∷ []) r

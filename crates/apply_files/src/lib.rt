@@ -1,4 +1,5 @@
-// One path of a line is put into the graph's columns: its limits, its number by first mention, and no maker where it is new.
+// One path of a line is put into the graph's columns: its limits, its number by first mention, and no maker where it
+// is new.
 #![tactic(auto)]
 
 ghost use Rattle.std.specs.Prelude.{◌≡◌, ◌+◌, ◌≤◌, ◌<◌, length};
@@ -13,15 +14,8 @@ use hold_reading::Counts;
 use hold_reading::columns::MADE_START;
 use spec::limits::{MENTIONS, PATH, WRITTEN};
 
-#[derive(Clone, Copy)]
-pub enum Mentioned {
-    // The reading goes on with these counts.
-    On(Counts),
-    // The line is over a limit.
-    Over,
-}
-
-// Whether a path of n bytes is over a limit.
+// Whether a path of n bytes is over a limit. The tests stand one by one: of three joined by `||` the proof gets no
+// names to cite.
 pub fn path_over(n: usize, c: Counts) -> bool
     requires { (c.mentions ≤ max_mentions) × (c.written ≤ max_written) }
     ensures { result ≡ path_over n c }
@@ -68,22 +62,23 @@ fn note_first(graph: &mut [u32], c: Counts, k: usize, n: usize) -> Counts
     }
 }
 
-// A path that is within the limits, but for the count of files.
+// A path that is within the limits, but for the count of files: the counts with it, or `None` where there is a file
+// too many.
 pub fn add_path(
     path: &[u8],
     names: &mut [u8],
     index: &mut [u32],
     graph: &mut [u32],
     c: Counts,
-) -> Mentioned
+) -> Option<Counts>
     requires { PathFits path.now names.old index.old graph.old c }
     ensures { Leaves ((Spare names.old names.new) × (Spare index.old index.new) × (Spare graph.old graph.new)) (AddsPath path.now names.old index.old graph.old c names.new index.new graph.new result) }
 {
     let files = c.files;
     match add(names, index, files, path) {
-        Added::Old(k) => Mentioned::On(note_again(graph, c, k, path.len())),
-        Added::New(k) => Mentioned::On(note_first(graph, c, k, path.len())),
-        Added::Full => Mentioned::Over,
+        Added::Old(k) => Some(note_again(graph, c, k, path.len())),
+        Added::New(k) => Some(note_first(graph, c, k, path.len())),
+        Added::Full => None,
     }
 }
 
@@ -94,14 +89,14 @@ pub fn add_listed(
     index: &mut [u32],
     graph: &mut [u32],
     c: Counts,
-) -> Mentioned
+) -> Option<Counts>
     requires { PathFits name.now names.old index.old graph.old c }
     ensures { Leaves ((Spare names.old names.new) × (Spare index.old index.new) × (Spare graph.old graph.new)) (AddsPath name.now names.old index.old graph.old c names.new index.new graph.new result) }
 {
     let files = c.files;
     match add_listed_name(names, index, files, name) {
-        Added::Old(k) => Mentioned::On(note_again(graph, c, k, name.len())),
-        Added::New(k) => Mentioned::On(note_first(graph, c, k, name.len())),
-        Added::Full => Mentioned::Over,
+        Added::Old(k) => Some(note_again(graph, c, k, name.len())),
+        Added::New(k) => Some(note_first(graph, c, k, name.len())),
+        Added::Full => None,
     }
 }

@@ -1,4 +1,5 @@
 -- What the rules answer to an indented line, by its cut and the open block: one law for each answer.
+use Rattle.std.specs.Prelude.{Result, Err}
 use Prim.Native.Nat.{ℕ}
 use mathlib.Core.List.{List}
 use mathlib.Core.Path.{◌≡◌, refl, sym}
@@ -18,13 +19,12 @@ use Rattle.cut_refusals.specs.Cuts.{Wrong, SoundBinding}
 use Rattle.hold_reading.specs.declared.Counts.{Counts}
 use Rattle.hold_reading.specs.declared.Open.{Open}
 use Rattle.hold_reading.specs.declared.Open.TheVariants.{Nothing, Rule, Step}
-use Rattle.hold_reading.specs.declared.LineAnswer.{LineAnswer}
-use Rattle.hold_reading.specs.declared.LineAnswer.TheVariants.{Refused}
 use Rattle.hold_reading.specs.Held.{OpensBlock, nothing, a_rule, a_step}
 use Rattle.hold_reading.specs.Binds.{Meets}
 use Rattle.hold_reading.proofs.Lift.{refused_by}
 use Rattle.apply_variables.specs.Asks.{BindingAsks as ValueAsks}
 use Rattle.apply_indented.specs.Asks.{KeyAsks, IndentedAsks}
+use Rattle.hold_reading.specs.declared.State.{State}
 
 -- ---- a line that is cut
 
@@ -37,7 +37,7 @@ module _ (l : Line) {from to at : ℕ} (s : SoundBinding l (cut_indented l.text)
 
   -- with the part of the line that is its value
   module _ {raw : List ℕ} (v : raw ≡ raw_value (drop at l.text)) where
-    pub line_applied : {texts bind : List ℕ} {c : Counts} {o : Open} {texts' bind' : List ℕ} {r : LineAnswer}
+    pub line_applied : {texts bind : List ℕ} {c : Counts} {o : Open} {texts' bind' : List ℕ} {r : Result State Refusal}
         → Meets texts bind c o (λ rd b. block_line l.start b (part l.text from to) raw rd) texts' bind' r
         → Meets texts bind c o (read_indented l) texts' bind' r
     line_applied m = record { agrees = λ log rd b w. rw (line_is rd b, sym v) (m.agrees log rd b w) }
@@ -65,10 +65,10 @@ module _ (l : Line) {r : Refusal} (w : Wrong l (cut_indented l.text) r) {log : L
   setting_wrong a_step = w _
 
 module _ {texts bind : List ℕ} {c : Counts} {texts' bind' : List ℕ} (l : Line) where
-  pub wrong_key_law : {r : Refusal} {head k : ℕ} → Wrong l (cut_indented l.text) r → Meets texts bind c (Rule head k) (read_indented l) texts' bind' (Refused r)
+  pub wrong_key_law : {r : Refusal} {head k : ℕ} → Wrong l (cut_indented l.text) r → Meets texts bind c (Rule head k) (read_indented l) texts' bind' (Err r)
   wrong_key_law w = record { agrees = λ log rd b h. refused_by (key_wrong l w rd h.opens) }
 
-  pub wrong_setting : {r : Refusal} → Wrong l (cut_indented l.text) r → Meets texts bind c Step (read_indented l) texts' bind' (Refused r)
+  pub wrong_setting : {r : Refusal} → Wrong l (cut_indented l.text) r → Meets texts bind c Step (read_indented l) texts' bind' (Err r)
   wrong_setting w = record { agrees = λ log rd b h. refused_by (setting_wrong l w rd h.opens) }
 
 -- ---- no block
@@ -77,7 +77,7 @@ outside : (l : Line) {log : List Logged} (rd : Reading) {b : Block} → OpensBlo
 unfolding read_indented
 outside l rd nothing = refl
 
-pub no_block_law : {texts bind : List ℕ} {c : Counts} {texts' bind' : List ℕ} (l : Line) → Meets texts bind c Nothing (read_indented l) texts' bind' (Refused (BadLine l.start))
+pub no_block_law : {texts bind : List ℕ} {c : Counts} {texts' bind' : List ℕ} (l : Line) → Meets texts bind c Nothing (read_indented l) texts' bind' (Err (BadLine l.start))
 no_block_law l = record { agrees = λ log rd b h. refused_by (outside l rd h.opens) }
 
 -- ---- what a line of a rule's block asks

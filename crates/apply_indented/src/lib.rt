@@ -9,8 +9,8 @@ ghost use Rattle.apply_indented.specs.Asks.{KeyAsks, IndentedAsks};
 
 use apply_rules::add_key;
 use apply_variables::add_to_block;
-use cut_refusals::{BlockLine, cut_block_line};
-use hold_reading::{Counts, LineAnswer, Open};
+use cut_refusals::cut_block_line;
+use hold_reading::{Counts, Open, State};
 use scan_raw::texts::raw_value;
 use spec::Refusal;
 
@@ -25,17 +25,13 @@ fn read_key(
     texts: &mut [u8],
     bind: &mut [u32],
     c: Counts,
-) -> LineAnswer
+) -> Result<State, Refusal>
     requires { KeyAsks t.now start l.now texts.old bind.old c (Open.Rule head entry) }
     ensures { Leaves ((Spare texts.old texts.new) × (Spare bind.old bind.new)) (Meets texts.old bind.old c (Open.Rule head entry) (read_indented (line_of start l.now ended)) texts.new bind.new result) }
 {
-    match cut_block_line(t, start, l, ended) {
-        BlockLine::Binding(from, to, at) => {
-            let raw = raw_value(l, at);
-            add_key(start, head, entry, &l[from..to], raw, texts, bind, c)
-        }
-        BlockLine::Refused(r) => LineAnswer::Refused(r),
-    }
+    let (from, to, at) = cut_block_line(t, start, l, ended)?;
+    let raw = raw_value(l, at);
+    add_key(start, head, entry, &l[from..to], raw, texts, bind, c)
 }
 
 // In the newest step's block. The word buffer is working space.
@@ -48,17 +44,13 @@ fn read_setting(
     bind: &mut [u32],
     word: &mut [u8],
     c: Counts,
-) -> LineAnswer
+) -> Result<State, Refusal>
     requires { IndentedAsks t.now start l.now texts.old bind.old word.old c Open.Step }
     ensures { Leaves ((Spare texts.old texts.new) × (Spare bind.old bind.new) × (Spare word.old word.new)) (Meets texts.old bind.old c Open.Step (read_indented (line_of start l.now ended)) texts.new bind.new result) }
 {
-    match cut_block_line(t, start, l, ended) {
-        BlockLine::Binding(from, to, at) => {
-            let raw = raw_value(l, at);
-            add_to_block(t, start, &l[from..to], raw, texts, bind, word, c)
-        }
-        BlockLine::Refused(r) => LineAnswer::Refused(r),
-    }
+    let (from, to, at) = cut_block_line(t, start, l, ended)?;
+    let raw = raw_value(l, at);
+    add_to_block(t, start, &l[from..to], raw, texts, bind, word, c)
 }
 
 // With no block open it is refused whatever it holds.
@@ -72,12 +64,12 @@ pub fn read_indented(
     word: &mut [u8],
     c: Counts,
     block: Open,
-) -> LineAnswer
+) -> Result<State, Refusal>
     requires { IndentedAsks t.now start l.now texts.old bind.old word.old c block }
     ensures { Leaves ((Spare texts.old texts.new) × (Spare bind.old bind.new) × (Spare word.old word.new)) (Meets texts.old bind.old c block (read_indented (line_of start l.now ended)) texts.new bind.new result) }
 {
     match block {
-        Open::Nothing => LineAnswer::Refused(Refusal::BadLine(start)),
+        Open::Nothing => Err(Refusal::BadLine(start)),
         Open::Rule(head, entry) => read_key(t, start, l, ended, head, entry, texts, bind, c),
         Open::Step => read_setting(t, start, l, ended, texts, bind, word, c),
     }

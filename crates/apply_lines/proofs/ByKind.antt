@@ -1,4 +1,5 @@
 -- What the rules answer to a line, by its kind.
+use Rattle.std.specs.Prelude.{Result}
 use Prim.Native.Nat.{ℕ}
 use mathlib.Core.List.{List}
 use mathlib.Core.Path.{◌≡◌, sym, ◌∙◌}
@@ -11,8 +12,6 @@ use Rattle.scan_lines.specs.Endings.{kind_of}
 use Rattle.scan_lines.proofs.LineKinds.{is_comment_law, is_blank_law, is_indented_law, is_statement}
 use Rattle.hold_reading.specs.declared.Counts.{Counts}
 use Rattle.hold_reading.specs.declared.Open.{Open}
-use Rattle.hold_reading.specs.declared.LineAnswer.{LineAnswer}
-use Rattle.hold_reading.specs.declared.LineAnswer.TheVariants.{Goes}
 use Rattle.hold_reading.specs.declared.LineTurn.{LineTurn}
 use Rattle.hold_reading.specs.declared.LineTurn.TheVariants.{Answered}
 use Rattle.hold_reading.specs.Held.{goes, turn_answers}
@@ -21,18 +20,21 @@ use Rattle.apply_indented.specs.Asks.{IndentedAsks}
 use Rattle.apply_statements.specs.Asks.{LineAsks, LineMeets, TurnMeets}
 use Rattle.apply_statements.proofs.Outcomes.{binding_met, line_as, turn_as, between_sound}
 use Rattle.hold_reading.specs.Buffers.{Buffers, with_bindings}
+use Rattle.spec.specs.declared.Refusal.{Refusal}
+use Rattle.hold_reading.specs.declared.State.{State}
+use Rattle.hold_reading.specs.Went.{went}
 
 -- k is the kind that was found, and it is the one that is named.
 module _ (l : Line) {k : LineKind} (a : k ≡ kind_of l.text) {bs : Buffers} {c : Counts} {o : Open} where
-  pub comment_read : k ≡ Comment → TurnMeets l bs c o (read_line l) bs (Answered (Goes c o))
+  pub comment_read : k ≡ Comment → TurnMeets l bs c o (read_line l) bs (Answered (went c o))
   unfolding read_line
   comment_read e = record { agrees = λ log rd b h p. rw (is_comment_law l.text (sym e ∙ a)) (turn_answers (goes h p)) }
 
-  pub blank_read : {r : LineAnswer} → k ≡ Blank → Meets bs.texts bs.bind c o close bs.texts bs.bind r → LineMeets bs c o (read_line l) bs r
+  pub blank_read : {r : Result State Refusal} → k ≡ Blank → Meets bs.texts bs.bind c o close bs.texts bs.bind r → LineMeets bs c o (read_line l) bs r
   unfolding read_line
   blank_read e m = let w = is_blank_law l.text (sym e ∙ a) in line_as (λ rd b. rw (w.0, w.1)) (binding_met m)
 
-  pub indented_read : {texts' bind' : List ℕ} {r : LineAnswer} → k ≡ Indented → Meets bs.texts bs.bind c o (read_indented l) texts' bind' r
+  pub indented_read : {texts' bind' : List ℕ} {r : Result State Refusal} → k ≡ Indented → Meets bs.texts bs.bind c o (read_indented l) texts' bind' r
       → LineMeets bs c o (read_line l) (with_bindings bs texts' bind') r
   unfolding read_line
   indented_read e m = let w = is_indented_law l.text (sym e ∙ a) in line_as (λ rd b. rw (w.0, w.1, w.2)) (binding_met m)

@@ -10,7 +10,7 @@ ghost use Rattle.hold_reading.specs.Buffers.{SameRoom, buffers};
 use apply_indented::read_indented;
 use apply_rules::close;
 use apply_statements::read_file_line;
-use hold_reading::{Line, LineAnswer, LineTurn, State, turned};
+use hold_reading::{Line, LineTurn, State, turned};
 use scan_lines::{LineKind, line_kind};
 
 // A line. A comment closes no block; "An empty line or one of spaces only closes a block."
@@ -32,7 +32,7 @@ pub fn read_line(
     let c = s.counts;
     let block = s.open;
     match line_kind(t, l) {
-        LineKind::Comment => LineTurn::Answered(LineAnswer::Goes(c, block)),
+        LineKind::Comment => LineTurn::Answered(Ok(s)),
         LineKind::Blank => turned(close(texts, bind, c, block)),
         LineKind::Indented => turned(read_indented(
             t, line.start, l, line.ended, texts, bind, word, c, block,

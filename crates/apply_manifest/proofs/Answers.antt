@@ -1,4 +1,5 @@
 -- The whole bundle: 19, 2, 3, and what the lines of the top file answer.
+use Rattle.std.specs.Prelude.{Option, Some, None, Result, Ok, Err}
 use Prim.Native.Nat.{ℕ, ◌-◌, ◌≤◌, ◌<◌}
 use mathlib.Core.Bool.{true, false}
 use mathlib.Core.List.{List, [], map}
@@ -15,8 +16,6 @@ use Rattle.spec.specs.Bundle.{sound_bundle, bundle_texts}
 use Rattle.spec.specs.Reading.{nothing_read}
 use Rattle.spec.specs.Statements.{no_block}
 use Rattle.spec.specs.Manifest.{read_lines, text_lines, bad_byte_in, refused_with, read_of, read_manifest}
-use Rattle.scan_raw.specs.declared.FirstBad.{FirstBad}
-use Rattle.scan_raw.specs.declared.FirstBad.TheVariants.{Nowhere, At}
 use Rattle.scan_raw.specs.Texts.{place_of}
 use Rattle.hold_names.specs.Table.{heads_from, max_numbers}
 use Rattle.hold_names.proofs.Lies.{holds_none}
@@ -25,8 +24,6 @@ use Rattle.hold_bindings.proofs.Entries.{held_none}
 use Rattle.hold_reading.specs.declared.Counts.{Counts}
 use Rattle.hold_reading.specs.declared.Open.{Open}
 use Rattle.hold_reading.specs.declared.Open.TheVariants.{Nothing}
-use Rattle.hold_reading.specs.declared.LineAnswer.{LineAnswer}
-use Rattle.hold_reading.specs.declared.LineAnswer.TheVariants.{Goes, Refused}
 use Rattle.hold_reading.specs.Held.{joined, nothing, HoldsReading}
 use Rattle.hold_reading.specs.Buffers.{Buffers, buffers}
 use Rattle.hold_reading.proofs.Agreement.{no_counts, start_held, agreed_on, agreed_refused}
@@ -36,8 +33,8 @@ use Rattle.scan_texts.proofs.Texts.{some_text}
 use Rattle.apply_texts.specs.Texts.{file_opener, TextReadAsk}
 use Rattle.apply_texts.proofs.Files.{lines_closed}
 use Rattle.apply_manifest.specs.Manifests.{Roomy, LinesAsk, LinesRead, Held, IsRead}
-use Rattle.apply_manifest.specs.declared.ReadAnswer.{ReadAnswer}
-use Rattle.apply_manifest.specs.declared.ReadAnswer.TheVariants.{Accepted, Refused as NotRead}
+use Rattle.hold_reading.specs.declared.State.{State}
+use Rattle.hold_reading.specs.Went.{went}
 
 -- ---- 19, 2 and 3
 
@@ -54,21 +51,21 @@ module _ (s : List ℕ) (h : sound_bundle 1 max_bundle s ≡ true) {n : ℕ} (l 
     pub short : ShortBundle s
     short = record { sound = h; short = omega (arith, l) }
 
-    module _ (f : FirstBad) (e : place_of f ≡ bad_byte_in 0 (bundle_texts s)) where
-      pub bad_bytes : {p : ℕ} → f ≡ At p → read_manifest s ≡ refused_with (BadByte p)
+    module _ (f : Option ℕ) (e : place_of f ≡ bad_byte_in 0 (bundle_texts s)) where
+      pub bad_bytes : {p : ℕ} → f ≡ Some p → read_manifest s ≡ refused_with (BadByte p)
       unfolding read_manifest place_of
       bad_bytes q = rw (h, le-ltb max_manifest (sum (map (λ (t : List ℕ). length t) (bundle_texts s))) short.short, sym e, q)
 
-      module _ (q : f ≡ Nowhere) where
+      module _ (q : f ≡ None) where
         lines_decide : read_manifest s ≡ read_of (read_lines (file_opener s (max_open - 1)) (text_lines (bundle_texts s) 0) nothing_read no_block)
         unfolding read_manifest place_of
         lines_decide = rw (h, le-ltb max_manifest (sum (map (λ (t : List ℕ). length t) (bundle_texts s))) short.short, sym e, q)
 
-        pub lines_refused : {bs : Buffers} {r : Refusal} → LinesRead s bs (Refused r) → read_manifest s ≡ refused_with r
+        pub lines_refused : {bs : Buffers} {r : Refusal} → LinesRead s bs (Err r) → read_manifest s ≡ refused_with r
         unfolding read_of
         lines_refused a = lines_decide ∙ rw (agreed_refused a.agrees)
 
-        pub lines_accepted : {bs : Buffers} {c : Counts} {o : Open} → LinesRead s bs (Goes c o) → Held s bs c
+        pub lines_accepted : {bs : Buffers} {c : Counts} {o : Open} → LinesRead s bs (went c o) → Held s bs c
         unfolding read_of joined
         lines_accepted a =
             let g = agreed_on a.agrees in
@@ -106,16 +103,16 @@ module _ {t s : List ℕ} {bs : Buffers} {word cleared begun : List ℕ} (a : Li
         between = record { log = []; reading = nothing_read; block = no_block; holds = nothing_held; opens = nothing };
       }
 
-  pub top_read : {bs' : Buffers} {r : LineAnswer} → LineMeets empty no_counts Nothing (read_lines (file_opener s (max_open - 1)) (text_lines (bundle_texts s) 0)) bs' r → LinesRead s bs' r
+  pub top_read : {bs' : Buffers} {r : Result State Refusal} → LineMeets empty no_counts Nothing (read_lines (file_opener s (max_open - 1)) (text_lines (bundle_texts s) 0)) bs' r → LinesRead s bs' r
   top_read m = record { agrees = m.agrees [] nothing_read no_block nothing_held nothing }
 
 -- ---- by the answer
 
-module _ (m : List ℕ) (bs : Buffers) {x : ReadAnswer} (a : IsRead m bs x) where
-  pub read_accepted : {c : Counts} → x ≡ Accepted c → Held m bs c
+module _ (m : List ℕ) (bs : Buffers) {x : Result Counts Refusal} (a : IsRead m bs x) where
+  pub read_accepted : {c : Counts} → x ≡ Ok c → Held m bs c
   unfolding IsRead
   read_accepted e = subst (IsRead m bs) e a
 
-  pub read_refused : {r : Refusal} → x ≡ NotRead r → read_manifest m ≡ refused_with r
+  pub read_refused : {r : Refusal} → x ≡ Err r → read_manifest m ≡ refused_with r
   unfolding IsRead
   read_refused e = subst (IsRead m bs) e a

@@ -1,5 +1,5 @@
 -- What the reading of a bundle of manifest texts asks and answers.
-use Rattle.std.specs.Prelude.{ℕ, ◌-◌, ◌^◌, ◌≤◌, ◌<◌, List, ◌≡◌, length}
+use Rattle.std.specs.Prelude.{ℕ, ◌-◌, ◌^◌, ◌≤◌, ◌<◌, List, ◌≡◌, length, Result, Ok, Err}
 use Rattle.spec.specs.Limits.{max_open}
 use Rattle.spec.specs.Bundle.{bundle_texts}
 use Rattle.spec.specs.Reading.{Reading, nothing_read}
@@ -11,13 +11,12 @@ use Rattle.hold_names.specs.Table.{max_numbers}
 use Rattle.hold_bindings.specs.Log.{Logged}
 use Rattle.hold_bindings.specs.Held.{max_texts, max_rows}
 use Rattle.hold_reading.specs.declared.Counts.{Counts}
-use Rattle.hold_reading.specs.declared.LineAnswer.{LineAnswer}
 use Rattle.hold_reading.specs.Held.{HoldsReading, Agrees}
 use Rattle.hold_reading.specs.Buffers.{Buffers}
 use Rattle.apply_statements.specs.Asks.{LinesRoom}
 use Rattle.apply_texts.specs.Texts.{file_opener}
-use Rattle.apply_manifest.specs.declared.ReadAnswer.{ReadAnswer}
-use Rattle.apply_manifest.specs.declared.ReadAnswer.TheVariants.{Accepted, Refused}
+use Rattle.spec.specs.declared.Refusal.{Refusal}
+use Rattle.hold_reading.specs.declared.State.{State}
 
 -- ---- room
 
@@ -38,7 +37,7 @@ pub record LinesAsk (t s : List ℕ) (bs : Buffers) (word : List ℕ) : Type 0 w
 -- ---- all of it
 
 -- The answer agrees with the lines of the top file, read from the first one on.
-pub record LinesRead (s : List ℕ) (bs : Buffers) (r : LineAnswer) : Type 0 where
+pub record LinesRead (s : List ℕ) (bs : Buffers) (r : Result State Refusal) : Type 0 where
   pub agrees : Agrees bs (read_lines (file_opener s (max_open - 1)) (text_lines (bundle_texts s) 0) nothing_read no_block) r
 
 -- The bundle is accepted, and the buffers hold what was read.
@@ -48,6 +47,6 @@ pub record Held (s : List ℕ) (bs : Buffers) (c : Counts) : Type 0 where
   pub is : read_manifest s ≡ accepted reading
   pub holds : HoldsReading log bs c reading
 
-unfoldable pub IsRead : List ℕ → Buffers → ReadAnswer → Type 0
-IsRead s bs (Accepted c) = Held s bs c
-IsRead s bs (Refused r) = read_manifest s ≡ refused_with r
+unfoldable pub IsRead : List ℕ → Buffers → Result Counts Refusal → Type 0
+IsRead s bs (Ok c) = Held s bs c
+IsRead s bs (Err r) = read_manifest s ≡ refused_with r

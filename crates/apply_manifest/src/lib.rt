@@ -1,4 +1,5 @@
-// The reader of a bundle of manifest texts: 19, 2 and 3 for the whole of it, then the lines of the top file and of those that it opens.
+// The reader of a bundle of manifest texts: 19, 2 and 3 for the whole of it, then the lines of the top file and of
+// those that it opens.
 #![tactic(auto)]
 
 ghost use Rattle.lists.specs.Lent.{Spare, Leaves};
@@ -8,8 +9,7 @@ ghost use Rattle.hold_reading.specs.Buffers.{SameRoom, buffers};
 use apply_texts::{Opening, read_text};
 use hold_bindings::begin_bindings;
 use hold_names::clear;
-use hold_reading::{Counts, LineAnswer};
-use scan_raw::FirstBad;
+use hold_reading::{Counts, State};
 use scan_texts::{bytes_together, first_bad, is_sound_bundle};
 use spec::Refusal;
 use spec::limits::{MANIFEST, OPEN};
@@ -28,13 +28,6 @@ const NOTHING: Counts = Counts {
     opened: 1,
 };
 
-// What the reader answers: how much it holds, or the first refusal.
-#[derive(Clone, Copy)]
-pub enum ReadAnswer {
-    Accepted(Counts),
-    Refused(Refusal),
-}
-
 // The top file from its first line on, whatever the buffers held before.
 fn read_lines(
     t: &[u8; 256],
@@ -45,7 +38,7 @@ fn read_lines(
     bind: &mut [u32],
     graph: &mut [u32],
     word: &mut [u8],
-) -> LineAnswer
+) -> Result<State, Refusal>
     requires { LinesAsk t.now b.now (buffers names.old index.old texts.old bind.old graph.old) word.old }
     ensures { Leaves (SameRoom (buffers names.old index.old texts.old bind.old graph.old) (buffers names.new index.new texts.new bind.new graph.new) × (Spare word.old word.new)) (LinesRead b.now (buffers names.new index.new texts.new bind.new graph.new) result) }
 {
@@ -58,8 +51,9 @@ fn read_lines(
     read_text(t, b, top, names, index, texts, bind, graph, word, NOTHING)
 }
 
-// Reads a bundle of manifest texts into the buffers. "Order: 1, 2, 3; lines from the top", with 19 for a malformed bundle before 2. The word buffer
-// is working space, and after a refusal all are.
+// Reads a bundle of manifest texts into the buffers: how much they hold then, or the first refusal. "Order: 1, 2, 3;
+// lines from the top", with 19 for a malformed bundle before 2. The word buffer is working space, and after a refusal
+// all are.
 pub fn read_manifest(
     t: &[u8; 256],
     b: &[u8],
@@ -69,21 +63,19 @@ pub fn read_manifest(
     bind: &mut [u32],
     graph: &mut [u32],
     word: &mut [u8],
-) -> ReadAnswer
+) -> Result<Counts, Refusal>
     requires { Roomy t.now (buffers names.old index.old texts.old bind.old graph.old) word.old }
     ensures { Leaves (SameRoom (buffers names.old index.old texts.old bind.old graph.old) (buffers names.new index.new texts.new bind.new graph.new) × (Spare word.old word.new)) (IsRead b.now (buffers names.new index.new texts.new bind.new graph.new) result) }
 {
     if !is_sound_bundle(b) {
-        return ReadAnswer::Refused(Refusal::BadBundle);
+        return Err(Refusal::BadBundle);
     }
     if MANIFEST < bytes_together(b) {
-        return ReadAnswer::Refused(Refusal::LongManifest);
+        return Err(Refusal::LongManifest);
     }
-    match first_bad(b) {
-        FirstBad::At(p) => ReadAnswer::Refused(Refusal::BadByte(p)),
-        FirstBad::Nowhere => match read_lines(t, b, names, index, texts, bind, graph, word) {
-            LineAnswer::Goes(c, _) => ReadAnswer::Accepted(c),
-            LineAnswer::Refused(r) => ReadAnswer::Refused(r),
-        },
+    if let Some(p) = first_bad(b) {
+        return Err(Refusal::BadByte(p));
     }
+    let read = read_lines(t, b, names, index, texts, bind, graph, word)?;
+    Ok(read.counts)
 }

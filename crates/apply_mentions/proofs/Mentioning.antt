@@ -1,4 +1,5 @@
 -- A raw path: what the word buffer holds of it, and what its answer says.
+use Rattle.std.specs.Prelude.{Option, None}
 use Prim.Native.Nat.{ℕ, ◌≤◌}
 use mathlib.Core.Bool.{true, false}
 use mathlib.Core.List.{List}
@@ -15,8 +16,6 @@ use Rattle.expand_dollars.specs.Written.{Written}
 use Rattle.expand_parts.proofs.Expansions.{expanded_vars}
 use Rattle.expand_dollars.proofs.Callers.{written_whole}
 use Rattle.hold_reading.specs.declared.Counts.{Counts}
-use Rattle.apply_files.specs.declared.Mentioned.{Mentioned}
-use Rattle.apply_files.specs.declared.Mentioned.TheVariants.{Over}
 use Rattle.apply_files.specs.Lines.{over}
 use Rattle.apply_files.specs.Path.{path_over, PathFits, AddsPath}
 use Rattle.apply_mentions.specs.Asks.{MentionAsks, Mentions}
@@ -25,7 +24,7 @@ use Rattle.hold_reading.specs.Buffers.{Buffers}
 
 module _ {t raw : List ℕ} {bs : Buffers} {word : List ℕ} {c : Counts} (a : MentionAsks t raw bs word c) {word' : List ℕ} {k : ℕ}
     (x : (log : List Logged) → HoldsBindings log bs.texts bs.bind c.entries → Written word (runs.expanded_by log raw) word' k) where
-  pub mention_over : {names' index' graph' : List ℕ} → path_over k c ≡ true → Mentions raw bs c names' index' graph' Over
+  pub mention_over : {names' index' graph' : List ℕ} → path_over k c ≡ true → Mentions raw bs c names' index' graph' None
   unfolding expanded
   mention_over h =
       record {
@@ -54,7 +53,7 @@ module _ {t raw : List ℕ} {bs : Buffers} {word : List ℕ} {c : Counts} (a : M
           writing = a.writing;
         }
 
-    pub mention_marked : {names' index' graph' : List ℕ} {r : Mentioned} → AddsPath (take k word') bs.names bs.index bs.graph c names' index' graph' r
+    pub mention_marked : {names' index' graph' : List ℕ} {r : Option Counts} → AddsPath (take k word') bs.names bs.index bs.graph c names' index' graph' r
         → Mentions raw bs c names' index' graph' r
     unfolding expanded
     mention_marked m =

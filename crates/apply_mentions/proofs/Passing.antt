@@ -1,4 +1,5 @@
 -- The loop over a list of raw paths: what it has mentioned so far, and what is left.
+use Rattle.std.specs.Prelude.{Option, Some, None}
 use Prim.Native.Nat.{ℕ, ◌≤◌}
 use mathlib.Core.List.{List, [], ◌∷◌, ◌++◌}
 use mathlib.Core.Path.{◌≡◌, refl, ◌∙◌}
@@ -12,8 +13,6 @@ use Rattle.scan_raw.specs.Texts.{PathNext}
 use Rattle.cut_forms.specs.Paths.{PathsAt}
 use Rattle.cut_forms.proofs.Walks.{walk_on}
 use Rattle.hold_reading.specs.declared.Counts.{Counts}
-use Rattle.apply_files.specs.declared.Mentioned.{Mentioned}
-use Rattle.apply_files.specs.declared.Mentioned.TheVariants.{On, Over}
 use Rattle.apply_files.specs.Lines.{LineHeld, Writing, with_mention, with_paths, AddedPaths, on, over}
 use Rattle.apply_mentions.specs.Asks.{MentionRoom, MentionAsks, Mentions, MentionListAsks, MentionsAll}
 use Rattle.apply_files.proofs.Limits.{short_none}
@@ -33,7 +32,7 @@ pub record Going (l : List ℕ) (h : LineHeld) (raw : List (List ℕ)) (bs : Buf
   pub stands : PathsAt l i rest
   pub writing : Writing bs d line
   pub vars : line.reading.vars ≡ h.reading.vars
-  pub left : {names' index' graph' : List ℕ} {r : Mentioned} → AddedPaths (with_files bs names' index' graph') line (expanded h.reading rest) r
+  pub left : {names' index' graph' : List ℕ} {r : Option Counts} → AddedPaths (with_files bs names' index' graph') line (expanded h.reading rest) r
       → AddedPaths (with_files bs names' index' graph') h (expanded h.reading raw) r
 
 pub record Passing (t l : List ℕ) (at : ℕ) (bs₀ : Buffers) (word₀ : List ℕ) (c : Counts) (names index graph word : List ℕ) (i : ℕ) (d : Counts) : Type 0 where
@@ -59,7 +58,7 @@ pass_begin a =
 -- a path of the list that was held
 module _ {l : List ℕ} {h : LineHeld} {raw : List (List ℕ)} {bs : Buffers} {i : ℕ} {d : Counts} (g : Going l h raw bs i d)
     {from to : ℕ} (n : PathNext l i from to) where
-  going_on : {names' index' graph' : List ℕ} {e : Counts} → Mentions (part l from to) bs d names' index' graph' (On e)
+  going_on : {names' index' graph' : List ℕ} {e : Counts} → Mentions (part l from to) bs d names' index' graph' (Some e)
       → Going l h raw (with_files bs names' index' graph') to e
   unfolding expanded with_paths with_mention mentioned
   going_on m =
@@ -75,8 +74,8 @@ module _ {l : List ℕ} {h : LineHeld} {raw : List (List ℕ)} {bs : Buffers} {i
         left = λ x. g.left (rw e (marks_cons p (expanded h.reading qs) g.line (marks_short k) x));
       }
 
-  going_over : {names' index' graph' : List ℕ} → Mentions (part l from to) bs d names' index' graph' Over
-      → AddedPaths (with_files bs names' index' graph') h (expanded h.reading raw) Over
+  going_over : {names' index' graph' : List ℕ} → Mentions (part l from to) bs d names' index' graph' None
+      → AddedPaths (with_files bs names' index' graph') h (expanded h.reading raw) None
   unfolding expanded
   going_over m =
       let (qs, e, s) = walk_on n g.stands in
@@ -112,7 +111,7 @@ module _ {t l : List ℕ} {at : ℕ} {bs₀ : Buffers} {word₀ : List ℕ} {c :
         }
 
     pub pass_on : {names' index' graph' word' : List ℕ} {e : Counts} → length names' ≡ length names → length index' ≡ length index → length graph' ≡ length graph
-        → length word' ≡ length word → Mentions (part l from to) (with_files bs₀ names index graph) d names' index' graph' (On e)
+        → length word' ≡ length word → Mentions (part l from to) (with_files bs₀ names index graph) d names' index' graph' (Some e)
         → Passing t l at bs₀ word₀ c names' index' graph' word' to e
     pass_on a b f w m =
         record {
@@ -124,11 +123,11 @@ module _ {t l : List ℕ} {at : ℕ} {bs₀ : Buffers} {word₀ : List ℕ} {c :
           going = λ raw s h k. going_on (x.going raw s h k) n m;
         }
 
-    pub pass_over : {names' index' graph' : List ℕ} → Mentions (part l from to) (with_files bs₀ names index graph) d names' index' graph' Over
-        → MentionsAll l at bs₀ c names' index' graph' Over
+    pub pass_over : {names' index' graph' : List ℕ} → Mentions (part l from to) (with_files bs₀ names index graph) d names' index' graph' None
+        → MentionsAll l at bs₀ c names' index' graph' None
     pass_over m = record { marks = λ raw s h k. going_over (x.going raw s h k) n m }
 
-  pub pass_end : ((rest : List (List ℕ)) → PathsAt l i rest → rest ≡ []) → MentionsAll l at bs₀ c names index graph (On d)
+  pub pass_end : ((rest : List (List ℕ)) → PathsAt l i rest → rest ≡ []) → MentionsAll l at bs₀ c names index graph (Some d)
   unfolding expanded with_paths
   pass_end f =
       record {

@@ -1,5 +1,5 @@
 -- What mentions ask: room for all that the limits allow, and some line held.
-use Rattle.std.specs.Prelude.{ℕ, ◌≤◌, List, [], ◌∷◌, ◌≡◌, length}
+use Rattle.std.specs.Prelude.{ℕ, ◌≤◌, List, [], ◌∷◌, ◌≡◌, length, Option}
 use Rattle.std.proofs.Math.Option.{none}
 use Rattle.spec.specs.Limits.{max_manifest, max_value, max_written}
 use Rattle.spec.specs.Dollars.{bad_dollar}
@@ -7,7 +7,6 @@ use Rattle.spec.specs.Statements.{expanded}
 use Rattle.scan_classes.specs.Table.{classes}
 use Rattle.cut_forms.specs.Paths.{PathsAt}
 use Rattle.hold_reading.specs.declared.Counts.{Counts}
-use Rattle.apply_files.specs.declared.Mentioned.{Mentioned}
 use Rattle.apply_files.specs.Lines.{LineHeld, Writing, AddedPaths}
 use Rattle.hold_reading.specs.Buffers.{Buffers, with_files}
 
@@ -27,7 +26,7 @@ pub record MentionAsks (t raw : List ℕ) (bs : Buffers) (word : List ℕ) (c : 
   pub writing : Writing bs c line
 
 -- The raw path is expanded and mentioned, whatever line was held.
-pub record Mentions (raw : List ℕ) (bs : Buffers) (c : Counts) (names' index' graph' : List ℕ) (r : Mentioned) : Type 0 where
+pub record Mentions (raw : List ℕ) (bs : Buffers) (c : Counts) (names' index' graph' : List ℕ) (r : Option Counts) : Type 0 where
   pub marks : (h : LineHeld) → Writing bs c h → AddedPaths (with_files bs names' index' graph') h (expanded h.reading (raw ∷ [])) r
 
 -- ------------------------------------------------------------------ lists of raw paths
@@ -41,6 +40,6 @@ pub record MentionListAsks (t l : List ℕ) (bs : Buffers) (word : List ℕ) (c 
   pub line : LineHeld
   pub writing : Writing bs c line
 
-pub record MentionsAll (l : List ℕ) (at : ℕ) (bs : Buffers) (c : Counts) (names' index' graph' : List ℕ) (r : Mentioned) : Type 0 where
+pub record MentionsAll (l : List ℕ) (at : ℕ) (bs : Buffers) (c : Counts) (names' index' graph' : List ℕ) (r : Option Counts) : Type 0 where
   pub marks : (raw : List (List ℕ)) → PathsAt l at raw → (h : LineHeld) → Writing bs c h
       → AddedPaths (with_files bs names' index' graph') h (expanded h.reading raw) r

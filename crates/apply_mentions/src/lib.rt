@@ -5,13 +5,13 @@ ghost use Rattle.lists.specs.Lent.{Spare, Leaves};
 ghost use Rattle.apply_mentions.specs.Asks.{MentionAsks, Mentions, MentionListAsks, MentionsAll};
 ghost use Rattle.hold_reading.specs.Buffers.{SameRoom, buffers};
 
-use apply_files::{Mentioned, add_path, path_over};
-use cut_forms::ListPath;
+use apply_files::{add_path, path_over};
 use cut_forms::paths::next_listed;
 use expand_dollars::expand;
 use hold_reading::Counts;
 
-// A raw path. The word buffer is working space.
+// A raw path: the counts with its mention, or `None` where it takes the line over a limit. The word buffer is working
+// space.
 pub fn mention(
     t: &[u8; 256],
     raw: &[u8],
@@ -22,13 +22,13 @@ pub fn mention(
     graph: &mut [u32],
     word: &mut [u8],
     c: Counts,
-) -> Mentioned
+) -> Option<Counts>
     requires { MentionAsks t.now raw.now (buffers names.old index.old texts.now bind.now graph.old) word.old c }
     ensures { Leaves (SameRoom (buffers names.old index.old texts.now bind.now graph.old) (buffers names.new index.new texts.now bind.now graph.new) × (Spare word.old word.new)) (Mentions raw.now (buffers names.old index.old texts.now bind.now graph.old) c names.new index.new graph.new result) }
 {
     let n = expand(t, raw, texts, bind, c.entries, word);
     if path_over(n, c) {
-        return Mentioned::Over;
+        return None;
     }
     add_path(&word[..n], names, index, graph, c)
 }
@@ -45,36 +45,15 @@ pub fn mention_all(
     graph: &mut [u32],
     word: &mut [u8],
     c: Counts,
-) -> Mentioned
+) -> Option<Counts>
     requires { MentionListAsks t.now l.now (buffers names.old index.old texts.now bind.now graph.old) word.old c at }
     ensures { Leaves (SameRoom (buffers names.old index.old texts.now bind.now graph.old) (buffers names.new index.new texts.now bind.now graph.new) × (Spare word.old word.new)) (MentionsAll l.now at (buffers names.old index.old texts.now bind.now graph.old) c names.new index.new graph.new result) }
 {
     let mut i = at;
     let mut d = c;
-    loop {
-        match next_listed(t, l, i) {
-            ListPath::Path(from, to) => match mention(
-                t,
-                &l[from..to],
-                names,
-                index,
-                texts,
-                bind,
-                graph,
-                word,
-                d,
-            ) {
-                Mentioned::On(e) => {
-                    d = e;
-                    i = to;
-                }
-                Mentioned::Over => {
-                    return Mentioned::Over;
-                }
-            },
-            ListPath::Stop => {
-                return Mentioned::On(d);
-            }
-        }
+    while let Some((from, to)) = next_listed(t, l, i) {
+        d = mention(t, &l[from..to], names, index, texts, bind, graph, word, d)?;
+        i = to;
     }
+    Some(d)
 }

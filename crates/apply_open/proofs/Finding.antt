@@ -1,4 +1,5 @@
 -- The record of a name, looked for from the first one on.
+use Rattle.std.specs.Prelude.{Some, None}
 use Prim.Native.Nat.{ℕ, suc, ◌+◌, ◌≤◌, ◌<◌}
 use mathlib.Core.Bool.{true, false}
 use mathlib.Core.List.{List, []}
@@ -14,7 +15,6 @@ use Rattle.spec.specs.Reading.{number_of}
 use Rattle.spec.specs.Card.{number_at}
 use Rattle.spec.specs.Bundle.{bundle_names}
 use Rattle.spec.proofs.Numbers.{among_none, among_here, among_there, number_here, number_there}
-use Rattle.scan_bundle.specs.declared.FoundRecord.TheVariants.{At, Missing}
 use Rattle.scan_bundle.specs.Bundles.{LaidBundle, found_record}
 use Rattle.scan_bundle.proofs.Lying.{length_names, laid_room}
 
@@ -33,19 +33,19 @@ names_end s e h = omega (arith, length_names s)
 
 -- none of the first k names is p
 pub record NoneYet (names : List (List ℕ)) (p : List ℕ) (k : ℕ) : Type 0 where
-  pub rest : found_record p names ≡ if_b (among p (drop k names)) (λ _. At (k + number_of p (drop k names))) (λ _. Missing)
+  pub rest : found_record p names ≡ if_b (among p (drop k names)) (λ _. Some (k + number_of p (drop k names))) (λ _. None)
 
 pub none_begin : (names : List (List ℕ)) (p : List ℕ) → NoneYet names p 0
 unfolding found_record
 none_begin names p = let z : 0 + number_of p names ≡ number_of p names = omega arith in record { rest = rw z }
 
 module _ {names : List (List ℕ)} {p : List ℕ} {k : ℕ} (g : NoneYet names p k) where
-  pub none_end : length names ≤ k → Missing ≡ found_record p names
+  pub none_end : length names ≤ k → None ≡ found_record p names
   none_end h = sym (g.rest ∙ rw (drop_of_length-le names {i = k} h, among_none p))
 
   -- y is the name of record k
   module _ (h : k < length names) {y : List ℕ} (e : y ≡ get_or names k []) where
-    pub none_here : eq_bytes p y ≡ true → At k ≡ found_record p names
+    pub none_here : eq_bytes p y ≡ true → Some k ≡ found_record p names
     none_here q =
         let here : eq_bytes p (get_or names k []) ≡ true = ap (eq_bytes p) (sym e) ∙ q in
         let z : k + 0 ≡ k = omega arith in

@@ -1,4 +1,5 @@
 -- What the path of a line that opens a file opens: one law for each answer.
+use Rattle.std.specs.Prelude.{Option, Some, None, Ok, Err}
 use Prim.Native.Nat.{ℕ, ◌+◌, ◌≤◌, ◌<◌}
 use mathlib.Core.Bool.{true, false, not, ◌||◌}
 use mathlib.Core.List.{List}
@@ -16,8 +17,6 @@ use Rattle.spec.specs.Reading.{Variables, Reading, file_var, number_of}
 use Rattle.spec.specs.Statements.{Block, longer_than, over_counts}
 use Rattle.spec.specs.Manifest.{with_opened, entered, open_path}
 use Rattle.spec.proofs.Numbers.{number_below}
-use Rattle.scan_bundle.specs.declared.FoundRecord.{FoundRecord}
-use Rattle.scan_bundle.specs.declared.FoundRecord.TheVariants.{At, Missing}
 use Rattle.scan_bundle.specs.Bundles.{found_record}
 use Rattle.scan_bundle.proofs.Laws.{found_at, found_none}
 use Rattle.hold_bindings.specs.Log.{Logged}
@@ -32,7 +31,6 @@ use Rattle.hold_reading.specs.Binds.{Known}
 use Rattle.hold_reading.proofs.Lift.{joined_none, none_bound}
 use Rattle.apply_path_checks.proofs.Makers.{no_byte, some_byte}
 use Rattle.apply_files.proofs.Limits.{or_on}
-use Rattle.apply_open.specs.declared.OpenedPath.TheVariants.{Found, Refused}
 use Rattle.apply_open.specs.Opens.{open_over, OpenAsks, OpensAs, OpensPath}
 
 -- ---- limits
@@ -80,7 +78,7 @@ module _ (names : List (List ℕ)) (start : ℕ) (raw : List ℕ) {texts bind wo
     over_path : (vs : Variables) → longer_than max_path path || over_counts (with_opened (length path) vs rd) ≡ open_over n c
     over_path vs = over_is rd w path vs ∙ ap (λ (k : ℕ). open_over k c) path_long
 
-  pub opens_empty : n ≡ 0 → OpensPath names texts bind c raw start (Refused (BadPath start))
+  pub opens_empty : n ≡ 0 → OpensPath names texts bind c raw start (Err (BadPath start))
   unfolding OpensAs open_path
   opens_empty e = record { answer = λ log rd b w reads sub. rw (no_byte (path rd w) (path_long rd w ∙ e)) }
 
@@ -88,12 +86,12 @@ module _ (names : List (List ℕ)) (start : ℕ) (raw : List ℕ) {texts bind wo
     filled : {log : List Logged} (rd : Reading) {b : Block} (w : Known log texts bind c rd b Nothing) → is_empty (path rd w) ≡ false
     filled rd w = some_byte (path rd w) (λ e. some (sym (path_long rd w) ∙ e))
 
-    pub opens_over : open_over n c ≡ true → OpensPath names texts bind c raw start (Refused (OverLimit start))
+    pub opens_over : open_over n c ≡ true → OpensPath names texts bind c raw start (Err (OverLimit start))
     unfolding OpensAs open_path
     opens_over o = record { answer = λ log rd b w reads sub. rw (filled rd w, over_path rd w (entered sub rd.vars) ∙ o) }
 
     module _ (o : open_over n c ≡ false) where
-      pub opens_many : max_opened ≤ c.opened → OpensPath names texts bind c raw start (Refused (BadOpen start))
+      pub opens_many : max_opened ≤ c.opened → OpensPath names texts bind c raw start (Err (BadOpen start))
       unfolding OpensAs open_path
       opens_many h =
           record {
@@ -104,8 +102,8 @@ module _ (names : List (List ℕ)) (start : ℕ) (raw : List ℕ) {texts bind wo
           }
 
       -- r is what was found of the path
-      module _ (l : n ≤ length word) {r : FoundRecord} (q : r ≡ found_record (take n word') names) where
-        pub opens_missing : r ≡ Missing → OpensPath names texts bind c raw start (Refused (BadOpen start))
+      module _ (l : n ≤ length word) {r : Option ℕ} (q : r ≡ found_record (take n word') names) where
+        pub opens_missing : r ≡ None → OpensPath names texts bind c raw start (Err (BadOpen start))
         unfolding OpensAs open_path
         opens_missing e =
             record {
@@ -114,7 +112,7 @@ module _ (names : List (List ℕ)) (start : ℕ) (raw : List ℕ) {texts bind wo
                   rw (filled rd w, over_path rd w (entered sub rd.vars) ∙ o, none);
             }
 
-        pub opens_found : {k : ℕ} → r ≡ At k → c.opened < max_opened → OpensPath names texts bind c raw start (Found k n)
+        pub opens_found : {k : ℕ} → r ≡ Some k → c.opened < max_opened → OpensPath names texts bind c raw start (Ok (k, n))
         unfolding OpensAs open_path
         opens_found {k} e f =
             record {

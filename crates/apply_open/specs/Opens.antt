@@ -1,5 +1,5 @@
 -- A line that opens a file: what its path opens, and the scope of what is read of that file.
-use Rattle.std.specs.Prelude.{ℕ, ◌+◌, ◌≤◌, ◌<◌, Bool, true, false, ◌||◌, List, ◌∷◌, ◌≡◌, ltb, length}
+use Rattle.std.specs.Prelude.{ℕ, ◌+◌, ◌≤◌, ◌<◌, Bool, true, false, ◌||◌, List, ◌∷◌, ◌≡◌, ltb, length, Result, Ok, Err}
 use Rattle.spec.specs.Limits.{max_path, max_value, max_written, max_opened}
 use Rattle.spec.specs.Dollars.{expand}
 use Rattle.spec.specs.Reading.{Variables, Reading, scope_at, file_var, number_of}
@@ -10,11 +10,10 @@ use Rattle.hold_bindings.specs.Log.{Logged}
 use Rattle.expand_parts.specs.Runs.{ExpandReady}
 use Rattle.hold_reading.specs.declared.Counts.{Counts}
 use Rattle.hold_reading.specs.declared.Open.TheVariants.{Nothing}
-use Rattle.hold_reading.specs.declared.LineAnswer.TheVariants.{Goes}
 use Rattle.hold_reading.specs.Binds.{Known, SoundBlock, Binds, Meets}
-use Rattle.apply_open.specs.declared.OpenedPath.{OpenedPath}
-use Rattle.apply_open.specs.declared.OpenedPath.TheVariants.{Found, Refused}
 use Rattle.apply_open.specs.declared.OpenedFile.{OpenedFile}
+use Rattle.spec.specs.declared.Refusal.{Refusal}
+use Rattle.hold_reading.specs.Went.{went}
 
 -- ---- the path
 
@@ -39,12 +38,12 @@ pub record NamesRecord (names : List (List ℕ)) (start : ℕ) (p : List ℕ) (r
   pub path : (reads : ℕ → Reading → Outcome) (sub : Bool) → open_path names reads start sub p rd ≡ reads k (with_opened n (entered sub rd.vars) rd)
 
 -- whatever is made of the record that a path names
-unfoldable pub OpensAs : List (List ℕ) → ℕ → List ℕ → Reading → OpenedPath → Type 0
-OpensAs names start p rd (Found k n) = NamesRecord names start p rd k n
-OpensAs names start p rd (Refused r) = (reads : ℕ → Reading → Outcome) (sub : Bool) → open_path names reads start sub p rd ≡ refused r
+unfoldable pub OpensAs : List (List ℕ) → ℕ → List ℕ → Reading → Result (ℕ × ℕ) Refusal → Type 0
+OpensAs names start p rd (Ok (k, n)) = NamesRecord names start p rd k n
+OpensAs names start p rd (Err r) = (reads : ℕ → Reading → Outcome) (sub : Bool) → open_path names reads start sub p rd ≡ refused r
 
 -- The answer is that of the rules, whatever reading is held.
-pub record OpensPath (names : List (List ℕ)) (texts bind : List ℕ) (c : Counts) (raw : List ℕ) (start : ℕ) (r : OpenedPath) : Type 0 where
+pub record OpensPath (names : List (List ℕ)) (texts bind : List ℕ) (c : Counts) (raw : List ℕ) (start : ℕ) (r : Result (ℕ × ℕ) Refusal) : Type 0 where
   pub answer : (log : List Logged) (rd : Reading) (b : Block) → Known log texts bind c rd b Nothing → OpensAs names start (expand (file_var rd.vars) raw) rd r
 
 -- ---- the scope
@@ -57,7 +56,7 @@ pub record EnterAsks (texts bind : List ℕ) (c : Counts) (n : ℕ) : Type 0 whe
 
 -- The file is opened, in a new scope or not; the scope is the one that was read in.
 pub record Enters (sub : Bool) (texts bind : List ℕ) (c : Counts) (n : ℕ) (texts' bind' : List ℕ) (r : OpenedFile) : Type 0 where
-  pub meets : Meets texts bind c Nothing (λ rd b. goes_on (with_opened n (entered sub rd.vars) rd) no_block) texts' bind' (Goes r.counts Nothing)
+  pub meets : Meets texts bind c Nothing (λ rd b. goes_on (with_opened n (entered sub rd.vars) rd) no_block) texts' bind' (went r.counts Nothing)
   pub scope : (log : List Logged) (rd : Reading) (b : Block) → Known log texts bind c rd b Nothing → r.scope ≡ rd.vars.current
 
 -- what is read in was entered from scope k, or is scope k
@@ -72,4 +71,4 @@ pub record LeaveAsks (sub : Bool) (scope : ℕ) (texts bind : List ℕ) (c : Cou
 -- The scope is gone back to, whatever reading is held that was entered from it.
 pub record LeavesScope (sub : Bool) (scope : ℕ) (texts bind : List ℕ) (c : Counts) (texts' bind' : List ℕ) (r : Counts) : Type 0 where
   pub agrees : (log : List Logged) (rd : Reading) (b : Block) → Known log texts bind c rd b Nothing → EnteredFrom sub scope rd.vars
-      → Binds log c rd texts' bind' (back_in scope rd b) (Goes r Nothing)
+      → Binds log c rd texts' bind' (back_in scope rd b) (went r Nothing)

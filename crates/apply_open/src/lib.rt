@@ -12,17 +12,10 @@ use byte_order::equal;
 use expand_dollars::expand;
 use hold_bindings::{back_to, current_scope, enter_scope};
 use hold_reading::Counts;
-use scan_bundle::{FoundRecord, record_name};
+use scan_bundle::record_name;
 use scan_numbers::word;
 use spec::Refusal;
 use spec::limits::{OPENED, PATH, WRITTEN};
-
-// What a path opens: the record of that name, with the number of the path's bytes; or why it does not.
-#[derive(Clone, Copy)]
-pub enum OpenedPath {
-    Found(usize, usize),
-    Refused(Refusal),
-}
 
 // The counts with a file that is opened, and the scope to go back to.
 #[derive(Clone, Copy)]
@@ -32,19 +25,17 @@ pub struct OpenedFile {
 }
 
 // The record of that name, from the first one on: there are 64 at most.
-fn find_named(b: &[u8], path: &[u8]) -> FoundRecord
+fn find_named(b: &[u8], path: &[u8]) -> Option<usize>
     requires { LaidBundle b.now }
     ensures { result ≡ found_record path.now (bundle_names b.now) }
 {
     let n = word(b, 0);
-    let mut k = 0;
-    while k < n {
+    for k in 0..n {
         if equal(path, record_name(b, k)) {
-            return FoundRecord::At(k);
+            return Some(k);
         }
-        k += 1;
     }
-    FoundRecord::Missing
+    None
 }
 
 // Whether a path of n bytes that opens a file is over a limit. It is no mention.
@@ -52,13 +43,11 @@ fn open_over(n: usize, c: Counts) -> bool
     requires { c.written ≤ max_written }
     ensures { result ≡ open_over n c }
 {
-    if PATH < n {
-        return true;
-    }
-    WRITTEN < c.written + n
+    PATH < n || WRITTEN < c.written + n
 }
 
-// What the raw path of a line that starts at this place opens: its 8, its 9, then its 19. The word buffer is working space.
+// What the raw path of a line that starts at this place opens: the number of its record, with the number of the path's
+// bytes; or its 8, its 9, then its 19. The word buffer is working space.
 pub fn open_path(
     t: &[u8; 256],
     b: &[u8],
@@ -68,23 +57,23 @@ pub fn open_path(
     word: &mut [u8],
     start: usize,
     c: Counts,
-) -> OpenedPath
+) -> Result<(usize, usize), Refusal>
     requires { OpenAsks t.now b.now raw.now texts.now bind.now word.old c }
     ensures { Leaves (Spare word.old word.new) (OpensPath (bundle_names b.now) texts.now bind.now c raw.now start result) }
 {
     let n = expand(t, raw, texts, bind, c.entries, word);
     if n == 0 {
-        return OpenedPath::Refused(Refusal::BadPath(start));
+        return Err(Refusal::BadPath(start));
     }
     if open_over(n, c) {
-        return OpenedPath::Refused(Refusal::OverLimit(start));
+        return Err(Refusal::OverLimit(start));
     }
     if OPENED <= c.opened {
-        return OpenedPath::Refused(Refusal::BadOpen(start));
+        return Err(Refusal::BadOpen(start));
     }
     match find_named(b, &word[..n]) {
-        FoundRecord::At(k) => OpenedPath::Found(k, n),
-        FoundRecord::Missing => OpenedPath::Refused(Refusal::BadOpen(start)),
+        Some(k) => Ok((k, n)),
+        None => Err(Refusal::BadOpen(start)),
     }
 }
 

@@ -1,4 +1,5 @@
 -- A path is made where its file's entry among the makers is not 0.
+use Rattle.std.specs.Prelude.{Option, Some, None}
 use Prim.Native.Nat.{ℕ, zero, suc, ◌+◌, ◌≤◌, ◌<◌}
 use mathlib.Core.Bool.{Bool, true, false, not}
 use mathlib.Core.List.{List, [], ◌∷◌}
@@ -14,8 +15,6 @@ use Rattle.spec.specs.Limits.{max_files, max_path}
 use Rattle.spec.specs.Reading.{Step, Reading, number_of, is_output, is_made}
 use Rattle.spec.specs.Graph.{makers, makers_from}
 use Rattle.arena.proofs.Laws.{lies_column, lies_read}
-use Rattle.hold_names.specs.declared.FoundName.{FoundName}
-use Rattle.hold_names.specs.declared.FoundName.TheVariants.{At, Missing}
 use Rattle.hold_names.specs.Table.{FindsName}
 use Rattle.spec.proofs.Numbers.{number_missing}
 use Rattle.hold_names.proofs.Laws.{find_at, find_missing}
@@ -61,9 +60,9 @@ output_entry {rd = rd} g f =
 
 -- ---- the search among the names
 
-module _ {log : List Logged} {names index graph : List ℕ} {c : Counts} {rd : Reading} (h : Filed log names index graph c rd) {path : List ℕ} {r : FoundName}
+module _ {log : List Logged} {names index graph : List ℕ} {c : Counts} {rd : Reading} (h : Filed log names index graph c rd) {path : List ℕ} {r : Option ℕ}
     (f : FindsName names index c.files path r) where
-  module _ {k : ℕ} (e : r ≡ At k) where
+  module _ {k : ℕ} (e : r ≡ Some k) where
     pub entry_low : k < max_files
     entry_low = let (a, q, b) = find_at f h.named e in omega (arith, h.named.few)
 
@@ -94,8 +93,8 @@ made_among {rd = rd} h p m =
     (λ (e : among p rd.files ≡ true). e)
     (λ (e : among p rd.files ≡ false). differ m (sym (unknown_unmade h.graphed p e)))
 
-pub missing_unmade : {log : List Logged} {names index graph : List ℕ} {c : Counts} {rd : Reading} (h : Filed log names index graph c rd) {path : List ℕ} {r : FoundName}
-    → FindsName names index c.files path r → r ≡ Missing → false ≡ is_made path rd
+pub missing_unmade : {log : List Logged} {names index graph : List ℕ} {c : Counts} {rd : Reading} (h : Filed log names index graph c rd) {path : List ℕ} {r : Option ℕ}
+    → FindsName names index c.files path r → r ≡ None → false ≡ is_made path rd
 missing_unmade h {path} f e = unknown_unmade h.graphed path (find_missing f h.named e)
 
 -- ---- a path in the word buffer

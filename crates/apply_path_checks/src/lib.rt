@@ -1,4 +1,5 @@
-// The refusals under 8 that a path has by itself. Each path of a list is cut and expanded once, and looked at for what its kind is refused for.
+// The refusals under 8 that a path has by itself. Each path of a list is cut and expanded once, and looked at for what
+// its kind is refused for.
 #![tactic(auto)]
 
 ghost use Rattle.std.specs.Prelude.{◌≡◌, List};
@@ -9,10 +10,9 @@ ghost use Rattle.hold_reading.specs.Held.{HoldsReading};
 ghost use Rattle.apply_path_checks.specs.Checks.{path_of, wrong_path, Filed, FilesKnown, MadeAsks, IsMade, RawAsks, PathAsks, AnyWrong};
 ghost use Rattle.hold_reading.specs.Buffers.{buffers};
 
-use cut_forms::ListPath;
 use cut_forms::paths::next_listed;
 use expand_dollars::expand;
-use hold_names::{FoundName, find_name};
+use hold_names::find_name;
 use hold_reading::Counts;
 use hold_reading::columns::MADE_START;
 use slices::words::at;
@@ -39,20 +39,18 @@ fn is_output(names: &[u8], index: &[u32], graph: &[u32], c: Counts, path: &[u8])
     ensures { (log : List Logged) (rd : Reading) → Filed log names.now index.now graph.now c rd → result ≡ is_made path.now rd }
 {
     match find_name(names, index, c.files, path) {
-        FoundName::At(k) => at(graph, MADE_START + k) != 0,
-        FoundName::Missing => false,
+        Some(k) => at(graph, MADE_START + k) != 0,
+        None => false,
     }
 }
 
-// The same of a path of n bytes, which is in the word buffer if it fits there. One over the limit is no name that is held.
+// The same of a path of n bytes, which is in the word buffer if it fits there. One over the limit is no name that is
+// held.
 fn is_made(names: &[u8], index: &[u32], graph: &[u32], c: Counts, word: &[u8], n: usize) -> bool
     requires { MadeAsks names.now index.now graph.now word.now c }
     ensures { IsMade names.now index.now graph.now word.now c n result }
 {
-    if PATH < n {
-        return false;
-    }
-    is_output(names, index, graph, c, &word[..n])
+    n <= PATH && is_output(names, index, graph, c, &word[..n])
 }
 
 // Whether a raw path is refused. The word buffer is left with the path as far as it fits.
@@ -100,28 +98,22 @@ pub fn has_wrong(
 {
     let kind = list.kind;
     let mut i = list.start;
-    loop {
-        match next_listed(t, l, i) {
-            ListPath::Path(from, to) => {
-                if is_wrong(
-                    t,
-                    &l[from..to],
-                    kind,
-                    names,
-                    index,
-                    texts,
-                    bind,
-                    graph,
-                    word,
-                    c,
-                ) {
-                    return true;
-                }
-                i = to;
-            }
-            ListPath::Stop => {
-                return false;
-            }
+    while let Some((from, to)) = next_listed(t, l, i) {
+        if is_wrong(
+            t,
+            &l[from..to],
+            kind,
+            names,
+            index,
+            texts,
+            bind,
+            graph,
+            word,
+            c,
+        ) {
+            return true;
         }
+        i = to;
     }
+    false
 }

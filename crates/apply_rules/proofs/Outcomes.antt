@@ -1,4 +1,5 @@
 -- What the rules answer to a line of a rule's block, by what was looked up: one law for each answer.
+use Rattle.std.specs.Prelude.{Some, Err}
 use Prim.Native.Nat.{ℕ, ◌+◌, ◌≤◌, ◌<◌}
 use mathlib.Core.Bool.{Bool, true, false, not, ◌||◌}
 use mathlib.Core.List.{List, [], ◌∷◌}
@@ -13,13 +14,11 @@ use Rattle.spec.specs.Limits.{max_files, max_name, max_rules, max_mentions, max_
 use Rattle.spec.specs.Reading.{Rule, Reading, declared, has_key}
 use Rattle.spec.specs.Statements.{Block, refused, start_rule, longer_than, rule_key, add_key, count_binding, over_counts, over_binding, block_line}
 use Rattle.spec.specs.Manifest.{with_rule, close}
-use Rattle.hold_bindings.specs.declared.FoundEntry.TheVariants.{At}
 use Rattle.hold_bindings.specs.Log.{Logged, logged, of_rules, of_keys, newest_rule}
 use Rattle.hold_bindings.specs.Held.{HoldsBindings, EntryRoom, HasRoom}
 use Rattle.hold_bindings.proofs.Lookups.{rule_begun, rule_kept}
 use Rattle.hold_reading.specs.declared.Counts.{Counts}
 use Rattle.hold_reading.specs.declared.Open.TheVariants.{Nothing, Rule as OpenRule, Step as OpenStep}
-use Rattle.hold_reading.specs.declared.LineAnswer.TheVariants.{Goes, Refused}
 use Rattle.hold_reading.specs.Held.{joined, OpensBlock, nothing, a_rule, a_step, HoldsBound}
 use Rattle.hold_reading.specs.Binds.{SoundBlock, counted_rule, Binds, goes, Meets}
 use Rattle.hold_reading.proofs.Grow.{newest_rule_below, bound_room, bound_rule, bound_key, beside_same, beside_rule, beside_key}
@@ -28,6 +27,7 @@ use Rattle.apply_bindings.specs.Limits.{binding_over, EntryReady, PutsBinding}
 use Rattle.apply_bindings.proofs.Entries.{over_counted, within}
 use Rattle.hold_rules.specs.Tests.{OfRule, keyed, bad_key}
 use Rattle.hold_rules.proofs.Lookups.{keyed_held, bad_held, key_short}
+use Rattle.hold_reading.specs.Went.{went}
 
 -- ---- `rule NAME`
 
@@ -42,17 +42,17 @@ start_room w n s l = record { log = w.log; room = rule_room (none_bound w.known)
 -- t is the test of the name.
 module _ (start : ℕ) (n : List ℕ) {texts bind : List ℕ} {c : Counts} {t : Bool}
     (e : (log : List Logged) (rd : Reading) → HoldsBound log texts bind c rd → t ≡ declared n rd) where
-  pub start_twice : {texts' bind' : List ℕ} → t ≡ true → Meets texts bind c Nothing (λ rd b. start_rule start n rd) texts' bind' (Refused (BadRule start))
+  pub start_twice : {texts' bind' : List ℕ} → t ≡ true → Meets texts bind c Nothing (λ rd b. start_rule start n rd) texts' bind' (Err (BadRule start))
   unfolding start_rule
   start_twice h = record { agrees = λ log rd b w. refused_by (rw (sym (e log rd (none_bound w)) ∙ h)) }
 
   module _ (h : t ≡ false) where
-    pub start_long : {texts' bind' : List ℕ} → max_name < length n → Meets texts bind c Nothing (λ rd b. start_rule start n rd) texts' bind' (Refused (OverLimit start))
+    pub start_long : {texts' bind' : List ℕ} → max_name < length n → Meets texts bind c Nothing (λ rd b. start_rule start n rd) texts' bind' (Err (OverLimit start))
     unfolding start_rule longer_than
     start_long l = record { agrees = λ log rd b w. refused_by (rw (sym (e log rd (none_bound w)) ∙ h, lt-ltb max_name (length n) l)) }
 
     module _ (s : length n ≤ max_name) where
-      pub start_many : {texts' bind' : List ℕ} → max_rules ≤ c.rules → Meets texts bind c Nothing (λ rd b. start_rule start n rd) texts' bind' (Refused (OverLimit start))
+      pub start_many : {texts' bind' : List ℕ} → max_rules ≤ c.rules → Meets texts bind c Nothing (λ rd b. start_rule start n rd) texts' bind' (Err (OverLimit start))
       unfolding start_rule longer_than
       start_many l =
           record {
@@ -63,7 +63,7 @@ module _ (start : ℕ) (n : List ℕ) {texts bind : List ℕ} {c : Counts} {t : 
           }
 
       pub start_goes : {texts' bind' : List ℕ} → c.rules < max_rules → ((log : List Logged) → EntryRoom log texts bind c.entries (logged of_rules n []) → HoldsBindings (logged of_rules n [] ∷ log) texts' bind' (c.entries + 1))
-          → Meets texts bind c Nothing (λ rd b. start_rule start n rd) texts' bind' (Goes (counted_rule c) (OpenRule start c.entries))
+          → Meets texts bind c Nothing (λ rd b. start_rule start n rd) texts' bind' (went (counted_rule c) (OpenRule start c.entries))
       unfolding joined start_rule longer_than
       start_goes l p =
           record {
@@ -73,7 +73,7 @@ module _ (start : ℕ) (n : List ℕ) {texts bind : List ℕ} {c : Counts} {t : 
                 rw (joined_none rd w.opens, sym (e log rd d) ∙ h, le-ltb max_name (length n) s, lt-leb max_rules (length rd.rules) (omega (arith, d.rules_counted)))
                 (goes (x ∷ [])
                 (bound_rule d n (p log (rule_room d n s l)) l)
-                (a_rule (rule_begun x log refl ∙ ap At (sym d.held.rows.counted)))
+                (a_rule (rule_begun x log refl ∙ ap Some (sym d.held.rows.counted)))
                 (beside_rule (record { name = n; keys = [] })));
           }
 
@@ -81,7 +81,7 @@ module _ (start : ℕ) (n : List ℕ) {texts bind : List ℕ} {c : Counts} {t : 
 
 -- the rule is declared at entry k, and its line starts at `head`
 module _ (start head k : ℕ) (n raw : List ℕ) {log : List Logged} {texts bind : List ℕ} {c : Counts} (rd : Reading) where
-  bad_test : (r : Rule) → newest_rule log ≡ At k → HoldsBound log texts bind c (with_rule r rd) → not (rule_key n) || has_key n r.keys ≡ bad_key k n log
+  bad_test : (r : Rule) → newest_rule log ≡ Some k → HoldsBound log texts bind c (with_rule r rd) → not (rule_key n) || has_key n r.keys ≡ bad_key k n log
   unfolding with_rule
   bad_test r o d = bad_held log k r rd.rules o d.rules n
 
@@ -104,7 +104,7 @@ module _ (start head k : ℕ) (n raw : List ℕ) {log : List Logged} {texts bind
 
   key_goes : {b : Block} → OpensBlock log b (OpenRule head k) → HoldsBound log texts bind c (joined rd b) → length (joined rd b).files ≤ max_files → (joined rd b).mentions ≤ max_mentions
       → bad_key k n log ≡ false → binding_over (length n) (length raw) c ≡ false → {texts' bind' : List ℕ} {c' : Counts} → PutsBinding texts bind c (logged (of_keys k) n raw) texts' bind' c'
-      → Binds log c (joined rd b) texts' bind' (block_line start b n raw rd) (Goes c' (OpenRule head k))
+      → Binds log c (joined rd b) texts' bind' (block_line start b n raw rd) (went c' (OpenRule head k))
   unfolding joined with_rule block_line add_key
   key_goes (a_rule {r = r} o) d f m h q p =
       let e = logged (of_keys k) n raw in
@@ -118,13 +118,13 @@ module _ (start head k : ℕ) (n raw : List ℕ) {log : List Logged} {texts bind
 -- t is the test of the key.
 module _ (start head k : ℕ) (n raw : List ℕ) {texts bind : List ℕ} {c : Counts} {t : Bool}
     (e : (log : List Logged) → HoldsBindings log texts bind c.entries → t ≡ bad_key k n log) where
-  pub keys_bad : {texts' bind' : List ℕ} → t ≡ true → Meets texts bind c (OpenRule head k) (λ rd b. block_line start b n raw rd) texts' bind' (Refused (BadRule start))
+  pub keys_bad : {texts' bind' : List ℕ} → t ≡ true → Meets texts bind c (OpenRule head k) (λ rd b. block_line start b n raw rd) texts' bind' (Err (BadRule start))
   keys_bad h =
       record { agrees = λ log rd b w. refused_by (key_bad start head k n raw rd w.opens w.bound (sym (e log w.bound.held) ∙ h)) }
 
   module _ (h : t ≡ false) where
     pub keys_over : {texts' bind' : List ℕ} → binding_over (length n) (length raw) c ≡ true
-        → Meets texts bind c (OpenRule head k) (λ rd b. block_line start b n raw rd) texts' bind' (Refused (OverLimit start))
+        → Meets texts bind c (OpenRule head k) (λ rd b. block_line start b n raw rd) texts' bind' (Err (OverLimit start))
     keys_over q =
         record {
           agrees = λ log rd b w.
@@ -133,7 +133,7 @@ module _ (start head k : ℕ) (n raw : List ℕ) {texts bind : List ℕ} {c : Co
         }
 
     pub keys_go : {texts' bind' : List ℕ} {c' : Counts} → binding_over (length n) (length raw) c ≡ false → PutsBinding texts bind c (logged (of_keys k) n raw) texts' bind' c'
-        → Meets texts bind c (OpenRule head k) (λ rd b. block_line start b n raw rd) texts' bind' (Goes c' (OpenRule head k))
+        → Meets texts bind c (OpenRule head k) (λ rd b. block_line start b n raw rd) texts' bind' (went c' (OpenRule head k))
     keys_go q p =
         record {
           agrees = λ log rd b w.
@@ -144,7 +144,7 @@ module _ (start head k : ℕ) (n raw : List ℕ) {texts bind : List ℕ} {c : Co
 
 module _ {log : List Logged} {texts bind : List ℕ} {c : Counts} (rd : Reading) where
   close_rule : (head k : ℕ) {b : Block} → OpensBlock log b (OpenRule head k) → HoldsBound log texts bind c (joined rd b) → keyed k (bytes "command") log ≡ true
-      → Binds log c (joined rd b) texts bind (close rd b) (Goes c Nothing)
+      → Binds log c (joined rd b) texts bind (close rd b) (went c Nothing)
   unfolding joined with_rule close
   close_rule head k (a_rule {r = r} o) d h = rw (keyed_held log k r rd.rules o d.rules (bytes "command") ∙ h) (goes [] d nothing beside_same)
 
@@ -153,27 +153,27 @@ module _ {log : List Logged} {texts bind : List ℕ} {c : Counts} (rd : Reading)
   unfolding joined with_rule close
   no_command head k (a_rule {r = r} o) d h = rw (keyed_held log k r rd.rules o d.rules (bytes "command") ∙ h)
 
-  close_none : {b : Block} → OpensBlock log b Nothing → HoldsBound log texts bind c (joined rd b) → Binds log c (joined rd b) texts bind (close rd b) (Goes c Nothing)
+  close_none : {b : Block} → OpensBlock log b Nothing → HoldsBound log texts bind c (joined rd b) → Binds log c (joined rd b) texts bind (close rd b) (went c Nothing)
   unfolding joined close
   close_none nothing d = goes [] d nothing beside_same
 
-  close_step : {b : Block} → OpensBlock log b OpenStep → HoldsBound log texts bind c (joined rd b) → Binds log c (joined rd b) texts bind (close rd b) (Goes c Nothing)
+  close_step : {b : Block} → OpensBlock log b OpenStep → HoldsBound log texts bind c (joined rd b) → Binds log c (joined rd b) texts bind (close rd b) (went c Nothing)
   unfolding joined close
   close_step a_step d = goes [] d nothing beside_same
 
 module _ {texts bind : List ℕ} {c : Counts} where
-  pub closed_none : Meets texts bind c Nothing close texts bind (Goes c Nothing)
+  pub closed_none : Meets texts bind c Nothing close texts bind (went c Nothing)
   closed_none = record { agrees = λ log rd b w. close_none rd w.opens w.bound }
 
-  pub closed_step : Meets texts bind c OpenStep close texts bind (Goes c Nothing)
+  pub closed_step : Meets texts bind c OpenStep close texts bind (went c Nothing)
   closed_step = record { agrees = λ log rd b w. close_step rd w.opens w.bound }
 
   -- t is the test for `command`.
   module _ (head k : ℕ) {t : Bool} (e : (log : List Logged) → HoldsBindings log texts bind c.entries → t ≡ keyed k (bytes "command") log) where
-    pub closed_rule : t ≡ true → Meets texts bind c (OpenRule head k) close texts bind (Goes c Nothing)
+    pub closed_rule : t ≡ true → Meets texts bind c (OpenRule head k) close texts bind (went c Nothing)
     closed_rule h = record { agrees = λ log rd b w. close_rule rd head k w.opens w.bound (sym (e log w.bound.held) ∙ h) }
 
-    pub closed_bare : t ≡ false → Meets texts bind c (OpenRule head k) close texts bind (Refused (BadRule head))
+    pub closed_bare : t ≡ false → Meets texts bind c (OpenRule head k) close texts bind (Err (BadRule head))
     closed_bare h = record { agrees = λ log rd b w. refused_by (no_command rd head k w.opens w.bound (sym (e log w.bound.held) ∙ h)) }
 
 -- ---- what the lookups ask

@@ -1,5 +1,5 @@
-// Rule blocks: "`rule NAME`, then indented `key = value` lines: `command` (needed), `description`, `generator`, each at most once, kept unexpanded."
-// Document 02 has one key more: "Accept `depfile`."
+// Rule blocks: "`rule NAME`, then indented `key = value` lines: `command` (needed), `description`, `generator`, each
+// at most once, kept unexpanded." Document 02 has one key more: "Accept `depfile`."
 #![tactic(auto)]
 
 ghost use Rattle.lists.specs.Lent.{Spare, Leaves};
@@ -9,7 +9,7 @@ ghost use Rattle.hold_reading.specs.Binds.{SoundBlock, Meets};
 
 use apply_bindings::{binding_over, push_binding};
 use hold_bindings::push;
-use hold_reading::{Counts, LineAnswer, Open};
+use hold_reading::{Counts, Open, State};
 use hold_rules::{has_command, is_bad_key, is_declared};
 use spec::Refusal;
 use spec::limits::{NAME, RULES};
@@ -21,18 +21,18 @@ pub fn start_rule(
     texts: &mut [u8],
     bind: &mut [u32],
     c: Counts,
-) -> LineAnswer
+) -> Result<State, Refusal>
     requires { SoundBlock texts.old bind.old c Open.Nothing }
     ensures { Leaves ((Spare texts.old texts.new) × (Spare bind.old bind.new)) (Meets texts.old bind.old c Open.Nothing (λ rd b. start_rule start name.now rd) texts.new bind.new result) }
 {
     if is_declared(texts, bind, c, name) {
-        return LineAnswer::Refused(Refusal::BadRule(start));
+        return Err(Refusal::BadRule(start));
     }
     if NAME < name.len() {
-        return LineAnswer::Refused(Refusal::OverLimit(start));
+        return Err(Refusal::OverLimit(start));
     }
     if RULES <= c.rules {
-        return LineAnswer::Refused(Refusal::OverLimit(start));
+        return Err(Refusal::OverLimit(start));
     }
     let entry = c.entries;
     push(texts, bind, entry, 1, name, b"");
@@ -41,7 +41,10 @@ pub fn start_rule(
         rules: c.rules + 1,
         ..c
     };
-    LineAnswer::Goes(d, Open::Rule(start, entry))
+    Ok(State {
+        counts: d,
+        open: Open::Rule(start, entry),
+    })
 }
 
 // A line of the open rule's block.
@@ -54,34 +57,42 @@ pub fn add_key(
     texts: &mut [u8],
     bind: &mut [u32],
     c: Counts,
-) -> LineAnswer
+) -> Result<State, Refusal>
     requires { SoundBlock texts.old bind.old c (Open.Rule head entry) }
     ensures { Leaves ((Spare texts.old texts.new) × (Spare bind.old bind.new)) (Meets texts.old bind.old c (Open.Rule head entry) (λ rd b. block_line start b name.now raw.now rd) texts.new bind.new result) }
 {
     if is_bad_key(texts, bind, c.entries, entry, name) {
-        return LineAnswer::Refused(Refusal::BadRule(start));
+        return Err(Refusal::BadRule(start));
     }
     if binding_over(name.len(), raw.len(), c) {
-        return LineAnswer::Refused(Refusal::OverLimit(start));
+        return Err(Refusal::OverLimit(start));
     }
     let d = push_binding(texts, bind, c, 4 + 3 * entry, name, raw);
-    LineAnswer::Goes(d, Open::Rule(head, entry))
+    Ok(State {
+        counts: d,
+        open: Open::Rule(head, entry),
+    })
 }
 
 // "A missing `command` is found when its block closes, at the rule's line."
-pub fn close(texts: &[u8], bind: &[u32], c: Counts, block: Open) -> LineAnswer
+pub fn close(texts: &[u8], bind: &[u32], c: Counts, block: Open) -> Result<State, Refusal>
     requires { SoundBlock texts.now bind.now c block }
     ensures { Meets texts.now bind.now c block close texts.now bind.now result }
 {
     match block {
-        Open::Nothing => LineAnswer::Goes(c, Open::Nothing),
+        Open::Nothing | Open::Step => Ok(State {
+            counts: c,
+            open: Open::Nothing,
+        }),
         Open::Rule(head, entry) => {
             if has_command(texts, bind, c, entry) {
-                LineAnswer::Goes(c, Open::Nothing)
+                Ok(State {
+                    counts: c,
+                    open: Open::Nothing,
+                })
             } else {
-                LineAnswer::Refused(Refusal::BadRule(head))
+                Err(Refusal::BadRule(head))
             }
         }
-        Open::Step => LineAnswer::Goes(c, Open::Nothing),
     }
 }

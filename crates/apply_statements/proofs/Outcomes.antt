@@ -1,4 +1,5 @@
 -- What the rules answer to a line without indent, by its cut: one law for each answer.
+use Rattle.std.specs.Prelude.{Result, Err}
 use Prim.Native.Nat.{ℕ, ◌≤◌}
 use mathlib.Core.Bool.{Bool, true, false}
 use mathlib.Core.List.{List}
@@ -25,8 +26,6 @@ use Rattle.cut_forms.specs.Statements.{Stands, RuleAt, BuildAt, DefaultAt, OpenA
 use Rattle.hold_reading.specs.declared.Counts.{Counts}
 use Rattle.hold_reading.specs.declared.Open.{Open}
 use Rattle.hold_reading.specs.declared.Open.TheVariants.{Nothing}
-use Rattle.hold_reading.specs.declared.LineAnswer.{LineAnswer}
-use Rattle.hold_reading.specs.declared.LineAnswer.TheVariants.{Goes, Refused}
 use Rattle.hold_reading.specs.declared.LineTurn.{LineTurn}
 use Rattle.hold_reading.specs.declared.LineTurn.TheVariants.{Answered, Opens as TurnOpens}
 use Rattle.hold_reading.specs.Held.{joined, OpensBlock, nothing, HoldsReading, refuses, turn_opens, turn_answers}
@@ -39,23 +38,25 @@ use Rattle.apply_builds.specs.Asks.{BuildAsks}
 use Rattle.apply_defaults.specs.Asks.{DefaultAsks}
 use Rattle.apply_statements.specs.Asks.{BetweenLines, LineAsks, LineMeets, TurnMeets}
 use Rattle.hold_reading.specs.Buffers.{Buffers, with_files, with_bindings}
+use Rattle.hold_reading.specs.declared.State.{State}
+use Rattle.hold_reading.specs.Went.{went}
 
 -- ---- lines that bind, and lines that mention files
 
 module _ {bs : Buffers} {c : Counts} where
-  pub binding_met : {o : Open} {line : Reading → Block → Outcome} {texts' bind' : List ℕ} {r : LineAnswer} → Meets bs.texts bs.bind c o line texts' bind' r
+  pub binding_met : {o : Open} {line : Reading → Block → Outcome} {texts' bind' : List ℕ} {r : Result State Refusal} → Meets bs.texts bs.bind c o line texts' bind' r
       → LineMeets bs c o line (with_bindings bs texts' bind') r
   binding_met m = record { agrees = λ log rd b h p. met rd h p m }
 
-  pub adding_met : {line : Reading → Outcome} {names' index' graph' : List ℕ} {r : LineAnswer} → AddsFiles bs c line names' index' graph' r
+  pub adding_met : {line : Reading → Outcome} {names' index' graph' : List ℕ} {r : Result State Refusal} → AddsFiles bs c line names' index' graph' r
       → LineMeets bs c Nothing (λ rd b. line rd) (with_files bs names' index' graph') r
   adding_met m = record { agrees = λ log rd b h p. m.agrees log rd (rw (joined_none rd p) at h) }
 
-  pub line_as : {o : Open} {line line' : Reading → Block → Outcome} {bs' : Buffers} {r : LineAnswer} → ((rd : Reading) (b : Block) → line rd b ≡ line' rd b)
+  pub line_as : {o : Open} {line line' : Reading → Block → Outcome} {bs' : Buffers} {r : Result State Refusal} → ((rd : Reading) (b : Block) → line rd b ≡ line' rd b)
       → LineMeets bs c o line' bs' r → LineMeets bs c o line bs' r
   line_as e m = record { agrees = λ log rd b h p. rw (e rd b) (m.agrees log rd b h p) }
 
-  pub turn_met : (l : Line) {o : Open} {line : Reading → Block → Outcome} {bs' : Buffers} {r : LineAnswer} {x : LineTurn} → LineMeets bs c o line bs' r → x ≡ Answered r
+  pub turn_met : (l : Line) {o : Open} {line : Reading → Block → Outcome} {bs' : Buffers} {r : Result State Refusal} {x : LineTurn} → LineMeets bs c o line bs' r → x ≡ Answered r
       → TurnMeets l bs c o line bs' x
   turn_met l m e = rw e (record { agrees = λ log rd b h p. turn_answers (m.agrees log rd b h p) })
 
@@ -77,7 +78,7 @@ cut_read : (l : Line) {x : Form} → cut_statement l.text ≡ fits x → l.ended
 unfolding read_statement if_cut
 cut_read l e n rd b = rw (e, n)
 
-module _ (l : Line) {bs : Buffers} {c : Counts} {r : LineAnswer} where
+module _ (l : Line) {bs : Buffers} {c : Counts} {r : Result State Refusal} where
   pub rule_read : {texts' bind' : List ℕ} {from to : ℕ} → (l.ended ≡ true) × RuleAt l.text (cut_statement l.text) from to
       → Meets bs.texts bs.bind c Nothing (λ rd b. start_rule l.start (part l.text from to) rd) texts' bind' r
       → LineMeets bs c Nothing (read_statement l) (with_bindings bs texts' bind') r
@@ -112,7 +113,7 @@ open_read l a =
     }
 
 pub wrong_read : (l : Line) {bs : Buffers} {c : Counts} {r : Refusal} → Wrong l (cut_statement l.text) r
-    → TurnMeets l bs c Nothing (read_statement l) bs (Answered (Refused r))
+    → TurnMeets l bs c Nothing (read_statement l) bs (Answered (Err r))
 unfolding read_statement
 wrong_read l w = record { agrees = λ log rd b h p. rw (w _) (turn_answers refuses) }
 
@@ -174,7 +175,7 @@ close_none rd (rule_block k r) {rd'} {b'} e =
     (λ (t : has_key (bytes "command") r.keys ≡ false). let f = rw t at e in cc)
 close_none rd (build_block s) e = cc
 
-module _ {bs : Buffers} {c d : Counts} {o o' : Open} (m : Meets bs.texts bs.bind c o close bs.texts bs.bind (Goes d o')) where
+module _ {bs : Buffers} {c d : Counts} {o o' : Open} (m : Meets bs.texts bs.bind c o close bs.texts bs.bind (went d o')) where
   closed : {log : List Logged} (rd : Reading) (b : Block) → HoldsReading log bs c (joined rd b) → OpensBlock log b o → Closed bs d (close rd b)
   closed rd b h p =
       let g = agreed_on (met rd h p m) in
@@ -207,7 +208,7 @@ module _ {bs : Buffers} {c d : Counts} {o o' : Open} (m : Meets bs.texts bs.bind
             rw z.outcome (k.agrees z.log z.reading no_block z.holds nothing);
       }
 
-pub not_closed : {l : Line} {bs : Buffers} {c : Counts} {o : Open} {r : Refusal} (line : Reading → Block → Outcome) → Meets bs.texts bs.bind c o close bs.texts bs.bind (Refused r)
-    → TurnMeets l bs c o (λ rd b. and_then (close rd b) line) bs (Answered (Refused r))
+pub not_closed : {l : Line} {bs : Buffers} {c : Counts} {o : Open} {r : Refusal} (line : Reading → Block → Outcome) → Meets bs.texts bs.bind c o close bs.texts bs.bind (Err r)
+    → TurnMeets l bs c o (λ rd b. and_then (close rd b) line) bs (Answered (Err r))
 unfolding and_then
 not_closed line m = record { agrees = λ log rd b h p. rw (agreed_refused (met rd h p m)) (turn_answers refuses) }

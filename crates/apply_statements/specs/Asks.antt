@@ -1,5 +1,5 @@
 -- What a line asks of all the reader's buffers, and what it is held to.
-use Rattle.std.specs.Prelude.{ℕ, ◌+◌, ◌≤◌, List, length}
+use Rattle.std.specs.Prelude.{ℕ, ◌+◌, ◌≤◌, List, length, Result}
 use Rattle.spec.specs.Limits.{max_manifest, max_value, max_written}
 use Rattle.spec.specs.Lines.{Line}
 use Rattle.spec.specs.Reading.{Reading}
@@ -8,11 +8,12 @@ use Rattle.hold_bindings.specs.Log.{Logged}
 use Rattle.cut_refusals.specs.Cuts.{CutAsks}
 use Rattle.hold_reading.specs.declared.Counts.{Counts}
 use Rattle.hold_reading.specs.declared.Open.{Open}
-use Rattle.hold_reading.specs.declared.LineAnswer.{LineAnswer}
 use Rattle.hold_reading.specs.declared.LineTurn.{LineTurn}
 use Rattle.hold_reading.specs.Held.{joined, OpensBlock, HoldsReading, Agrees, TurnAgrees}
 use Rattle.apply_equal_outputs.specs.Kept.{table_start}
 use Rattle.hold_reading.specs.Buffers.{Buffers}
+use Rattle.spec.specs.declared.Refusal.{Refusal}
+use Rattle.hold_reading.specs.declared.State.{State}
 
 -- room that no line uses up: for all names, for one word, and behind the columns of the graph
 pub record LinesRoom (names graph word : List ℕ) : Type 0 where
@@ -35,7 +36,7 @@ pub record LineAsks (t : List ℕ) (start : ℕ) (l : List ℕ) (bs : Buffers) (
 
 -- The line's answer agrees with its outcome, whatever reading and block were held.
 pub record LineMeets (bs : Buffers) (c : Counts) (o : Open) (line : Reading → Block → Outcome)
-    (bs' : Buffers) (r : LineAnswer) : Type 0 where
+    (bs' : Buffers) (r : Result State Refusal) : Type 0 where
   pub agrees : (log : List Logged) (rd : Reading) (b : Block) → HoldsReading log bs c (joined rd b) → OpensBlock log b o
       → Agrees bs' (line rd b) r
 

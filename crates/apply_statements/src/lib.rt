@@ -12,8 +12,9 @@ use apply_defaults::{DefaultStatement, add_defaults};
 use apply_rules::{close, start_rule};
 use apply_steps::BuildStatement;
 use apply_variables::add_var;
-use cut_refusals::{FileLine, cut_file_line};
-use hold_reading::{Counts, Line, LineAnswer, LineTurn, Open, State, turned};
+use cut_forms::Statement;
+use cut_refusals::cut_file_line;
+use hold_reading::{Counts, Line, LineTurn, Open, State, turned};
 use scan_raw::texts::raw_value;
 
 // A line where no block is open. The word buffer is working space, and after a refusal all are.
@@ -34,21 +35,21 @@ pub fn read_statement(
 {
     let start = line.start;
     match cut_file_line(t, start, l, line.ended) {
-        FileLine::Rule(from, to) => turned(start_rule(start, &l[from..to], texts, bind, c)),
-        FileLine::Build(p) => {
+        Ok(Statement::Rule(from, to)) => turned(start_rule(start, &l[from..to], texts, bind, c)),
+        Ok(Statement::Build(p)) => {
             let s = BuildStatement { start, places: p };
             turned(add_step(t, l, s, names, index, texts, bind, graph, word, c))
         }
-        FileLine::Default(at) => {
+        Ok(Statement::Default(at)) => {
             let s = DefaultStatement { start, paths: at };
             turned(add_defaults(t, l, s, names, index, texts, bind, graph, word, c))
         }
-        FileLine::Open(sub, from, to) => LineTurn::Opens(c, sub, from, to),
-        FileLine::Binding(from, to, at) => {
+        Ok(Statement::Open(sub, from, to)) => LineTurn::Opens(c, sub, from, to),
+        Ok(Statement::Binding(from, to, at)) => {
             let raw = raw_value(l, at);
             turned(add_var(t, start, &l[from..to], raw, texts, bind, word, c))
         }
-        FileLine::Refused(r) => LineTurn::Answered(LineAnswer::Refused(r)),
+        Err(r) => LineTurn::Answered(Err(r)),
     }
 }
 
@@ -70,10 +71,20 @@ pub fn read_file_line(
 {
     let c = s.counts;
     let block = s.open;
+    // no `?`: what a line does is no `Result`
     match close(texts, bind, c, block) {
-        LineAnswer::Goes(d, _) => read_statement(
-            t, line, l, names, index, texts, bind, graph, word, d,
+        Ok(closed) => read_statement(
+            t,
+            line,
+            l,
+            names,
+            index,
+            texts,
+            bind,
+            graph,
+            word,
+            closed.counts,
         ),
-        LineAnswer::Refused(r) => LineTurn::Answered(LineAnswer::Refused(r)),
+        Err(unclosed) => LineTurn::Answered(Err(unclosed)),
     }
 }

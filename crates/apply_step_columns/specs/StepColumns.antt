@@ -1,11 +1,9 @@
 -- A step in the columns: the makers of its outputs, phony or not, and its rule with its scope.
-use Rattle.std.specs.Prelude.{ℕ, zero, suc, ◌+◌, ◌^◌, ◌≤◌, ◌<◌, List, [], ◌∷◌, ◌++◌, ◌≡◌, length, get_or, set}
+use Rattle.std.specs.Prelude.{ℕ, zero, suc, ◌+◌, ◌^◌, ◌≤◌, ◌<◌, List, [], ◌∷◌, ◌++◌, ◌≡◌, length, get_or, set, Option, Some, None}
 use Rattle.lists.specs.Tests.{if_b}
 use Rattle.lists.specs.Parts.{part}
 use Rattle.spec.specs.Limits.{max_steps}
 use Rattle.spec.specs.Reading.{is_phony}
-use Rattle.hold_bindings.specs.declared.FoundEntry.{FoundEntry}
-use Rattle.hold_bindings.specs.declared.FoundEntry.TheVariants.{At, Missing}
 use Rattle.hold_bindings.specs.Log.{Logged, of_rules, newest}
 use Rattle.hold_bindings.specs.Held.{max_entries, max_scopes}
 use Rattle.hold_columns.specs.Columns.{outs_end, end_place, end_at}
@@ -15,9 +13,9 @@ use Rattle.apply_files.specs.Lines.{LineHeld, Columns}
 
 -- ------------------------------------------------------------------ the rule's number
 
-unfoldable pub entry_number : FoundEntry → ℕ
-entry_number (At k) = suc k
-entry_number Missing = 0
+unfoldable pub entry_number : Option ℕ → ℕ
+entry_number (Some k) = suc k
+entry_number None = 0
 
 -- 0 for phony, else the newest declaration's entry and one more
 unfoldable pub rule_number : List ℕ → List Logged → ℕ

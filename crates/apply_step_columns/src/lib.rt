@@ -1,4 +1,5 @@
-// A step is put into the graph's columns: the makers of its outputs, phony or not, and its rule's number with its scope.
+// A step is put into the graph's columns: the makers of its outputs, phony or not, and its rule's number with its
+// scope.
 #![tactic(auto)]
 
 ghost use Rattle.std.specs.Prelude.{◌≡◌, List};
@@ -8,13 +9,14 @@ ghost use Rattle.apply_step_columns.specs.StepColumns.{rule_number, phony_bit, M
 
 use arena::put;
 use byte_order::equal;
-use hold_bindings::{FoundEntry, newest};
+use hold_bindings::newest;
 use hold_columns::OUTS_END;
 use hold_reading::Counts;
 use hold_reading::columns::{MADE_START, PHONY_START, RULE_START, SCOPE_UNIT, step_end};
 use slices::words::at;
 
 // 0 for phony, else the number of the rule's declaration and one more.
+// It goes into a column of numbers, fixed memory: no `Option`.
 pub fn rule_number(name: &[u8], texts: &[u8], bind: &[u32], count: usize) -> usize
     requires { SoundBindings texts.now bind.now count }
     ensures { (log : List Logged) → HoldsBindings log texts.now bind.now count → result ≡ rule_number name.now log }
@@ -23,8 +25,8 @@ pub fn rule_number(name: &[u8], texts: &[u8], bind: &[u32], count: usize) -> usi
         return 0;
     }
     match newest(texts, bind, count, 1, name) {
-        FoundEntry::At(k) => k + 1,
-        FoundEntry::Missing => 0,
+        Some(k) => k + 1,
+        None => 0,
     }
 }
 
@@ -33,18 +35,16 @@ fn make(graph: &mut [u32], from: usize, to: usize, v: usize)
     requires { MakeAsks graph.old from to v }
     ensures { MarksMade graph.old from to v graph.new }
 {
-    let mut i = from;
-    while i < to {
+    for i in from..to {
         let f = at(graph, i);
         put(graph, MADE_START + f, v);
-        i += 1;
     }
 }
 
 fn phony_bit(n: usize) -> usize
     ensures { result ≡ phony_bit n }
 {
-    if n == 0 { 1 } else { 0 }
+    usize::from(n == 0)
 }
 
 // The step whose outputs start at `from`, with its rule's number and the scope that it stands in.

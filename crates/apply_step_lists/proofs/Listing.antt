@@ -1,4 +1,5 @@
 -- MentionsList of a line, one after another: what they come to, and one law for each answer.
+use Rattle.std.specs.Prelude.{Option, Some, None}
 use Prim.Native.Nat.{ℕ, ◌+◌, ◌<◌}
 use mathlib.Core.Bool.{true, false}
 use mathlib.Core.List.{List, [], ◌∷◌, ◌++◌, append_assoc, append-nil}
@@ -10,8 +11,6 @@ use Rattle.spec.specs.Reading.{Reading}
 use Rattle.spec.specs.Statements.{expanded, mentioned, over_paths}
 use Rattle.cut_forms.specs.declared.BuildPlaces.{BuildPlaces}
 use Rattle.hold_reading.specs.declared.Counts.{Counts}
-use Rattle.apply_files.specs.declared.Mentioned.{Mentioned}
-use Rattle.apply_files.specs.declared.Mentioned.TheVariants.{On, Over}
 use Rattle.hold_columns.specs.Columns.{outs_end, implicit_end, end_place}
 use Rattle.hold_reading.specs.Held.{max_ends, ends_start}
 use Rattle.apply_files.specs.Lines.{LineHeld, Writing, with_paths, over_line}
@@ -60,18 +59,18 @@ lists_vars pss h = ap (λ (rd : Reading). rd.vars) (lists_reading pss h)
 -- ---- answers
 
 module _ {bs : Buffers} {h : LineHeld} {pss : List (List (List ℕ))} where
-  pub listed_on : {c : Counts} → ListsMentioned bs h pss (On c) → Writing bs c (with_lists pss h)
+  pub listed_on : {c : Counts} → ListsMentioned bs h pss (Some c) → Writing bs c (with_lists pss h)
   listed_on (on w s) = w
 
-  pub listed_short : {c : Counts} → ListsMentioned bs h pss (On c) → over_paths (concat pss) ≡ false
+  pub listed_short : {c : Counts} → ListsMentioned bs h pss (Some c) → over_paths (concat pss) ≡ false
   listed_short (on w s) = s
 
-  pub listed_over : ListsMentioned bs h pss Over → (more : List (List ℕ)) → over_line (concat pss ++ more) h.reading ≡ true
+  pub listed_over : ListsMentioned bs h pss None → (more : List (List ℕ)) → over_line (concat pss ++ more) h.reading ≡ true
   listed_over (over f) = f
 
 module _ {bs : Buffers} (h : LineHeld) (a b : List (List (List ℕ))) where
   -- some lists, then others
-  listed_then : {r : Mentioned} → over_paths (concat a) ≡ false → ListsMentioned bs (with_lists a h) b r → ListsMentioned bs h (a ++ b) r
+  listed_then : {r : Option Counts} → over_paths (concat a) ≡ false → ListsMentioned bs (with_lists a h) b r → ListsMentioned bs h (a ++ b) r
   listed_then q (on {c = c} w s) = on {c = c} (rw (lists_append a b h) w) (rw (concat_append a b) (short_append (concat a) (concat b) q s))
   listed_then q (over f) =
       over
@@ -79,7 +78,7 @@ module _ {bs : Buffers} (h : LineHeld) (a b : List (List (List ℕ))) where
       rw (concat_append a b, append_assoc (concat a) (concat b) more)
       (line_later (concat a) (concat b ++ more) h.reading (rw (← (lists_reading a h)) (f more))))
 
-  listed_stop : ListsMentioned bs h a Over → ListsMentioned bs h (a ++ b) Over
+  listed_stop : ListsMentioned bs h a None → ListsMentioned bs h (a ++ b) None
   listed_stop x =
       over (λ more. rw (concat_append a b, append_assoc (concat a) (concat b) more) (listed_over x (concat b ++ more)))
 
@@ -106,8 +105,8 @@ unfolding concat
 concat_one ps = append-nil ps
 
 module _ {l : List ℕ} {at : ℕ} {bs : Buffers} {c : Counts} {names' index' graph₁ : List ℕ} where
-  pub one_on : {d : Counts} → MentionsAll l at bs c names' index' graph₁ (On d) → {e : ℕ} {graph' : List ℕ} → e < max_ends
-      → graph' ≡ set graph₁ (ends_start + e) d.paths → MentionsList l at e bs c names' index' graph' (On d)
+  pub one_on : {d : Counts} → MentionsAll l at bs c names' index' graph₁ (Some d) → {e : ℕ} {graph' : List ℕ} → e < max_ends
+      → graph' ≡ set graph₁ (ends_start + e) d.paths → MentionsList l at e bs c names' index' graph' (Some d)
   unfolding with_lists
   one_on m b g =
       record {
@@ -117,13 +116,13 @@ module _ {l : List ℕ} {at : ℕ} {bs : Buffers} {c : Counts} {names' index' gr
             on (ended_on (marks_on k) (ap length (paths_ends ps h) ∙ q) b g) (rw (concat_one ps) (marks_short k));
       }
 
-  pub one_over : MentionsAll l at bs c names' index' graph₁ Over → {e : ℕ} → MentionsList l at e bs c names' index' graph₁ Over
+  pub one_over : MentionsAll l at bs c names' index' graph₁ None → {e : ℕ} → MentionsList l at e bs c names' index' graph₁ None
   one_over m =
       record { listed = λ raw s h w q. over (λ more. rw (concat_one (expanded h.reading raw)) (marks_over (m.marks raw s h w) more)) }
 
 -- what is held of the line then, for the store
 pub one_held : {t l : List ℕ} {bs : Buffers} {word : List ℕ} {c : Counts} {at : ℕ} (a : mentions.MentionListAsks t l bs word c at)
-    → {names' index' graph' : List ℕ} {d : Counts} → MentionsAll l at bs c names' index' graph' (On d)
+    → {names' index' graph' : List ℕ} {d : Counts} → MentionsAll l at bs c names' index' graph' (Some d)
     → Writing (with_files bs names' index' graph') d (with_paths (expanded a.line.reading a.raw) a.line)
 one_held a m = marks_on (m.marks a.raw a.stands a.line a.writing)
 
@@ -135,7 +134,7 @@ room_kept r a b = record { names_long = omega (arith, r.names_long, a); word_lon
 -- ---- two lists
 
 module _ {l : List ℕ} {at next e : ℕ} {bs : Buffers} {c : Counts} {names₁ index₁ graph₁ : List ℕ} where
-  pub two_on : {d : Counts} {names' index' graph' : List ℕ} {r : Mentioned} → MentionsList l at e bs c names₁ index₁ graph₁ (On d)
+  pub two_on : {d : Counts} {names' index' graph' : List ℕ} {r : Option Counts} → MentionsList l at e bs c names₁ index₁ graph₁ (Some d)
       → MentionsList l next (e + 1) (with_files bs names₁ index₁ graph₁) d names' index' graph' r → Two l at next e bs c names' index' graph' r
   two_on x y =
       record {
@@ -147,7 +146,7 @@ module _ {l : List ℕ} {at next e : ℕ} {bs : Buffers} {c : Counts} {names₁ 
             listed_then h a (expanded h.reading second ∷ []) (listed_short k) (rw z at m);
       }
 
-  pub two_over : MentionsList l at e bs c names₁ index₁ graph₁ Over → Two l at next e bs c names₁ index₁ graph₁ Over
+  pub two_over : MentionsList l at e bs c names₁ index₁ graph₁ None → Two l at next e bs c names₁ index₁ graph₁ None
   two_over x =
       record {
         listed = λ first second s₁ s₂ h w q.
@@ -164,7 +163,7 @@ module _ {t l : List ℕ} {bs : Buffers} {word : List ℕ} {c : Counts} {at next
       }
 
   pub two_second : {names' index' graph' word' : List ℕ} {d : Counts} → length names' ≡ length bs.names → length word' ≡ length word
-      → MentionsList l at e bs c names' index' graph' (On d) → StepListAsks t l (with_files bs names' index' graph') word' d next (e + 1)
+      → MentionsList l at e bs c names' index' graph' (Some d) → StepListAsks t l (with_files bs names' index' graph') word' d next (e + 1)
   two_second p q x =
       let pss = expanded a.line.reading a.first ∷ [] in
       record {
@@ -185,7 +184,7 @@ module _ {t l : List ℕ} {bs : Buffers} {word : List ℕ} {c : Counts} {at next
 -- ---- the four
 
 module _ {l : List ℕ} {p : BuildPlaces} {bs : Buffers} {c : Counts} {names₁ index₁ graph₁ : List ℕ} where
-  pub four_on : {d : Counts} {names' index' graph' : List ℕ} {r : Mentioned} → Two l p.outs p.ins (end_place c.steps outs_end) bs c names₁ index₁ graph₁ (On d)
+  pub four_on : {d : Counts} {names' index' graph' : List ℕ} {r : Option Counts} → Two l p.outs p.ins (end_place c.steps outs_end) bs c names₁ index₁ graph₁ (Some d)
       → Two l p.implicit p.order (end_place c.steps implicit_end) (with_files bs names₁ index₁ graph₁) d names' index' graph' r
       → Four l bs c p names' index' graph' r
   four_on x y =
@@ -198,8 +197,8 @@ module _ {l : List ℕ} {p : BuildPlaces} {bs : Buffers} {c : Counts} {names₁ 
             listed_then h a (expanded h.reading b.implicit ∷ expanded h.reading b.order_only ∷ []) (listed_short k) (rw (z b.implicit, z b.order_only) at m);
       }
 
-  pub four_over : Two l p.outs p.ins (end_place c.steps outs_end) bs c names₁ index₁ graph₁ Over
-      → Four l bs c p names₁ index₁ graph₁ Over
+  pub four_over : Two l p.outs p.ins (end_place c.steps outs_end) bs c names₁ index₁ graph₁ None
+      → Four l bs c p names₁ index₁ graph₁ None
   four_over x =
       record {
         listed = λ b s h w q.
@@ -225,7 +224,7 @@ module _ {t l : List ℕ} {bs : Buffers} {word : List ℕ} {c : Counts} {p : Bui
       }
 
   pub four_second : {names' index' graph' word' : List ℕ} {d : Counts} → length names' ≡ length bs.names → length word' ≡ length word
-      → Two l p.outs p.ins (end_place c.steps outs_end) bs c names' index' graph' (On d)
+      → Two l p.outs p.ins (end_place c.steps outs_end) bs c names' index' graph' (Some d)
       → TwoAsks t l (with_files bs names' index' graph') word' d p.implicit p.order (end_place c.steps implicit_end)
   four_second x y m =
       let pss = expanded a.line.reading a.raw.outs ∷ expanded a.line.reading a.raw.ins ∷ [] in

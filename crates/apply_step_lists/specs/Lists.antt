@@ -1,5 +1,5 @@
 -- The lists of a build line, each with its end behind it.
-use Rattle.std.specs.Prelude.{ℕ, ◌+◌, ◌≤◌, ◌<◌, true, false, List, [], ◌∷◌, ◌++◌, ◌≡◌, length}
+use Rattle.std.specs.Prelude.{ℕ, ◌+◌, ◌≤◌, ◌<◌, true, false, List, [], ◌∷◌, ◌++◌, ◌≡◌, length, Option, Some, None}
 use Rattle.spec.specs.Basics.{concat}
 use Rattle.spec.specs.Limits.{max_manifest, max_steps}
 use Rattle.spec.specs.Forms.{BuildLine}
@@ -11,8 +11,6 @@ use Rattle.cut_forms.specs.Statements.{Stands}
 use Rattle.hold_columns.specs.Columns.{outs_end, end_place}
 use Rattle.hold_reading.specs.declared.Counts.{Counts}
 use Rattle.hold_reading.specs.Held.{max_ends}
-use Rattle.apply_files.specs.declared.Mentioned.{Mentioned}
-use Rattle.apply_files.specs.declared.Mentioned.TheVariants.{On, Over}
 use Rattle.apply_files.specs.Lines.{LineHeld, Writing, with_paths, over_line}
 use Rattle.apply_mentions.specs.Asks as mentions
 use Rattle.apply_mentions.specs.Asks.{MentionRoom}
@@ -36,9 +34,9 @@ with_lists [] h = h
 with_lists (ps ∷ pss) h = with_lists pss (with_end (with_paths ps h))
 
 -- The lists are mentioned, or the line is over a limit, whatever it mentions after them.
-pub data ListsMentioned (bs : Buffers) (h : LineHeld) (pss : List (List (List ℕ))) : Mentioned → Type 0 where
-  on : {c : Counts} → Writing bs c (with_lists pss h) → over_paths (concat pss) ≡ false → ListsMentioned bs h pss (On c)
-  over : ((more : List (List ℕ)) → over_line (concat pss ++ more) h.reading ≡ true) → ListsMentioned bs h pss Over
+pub data ListsMentioned (bs : Buffers) (h : LineHeld) (pss : List (List (List ℕ))) : Option Counts → Type 0 where
+  on : {c : Counts} → Writing bs c (with_lists pss h) → over_paths (concat pss) ≡ false → ListsMentioned bs h pss (Some c)
+  over : ((more : List (List ℕ)) → over_line (concat pss ++ more) h.reading ≡ true) → ListsMentioned bs h pss None
 
 -- ------------------------------------------------------------------ one list, whose end is number e of all
 
@@ -47,7 +45,7 @@ pub record StepListAsks (t l : List ℕ) (bs : Buffers) (word : List ℕ) (c : C
   pub ended : length asks.line.ends ≡ e
   pub low : e < max_ends
 
-pub record MentionsList (l : List ℕ) (at e : ℕ) (bs : Buffers) (c : Counts) (names' index' graph' : List ℕ) (r : Mentioned) : Type 0 where
+pub record MentionsList (l : List ℕ) (at e : ℕ) (bs : Buffers) (c : Counts) (names' index' graph' : List ℕ) (r : Option Counts) : Type 0 where
   pub listed : (raw : List (List ℕ)) → PathsAt l at raw → (h : LineHeld) → Writing bs c h → length h.ends ≡ e
       → ListsMentioned (with_files bs names' index' graph') h (expanded h.reading raw ∷ []) r
 
@@ -66,7 +64,7 @@ pub record TwoAsks (t l : List ℕ) (bs : Buffers) (word : List ℕ) (c : Counts
   pub ended : length line.ends ≡ e
   pub low : e + 1 < max_ends
 
-pub record Two (l : List ℕ) (at next e : ℕ) (bs : Buffers) (c : Counts) (names' index' graph' : List ℕ) (r : Mentioned) : Type 0 where
+pub record Two (l : List ℕ) (at next e : ℕ) (bs : Buffers) (c : Counts) (names' index' graph' : List ℕ) (r : Option Counts) : Type 0 where
   pub listed : (first second : List (List ℕ)) → PathsAt l at first → PathsAt l next second → (h : LineHeld) → Writing bs c h → length h.ends ≡ e
       → ListsMentioned (with_files bs names' index' graph') h (expanded h.reading first ∷ expanded h.reading second ∷ []) r
 
@@ -86,6 +84,6 @@ pub record FourAsks (t l : List ℕ) (bs : Buffers) (word : List ℕ) (c : Count
   pub ended : length line.ends ≡ end_place c.steps outs_end
   pub few : c.steps < max_steps
 
-pub record Four (l : List ℕ) (bs : Buffers) (c : Counts) (p : BuildPlaces) (names' index' graph' : List ℕ) (r : Mentioned) : Type 0 where
+pub record Four (l : List ℕ) (bs : Buffers) (c : Counts) (p : BuildPlaces) (names' index' graph' : List ℕ) (r : Option Counts) : Type 0 where
   pub listed : (b : BuildLine) → Stands l p b → (h : LineHeld) → Writing bs c h → length h.ends ≡ end_place c.steps outs_end
       → ListsMentioned (with_files bs names' index' graph') h (expanded h.reading b.outs ∷ expanded h.reading b.ins ∷ expanded h.reading b.implicit ∷ expanded h.reading b.order_only ∷ []) r

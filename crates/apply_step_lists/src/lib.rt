@@ -5,7 +5,6 @@ ghost use Rattle.lists.specs.Lent.{Spare, Leaves};
 ghost use Rattle.apply_step_lists.specs.Lists.{StepListAsks, MentionsList, TwoAsks, Two, FourAsks, Four};
 ghost use Rattle.hold_reading.specs.Buffers.{SameRoom, buffers};
 
-use apply_files::Mentioned;
 use apply_mentions::mention_all;
 use arena::put;
 use cut_forms::BuildPlaces;
@@ -40,17 +39,13 @@ fn one(
     graph: &mut [u32],
     word: &mut [u8],
     c: Counts,
-) -> Mentioned
+) -> Option<Counts>
     requires { StepListAsks t.now l.now (buffers names.old index.old texts.now bind.now graph.old) word.old c list.start list.end }
     ensures { Leaves (SameRoom (buffers names.old index.old texts.now bind.now graph.old) (buffers names.new index.new texts.now bind.now graph.new) × (Spare word.old word.new)) (MentionsList l.now list.start list.end (buffers names.old index.old texts.now bind.now graph.old) c names.new index.new graph.new result) }
 {
-    match mention_all(t, l, list.start, names, index, texts, bind, graph, word, c) {
-        Mentioned::On(d) => {
-            put(graph, ENDS_START + list.end, d.paths);
-            Mentioned::On(d)
-        }
-        Mentioned::Over => Mentioned::Over,
-    }
+    let d = mention_all(t, l, list.start, names, index, texts, bind, graph, word, c)?;
+    put(graph, ENDS_START + list.end, d.paths);
+    Some(d)
 }
 
 // Two lists.
@@ -65,7 +60,7 @@ fn two(
     graph: &mut [u32],
     word: &mut [u8],
     c: Counts,
-) -> Mentioned
+) -> Option<Counts>
     requires { TwoAsks t.now l.now (buffers names.old index.old texts.now bind.now graph.old) word.old c lists.first lists.second lists.end }
     ensures { Leaves (SameRoom (buffers names.old index.old texts.now bind.now graph.old) (buffers names.new index.new texts.now bind.now graph.new) × (Spare word.old word.new)) (Two l.now lists.first lists.second lists.end (buffers names.old index.old texts.now bind.now graph.old) c names.new index.new graph.new result) }
 {
@@ -73,16 +68,12 @@ fn two(
         start: lists.first,
         end: lists.end,
     };
-    match one(t, l, first, names, index, texts, bind, graph, word, c) {
-        Mentioned::On(d) => {
-            let second = EndedList {
-                start: lists.second,
-                end: lists.end + 1,
-            };
-            one(t, l, second, names, index, texts, bind, graph, word, d)
-        }
-        Mentioned::Over => Mentioned::Over,
-    }
+    let d = one(t, l, first, names, index, texts, bind, graph, word, c)?;
+    let second = EndedList {
+        start: lists.second,
+        end: lists.end + 1,
+    };
+    one(t, l, second, names, index, texts, bind, graph, word, d)
 }
 
 // The outputs, then the inputs of each kind.
@@ -97,7 +88,7 @@ pub fn four(
     graph: &mut [u32],
     word: &mut [u8],
     c: Counts,
-) -> Mentioned
+) -> Option<Counts>
     requires { FourAsks t.now l.now (buffers names.old index.old texts.now bind.now graph.old) word.old c p }
     ensures { Leaves (SameRoom (buffers names.old index.old texts.now bind.now graph.old) (buffers names.new index.new texts.now bind.now graph.new) × (Spare word.old word.new)) (Four l.now (buffers names.old index.old texts.now bind.now graph.old) c p names.new index.new graph.new result) }
 {
@@ -108,16 +99,12 @@ pub fn four(
         second: p.ins,
         end: outs_end,
     };
-    match two(t, l, outs_ins, names, index, texts, bind, graph, word, c) {
-        Mentioned::On(d) => {
-            let implicit_end = end_place(steps, IMPLICIT_END);
-            let others = EndedPair {
-                first: p.implicit,
-                second: p.order,
-                end: implicit_end,
-            };
-            two(t, l, others, names, index, texts, bind, graph, word, d)
-        }
-        Mentioned::Over => Mentioned::Over,
-    }
+    let d = two(t, l, outs_ins, names, index, texts, bind, graph, word, c)?;
+    let implicit_end = end_place(steps, IMPLICIT_END);
+    let others = EndedPair {
+        first: p.implicit,
+        second: p.order,
+        end: implicit_end,
+    };
+    two(t, l, others, names, index, texts, bind, graph, word, d)
 }

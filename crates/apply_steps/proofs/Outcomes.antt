@@ -1,4 +1,5 @@
 -- What the rules answer to a line without 7 and 8: one law for each answer.
+use Rattle.std.specs.Prelude.{Some, None, Err}
 use Prim.Native.Nat.{ℕ, ◌≤◌, ◌<◌}
 use mathlib.Core.Bool.{true, false, ◌||◌, or-true}
 use mathlib.Core.List.{List, [], append-nil}
@@ -19,9 +20,7 @@ use Rattle.hold_bindings.specs.Log.{Logged, Scoping, scoping_of, variables_of}
 use Rattle.hold_bindings.specs.Held as bindings
 use Rattle.hold_reading.specs.declared.Counts.{Counts}
 use Rattle.hold_reading.specs.declared.Open.TheVariants.{Step as OpenStep}
-use Rattle.hold_reading.specs.declared.LineAnswer.TheVariants.{Goes, Refused}
 use Rattle.hold_reading.specs.Held.{joined, a_step, Ruled, scope_unit, HoldsReading, goes, refuses}
-use Rattle.apply_files.specs.declared.Mentioned.TheVariants.{On, Over}
 use Rattle.apply_files.specs.Lines.{LineHeld, Writing, over_line}
 use Rattle.apply_steps.specs.Asks.{StepAsks, ClearLine, WritesStep}
 use Rattle.apply_step_lists.specs.Lists.{with_lists, lists_of, FourAsks, Four}
@@ -34,6 +33,7 @@ use Rattle.hold_columns.proofs.Places.{length_ends}
 use Rattle.apply_steps.proofs.Stepped.{line_of, paths_of, step_for, line_after, lists_line, step_ready}
 use Rattle.apply_steps.proofs.Joined.{step_held}
 use Rattle.hold_reading.specs.Buffers.{Buffers, with_files}
+use Rattle.hold_reading.specs.Went.{went}
 
 -- ---- the rules' answer
 
@@ -86,17 +86,17 @@ module _ {log : List Logged} {bs : Buffers} {c : Counts} {rd : Reading} (w : Hol
       omega (arith, ap length w.graphed.tables.ended, length_ends 0 rd.steps, w.bound.steps_counted)
 
   module _ {l : List ℕ} {p : BuildPlaces} {b : BuildLine} (s : Stands l p b) {names' index' graph' : List ℕ} where
-    four_held : {d : Counts} → Four l bs c p names' index' graph' (On d)
+    four_held : {d : Counts} → Four l bs c p names' index' graph' (Some d)
         → Writing (with_files bs names' index' graph') d (line_after (expanded_line rd b) (line_of w) (with_lists (lists_of (expanded_line rd b)) (line_of w)).made)
     unfolding expanded_line
     four_held {d} f =
         subst (λ (h : LineHeld). Writing (with_files bs names' index' graph') d h) (lists_line (expanded_line rd b) (line_of w)) (listed_on (f.listed b s (line_of w) begins ends_begun))
 
-    four_short : {d : Counts} → Four l bs c p names' index' graph' (On d) → over_paths (paths_of (expanded_line rd b)) ≡ false
+    four_short : {d : Counts} → Four l bs c p names' index' graph' (Some d) → over_paths (paths_of (expanded_line rd b)) ≡ false
     unfolding expanded_line
     four_short f = rw (← (concat_lists (expanded_line rd b))) (listed_short (f.listed b s (line_of w) begins ends_begun))
 
-    four_past : Four l bs c p names' index' graph' Over → over_line (paths_of (expanded_line rd b)) rd ≡ true
+    four_past : Four l bs c p names' index' graph' None → over_line (paths_of (expanded_line rd b)) rd ≡ true
     unfolding expanded_line
     four_past f =
         let a = concat (lists_of (expanded_line rd b)) in
@@ -105,20 +105,20 @@ module _ {log : List Logged} {bs : Buffers} {c : Counts} {rd : Reading} (w : Hol
 -- ---- `write_step`
 
 module _ (start : ℕ) {l : List ℕ} {bs : Buffers} {c : Counts} {p : BuildPlaces} {names' index' graph' : List ℕ} where
-  pub write_many : max_steps ≤ c.steps → WritesStep l bs c start p names' index' graph' (Refused (OverLimit start))
+  pub write_many : max_steps ≤ c.steps → WritesStep l bs c start p names' index' graph' (Err (OverLimit start))
   write_many h =
       record {
         agrees = λ b s log rd w k. rw (step_many start (expanded_line rd b) rd k (omega (arith, w.bound.steps_counted))) refuses;
       }
 
-  pub write_over : Four l bs c p names' index' graph' Over → WritesStep l bs c start p names' index' graph' (Refused (OverLimit start))
+  pub write_over : Four l bs c p names' index' graph' None → WritesStep l bs c start p names' index' graph' (Err (OverLimit start))
   write_over f =
       record { agrees = λ b s log rd w k. rw (step_over start (expanded_line rd b) rd k (four_past w s f)) refuses }
 
-  pub write_goes : c.steps < max_steps → {graph₁ : List ℕ} {d : Counts} → Four l bs c p names' index' graph₁ (On d) → {n : ℕ}
+  pub write_goes : c.steps < max_steps → {graph₁ : List ℕ} {d : Counts} → Four l bs c p names' index' graph₁ (Some d) → {n : ℕ}
       → ((log : List Logged) → bindings.HoldsBindings log bs.texts bs.bind d.entries → n ≡ rule_number (part l p.rule p.ins) log) → {j : ℕ}
       → ((g : Scoping) → bindings.HoldsScopes g bs.bind → j ≡ g.current) → {e : Counts} → PutsStep graph₁ c.paths n j d graph' e
-      → WritesStep l bs c start p names' index' graph' (Goes e OpenStep)
+      → WritesStep l bs c start p names' index' graph' (went e OpenStep)
   unfolding joined expanded_line variables_of
   write_goes few {graph₁} {d} f {n} r {j = i} o {e} j =
       record {
@@ -156,7 +156,7 @@ module _ {t l : List ℕ} {bs : Buffers} {word : List ℕ} {c : Counts} {p : Bui
       let h = a.whole.holds.bound.held in
       (h.rows.bind_long, record { scoping = scoping_of a.whole.log; held = h.scopes })
 
-  module _ {names' index' graph' : List ℕ} {d : Counts} (f : Four l bs c p names' index' graph' (On d)) where
+  module _ {names' index' graph' : List ℕ} {d : Counts} (f : Four l bs c p names' index' graph' (Some d)) where
     pub write_rule : bindings.SoundBindings bs.texts bs.bind d.entries
     write_rule = record { log = a.whole.log; held = (four_held a.whole.holds a.stands f).bound.held }
 

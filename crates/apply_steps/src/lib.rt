@@ -5,12 +5,11 @@ ghost use Rattle.lists.specs.Lent.{Spare, Leaves};
 ghost use Rattle.apply_steps.specs.Asks.{StepAsks, WritesStep};
 ghost use Rattle.hold_reading.specs.Buffers.{SameRoom, buffers};
 
-use apply_files::Mentioned;
 use apply_step_columns::{put_step, rule_number};
 use apply_step_lists::four;
 use cut_forms::BuildPlaces;
 use hold_bindings::current_scope;
-use hold_reading::{Counts, LineAnswer, Open};
+use hold_reading::{Counts, Open, State};
 use spec::Refusal;
 use spec::limits::STEPS;
 
@@ -34,22 +33,23 @@ pub fn write_step(
     graph: &mut [u32],
     word: &mut [u8],
     c: Counts,
-) -> LineAnswer
+) -> Result<State, Refusal>
     requires { StepAsks t.now l.now (buffers names.old index.old texts.now bind.now graph.old) word.old c s.places }
     ensures { Leaves (SameRoom (buffers names.old index.old texts.now bind.now graph.old) (buffers names.new index.new texts.now bind.now graph.new) × (Spare word.old word.new)) (WritesStep l.now (buffers names.old index.old texts.now bind.now graph.old) c s.start s.places names.new index.new graph.new result) }
 {
     let p = s.places;
     if STEPS <= c.steps {
-        return LineAnswer::Refused(Refusal::OverLimit(s.start));
+        return Err(Refusal::OverLimit(s.start));
     }
-    match four(t, l, p, names, index, texts, bind, graph, word, c) {
-        Mentioned::On(d) => {
-            let from = p.rule;
-            let to = p.ins;
-            let n = rule_number(&l[from..to], texts, bind, d.entries);
-            let e = put_step(graph, c.paths, n, current_scope(bind), d);
-            LineAnswer::Goes(e, Open::Step)
-        }
-        Mentioned::Over => LineAnswer::Refused(Refusal::OverLimit(s.start)),
-    }
+    let Some(d) = four(t, l, p, names, index, texts, bind, graph, word, c) else {
+        return Err(Refusal::OverLimit(s.start));
+    };
+    let from = p.rule;
+    let to = p.ins;
+    let n = rule_number(&l[from..to], texts, bind, d.entries);
+    let e = put_step(graph, c.paths, n, current_scope(bind), d);
+    Ok(State {
+        counts: e,
+        open: Open::Step,
+    })
 }

@@ -1,4 +1,5 @@
 -- Lines read one after the other: what some lines say together, and the loop over those that were found.
+use Rattle.std.specs.Prelude.{Result, Err}
 use Prim.Native.Nat.{ℕ, suc, ◌+◌, ◌-◌, ◌≤◌, ◌<◌}
 use mathlib.Core.Bool.{Bool, true, false}
 use mathlib.Core.List.{List, [], ◌∷◌, ◌++◌, map}
@@ -21,8 +22,6 @@ use Rattle.scan_cursor.specs.Found.{lines_in, Bounds}
 use Rattle.scan_cursor.proofs.Finding.{append_one}
 use Rattle.hold_reading.specs.declared.Counts.{Counts}
 use Rattle.hold_reading.specs.declared.Open.{Open}
-use Rattle.hold_reading.specs.declared.LineAnswer.{LineAnswer}
-use Rattle.hold_reading.specs.declared.LineAnswer.TheVariants.{Goes, Refused}
 use Rattle.hold_reading.specs.declared.LineTurn.TheVariants.{Answered as TurnAnswered, Opens as TurnOpens}
 use Rattle.hold_reading.specs.Held.{Agrees, goes, refuses}
 use Rattle.hold_reading.specs.Buffers.{Buffers}
@@ -30,6 +29,8 @@ use Rattle.hold_reading.proofs.Agreement.{agreed_on, agreed_refused, turned_answ
 use Rattle.apply_statements.specs.Asks.{BetweenLines, LineMeets, TurnMeets, LineAsks}
 use Rattle.apply_stretch.specs.declared.Stretch.TheVariants.{Answered, Opens}
 use Rattle.apply_stretch.specs.Stretches.{read_each, placed_at, lines_placed, LinesDone, StretchAsk, StretchOpens, StretchMeets, stretch_answers, stretch_opens}
+use Rattle.hold_reading.specs.declared.State.{State}
+use Rattle.hold_reading.specs.Went.{went}
 
 -- the buffers have the lengths that they began with
 pub record Same (bs₀ : Buffers) (word₀ : List ℕ) (bs : Buffers) (word : List ℕ) : Type 0 where
@@ -84,7 +85,7 @@ module _ (via : Opener) where
 
   module _ {bs : Buffers} {c : Counts} {o : Open} (ls ks : List Line) {bs' : Buffers} where
     -- the answer to these lines is how the next ones find the buffers
-    pub meets_more : {d : Counts} {p : Open} {bs'' : Buffers} {r : LineAnswer} → LineMeets bs c o (read_each via ls) bs' (Goes d p) → LineMeets bs' d p (read_each via ks) bs'' r
+    pub meets_more : {d : Counts} {p : Open} {bs'' : Buffers} {r : Result State Refusal} → LineMeets bs c o (read_each via ls) bs' (went d p) → LineMeets bs' d p (read_each via ks) bs'' r
         → LineMeets bs c o (read_each via (ls ++ ks)) bs'' r
     unfolding and_then
     meets_more {bs'' = bs''} {r = r} a k =
@@ -97,17 +98,17 @@ module _ (via : Opener) where
         }
 
     -- after a refusal no other line is read
-    pub meets_stop : {r : Refusal} → LineMeets bs c o (read_each via ls) bs' (Refused r) → LineMeets bs c o (read_each via (ls ++ ks)) bs' (Refused r)
+    pub meets_stop : {r : Refusal} → LineMeets bs c o (read_each via ls) bs' (Err r) → LineMeets bs c o (read_each via (ls ++ ks)) bs' (Err r)
     unfolding and_then
     meets_stop {r} a =
         record {
           agrees = λ log rd b h p.
               let e : read_each via (ls ++ ks) rd b ≡ refused r =
               each_more ls ks rd b ∙ ap (λ (out : Outcome). and_then out (read_each via ks)) (agreed_refused (a.agrees log rd b h p)) in
-              subst (λ (out : Outcome). Agrees bs' out (Refused r)) (sym e) refuses;
+              subst (λ (out : Outcome). Agrees bs' out (Err r)) (sym e) refuses;
         }
 
-  meets_one : {bs : Buffers} {c : Counts} {o : Open} (l : Line) {bs' : Buffers} {r : LineAnswer} → LineMeets bs c o (λ rd b. opening via (read_line l rd b)) bs' r
+  meets_one : {bs : Buffers} {c : Counts} {o : Open} (l : Line) {bs' : Buffers} {r : Result State Refusal} → LineMeets bs c o (λ rd b. opening via (read_line l rd b)) bs' r
       → LineMeets bs c o (read_each via (l ∷ [])) bs' r
   meets_one l {bs'} {r} a =
       record { agrees = λ log rd b h p. subst (λ (out : Outcome). Agrees bs' out r) (sym (each_one l rd b)) (a.agrees log rd b h p) }
@@ -115,13 +116,13 @@ module _ (via : Opener) where
 -- ---- a line that opens no file
 
 -- what an answer agrees with opens no file
-opens_none : (via : Opener) {bs : Buffers} {out : Outcome} {r : LineAnswer} → Agrees bs out r → Agrees bs (opening via out) r
+opens_none : (via : Opener) {bs : Buffers} {out : Outcome} {r : Result State Refusal} → Agrees bs out r → Agrees bs (opening via out) r
 unfolding opening
 opens_none via (goes h p) = goes h p
 opens_none via refuses = refuses
 
 module _ (via : Opener) {l : Line} {bs : Buffers} {c : Counts} {o : Open} {bs' : Buffers} where
-  pub turn_answered : {r : LineAnswer} → TurnMeets l bs c o (read_line l) bs' (TurnAnswered r) → LineMeets bs c o (λ rd b. opening via (read_line l rd b)) bs' r
+  pub turn_answered : {r : Result State Refusal} → TurnMeets l bs c o (read_line l) bs' (TurnAnswered r) → LineMeets bs c o (λ rd b. opening via (read_line l rd b)) bs' r
   turn_answered m = record { agrees = λ log rd b h p. opens_none via (turned_answer (m.agrees log rd b h p)) }
 
 -- ---- the numbers of one line
@@ -166,17 +167,12 @@ module _ (m found : List ℕ) (k : ℕ) (h : k < length found) (b : Bounds m (dr
 
 -- ---- the loop
 
--- the lines so far, by the answer before the first of them
-abbrev pub EachFrom : Opener → ℕ → List ℕ → List ℕ → ℕ → Buffers → LineAnswer → Buffers → LineAnswer → ℕ → Type 0
-EachFrom via base m found k₀ bs₀ (Goes c₀ o₀) bs a k = LinesDone via base m found k₀ bs₀ c₀ o₀ bs a k
-EachFrom via base m found k₀ bs₀ (Refused r) bs a k = ⊥
-
 pub each_begin : (via : Opener) {t m : List ℕ} {base : ℕ} {found : List ℕ} {k₀ : ℕ} {bs₀ : Buffers} {word₀ : List ℕ} {c₀ : Counts} {o₀ : Open}
-    → StretchAsk t m base found k₀ bs₀ word₀ c₀ o₀ → LinesDone via base m found k₀ bs₀ c₀ o₀ bs₀ (Goes c₀ o₀) k₀
+    → StretchAsk t m base found k₀ bs₀ word₀ c₀ o₀ → LinesDone via base m found k₀ bs₀ c₀ o₀ bs₀ (went c₀ o₀) k₀
 unfolding read_each
 each_begin via ask = record { done = []; left = refl; bounds = ask.bounds; meets = record { agrees = λ log rd b h p. goes h p } }
 
-module _ {via : Opener} {base : ℕ} {m found : List ℕ} {k₀ : ℕ} {bs₀ : Buffers} {c₀ : Counts} {o₀ : Open} {bs : Buffers} {a : LineAnswer} {k : ℕ}
+module _ {via : Opener} {base : ℕ} {m found : List ℕ} {k₀ : ℕ} {bs₀ : Buffers} {c₀ : Counts} {o₀ : Open} {bs : Buffers} {a : Result State Refusal} {k : ℕ}
     (g : LinesDone via base m found k₀ bs₀ c₀ o₀ bs a k) where
   -- all are read
   pub each_end : length found ≤ k → LineMeets bs₀ c₀ o₀ (read_each via (lines_placed base m (drop k₀ found))) bs a
@@ -186,18 +182,15 @@ module _ {via : Opener} {base : ℕ} {m found : List ℕ} {k₀ : ℕ} {bs₀ : 
       g.left ∙ ap (λ (l : List ℕ). g.done ++ lines_placed base m l) (drop_of_length-le found {i = k} h) ∙ append_nil g.done in
       subst (λ (ls : List Line). LineMeets bs₀ c₀ o₀ (read_each via ls) bs a) (sym e) g.meets
 
-  pub each_refused : {r : Refusal} → a ≡ Refused r → LineMeets bs₀ c₀ o₀ (read_each via (lines_placed base m (drop k₀ found))) bs (Refused r)
+  pub each_refused : {r : Refusal} → a ≡ Err r → LineMeets bs₀ c₀ o₀ (read_each via (lines_placed base m (drop k₀ found))) bs (Err r)
   each_refused {r} e =
-      subst (λ (ls : List Line). LineMeets bs₀ c₀ o₀ (read_each via ls) bs (Refused r)) (sym g.left)
-      (meets_stop via g.done (lines_placed base m (drop k found)) (subst (λ (x : LineAnswer). LineMeets bs₀ c₀ o₀ (read_each via g.done) bs x) e g.meets))
+      subst (λ (ls : List Line). LineMeets bs₀ c₀ o₀ (read_each via ls) bs (Err r)) (sym g.left)
+      (meets_stop via g.done (lines_placed base m (drop k found)) (subst (λ (x : Result State Refusal). LineMeets bs₀ c₀ o₀ (read_each via g.done) bs x) e g.meets))
 
   -- what lines leave that go on
-  module _ {c : Counts} {o : Open} (e : a ≡ Goes c o) where
-    met : LineMeets bs₀ c₀ o₀ (read_each via g.done) bs (Goes c o)
-    met = subst (λ (z : LineAnswer). LineMeets bs₀ c₀ o₀ (read_each via g.done) bs z) e g.meets
-
-    pub each_goes : LinesDone via base m found k₀ bs₀ c₀ o₀ bs (Goes c o) k
-    each_goes = record { done = g.done; left = g.left; bounds = g.bounds; meets = met }
+  module _ {c : Counts} {o : Open} (e : a ≡ went c o) where
+    met : LineMeets bs₀ c₀ o₀ (read_each via g.done) bs (went c o)
+    met = subst (λ (z : Result State Refusal). LineMeets bs₀ c₀ o₀ (read_each via g.done) bs z) e g.meets
 
     pub each_between : BetweenLines bs₀ c₀ o₀ → BetweenLines bs c o
     each_between n =
@@ -205,7 +198,7 @@ module _ {via : Opener} {base : ℕ} {m found : List ℕ} {k₀ : ℕ} {bs₀ : 
         record { log = d.log; reading = d.reading; block = d.block; holds = d.holds; opens = d.opens }
 
     -- and others go on from there
-    pub each_joins : {bs' : Buffers} {r : LineAnswer} {j : ℕ} → LinesDone via base m found k bs c o bs' r j → LinesDone via base m found k₀ bs₀ c₀ o₀ bs' r j
+    pub each_joins : {bs' : Buffers} {r : Result State Refusal} {j : ℕ} → LinesDone via base m found k bs c o bs' r j → LinesDone via base m found k₀ bs₀ c₀ o₀ bs' r j
     each_joins {j = j} h =
         record {
           done = g.done ++ h.done;
@@ -231,7 +224,7 @@ module _ {via : Opener} {base : ℕ} {m found : List ℕ} {k₀ : ℕ} {bs₀ : 
           let e : lines_in m (drop k found) ≡ line_in m x y ∷ lines_in m (drop (k + 2) found) = rw (ex, ey) each_pair.lines in
           ap (map (placed_at base)) e
 
-      module _ {c : Counts} {o : Open} (e : a ≡ Goes c o) where
+      module _ {c : Counts} {o : Open} (e : a ≡ went c o) where
         -- what the next line asks
         pub each_asks : {t word₀ word : List ℕ} → StretchAsk t m base found k₀ bs₀ word₀ c₀ o₀ → Same bs₀ word₀ bs word → LineAsks t (base + x) (part m x y) bs word c o
         each_asks ask w =
@@ -248,7 +241,7 @@ module _ {via : Opener} {base : ℕ} {m found : List ℕ} {k₀ : ℕ} {bs₀ : 
             }
 
         -- it is read
-        pub each_on : {bs' : Buffers} {r : LineAnswer} → LineMeets bs c o (λ rd b. opening via (read_line (placed_at base (line_in m x y)) rd b)) bs' r
+        pub each_on : {bs' : Buffers} {r : Result State Refusal} → LineMeets bs c o (λ rd b. opening via (read_line (placed_at base (line_in m x y)) rd b)) bs' r
             → LinesDone via base m found k₀ bs₀ c₀ o₀ bs' r (k + 2)
         each_on j =
             let l = placed_at base (line_in m x y) in
@@ -266,7 +259,7 @@ abbrev pub no_files : Opener
 no_files start sub raw rd = goes_on rd no_block
 
 module _ {base : ℕ} {m found : List ℕ} {k₀ : ℕ} {bs₀ : Buffers} {c₀ : Counts} {o₀ : Open} {bs' : Buffers} where
-  pub answered_stretch : {a : LineAnswer} → StretchMeets base m found k₀ bs₀ c₀ o₀ bs' (Answered a)
+  pub answered_stretch : {a : Result State Refusal} → StretchMeets base m found k₀ bs₀ c₀ o₀ bs' (Answered a)
       → (via : Opener) → LineMeets bs₀ c₀ o₀ (read_each via (lines_placed base m (drop k₀ found))) bs' a
   answered_stretch (stretch_answers h) = h
 
@@ -274,7 +267,7 @@ module _ {base : ℕ} {m found : List ℕ} {k₀ : ℕ} {bs₀ : Buffers} {c₀ 
       → StretchOpens base m found k₀ bs₀ c₀ o₀ bs' j d sub from to
   opened_stretch (stretch_opens h) = h
 
-  pub opens_at : {bs : Buffers} {c : Counts} {o : Open} {k : ℕ} → ((via : Opener) → LinesDone via base m found k₀ bs₀ c₀ o₀ bs (Goes c o) k) → k₀ ≤ k → k < length found
+  pub opens_at : {bs : Buffers} {c : Counts} {o : Open} {k : ℕ} → ((via : Opener) → LinesDone via base m found k₀ bs₀ c₀ o₀ bs (went c o) k) → k₀ ≤ k → k < length found
       → {x y : ℕ} → x ≡ get_or found k 0 → y ≡ get_or found (k + 1) 0 → {d : Counts} {sub : Bool} {from to : ℕ}
       → TurnMeets (placed_at base (line_in m x y)) bs c o (read_line (placed_at base (line_in m x y))) bs' (TurnOpens d sub from to)
       → StretchMeets base m found k₀ bs₀ c₀ o₀ bs' (Opens k d sub from to)

@@ -1,5 +1,5 @@
 -- Lines that were found, read one after the other up to the first that opens a file.
-use Rattle.std.specs.Prelude.{ℕ, ◌+◌, ◌^◌, ◌≤◌, ◌<◌, Bool, List, [], ◌∷◌, ◌++◌, map, ◌≡◌, length, drop, get_or}
+use Rattle.std.specs.Prelude.{ℕ, ◌+◌, ◌^◌, ◌≤◌, ◌<◌, Bool, List, [], ◌∷◌, ◌++◌, map, ◌≡◌, length, drop, get_or, Result}
 use Rattle.spec.specs.Limits.{max_manifest, max_place}
 use Rattle.spec.specs.Reading.{Reading}
 use Rattle.spec.specs.Lines.{Line}
@@ -10,13 +10,14 @@ use Rattle.scan_cursor.specs.Spans.{line_in}
 use Rattle.scan_cursor.specs.Found.{lines_in, Bounds}
 use Rattle.hold_reading.specs.declared.Counts.{Counts}
 use Rattle.hold_reading.specs.declared.Open.{Open}
-use Rattle.hold_reading.specs.declared.LineAnswer.{LineAnswer}
-use Rattle.hold_reading.specs.declared.LineAnswer.TheVariants.{Goes}
 use Rattle.hold_reading.specs.declared.LineTurn.TheVariants.{Opens as TurnOpens}
 use Rattle.hold_reading.specs.Buffers.{Buffers}
 use Rattle.apply_statements.specs.Asks.{LinesRoom, BetweenLines, LineMeets, TurnMeets}
 use Rattle.apply_stretch.specs.declared.Stretch.{Stretch}
 use Rattle.apply_stretch.specs.declared.Stretch.TheVariants.{Answered, Opens}
+use Rattle.spec.specs.declared.Refusal.{Refusal}
+use Rattle.hold_reading.specs.declared.State.{State}
+use Rattle.hold_reading.specs.Went.{went}
 
 -- a line of a text at its place among all texts
 abbrev pub placed_at : ℕ → Line → Line
@@ -36,7 +37,7 @@ read_each via [] rd b = goes_on rd b
 read_each via (l ∷ ls) rd b = and_then (opening via (read_line l rd b)) (read_each via ls)
 
 -- Of the numbers from k₀ on the lines up to number k are read, and were answered by a.
-pub record LinesDone (via : Opener) (base : ℕ) (m found : List ℕ) (k₀ : ℕ) (bs₀ : Buffers) (c₀ : Counts) (o₀ : Open) (bs : Buffers) (a : LineAnswer) (k : ℕ) : Type 0 where
+pub record LinesDone (via : Opener) (base : ℕ) (m found : List ℕ) (k₀ : ℕ) (bs₀ : Buffers) (c₀ : Counts) (o₀ : Open) (bs : Buffers) (a : Result State Refusal) (k : ℕ) : Type 0 where
   pub done : List Line
   pub left : lines_placed base m (drop k₀ found) ≡ done ++ lines_placed base m (drop k found)
   pub bounds : Bounds m (drop k found)
@@ -63,11 +64,11 @@ pub record StretchOpens (base : ℕ) (m found : List ℕ) (k : ℕ) (bs : Buffer
   pub held : Buffers
   pub counts : Counts
   pub block : Open
-  pub before : (via : Opener) → LinesDone via base m found k bs c o held (Goes counts block) j
+  pub before : (via : Opener) → LinesDone via base m found k bs c o held (went counts block) j
   pub turn : TurnMeets (found_line base m found j) held counts block (read_line (found_line base m found j)) bs' (TurnOpens d sub from to)
 
 -- Whatever files there are: no line opens one, or one does.
 pub data StretchMeets (base : ℕ) (m found : List ℕ) (k : ℕ) (bs : Buffers) (c : Counts) (o : Open) (bs' : Buffers) : Stretch → Type 0 where
-  stretch_answers : {a : LineAnswer} → ((via : Opener) → LineMeets bs c o (read_each via (lines_placed base m (drop k found))) bs' a) → StretchMeets base m found k bs c o bs' (Answered a)
+  stretch_answers : {a : Result State Refusal} → ((via : Opener) → LineMeets bs c o (read_each via (lines_placed base m (drop k found))) bs' a) → StretchMeets base m found k bs c o bs' (Answered a)
   stretch_opens : {j : ℕ} {d : Counts} {sub : Bool} {from to : ℕ} → StretchOpens base m found k bs c o bs' j d sub from to
       → StretchMeets base m found k bs c o bs' (Opens j d sub from to)

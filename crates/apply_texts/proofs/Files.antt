@@ -1,4 +1,5 @@
 -- A line that may open a file, and the file: what is read of it, and the scope behind it.
+use Rattle.std.specs.Prelude.{Result, Ok, Err}
 use Prim.Native.Nat.{ℕ, zero, suc, ◌-◌, ◌≤◌, ◌<◌}
 use mathlib.Core.Bool.{Bool, true, false}
 use mathlib.Core.List.{List, [], ◌∷◌}
@@ -23,8 +24,6 @@ use Rattle.hold_bindings.specs.Log.{Logged}
 use Rattle.hold_reading.specs.declared.Counts.{Counts}
 use Rattle.hold_reading.specs.declared.Open.{Open}
 use Rattle.hold_reading.specs.declared.Open.TheVariants.{Nothing}
-use Rattle.hold_reading.specs.declared.LineAnswer.{LineAnswer}
-use Rattle.hold_reading.specs.declared.LineAnswer.TheVariants.{Goes, Refused}
 use Rattle.hold_reading.specs.declared.LineTurn.TheVariants.{Opens as TurnOpens}
 use Rattle.hold_reading.specs.Held.{joined, OpensBlock, nothing, HoldsReading, Agrees, goes, refuses}
 use Rattle.hold_reading.specs.Binds.{Known}
@@ -35,10 +34,11 @@ use Rattle.hold_reading.proofs.Opened.{scope_there}
 use Rattle.apply_statements.specs.Asks.{LinesRoom, BetweenLines, LineMeets, TurnMeets}
 use Rattle.apply_statements.proofs.Outcomes.{between_sound, close_none}
 use Rattle.apply_open.specs.declared.OpenedFile.{OpenedFile}
-use Rattle.apply_open.specs.declared.OpenedPath.TheVariants.{Found, Refused as NotOpened}
 use Rattle.apply_open.specs.Opens.{OpenAsks, NamesRecord, OpensAs, OpensPath, EnterAsks, Enters, EnteredFrom, LeaveAsks, LeavesScope}
 use Rattle.apply_texts.specs.Texts.{file_opener, TextReadAsk, FileAsk}
 use Rattle.scan_texts.proofs.Texts.{laid}
+use Rattle.hold_reading.specs.declared.State.{State}
+use Rattle.hold_reading.specs.Went.{went}
 
 -- ---- the end of a text closes a block
 
@@ -58,7 +58,7 @@ lines_closed via (l ∷ ls) rd b e = then_closed (opening via (read_line l rd b)
 
 module _ {l : Line} {bs : Buffers} {c : Counts} {o : Open} {bs' : Buffers} {d : Counts} {sub : Bool} {from to : ℕ}
     (m : TurnMeets l bs c o (read_line l) bs' (TurnOpens d sub from to)) where
-  pub turn_opened : (via : Opener) {bs'' : Buffers} {r : LineAnswer} → LineMeets bs' d Nothing (λ rd b. via l.start sub (part l.text from to) rd) bs'' r
+  pub turn_opened : (via : Opener) {bs'' : Buffers} {r : Result State Refusal} → LineMeets bs' d Nothing (λ rd b. via l.start sub (part l.text from to) rd) bs'' r
       → LineMeets bs c o (λ rd b. opening via (read_line l rd b)) bs'' r
   unfolding opening joined
   turn_opened via k =
@@ -135,28 +135,28 @@ module _ {t s raw : List ℕ} {bs : Buffers} {word : List ℕ} {c : Counts} wher
 
 -- the path is refused
 pub not_opened : (s : List ℕ) (more start : ℕ) (sub : Bool) (raw : List ℕ) {bs : Buffers} {c : Counts} {bs' : Buffers} {r : Refusal}
-    → OpensPath (bundle_names s) bs.texts bs.bind c raw start (NotOpened r) → LineMeets bs c Nothing (λ rd b. file_opener s more start sub raw rd) bs' (Refused r)
+    → OpensPath (bundle_names s) bs.texts bs.bind c raw start (Err r) → LineMeets bs c Nothing (λ rd b. file_opener s more start sub raw rd) bs' (Err r)
 unfolding OpensAs
 not_opened s more start sub raw {bs' = bs'} {r = r} x =
     record {
       agrees = λ log rd b h p.
-          subst (λ (out : Outcome). Agrees bs' out (Refused r)) (sym (opener_refused s start sub raw rd more (x.answer log rd b (known rd h p)))) refuses;
+          subst (λ (out : Outcome). Agrees bs' out (Err r)) (sym (opener_refused s start sub raw rd more (x.answer log rd b (known rd h p)))) refuses;
     }
 
 module _ (s : List ℕ) (start : ℕ) (sub : Bool) (raw : List ℕ) (bs : Buffers) {c : Counts} {k n : ℕ}
-    (x : OpensPath (bundle_names s) bs.texts bs.bind c raw start (Found k n)) where
+    (x : OpensPath (bundle_names s) bs.texts bs.bind c raw start (Ok (k, n))) where
   named : {log : List Logged} (rd : Reading) {b : Block} → Known log bs.texts bs.bind c rd b Nothing → NamesRecord (bundle_names s) start (expand (file_var rd.vars) raw) rd k n
   unfolding OpensAs
   named {log} rd {b} w = x.answer log rd b w
 
   -- no more files may be open
-  pub all_open : {more : ℕ} → more ≡ 0 → {bs' : Buffers} → LineMeets bs c Nothing (λ rd b. file_opener s more start sub raw rd) bs' (Refused (BadOpen start))
+  pub all_open : {more : ℕ} → more ≡ 0 → {bs' : Buffers} → LineMeets bs c Nothing (λ rd b. file_opener s more start sub raw rd) bs' (Err (BadOpen start))
   all_open z {bs'} =
       record {
         agrees = λ log rd b h p.
             let w = known rd h p in
             let e : file_opener s 0 start sub raw rd ≡ refused (BadOpen start) = opener_none s start sub raw rd ∙ (named rd w).path (no_more start) sub in
-            rw z (subst (λ (out : Outcome). Agrees bs' out (Refused (BadOpen start))) (sym e) refuses);
+            rw z (subst (λ (out : Outcome). Agrees bs' out (Err (BadOpen start))) (sym e) refuses);
       }
 
   pub enter_asks : BetweenLines bs c Nothing → EnterAsks bs.texts bs.bind c n
@@ -174,7 +174,7 @@ module _ (s : List ℕ) (start : ℕ) (sub : Bool) (raw : List ℕ) (bs : Buffer
     abbrev after : Reading → Reading
     after rd = with_opened n (entered sub rd.vars) rd
 
-    held_on : {rd : Reading} {b : Block} {d : Counts} {o : Open} → Agrees bs₁ (goes_on rd b) (Goes d o) → (log : List Logged) × HoldsReading log bs₁ d (joined rd b)
+    held_on : {rd : Reading} {b : Block} {d : Counts} {o : Open} → Agrees bs₁ (goes_on rd b) (went d o) → (log : List Logged) × HoldsReading log bs₁ d (joined rd b)
     held_on (goes {log = l} h p) = (l, h)
 
     entered_held : {log : List Logged} (rd : Reading) {b : Block} → HoldsReading log bs c (joined rd b) → OpensBlock log b Nothing
@@ -207,8 +207,8 @@ module _ (s : List ℕ) (start : ℕ) (sub : Bool) (raw : List ℕ) (bs : Buffer
       abbrev text_read : Reading → Block → Outcome
       text_read = read_lines (file_opener s (more - 1)) (text_lines (bundle_texts s) k)
 
-      pub file_stopped : {bs₂ : Buffers} {r : Refusal} → LineMeets bs₁ f.counts Nothing text_read bs₂ (Refused r)
-          → LineMeets bs c Nothing (λ rd b. file_opener s more start sub raw rd) bs₂ (Refused r)
+      pub file_stopped : {bs₂ : Buffers} {r : Refusal} → LineMeets bs₁ f.counts Nothing text_read bs₂ (Err r)
+          → LineMeets bs c Nothing (λ rd b. file_opener s more start sub raw rd) bs₂ (Err r)
       unfolding and_then
       file_stopped {bs₂} {r} m =
           record {
@@ -216,12 +216,12 @@ module _ (s : List ℕ) (start : ℕ) (sub : Bool) (raw : List ℕ) (bs : Buffer
                 let g = entered_held rd h p in
                 let e : text_read (after rd) no_block ≡ refused r = agreed_refused (m.agrees g.0 (after rd) no_block g.1 nothing) in
                 let q : file_opener s more start sub raw rd ≡ refused r = opener_reads rd (known rd h p) ∙ ap (λ (out : Outcome). and_then out (back_in rd.vars.current)) e in
-                subst (λ (out : Outcome). Agrees bs₂ out (Refused r)) (sym q) refuses;
+                subst (λ (out : Outcome). Agrees bs₂ out (Err r)) (sym q) refuses;
           }
 
       -- ---- behind it
 
-      module _ {bs₂ : Buffers} {d : Counts} {o : Open} (m : LineMeets bs₁ f.counts Nothing text_read bs₂ (Goes d o)) where
+      module _ {bs₂ : Buffers} {d : Counts} {o : Open} (m : LineMeets bs₁ f.counts Nothing text_read bs₂ (went d o)) where
         from_kept : (sub : Bool) (vs ws : Variables) → vs.current < length vs.scopes → Keeps (entered sub vs) ws → {j : ℕ} → j ≡ vs.current → EnteredFrom sub j ws
         unfolding EnteredFrom entered
         from_kept false vs ws h p e = p.current ∙ sym e
@@ -271,12 +271,12 @@ module _ (s : List ℕ) (start : ℕ) (sub : Bool) (raw : List ℕ) (bs : Buffer
             }
 
         pub file_read : {texts'' bind'' : List ℕ} {e : Counts} → LeavesScope sub f.scope bs₂.texts bs₂.bind d texts'' bind'' e
-            → LineMeets bs c Nothing (λ rd b. file_opener s more start sub raw rd) (with_bindings bs₂ texts'' bind'') (Goes e Nothing)
+            → LineMeets bs c Nothing (λ rd b. file_opener s more start sub raw rd) (with_bindings bs₂ texts'' bind'') (went e Nothing)
         unfolding joined
         file_read {texts''} {bind''} {e} u =
             record {
               agrees = λ log rd b h p.
                   let x = behind rd h p in
-                  subst (λ (out : Outcome). Agrees (with_bindings bs₂ texts'' bind'') out (Goes e Nothing)) (sym x.outcome)
+                  subst (λ (out : Outcome). Agrees (with_bindings bs₂ texts'' bind'') out (went e Nothing)) (sym x.outcome)
                   (lifted x.holds (u.agrees x.log x.reading no_block (known x.reading x.holds nothing) x.inside));
             }

@@ -1,4 +1,5 @@
 -- Lines up to the first that opens a file, and that file: how far the lines are read.
+use Rattle.std.specs.Prelude.{Result}
 use Prim.Native.Nat.{ℕ, ◌+◌, ◌-◌, ◌≤◌, ◌<◌}
 use mathlib.Core.Bool.{Bool}
 use mathlib.Core.List.{List, [], ◌++◌}
@@ -12,8 +13,6 @@ use Rattle.scan_cursor.specs.Found.{lines_in, Bounds}
 use Rattle.hold_reading.specs.declared.Counts.{Counts}
 use Rattle.hold_reading.specs.declared.Open.{Open}
 use Rattle.hold_reading.specs.declared.Open.TheVariants.{Nothing}
-use Rattle.hold_reading.specs.declared.LineAnswer.{LineAnswer}
-use Rattle.hold_reading.specs.declared.LineAnswer.TheVariants.{Goes}
 use Rattle.hold_reading.specs.declared.LineTurn.TheVariants.{Opens as TurnOpens}
 use Rattle.hold_reading.specs.Buffers.{Buffers, SameRoom}
 use Rattle.apply_statements.specs.Asks.{BetweenLines, LineMeets, TurnMeets}
@@ -21,10 +20,13 @@ use Rattle.apply_stretch.specs.Stretches.{placed_at, lines_placed, read_each, Li
 use Rattle.apply_stretch.proofs.Each.{Same, append_nil, no_files, each_between, each_pair, each_forward, each_within, each_on}
 use Rattle.apply_texts.specs.Texts.{TurnAsk, LinesMeet, EachAsk, FileAsk}
 use Rattle.apply_texts.proofs.Files.{turn_opened, raw_ordered, raw_within, file_asks}
+use Rattle.spec.specs.declared.Refusal.{Refusal}
+use Rattle.hold_reading.specs.declared.State.{State}
+use Rattle.hold_reading.specs.Went.{went}
 
 -- ---- no line opens a file
 
-pub all_done : (via : Opener) (base : ℕ) (m found : List ℕ) (k : ℕ) {bs : Buffers} {c : Counts} {o : Open} {bs' : Buffers} {a : LineAnswer} → k < length found
+pub all_done : (via : Opener) (base : ℕ) (m found : List ℕ) (k : ℕ) {bs : Buffers} {c : Counts} {o : Open} {bs' : Buffers} {a : Result State Refusal} → k < length found
     → LineMeets bs c o (read_each via (lines_placed base m (drop k found))) bs' a → LinesMeet via base m found k bs c o bs' (record { next = length found; answer = a })
 unfolding lines_in Bounds
 all_done via base m found k h x =
@@ -80,15 +82,15 @@ module _ {base : ℕ} {m found : List ℕ} {k : ℕ} {bs : Buffers} {c : Counts}
             word_room = rw w q.word_room;
           })
 
-    pub opens_done : (via : Opener) {bs'' : Buffers} {a : LineAnswer} → LineMeets bs' d Nothing (λ rd b. via (base + x) sub (part (part m x y) from to) rd) bs'' a
+    pub opens_done : (via : Opener) {bs'' : Buffers} {a : Result State Refusal} → LineMeets bs' d Nothing (λ rd b. via (base + x) sub (part (part m x y) from to) rd) bs'' a
         → LinesMeet via base m found k bs c o bs'' (record { next = j + 2; answer = a })
     opens_done via h = record { forward = omega (arith, r.forward); done = each_on (r.before via) r.below ex ey refl (turn_opened line_turn_law via h) }
 
 -- ---- the loop over them
 
-module _ {via : Opener} {base : ℕ} {m found : List ℕ} {bs₀ : Buffers} {c₀ : Counts} {o₀ : Open} {bs : Buffers} {a : LineAnswer} {k : ℕ}
+module _ {via : Opener} {base : ℕ} {m found : List ℕ} {bs₀ : Buffers} {c₀ : Counts} {o₀ : Open} {bs : Buffers} {a : Result State Refusal} {k : ℕ}
     (g : LinesDone via base m found 0 bs₀ c₀ o₀ bs a k) {c : Counts} {o : Open} where
-  pub turn_asked : {t s word₀ word : List ℕ} → EachAsk t s m base found bs₀ word₀ c₀ o₀ → k < length found → a ≡ Goes c o → Same bs₀ word₀ bs word
+  pub turn_asked : {t s word₀ word : List ℕ} → EachAsk t s m base found bs₀ word₀ c₀ o₀ → k < length found → a ≡ went c o → Same bs₀ word₀ bs word
       → TurnAsk t s m base found k bs word c o
   turn_asked ask h e w =
       let q = ask.lines in

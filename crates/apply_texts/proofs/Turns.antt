@@ -1,4 +1,5 @@
 -- The loop over the lines of a text, some at a time: what is held before each turn, and that the lines that are left end as all lines do.
+use Rattle.std.specs.Prelude.{Result, Err}
 use Prim.Native.Nat.{ℕ, ◌≤◌}
 use mathlib.Core.Bool.{true, false}
 use mathlib.Core.List.{List, [], ◌∷◌, ◌++◌, map}
@@ -22,8 +23,6 @@ use Rattle.scan_cursor.specs.Found.{lines_in, uncommented, FoundAsk, LinesFound}
 use Rattle.hold_reading.specs.declared.Counts.{Counts}
 use Rattle.hold_reading.specs.declared.Open.{Open}
 use Rattle.hold_reading.specs.declared.Open.TheVariants.{Nothing}
-use Rattle.hold_reading.specs.declared.LineAnswer.{LineAnswer}
-use Rattle.hold_reading.specs.declared.LineAnswer.TheVariants.{Goes, Refused}
 use Rattle.hold_reading.specs.Held.{Agrees, goes, refuses}
 use Rattle.hold_reading.specs.Binds.{SoundBlock, Meets}
 use Rattle.hold_reading.specs.Buffers.{Buffers}
@@ -35,6 +34,8 @@ use Rattle.apply_stretch.proofs.Each.{Same, then_same, then_then, append_more, m
 use Rattle.apply_texts.specs.Texts.{EachAsk, TextReadAsk}
 use Rattle.scan_texts.proofs.Texts.{text_near, text_short}
 use Rattle.apply_texts.proofs.Placed.{text_lines_law}
+use Rattle.hold_reading.specs.declared.State.{State}
+use Rattle.hold_reading.specs.Went.{went}
 
 map_more : {A B : Type 0} (f : A → B) (l k : List A) → map f (l ++ k) ≡ map f l ++ map f k
 map_more f [] k = refl
@@ -81,7 +82,7 @@ pub record Reached (via : Opener) (base : ℕ) (m : List ℕ) (bs₀ : Buffers) 
   pub within : i ≤ length m
   pub done : List Line
   pub left : left_from base m 0 ≡ done ++ left_from base m i
-  pub meets : LineMeets bs₀ c₀ o₀ (read_each via done) bs (Goes c o)
+  pub meets : LineMeets bs₀ c₀ o₀ (read_each via done) bs (went c o)
 
 pub turn_begin : (via : Opener) (base : ℕ) (m : List ℕ) {bs : Buffers} {c : Counts} {o : Open} → Reached via base m bs c o bs c o 0
 unfolding read_each
@@ -98,7 +99,7 @@ module _ {via : Opener} {base : ℕ} {m : List ℕ} {bs₀ : Buffers} {c₀ : Co
   pub turn_sound : BetweenLines bs₀ c₀ o₀ → SoundBlock bs.texts bs.bind c o
   turn_sound n = let w = between n in sound w.reading w.holds w.opens
 
-  pub turn_end : (texts : List (List ℕ)) (k : ℕ) → m ≡ get_or texts k [] → base ≡ base_of texts k → {r : LineAnswer} → length m ≤ i
+  pub turn_end : (texts : List (List ℕ)) (k : ℕ) → m ≡ get_or texts k [] → base ≡ base_of texts k → {r : Result State Refusal} → length m ≤ i
       → Meets bs.texts bs.bind c o close bs.texts bs.bind r → LineMeets bs₀ c₀ o₀ (read_lines via (text_lines texts k)) bs r
   unfolding read_lines and_then
   turn_end texts k e f {r} h x =
@@ -133,11 +134,11 @@ module _ {via : Opener} {base : ℕ} {m : List ℕ} {bs₀ : Buffers} {c₀ : Co
       (ap (map (placed_at base)) found.lines ∙ map_more (placed_at base) (lines_in m (take f.filled out')) (uncommented (lines_at f.next (drop f.next m))))
       ∙ sym (append_more w.done ls (left_from base m f.next))
 
-  pub turn_on : {bs' : Buffers} {d : Counts} {q : Open} → LineMeets bs c o (read_each via ls) bs' (Goes d q) → Reached via base m bs₀ c₀ o₀ bs' d q f.next
+  pub turn_on : {bs' : Buffers} {d : Counts} {q : Open} → LineMeets bs c o (read_each via ls) bs' (went d q) → Reached via base m bs₀ c₀ o₀ bs' d q f.next
   turn_on x = record { within = found.within; done = w.done ++ ls; left = left_found; meets = meets_more via w.done ls w.meets x }
 
-  pub turn_refused : (texts : List (List ℕ)) (k : ℕ) → m ≡ get_or texts k [] → base ≡ base_of texts k → {bs' : Buffers} {r : Refusal} → LineMeets bs c o (read_each via ls) bs' (Refused r)
-      → LineMeets bs₀ c₀ o₀ (read_lines via (text_lines texts k)) bs' (Refused r)
+  pub turn_refused : (texts : List (List ℕ)) (k : ℕ) → m ≡ get_or texts k [] → base ≡ base_of texts k → {bs' : Buffers} {r : Refusal} → LineMeets bs c o (read_each via ls) bs' (Err r)
+      → LineMeets bs₀ c₀ o₀ (read_lines via (text_lines texts k)) bs' (Err r)
   unfolding and_then
   turn_refused texts k e g {bs'} {r} x =
       record {
@@ -148,7 +149,7 @@ module _ {via : Opener} {base : ℕ} {m : List ℕ} {bs₀ : Buffers} {c₀ : Co
             ∙ ap (λ (ks : List Line). read_lines via ks rd b) left_found
             ∙ each_then via (w.done ++ ls) (left_from base m f.next) rd b
             ∙ ap (λ (out : Outcome). and_then out (read_lines via (left_from base m f.next))) (agreed_refused (all.agrees log rd b h p)) in
-            subst (λ (out : Outcome). Agrees bs' out (Refused r)) (sym q) refuses;
+            subst (λ (out : Outcome). Agrees bs' out (Err r)) (sym q) refuses;
       }
 
   -- what the lines ask that were found

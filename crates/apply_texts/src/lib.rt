@@ -1,4 +1,5 @@
-// A text of a bundle: its lines, some at a time, and the files that they open, each read whole before the lines behind.
+// A text of a bundle: its lines, some at a time, and the files that they open, each read whole before the lines
+// behind.
 #![tactic(auto)]
 
 ghost use Rattle.lists.specs.Lent.{Spare, Leaves};
@@ -9,16 +10,17 @@ ghost use Rattle.apply_texts.specs.Texts.{file_opener, TurnAsk, LinesMeet, EachA
 ghost use Rattle.apply_statements.specs.Asks.{LineMeets};
 ghost use Rattle.hold_reading.specs.Buffers.{SameRoom, buffers};
 
-use apply_open::{OpenedPath, enter, leave, open_path};
+use apply_open::{enter, leave, open_path};
 use apply_rules::close;
 use apply_stretch::{FoundPlace, Stretch, read_stretch};
-use hold_reading::{Counts, LineAnswer, Open, State};
+use hold_reading::{Counts, Open, State};
 use scan_bundle::{record_text, text_base};
 use scan_cursor::lines_from;
 use slices::words::at;
 use spec::Refusal;
 
-// How many numbers the lines take that are found at a time: 32 lines. With fewer and with more of them a manifest was read more slowly.
+// How many numbers the lines take that are found at a time: 32 lines. With fewer and with more of them a manifest was
+// read more slowly.
 const FOUND: usize = 64;
 
 // A text to be read: the number of its record, and how many files more may be open then.
@@ -35,8 +37,8 @@ pub struct TextPlace {
     pub more: usize,
 }
 
-// The lines that were found, from a place of their numbers on: where the places of their text begin among those of all texts, and how many files more may
-// be open.
+// The lines that were found, from a place of their numbers on: where the places of their text begin among those of all
+// texts, and how many files more may be open.
 #[derive(Clone, Copy)]
 pub struct TextLines {
     pub base: usize,
@@ -48,7 +50,7 @@ pub struct TextLines {
 #[derive(Clone, Copy)]
 pub struct LinesTurn {
     pub next: usize,
-    pub answer: LineAnswer,
+    pub answer: Result<State, Refusal>,
 }
 
 // A line that opens a file: its place among all texts, whether in a new scope, and how many files more may be open.
@@ -73,29 +75,24 @@ fn open_file(
     graph: &mut [u32],
     word: &mut [u8],
     c: Counts,
-) -> LineAnswer
+) -> Result<State, Refusal>
     requires { FileAsk t.now b.now raw.now (buffers names.old index.old texts.old bind.old graph.old) word.old c }
     ensures { Leaves (SameRoom (buffers names.old index.old texts.old bind.old graph.old) (buffers names.new index.new texts.new bind.new graph.new) × (Spare word.old word.new)) (LineMeets (buffers names.old index.old texts.old bind.old graph.old) c Open.Nothing (λ rd k. file_opener b.now l.more l.start l.sub raw.now rd) (buffers names.new index.new texts.new bind.new graph.new) result) }
 {
-    match open_path(t, b, raw, texts, bind, word, l.start, c) {
-        OpenedPath::Found(k, n) => {
-            if l.more == 0 {
-                return LineAnswer::Refused(Refusal::BadOpen(l.start));
-            }
-            let f = enter(l.sub, texts, bind, c, n);
-            let o = Opening {
-                record: k,
-                more: l.more - 1,
-            };
-            match read_text(t, b, o, names, index, texts, bind, graph, word, f.counts) {
-                LineAnswer::Goes(d, _) => {
-                    LineAnswer::Goes(leave(l.sub, texts, bind, d, f.scope), Open::Nothing)
-                }
-                LineAnswer::Refused(r) => LineAnswer::Refused(r),
-            }
-        }
-        OpenedPath::Refused(r) => LineAnswer::Refused(r),
+    let (k, n) = open_path(t, b, raw, texts, bind, word, l.start, c)?;
+    if l.more == 0 {
+        return Err(Refusal::BadOpen(l.start));
     }
+    let f = enter(l.sub, texts, bind, c, n);
+    let o = Opening {
+        record: k,
+        more: l.more - 1,
+    };
+    let read = read_text(t, b, o, names, index, texts, bind, graph, word, f.counts)?;
+    Ok(State {
+        counts: leave(l.sub, texts, bind, read.counts, f.scope),
+        open: Open::Nothing,
+    })
 }
 
 // Lines up to the first that opens a file, and that file.
@@ -173,35 +170,25 @@ fn read_each(
     graph: &mut [u32],
     word: &mut [u8],
     s: State,
-) -> LineAnswer
+) -> Result<State, Refusal>
     requires { EachAsk t.now b.now m.now p.base found.now (buffers names.old index.old texts.old bind.old graph.old) word.old s.counts s.open }
     ensures { Leaves (SameRoom (buffers names.old index.old texts.old bind.old graph.old) (buffers names.new index.new texts.new bind.new graph.new) × (Spare word.old word.new)) (LineMeets (buffers names.old index.old texts.old bind.old graph.old) s.counts s.open (read_each (file_opener b.now p.more) (lines_placed p.base m.now found.now)) (buffers names.new index.new texts.new bind.new graph.new) result) }
 {
-    let c = s.counts;
-    let block = s.open;
-    let mut a = LineAnswer::Goes(c, block);
+    let mut kept = s;
     let mut k = 0;
     while k < found.len() {
-        match a {
-            LineAnswer::Goes(counts, open) => {
-                let lines = TextLines {
-                    base: p.base,
-                    from: k,
-                    more: p.more,
-                };
-                let kept = State { counts, open };
-                let r = read_turn(
-                    t, b, m, found, lines, names, index, texts, bind, graph, word, kept,
-                );
-                a = r.answer;
-                k = r.next;
-            }
-            LineAnswer::Refused(r) => {
-                return LineAnswer::Refused(r);
-            }
-        }
+        let lines = TextLines {
+            base: p.base,
+            from: k,
+            more: p.more,
+        };
+        let r = read_turn(
+            t, b, m, found, lines, names, index, texts, bind, graph, word, kept,
+        );
+        kept = r.answer?;
+        k = r.next;
     }
-    a
+    Ok(kept)
 }
 
 // The lines of a text, some at a time. "A file's end closes its block."
@@ -217,7 +204,7 @@ pub fn read_text(
     graph: &mut [u32],
     word: &mut [u8],
     c: Counts,
-) -> LineAnswer
+) -> Result<State, Refusal>
     requires { TextReadAsk t.now b.now o.record (buffers names.old index.old texts.old bind.old graph.old) word.old c }
     ensures { Leaves (SameRoom (buffers names.old index.old texts.old bind.old graph.old) (buffers names.new index.new texts.new bind.new graph.new) × (Spare word.old word.new)) (LineMeets (buffers names.old index.old texts.old bind.old graph.old) c Open.Nothing (read_lines (file_opener b.now o.more) (text_lines (bundle_texts b.now) o.record)) (buffers names.new index.new texts.new bind.new graph.new) result) }
 {
@@ -227,16 +214,14 @@ pub fn read_text(
         more: o.more,
     };
     let mut found = [0u32; FOUND];
-    let mut counts = c;
-    let mut block = Open::Nothing;
+    let mut kept = State {
+        counts: c,
+        open: Open::Nothing,
+    };
     let mut from = 0;
     while from < m.len() {
         let f = lines_from(t, m, from, &mut found);
-        let kept = State {
-            counts,
-            open: block,
-        };
-        match read_each(
+        kept = read_each(
             t,
             b,
             m,
@@ -249,16 +234,8 @@ pub fn read_text(
             graph,
             word,
             kept,
-        ) {
-            LineAnswer::Goes(d, o) => {
-                counts = d;
-                block = o;
-                from = f.next;
-            }
-            LineAnswer::Refused(r) => {
-                return LineAnswer::Refused(r);
-            }
-        }
+        )?;
+        from = f.next;
     }
-    close(texts, bind, counts, block)
+    close(texts, bind, kept.counts, kept.open)
 }

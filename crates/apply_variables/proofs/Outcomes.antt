@@ -1,4 +1,5 @@
 -- What the rules answer to a variable and to a line of a build block: one law for each answer.
+use Rattle.std.specs.Prelude.{Result, Err}
 use Prim.Native.Nat.{ℕ, ◌+◌, ◌*◌, ◌-◌, ◌≤◌}
 use mathlib.Core.Bool.{true, false}
 use mathlib.Core.List.{List, [], ◌∷◌}
@@ -17,8 +18,6 @@ use Rattle.expand_parts.specs.Runs.{expanded_by}
 use Rattle.expand_dollars.specs.Written.{Written}
 use Rattle.hold_reading.specs.declared.Counts.{Counts}
 use Rattle.hold_reading.specs.declared.Open.TheVariants.{Nothing, Step as OpenStep}
-use Rattle.hold_reading.specs.declared.LineAnswer.{LineAnswer}
-use Rattle.hold_reading.specs.declared.LineAnswer.TheVariants.{Goes, Refused}
 use Rattle.hold_reading.specs.Held.{joined, OpensBlock, nothing, a_step, HoldsBound}
 use Rattle.hold_reading.specs.Binds.{Known, SoundBlock, Binds, goes, Meets}
 use Rattle.hold_reading.proofs.Grow.{bound_var, bound_line, beside_var, beside_line}
@@ -26,6 +25,9 @@ use Rattle.hold_reading.proofs.Lift.{joined_none, none_bound, refused_by}
 use Rattle.apply_bindings.specs.Limits.{binding_over, EntryReady, PutsBinding}
 use Rattle.apply_bindings.proofs.Entries.{over_counted, within}
 use Rattle.apply_variables.proofs.Values.{value_held, written_word}
+use Rattle.spec.specs.declared.Refusal.{Refusal}
+use Rattle.hold_reading.specs.declared.State.{State}
+use Rattle.hold_reading.specs.Went.{went}
 
 -- ---- a variable
 
@@ -35,14 +37,14 @@ none_over {rd = rd} w n v =
     over_counted (none_bound w) (rw (joined_none rd w.opens) at w.few_files) (rw (joined_none rd w.opens) at w.few_mentions) n v
 
 module _ (start : ℕ) (n v : List ℕ) {texts bind : List ℕ} {c : Counts} (h : binding_over (length n) (length v) c ≡ false) where
-  pub var_wrong : {texts' bind' : List ℕ} → wrong_version n v ≡ true → Meets texts bind c Nothing (λ rd b. add_var start n v rd) texts' bind' (Refused (BadVersion start))
+  pub var_wrong : {texts' bind' : List ℕ} → wrong_version n v ≡ true → Meets texts bind c Nothing (λ rd b. add_var start n v rd) texts' bind' (Err (BadVersion start))
   unfolding add_var
   var_wrong q = record { agrees = λ log rd b w. refused_by (rw (none_over w n v ∙ h, q)) }
 
   -- k is the scope that is read in.
   pub var_goes : {texts' bind' : List ℕ} {c' : Counts} {k : ℕ} → ((g : Scoping) → HoldsScopes g bind → k ≡ g.current) → wrong_version n v ≡ false
       → PutsBinding texts bind c (logged (of_scope k) n v) texts' bind' c'
-      → Meets texts bind c Nothing (λ rd b. add_var start n v rd) texts' bind' (Goes c' Nothing)
+      → Meets texts bind c Nothing (λ rd b. add_var start n v rd) texts' bind' (went c' Nothing)
   unfolding joined add_var
   var_goes {texts'} {bind'} {k = k} s q p =
       record {
@@ -74,7 +76,7 @@ module _ (start : ℕ) (n v : List ℕ) {texts bind : List ℕ} {c : Counts} (h 
 module _ (start : ℕ) (n raw : List ℕ) {texts bind word word' : List ℕ} {c : Counts} {k : ℕ}
     (x : (log : List Logged) → HoldsBindings log texts bind c.entries → Written word (expanded_by log raw) word' k) where
   pub var_over : {texts' bind' : List ℕ} → binding_over (length n) k c ≡ true
-      → Meets texts bind c Nothing (λ rd b. add_var start n (expand (file_var rd.vars) raw) rd) texts' bind' (Refused (OverLimit start))
+      → Meets texts bind c Nothing (λ rd b. add_var start n (expand (file_var rd.vars) raw) rd) texts' bind' (Err (OverLimit start))
   unfolding add_var
   var_over h =
       record {
@@ -83,7 +85,7 @@ module _ (start : ℕ) (n raw : List ℕ) {texts bind word word' : List ℕ} {c 
             refused_by (rw (e, none_over w n (expanded_by log raw), ← (x log w.bound.held).count, h));
       }
 
-  pub var_valued : {texts' bind' : List ℕ} {r : LineAnswer} → k ≤ length word → Meets texts bind c Nothing (λ rd b. add_var start n (take k word') rd) texts' bind' r
+  pub var_valued : {texts' bind' : List ℕ} {r : Result State Refusal} → k ≤ length word → Meets texts bind c Nothing (λ rd b. add_var start n (take k word') rd) texts' bind' r
       → Meets texts bind c Nothing (λ rd b. add_var start n (expand (file_var rd.vars) raw) rd) texts' bind' r
   var_valued l a =
       record {
@@ -106,7 +108,7 @@ module _ (start : ℕ) (n raw : List ℕ) {log : List Logged} {texts bind : List
 
   line_bound : {b : Block} → OpensBlock log b OpenStep → HoldsBound log texts bind c (joined rd b) → length (joined rd b).files ≤ max_files → (joined rd b).mentions ≤ max_mentions
       → expand (file_var rd.vars) raw ≡ v → binding_over (length n) (length v) c ≡ false → {texts' bind' : List ℕ} {c' : Counts}
-      → PutsBinding texts bind c (logged (5 + 3 * (c.steps - 1)) n v) texts' bind' c' → Binds log c (joined rd b) texts' bind' (block_line start b n raw rd) (Goes c' OpenStep)
+      → PutsBinding texts bind c (logged (5 + 3 * (c.steps - 1)) n v) texts' bind' c' → Binds log c (joined rd b) texts' bind' (block_line start b n raw rd) (went c' OpenStep)
   unfolding joined with_step block_line add_to_block
   line_bound (a_step {s = s}) d f m e h {texts'} {bind'} p =
       let z : c.steps - 1 ≡ length rd.steps = omega (arith, d.steps_counted, length-append rd.steps (s ∷ [])) in
@@ -122,7 +124,7 @@ module _ (start : ℕ) (n raw : List ℕ) {log : List Logged} {texts bind : List
 module _ (start : ℕ) (n raw : List ℕ) {texts bind word word' : List ℕ} {c : Counts} {k : ℕ}
     (x : (log : List Logged) → HoldsBindings log texts bind c.entries → Written word (expanded_by log raw) word' k) where
   pub line_over : {texts' bind' : List ℕ} → binding_over (length n) k c ≡ true
-      → Meets texts bind c OpenStep (λ rd b. block_line start b n raw rd) texts' bind' (Refused (OverLimit start))
+      → Meets texts bind c OpenStep (λ rd b. block_line start b n raw rd) texts' bind' (Err (OverLimit start))
   line_over h =
       record {
         agrees = λ log rd b w.
@@ -133,7 +135,7 @@ module _ (start : ℕ) (n raw : List ℕ) {texts bind word word' : List ℕ} {c 
 
   pub line_goes : {texts' bind' : List ℕ} {c' : Counts} → k ≤ length word → binding_over (length n) (length (take k word')) c ≡ false
       → PutsBinding texts bind c (logged (5 + 3 * (c.steps - 1)) n (take k word')) texts' bind' c'
-      → Meets texts bind c OpenStep (λ rd b. block_line start b n raw rd) texts' bind' (Goes c' OpenStep)
+      → Meets texts bind c OpenStep (λ rd b. block_line start b n raw rd) texts' bind' (went c' OpenStep)
   line_goes l h p =
       record {
         agrees = λ log rd b w.

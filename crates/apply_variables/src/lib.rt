@@ -13,7 +13,7 @@ use apply_bindings::{binding_over, push_binding};
 use byte_order::equal;
 use expand_dollars::expand;
 use hold_bindings::current_scope;
-use hold_reading::{Counts, LineAnswer, Open};
+use hold_reading::{Counts, Open, State};
 use spec::Refusal;
 use version::Version;
 
@@ -21,10 +21,7 @@ use version::Version;
 fn is_wrong_version(name: &[u8], value: &[u8]) -> bool
     ensures { result ≡ wrong_version name.now value.now }
 {
-    if equal(name, b"ninja_required_version") {
-        return Version::refused(value);
-    }
-    false
+    equal(name, b"ninja_required_version") && Version::refused(value)
 }
 
 // A variable of the scope that is read in, whose line is within the limits.
@@ -35,16 +32,19 @@ fn set_var(
     texts: &mut [u8],
     bind: &mut [u32],
     c: Counts,
-) -> LineAnswer
+) -> Result<State, Refusal>
     requires { RoomForBinding texts.old bind.old c Open.Nothing name.now value.now }
     ensures { Leaves ((Spare texts.old texts.new) × (Spare bind.old bind.new)) (Meets texts.old bind.old c Open.Nothing (λ rd b. add_var start name.now value.now rd) texts.new bind.new result) }
 {
     if is_wrong_version(name, value) {
-        return LineAnswer::Refused(Refusal::BadVersion(start));
+        return Err(Refusal::BadVersion(start));
     }
     let scope = current_scope(bind);
     let d = push_binding(texts, bind, c, 3 * scope, name, value);
-    LineAnswer::Goes(d, Open::Nothing)
+    Ok(State {
+        counts: d,
+        open: Open::Nothing,
+    })
 }
 
 // `NAME = value`, where no block is open. The word buffer is working space.
@@ -57,13 +57,13 @@ pub fn add_var(
     bind: &mut [u32],
     word: &mut [u8],
     c: Counts,
-) -> LineAnswer
+) -> Result<State, Refusal>
     requires { BindingAsks t.now raw.now texts.old bind.old word.old c Open.Nothing }
     ensures { Leaves ((Spare texts.old texts.new) × (Spare bind.old bind.new) × (Spare word.old word.new)) (Meets texts.old bind.old c Open.Nothing (λ rd b. add_var start name.now (expand (file_var rd.vars) raw.now) rd) texts.new bind.new result) }
 {
     let n = expand(t, raw, texts, bind, c.entries, word);
     if binding_over(name.len(), n, c) {
-        return LineAnswer::Refused(Refusal::OverLimit(start));
+        return Err(Refusal::OverLimit(start));
     }
     set_var(start, name, &word[..n], texts, bind, c)
 }
@@ -78,14 +78,17 @@ pub fn add_to_block(
     bind: &mut [u32],
     word: &mut [u8],
     c: Counts,
-) -> LineAnswer
+) -> Result<State, Refusal>
     requires { BindingAsks t.now raw.now texts.old bind.old word.old c Open.Step }
     ensures { Leaves ((Spare texts.old texts.new) × (Spare bind.old bind.new) × (Spare word.old word.new)) (Meets texts.old bind.old c Open.Step (λ rd b. block_line start b name.now raw.now rd) texts.new bind.new result) }
 {
     let len = expand(t, raw, texts, bind, c.entries, word);
     if binding_over(name.len(), len, c) {
-        return LineAnswer::Refused(Refusal::OverLimit(start));
+        return Err(Refusal::OverLimit(start));
     }
     let d = push_binding(texts, bind, c, 5 + 3 * (c.steps - 1), name, &word[..len]);
-    LineAnswer::Goes(d, Open::Step)
+    Ok(State {
+        counts: d,
+        open: Open::Step,
+    })
 }

@@ -17,10 +17,8 @@ pub fn insert(table: &mut [u32], n: usize, p: usize, v: usize)
     requires { (p ≤ n) × (n < length table.old) × (v < 4294967296) }
     ensures { Shifted table.old n p v table.new }
 {
-    let mut i = n;
-    while p < i {
-        table[i] = table[i - 1];
-        i -= 1;
+    for i in (p..n).rev() {
+        table[i + 1] = table[i];
     }
     put(table, p, v);
 }

@@ -1,4 +1,5 @@
 -- The depfile of a step by its name, over a table of names that grew since the reading.
+use Rattle.std.specs.Prelude.{Option, Some, None, Result, Ok, Err}
 use Prim.Native.Nat.{ℕ, ◌<◌}
 use mathlib.Core.List.{List}
 use mathlib.Core.Bool.{true, false, ◌||◌}
@@ -8,7 +9,6 @@ use borrow.Author.Tests.{lt-leb}
 use lib.Dec.{leb}
 use lib.ListN.{length, length-append}
 use Rattle.lists.specs.Members.{◌∈◌}
-use Rattle.spec.specs.declared.TextAnswer.{TextAnswer}
 use Rattle.spec.specs.declared.Key.TheVariants.{Depfile}
 use Rattle.spec.specs.Reading.{Reading, is_phony}
 use Rattle.spec.specs.Sound.{SoundRules}
@@ -29,9 +29,8 @@ use Rattle.text_expansion.specs.Here.{Here}
 use Rattle.text_step.specs.Steps.{Picks, ReadingHeld}
 use Rattle.text_step.specs.Asks.{StepAsk, AnswersText, TextAt}
 use Rattle.text_step.proofs.One.{sound_any}
-use Rattle.ask_depfile_names.specs.declared.StepDepfile.{StepDepfile}
-use Rattle.ask_depfile_names.specs.declared.StepDepfile.TheVariants.{None, Written, Refused}
 use Rattle.ask_depfile_names.specs.Names.{NameIs, HoldsGrown, DepfileAsk, TellsDepfile, NamesDepfile}
+use Rattle.spec.specs.declared.Refusal.{Refusal}
 
 -- the same step, where there are so many files
 abbrev grown : Asked → ℕ → Asked
@@ -56,12 +55,12 @@ module _ {log : List Logged} {graph : List ℕ} {c : Counts} {rd : Reading} (g :
 
 -- ---- what is found of the depfile, by its name
 
-tells_by : (rd : Reading) (step : ℕ) (word : List ℕ) (r : StepDepfile) → is_phony (step_at rd.steps step).rule ≡ false
+tells_by : (rd : Reading) (step : ℕ) (word : List ℕ) (r : Result (Option ℕ) Refusal) → is_phony (step_at rd.steps step).rule ≡ false
     → NameIs (name_outcome step (key_name Depfile) rd) word r → TellsDepfile rd step word r
 unfolding NameIs TellsDepfile depfile_of depfile_at depfile_named
-tells_by rd step word None y n = λ headers. rw (y, n)
-tells_by rd step word (Written k) y n = record { found = λ headers. rw (y, n.is); some = n.some; within = n.within }
-tells_by rd step word (Refused r) y n = λ headers. rw (y, n)
+tells_by rd step word (Ok None) y n = λ headers. rw (y, n)
+tells_by rd step word (Ok (Some k)) y n = record { found = λ headers. rw (y, n.is); some = n.some; within = n.within }
+tells_by rd step word (Err r) y n = λ headers. rw (y, n)
 
 module _ {t : List ℕ} {bs : Buffers} {c : Counts} {files step : ℕ} {word : List ℕ} (w : DepfileAsk t bs c files step word) where
   pub reads : ReadingHeld bs.texts bs.bind bs.graph c
@@ -69,7 +68,7 @@ module _ {t : List ℕ} {bs : Buffers} {c : Counts} {files step : ℕ} {word : L
 
   -- a phony step
   pub no_command : ((log : List Logged) (rd : Reading) → HoldsBound log bs.texts bs.bind c rd → Graphed log bs.graph c rd → leb (length rd.steps) step || is_phony (step_at rd.steps step).rule ≡ true)
-      → NamesDepfile bs c files step word None
+      → NamesDepfile bs c files step word (Ok None)
   unfolding TellsDepfile depfile_of
   no_command p =
       record {
@@ -122,7 +121,7 @@ module _ {t : List ℕ} {bs : Buffers} {c : Counts} {files step : ℕ} {word : L
           whole = (p.picked w.log w.reading w.holds.bound w.holds.graphed).whole;
         }
 
-    module _ {exit : List ℕ} {answer : TextAnswer} (q : TextAt bs (grown a files) Depfile word exit answer) where
+    module _ {exit : List ℕ} {answer : Result ℕ Refusal} (q : TextAt bs (grown a files) Depfile word exit answer) where
       -- 16, 17 or the name, of any reading that is held
       name_answered : {log : List Logged} {rd : Reading} {more : List (List ℕ)} → HoldsGrown log bs c files rd more → AnswersText (name_outcome step (key_name Depfile) rd) exit answer
       name_answered {log} {rd} {more} h =
@@ -132,7 +131,7 @@ module _ {t : List ℕ} {bs : Buffers} {c : Counts} {files step : ℕ} {word : L
           subst (λ (o : TextOutcome). AnswersText o exit answer) (outcome_same rd more step (key_name Depfile) (ins_read h.graphed step) (outs_read h.graphed step))
           (m (grown_here h (sound_any w.holds.bound w.sound h.bound)))
 
-      pub step_named : {r : StepDepfile} → ((o : TextOutcome) (u : List ℕ) → AnswersText o u answer → NameIs o u r) → NamesDepfile bs c files step exit r
+      pub step_named : {r : Result (Option ℕ) Refusal} → ((o : TextOutcome) (u : List ℕ) → AnswersText o u answer → NameIs o u r) → NamesDepfile bs c files step exit r
       step_named {r} f =
           record {
             tells = λ log rd more h.

@@ -1,4 +1,5 @@
 -- The name of a depfile by the answer of the text ask: "empty means none".
+use Rattle.std.specs.Prelude.{Some, None, Result, Ok, Err}
 use Prim.Native.Nat.{ℕ, zero, suc, ◌≤◌}
 use mathlib.Core.List.{List, [], ◌∷◌}
 use mathlib.Core.Bool.{false}
@@ -6,12 +7,9 @@ use mathlib.Core.Path.{◌≡◌, refl, ◌∙◌, ap, subst}
 use native.Mathlib.Omega.{arith}
 use lib.ListN.{length, take}
 use Rattle.spec.specs.declared.Refusal.{Refusal}
-use Rattle.spec.specs.declared.TextAnswer.{TextAnswer}
-use Rattle.spec.specs.declared.TextAnswer.TheVariants.{Written, Refused}
 use Rattle.spec.specs.Basics.{is_empty}
 use Rattle.spec.specs.TextAsk.{TextOutcome, text}
 use Rattle.text_step.specs.Asks.{TextStands, AnswersText}
-use Rattle.ask_depfile_names.specs.declared.StepDepfile.TheVariants.{None, Written as NameWritten, Refused as NameRefused}
 use Rattle.ask_depfile_names.specs.Names.{NameIs}
 
 -- bytes that are taken are there
@@ -20,19 +18,19 @@ some_taken zero l z h = absurd (z refl)
 some_taken (suc n) [] z h = absurd (omega arith)
 some_taken (suc n) (b ∷ l) z h = refl
 
-module _ {answer : TextAnswer} {n : ℕ} (e : answer ≡ Written n) (o : TextOutcome) (word : List ℕ) (p : AnswersText o word answer) where
+module _ {answer : Result ℕ Refusal} {n : ℕ} (e : answer ≡ Ok n) (o : TextOutcome) (word : List ℕ) (p : AnswersText o word answer) where
   text_stands : TextStands o n word
   unfolding AnswersText
-  text_stands = subst (λ (a : TextAnswer). AnswersText o word a) e p
+  text_stands = subst (λ (a : Result ℕ Refusal). AnswersText o word a) e p
 
-  pub name_none : n ≡ 0 → NameIs o word None
+  pub name_none : n ≡ 0 → NameIs o word (Ok None)
   unfolding NameIs
   name_none z = text_stands.is ∙ ap (λ (k : ℕ). text (take k word)) z
 
-  pub name_written : (n ≡ 0 → ⊥) → NameIs o word (NameWritten n)
+  pub name_written : (n ≡ 0 → ⊥) → NameIs o word (Ok (Some n))
   unfolding NameIs
   name_written z = let q = text_stands in record { is = q.is; some = some_taken n word z q.within; within = q.within }
 
-pub name_refused : {answer : TextAnswer} {r : Refusal} → answer ≡ Refused r → (o : TextOutcome) (word : List ℕ) → AnswersText o word answer → NameIs o word (NameRefused r)
+pub name_refused : {answer : Result ℕ Refusal} {r : Refusal} → answer ≡ Err r → (o : TextOutcome) (word : List ℕ) → AnswersText o word answer → NameIs o word (Err r)
 unfolding AnswersText NameIs
-name_refused e o word p = subst (λ (a : TextAnswer). AnswersText o word a) e p
+name_refused e o word p = subst (λ (a : Result ℕ Refusal). AnswersText o word a) e p

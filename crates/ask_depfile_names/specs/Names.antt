@@ -1,7 +1,8 @@
 -- What the name of a step's depfile asks of what was read, and what it tells.
-use Rattle.std.specs.Prelude.{ℕ, ◌≤◌, ◌<◌, List, [], ◌++◌, false, ◌≡◌, length, take}
+use Rattle.std.specs.Prelude.{ℕ, ◌≤◌, ◌<◌, List, [], ◌++◌, false, ◌≡◌, length, take, Option, Some, None, Result, Ok, Err}
 use Rattle.spec.specs.Basics.{is_empty}
 use Rattle.spec.specs.Limits.{max_text}
+use Rattle.spec.specs.declared.Refusal.{Refusal}
 use Rattle.spec.specs.Reading.{Reading}
 use Rattle.spec.specs.Sound.{SoundRules}
 use Rattle.spec.specs.TextAsk.{TextOutcome, text, no_text}
@@ -12,8 +13,6 @@ use Rattle.hold_bindings.specs.Log.{Logged}
 use Rattle.hold_reading.specs.declared.Counts.{Counts}
 use Rattle.hold_reading.specs.Buffers.{Buffers}
 use Rattle.hold_reading.specs.Held.{HoldsBound, Graphed}
-use Rattle.ask_depfile_names.specs.declared.StepDepfile.{StepDepfile}
-use Rattle.ask_depfile_names.specs.declared.StepDepfile.TheVariants.{None, Written, Refused}
 
 -- ------------------------------------------------------------------ by the text of the key
 
@@ -23,10 +22,10 @@ pub record NameStands (o : TextOutcome) (n : ℕ) (word : List ℕ) : Type 0 whe
   pub some : is_empty (take n word) ≡ false
   pub within : n ≤ length word
 
-unfoldable pub NameIs : TextOutcome → List ℕ → StepDepfile → Type 0
-NameIs o word None = o ≡ text []
-NameIs o word (Written n) = NameStands o n word
-NameIs o word (Refused r) = o ≡ no_text r
+unfoldable pub NameIs : TextOutcome → List ℕ → Result (Option ℕ) Refusal → Type 0
+NameIs o word (Ok None) = o ≡ text []
+NameIs o word (Ok (Some n)) = NameStands o n word
+NameIs o word (Err r) = o ≡ no_text r
 
 -- ------------------------------------------------------------------ for a step
 
@@ -54,11 +53,11 @@ pub record GoesByName (rd : Reading) (step n : ℕ) (word : List ℕ) : Type 0 w
   pub within : n ≤ length word
 
 -- What is found of the step's depfile, in any bundle of header lists.
-unfoldable pub TellsDepfile : Reading → ℕ → List ℕ → StepDepfile → Type 0
-TellsDepfile rd step word None = (headers : List ℕ) → depfile_of headers rd step ≡ no_depfile
-TellsDepfile rd step word (Written n) = GoesByName rd step n word
-TellsDepfile rd step word (Refused r) = (headers : List ℕ) → depfile_of headers rd step ≡ bad_depfile r
+unfoldable pub TellsDepfile : Reading → ℕ → List ℕ → Result (Option ℕ) Refusal → Type 0
+TellsDepfile rd step word (Ok None) = (headers : List ℕ) → depfile_of headers rd step ≡ no_depfile
+TellsDepfile rd step word (Ok (Some n)) = GoesByName rd step n word
+TellsDepfile rd step word (Err r) = (headers : List ℕ) → depfile_of headers rd step ≡ bad_depfile r
 
 -- ... whatever reading is held
-pub record NamesDepfile (bs : Buffers) (c : Counts) (files step : ℕ) (word : List ℕ) (r : StepDepfile) : Type 0 where
+pub record NamesDepfile (bs : Buffers) (c : Counts) (files step : ℕ) (word : List ℕ) (r : Result (Option ℕ) Refusal) : Type 0 where
   pub tells : (log : List Logged) (rd : Reading) (more : List (List ℕ)) → HoldsGrown log bs c files rd more → TellsDepfile rd step word r

@@ -7,36 +7,25 @@ ghost use Rattle.hold_reading.specs.Buffers.{buffers};
 ghost use Rattle.text_step.specs.Asks.{AnswersText};
 ghost use Rattle.ask_depfile_names.specs.Names.{NameIs, DepfileAsk, NamesDepfile};
 
-use hold_reading::Counts;
-use spec::{Key, Refusal, TextAnswer};
+use hold_reading::{Counts, ReadBuffers};
+use spec::{Key, Refusal};
 use text_lookup::Asked;
 use text_step::steps::asked;
-use text_step::{StepAsked, text_at};
-
-// No depfile is named, or its name has so many bytes, or it is refused.
-#[derive(Clone, Copy)]
-pub enum StepDepfile {
-    None,
-    Written(usize),
-    Refused(Refusal),
-}
+use text_step::text_at;
 
 // "empty means none"
-fn named(answer: TextAnswer) -> StepDepfile
+fn named(answer: Result<usize, Refusal>) -> Result<Option<usize>, Refusal>
     ensures { (o : TextOutcome) (word : List ℕ) → AnswersText o word answer → NameIs o word result }
 {
-    match answer {
-        TextAnswer::Written(n) => {
-            if n == 0 {
-                return StepDepfile::None;
-            }
-            StepDepfile::Written(n)
-        }
-        TextAnswer::Refused(r) => StepDepfile::Refused(r),
+    let n = answer?;
+    if n == 0 {
+        return Ok(None);
     }
+    Ok(Some(n))
 }
 
-// The name of the depfile of a step, where the table of names has so many files: those of the reading, and others named since. A phony step has none.
+// The name of the depfile of a step, where the table of names has so many files: those of the reading, and others
+// named since. How many bytes the name has, or None where no depfile is named, as for a phony step.
 pub fn depfile_name(
     t: &[u8; 256],
     names: &[u8],
@@ -48,26 +37,21 @@ pub fn depfile_name(
     files: usize,
     step: usize,
     word: &mut [u8],
-) -> StepDepfile
+) -> Result<Option<usize>, Refusal>
     requires { DepfileAsk t.now (buffers names.now index.now texts.now bind.now graph.now) c files step word.old }
     ensures { NamesDepfile (buffers names.now index.now texts.now bind.now graph.now) c files step word.new result }
 {
-    match asked(texts, bind, graph, c, step) {
-        StepAsked::NoCommand => StepDepfile::None,
-        StepAsked::Step(a) => {
-            let grown = Asked { files, ..a };
-            let answer = text_at(
-                t,
-                names,
-                index,
-                texts,
-                bind,
-                graph,
-                grown,
-                Key::Depfile,
-                word,
-            );
-            named(answer)
-        }
-    }
+    let Some(a) = asked(texts, bind, graph, c, step) else {
+        return Ok(None);
+    };
+    let grown = Asked { files, ..a };
+    let read = ReadBuffers {
+        names,
+        index,
+        texts,
+        bind,
+        graph,
+    };
+    let answer = text_at(t, &read, grown, Key::Depfile, word);
+    named(answer)
 }

@@ -11,9 +11,7 @@ pub fn fill_times(card: &[u8], names: &[u8], index: &[u32], count: usize, times:
     requires { TimesAsked card.now names.now index.now count times.old }
     ensures { Timed card.now names.now index.now count times.old times.new }
 {
-    let mut f = 0;
-    while f < count {
+    for f in 0..count {
         times[f] = time_of(card, file_name(names, index, count, f));
-        f += 1;
     }
 }

@@ -1,11 +1,11 @@
--- The loop that fills an empty column, and the second columns before the first step.
-use Prim.Native.Nat.{ℕ, ◌+◌, ◌-◌, ◌≤◌, ◌<◌}
+-- The copy that fills an empty column, and the second columns before the first step.
+use Prim.Native.Nat.{ℕ, zero, suc, ◌+◌, ◌-◌, ◌≤◌, ◌<◌}
 use mathlib.Core.List.{List, [], ◌∷◌, ◌++◌, map}
 use mathlib.Core.Path.{◌≡◌, refl, sym, ◌∙◌, ap, subst}
 use native.Mathlib.Numerals.{add-one}
 use native.Mathlib.Omega.{arith}
 use lib.ListN.{length, take, drop, get_or, set, length-set, length-drop}
-use lib.Seq.{get_or-set_same, set-get_or, set-set, take-suc, take_all, length-take-le}
+use lib.Seq.{paste, paste-zero, paste-suc, get_or-set_same, set-get_or, set-set, take-suc, take_all, length-take-le}
 use Rattle.lists.specs.Parts.{part, length_part}
 use Rattle.arena.specs.Columns.{Lies, start_of, column}
 use Rattle.arena.proofs.Laws.{lies_push}
@@ -30,16 +30,16 @@ lies_taken ns a xs k src i b h f l =
     let g : start_of ns k + length (column xs' k) ≡ start_of ns k + i = omega (arith, ap length c, n) in
     subst (λ (y : List (List ℕ)). Lies ns (set a (start_of ns k + i) v) y) e (subst (λ (j : ℕ). Lies ns (set a j v) (set xs' k (column xs' k ++ (v ∷ [])))) g p)
 
--- ---- the loop
+-- ---- the copy, as if an entry came after another
 
-pub record Filling (second₀ : List ℕ) (at : ℕ) (src second : List ℕ) (i : ℕ) : Type 0 where
-  pub room : at + length src ≤ length second₀
-  pub within : i ≤ length src
-  pub long : length second ≡ length second₀
-  pub fills : (k : ℕ) (xs : List (List ℕ)) → start_of capacities k ≡ at → k < length xs → column xs k ≡ [] → length src ≤ get_or capacities k 0
+record Filling (second₀ : List ℕ) (at : ℕ) (src second : List ℕ) (i : ℕ) : Type 0 where
+  room : at + length src ≤ length second₀
+  within : i ≤ length src
+  long : length second ≡ length second₀
+  fills : (k : ℕ) (xs : List (List ℕ)) → start_of capacities k ≡ at → k < length xs → column xs k ≡ [] → length src ≤ get_or capacities k 0
       → Lies capacities second₀ xs → Lies capacities second (set xs k (take i src))
 
-pub fill_begin : {second : List ℕ} {at : ℕ} {src : List ℕ} → at + length src ≤ length second → Filling second at src second 0
+fill_begin : {second : List ℕ} {at : ℕ} {src : List ℕ} → at + length src ≤ length second → Filling second at src second 0
 fill_begin {second} {src = src} r =
     record {
       room = r;
@@ -49,7 +49,7 @@ fill_begin {second} {src = src} r =
     }
 
 module _ {second₀ : List ℕ} {at : ℕ} {src second : List ℕ} {i : ℕ} (x : Filling second₀ at src second i) where
-  pub fill_more : i < length src → Filling second₀ at src (set second (at + i) (get_or src i 0)) (i + 1)
+  fill_more : i < length src → Filling second₀ at src (set second (at + i) (get_or src i 0)) (i + 1)
   fill_more h =
       record {
         room = x.room;
@@ -59,11 +59,20 @@ module _ {second₀ : List ℕ} {at : ℕ} {src second : List ℕ} {i : ℕ} (x 
             subst (λ (j : ℕ). Lies capacities (set second (j + i) (get_or src i 0)) (set xs k (take (i + 1) src))) p (lies_taken capacities second xs k src i b h f (x.fills k xs p b e f l));
       }
 
-  pub fill_end : length src ≤ i → Fills second₀ at src second
+  fill_end : length src ≤ i → Fills second₀ at src second
   fill_end h =
       record {
         fills = λ k xs p b e f l. subst (λ (y : List ℕ). Lies capacities second (set xs k y)) (take_all i src h) (x.fills k xs p b e f l);
       }
+
+copied : (second : List ℕ) (at : ℕ) (src : List ℕ) → at + length src ≤ length second → (i : ℕ) → i ≤ length src → Filling second at src (paste second at src i) i
+copied second at src r zero h = subst (λ (y : List ℕ). Filling second at src y 0) (paste-zero second at src) (fill_begin r)
+copied second at src r (suc i) h =
+    let x = copied second at src r i (omega arith) in
+    subst (λ (y : List ℕ). Filling second at src y (suc i)) (paste-suc second at src i 0 (omega arith) (omega arith)) (rw add-one at (fill_more x (omega arith)))
+
+pub fill_copied : {second : List ℕ} {at : ℕ} {src now : List ℕ} → at + length src ≤ length second → now ≡ paste second at src (length src) → Fills second at src now
+fill_copied {second} {at} {src} r e = rw e (fill_end (copied second at src r (length src) (omega arith)) (omega arith))
 
 -- ---- the three columns
 

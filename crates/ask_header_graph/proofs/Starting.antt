@@ -1,4 +1,5 @@
 -- Before the first step, by what was read of a manifest; and after the last one, in the form that the plan wants.
+use Rattle.std.specs.Prelude.{Result}
 use Prim.Native.Nat.{ℕ, suc, ◌+◌, ◌-◌, ◌*◌, ◌≤◌, ◌<◌}
 use mathlib.Core.Bool.{true, false}
 use mathlib.Core.List.{List, [], ◌∷◌, ◌++◌, map, append-nil, append_assoc}
@@ -27,12 +28,12 @@ use Rattle.hold_reading.specs.Held.{capacities, ends_start, phony_start, made_st
 use Rattle.hold_reading.specs.Buffers.{Buffers, with_files}
 use Rattle.apply_files.specs.Lines.{Columns}
 use Rattle.apply_files.proofs.Columns.{graph_long}
-use Rattle.hold_headers.specs.declared.AddedHeaders.{AddedHeaders}
 use Rattle.hold_headers.specs.Headed.{listed_number, phony_bits, HoldsHeaders, AgreesHeaders, heads as heads_told, refuses}
 use Rattle.ask_header_graph.specs.Graph.{mentions_in, ends_in, phony_in, made_in, told_in, ListedLast, HeadedGraph, HeadStepsAsked, AgreesSteps, all_headed, one_refused, HeadsSteps}
 use Rattle.ask_header_graph.specs.Begins.{BeginAsked, Begins}
 use Rattle.ask_header_graph.specs.Turns.{no_paths, StartHeld, WalkAsked, HeadsAll}
 use Rattle.ask_header_graph.proofs.Tails.{listed_last}
+use Rattle.spec.specs.declared.Refusal.{Refusal}
 
 -- ---- before the first step
 
@@ -244,12 +245,12 @@ module _ (headers : List ℕ) {log : List Logged} {bs : Buffers} {c : Counts} {r
         lists = lists_held;
       }
 
-agrees_steps : (headers : List ℕ) {log : List Logged} {bs : Buffers} {c : Counts} {rd : Reading} → HoldsReading log bs c rd → {ns index second : List ℕ} (x : Heading) {r : AddedHeaders}
+agrees_steps : (headers : List ℕ) {log : List Logged} {bs : Buffers} {c : Counts} {rd : Reading} → HoldsReading log bs c rd → {ns index second : List ℕ} (x : Heading) {r : Result Counts Refusal}
     → with_headers headers rd ≡ x → AgreesHeaders log (with_files bs ns index second) rd x r → AgreesSteps ns index second c x r
 agrees_steps headers w x e (heads_told k) = all_headed (headed_graph headers w e k)
 agrees_steps headers w x e refuses = one_refused
 
-pub all_heads : {headers : List ℕ} {bs : Buffers} {c : Counts} {second₁ ns index second : List ℕ} {r : AddedHeaders} → Begins bs.graph c second₁ → HeadsAll headers bs c second₁ ns index second r
+pub all_heads : {headers : List ℕ} {bs : Buffers} {c : Counts} {second₁ ns index second : List ℕ} {r : Result Counts Refusal} → Begins bs.graph c second₁ → HeadsAll headers bs c second₁ ns index second r
     → HeadsSteps headers bs c ns index second r
 all_heads {headers} b x =
     record {

@@ -1,4 +1,5 @@
 -- One step: the name of its depfile, then its listed inputs.
+use Rattle.std.specs.Prelude.{Option, Some, None, unwrap_or, Result, Ok, Err}
 use Prim.Native.Nat.{ℕ, ◌≤◌, ◌<◌}
 use mathlib.Core.List.{List, []}
 use mathlib.Core.Path.{◌≡◌, sym, subst}
@@ -12,11 +13,7 @@ use Rattle.hold_names.specs.Table.{HoldsNames}
 use Rattle.hold_bindings.specs.Log.{Logged}
 use Rattle.hold_reading.specs.declared.Counts.{Counts}
 use Rattle.hold_reading.specs.Buffers.{Buffers, with_files}
-use Rattle.hold_headers.specs.declared.AddedHeaders.{AddedHeaders}
-use Rattle.hold_headers.specs.declared.AddedHeaders.TheVariants.{Refused}
 use Rattle.hold_headers.specs.Headed.{AgreesHeaders, refuses}
-use Rattle.ask_depfile_names.specs.declared.StepDepfile.{StepDepfile}
-use Rattle.ask_depfile_names.specs.declared.StepDepfile.TheVariants.{None, Written, Refused as NameRefused}
 use Rattle.ask_depfile_names.specs.Names.{HoldsGrown, DepfileAsk, TellsDepfile, NamesDepfile}
 use Rattle.ask_header_list.specs.Adds.{StepHeld, AddHeadersAsks, AddsHeaders}
 use Rattle.ask_header_graph.specs.Turns.{TurnHeld, TurnAsked, Turns}
@@ -62,42 +59,53 @@ module _ {t headers : List ℕ} {count : ℕ} {order : List ℕ} {bs : Buffers} 
         held = step_next a.held a.there;
       }
 
-  module _ {name' : List ℕ} {f : StepDepfile} (m : NamesDepfile bs c d.files s name' f) where
-    tells : {log : List Logged} {rd : Reading} {h : HeaderGraph} → TurnHeld log bs c second s d rd h → (g : StepDepfile) → f ≡ g → TellsDepfile rd s name' g
-    tells {log} {rd} w g e = subst (λ (x : StepDepfile). TellsDepfile rd s name' x) e (m.tells log rd w.holds.more (grown w))
+  module _ {name' : List ℕ} {f : Result (Option ℕ) Refusal} (m : NamesDepfile bs c d.files s name' f) where
+    tells : {log : List Logged} {rd : Reading} {h : HeaderGraph} → TurnHeld log bs c second s d rd h → (g : Result (Option ℕ) Refusal) → f ≡ g → TellsDepfile rd s name' g
+    tells {log} {rd} w g e = subst (λ (x : Result (Option ℕ) Refusal). TellsDepfile rd s name' x) e (m.tells log rd w.holds.more (grown w))
 
-    module _ {n : ℕ} (e : f ≡ Written n) where
-      pub name_within : n ≤ length name'
+    module _ {n : ℕ} (e : f ≡ Ok (Some n)) where
+      name_within : n ≤ length name'
       unfolding TellsDepfile
-      name_within = (tells a.held (Written n) e).within
+      name_within = (tells a.held (Ok (Some n)) e).within
 
-      pub named_turn : {ns index second' : List ℕ} {r : AddedHeaders} → AddsHeaders headers (take n name') bs.graph bs.names bs.index second s d ns index second' r
+      named_turn : {ns index second' : List ℕ} {r : Result Counts Refusal} → AddsHeaders headers (take n name') bs.graph bs.names bs.index second s d ns index second' r
           → Turns headers bs c second s d ns index second' r
       unfolding TellsDepfile
       named_turn {ns} {index} {second'} {r} x =
           record {
             agrees = λ log rd h w.
                 subst (λ (q : FoundDepfile). AgreesHeaders log (with_files bs ns index second') rd (add_headers s (step_at rd.steps s) q h) r)
-                (sym ((tells w (Written n) e).found headers))
+                (sym ((tells w (Ok (Some n)) e).found headers))
                 (x.agrees log bs.texts bs.bind rd h (step_next w a.there));
           }
 
-    pub unnamed_turn : f ≡ None → {ns index second' : List ℕ} {r : AddedHeaders} → AddsHeaders headers [] bs.graph bs.names bs.index second s d ns index second' r
+    unnamed_turn : f ≡ Ok None → {ns index second' : List ℕ} {r : Result Counts Refusal} → AddsHeaders headers [] bs.graph bs.names bs.index second s d ns index second' r
         → Turns headers bs c second s d ns index second' r
     unfolding TellsDepfile depfile_named
     unnamed_turn e {ns} {index} {second'} {r} x =
         record {
           agrees = λ log rd h w.
               subst (λ (q : FoundDepfile). AgreesHeaders log (with_files bs ns index second') rd (add_headers s (step_at rd.steps s) q h) r)
-              (sym (tells w None e headers))
+              (sym (tells w (Ok None) e headers))
               (x.agrees log bs.texts bs.bind rd h (step_next w a.there));
         }
 
-    pub refused_turn : {y : Refusal} → f ≡ NameRefused y → {ns index second' : List ℕ} → Turns headers bs c second s d ns index second' (Refused y)
+    -- no depfile is one with an empty name
+
+    pub within_turn : (o : Option ℕ) → f ≡ Ok o → {n : ℕ} → n ≡ unwrap_or o 0 → n ≤ length name'
+    within_turn None e u = omega arith
+    within_turn (Some k) e u = rw u (name_within e)
+
+    pub headed_turn : (o : Option ℕ) → f ≡ Ok o → {n : ℕ} → n ≡ unwrap_or o 0 → {ns index second' : List ℕ} {r : Result Counts Refusal}
+        → AddsHeaders headers (take n name') bs.graph bs.names bs.index second s d ns index second' r → Turns headers bs c second s d ns index second' r
+    headed_turn None e u x = unnamed_turn e (rw u at x)
+    headed_turn (Some k) e u x = named_turn e (rw u at x)
+
+    pub refused_turn : {y : Refusal} → f ≡ Err y → {ns index second' : List ℕ} → Turns headers bs c second s d ns index second' (Err y)
     unfolding TellsDepfile add_headers
     refused_turn {y} e {ns} {index} {second'} =
         record {
           agrees = λ log rd h w.
-              subst (λ (q : FoundDepfile). AgreesHeaders log (with_files bs ns index second') rd (add_headers s (step_at rd.steps s) q h) (Refused y))
-              (sym (tells w (NameRefused y) e headers)) refuses;
+              subst (λ (q : FoundDepfile). AgreesHeaders log (with_files bs ns index second') rd (add_headers s (step_at rd.steps s) q h) (Err y))
+              (sym (tells w (Err y) e headers)) refuses;
         }

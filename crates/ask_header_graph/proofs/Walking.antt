@@ -1,4 +1,5 @@
 -- All steps, one after another.
+use Rattle.std.specs.Prelude.{Result, Ok, Err}
 use Prim.Native.Nat.{ℕ, suc, ◌+◌, ◌≤◌, ◌<◌}
 use mathlib.Core.Bool.{true, false, ◌||◌}
 use mathlib.Core.List.{List, [], ◌∷◌}
@@ -17,8 +18,6 @@ use Rattle.spec.specs.Headers.{FoundDepfile, no_depfile, missing_depfile, depfil
 use Rattle.hold_bindings.specs.Log.{Logged}
 use Rattle.hold_reading.specs.declared.Counts.{Counts}
 use Rattle.hold_reading.specs.Buffers.{Buffers, buffers, with_files}
-use Rattle.hold_headers.specs.declared.AddedHeaders.{AddedHeaders}
-use Rattle.hold_headers.specs.declared.AddedHeaders.TheVariants.{Headed, Refused}
 use Rattle.hold_headers.specs.Headed.{AgreesHeaders, heads, refuses}
 use Rattle.ask_header_graph.specs.Turns.{TurnHeld, TurnAsked, Turns, no_paths, no_steps, StartHeld, WalkAsked, HeadsAll}
 
@@ -64,7 +63,7 @@ module _ {headers : List ℕ} {log : List Logged} {bs : Buffers} {c : Counts} {s
     there : s < length rd.steps
     there = omega (arith, g.held.bound.steps_counted)
 
-    gone_more : {ns index second' : List ℕ} {e : Counts} (x : Heading) → added ≡ x → AgreesHeaders log (with_files bs ns index second') rd x (Headed e)
+    gone_more : {ns index second' : List ℕ} {e : Counts} (x : Heading) → added ≡ x → AgreesHeaders log (with_files bs ns index second') rd x (Ok e)
         → Gone headers log (buffers ns index bs.texts bs.bind bs.graph) c second' (s + 1) e rd
     unfolding on_headed
     gone_more x q (heads {h = h'} k) =
@@ -78,7 +77,7 @@ module _ {headers : List ℕ} {log : List Logged} {bs : Buffers} {c : Counts} {s
           rest = sym (ap (λ (y : Heading). on_headed y headless (headers_from headers rd (suc s) (drop (suc s) rd.steps))) q) ∙ next_rest there;
         }
 
-    gone_refused : {bs' : Buffers} {r : Refusal} (x : Heading) → added ≡ x → AgreesHeaders log bs' rd x (Refused r) → with_headers headers rd ≡ headless r
+    gone_refused : {bs' : Buffers} {r : Refusal} (x : Heading) → added ≡ x → AgreesHeaders log bs' rd x (Err r) → with_headers headers rd ≡ headless r
     unfolding on_headed
     gone_refused x q refuses = sym (next_rest there) ∙ ap (λ (y : Heading). on_headed y headless (headers_from headers rd (suc s) (drop (suc s) rd.steps))) q
 
@@ -135,9 +134,9 @@ module _ {t headers : List ℕ} {count : ℕ} {order : List ℕ} {bs : Buffers} 
           held = gone_here.held;
         }
 
-    module _ (b : s < c.steps) {names₂ index₂ second₂ : List ℕ} {r : AddedHeaders}
+    module _ (b : s < c.steps) {names₂ index₂ second₂ : List ℕ} {r : Result Counts Refusal}
         (t₁ : Turns headers (buffers names₁ index₁ bs.texts bs.bind bs.graph) c second₁ s d names₂ index₂ second₂ r) where
-      pub walk_more : {name₂ word₂ : List ℕ} {e : Counts} → r ≡ Headed e → length names₂ ≡ length names₁ → length index₂ ≡ length index₁ → length second₂ ≡ length second₁
+      pub walk_more : {name₂ word₂ : List ℕ} {e : Counts} → r ≡ Ok e → length names₂ ≡ length names₁ → length index₂ ≡ length index₁ → length second₂ ≡ length second₁
           → length name₂ ≡ length name₁ → length word₂ ≡ length word₁ → Walking t headers count order bs c second name word names₂ index₂ second₂ name₂ word₂ (s + 1) e
       walk_more {e = e} q l1 l2 l3 l4 l5 =
           record {
@@ -150,24 +149,24 @@ module _ {t headers : List ℕ} {count : ℕ} {order : List ℕ} {bs : Buffers} 
             goes = λ log rd w.
                 let g = x.goes log rd w in
                 gone_more g b (added g) refl
-                (subst (λ (y : AddedHeaders). AgreesHeaders log (buffers names₂ index₂ bs.texts bs.bind second₂) rd (added g) y) q (t₁.agrees log rd g.graph g.held));
+                (subst (λ (y : Result Counts Refusal). AgreesHeaders log (buffers names₂ index₂ bs.texts bs.bind second₂) rd (added g) y) q (t₁.agrees log rd g.graph g.held));
           }
 
-      pub walk_refused : {y : Refusal} → r ≡ Refused y → HeadsAll headers bs c second names₂ index₂ second₂ (Refused y)
+      pub walk_refused : {y : Refusal} → r ≡ Err y → HeadsAll headers bs c second names₂ index₂ second₂ (Err y)
       walk_refused {y} q =
           record {
             agrees = λ log rd w.
                 let g = x.goes log rd w in
                 let e : with_headers headers rd ≡ headless y =
                 gone_refused g b (added g) refl
-                (subst (λ (z : AddedHeaders). AgreesHeaders log (buffers names₂ index₂ bs.texts bs.bind second₂) rd (added g) z) q (t₁.agrees log rd g.graph g.held)) in
-                subst (λ (z : Heading). AgreesHeaders log (with_files bs names₂ index₂ second₂) rd z (Refused y)) (sym e) refuses;
+                (subst (λ (z : Result Counts Refusal). AgreesHeaders log (buffers names₂ index₂ bs.texts bs.bind second₂) rd (added g) z) q (t₁.agrees log rd g.graph g.held)) in
+                subst (λ (z : Heading). AgreesHeaders log (with_files bs names₂ index₂ second₂) rd z (Err y)) (sym e) refuses;
           }
 
-    pub walk_end : c.steps ≤ s → HeadsAll headers bs c second names₁ index₁ second₁ (Headed d)
+    pub walk_end : c.steps ≤ s → HeadsAll headers bs c second names₁ index₁ second₁ (Ok d)
     walk_end b =
         record {
           agrees = λ log rd w.
               let g = x.goes log rd w in
-              subst (λ (z : Heading). AgreesHeaders log (with_files bs names₁ index₁ second₁) rd z (Headed d)) (sym (gone_all g b)) (heads g.held.holds);
+              subst (λ (z : Heading). AgreesHeaders log (with_files bs names₁ index₁ second₁) rd z (Ok d)) (sym (gone_all g b)) (heads g.held.holds);
         }

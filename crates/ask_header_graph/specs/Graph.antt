@@ -1,5 +1,5 @@
 -- The listed inputs of all steps: what is asked, and what names and second columns hold then.
-use Rattle.std.specs.Prelude.{ℕ, ◌+◌, ◌-◌, ◌*◌, ◌≤◌, ◌<◌, List, map, ◌≡◌, length, take}
+use Rattle.std.specs.Prelude.{ℕ, ◌+◌, ◌-◌, ◌*◌, ◌≤◌, ◌<◌, List, map, ◌≡◌, length, take, Result, Ok, Err}
 use Rattle.lists.specs.Parts.{part}
 use Rattle.spec.specs.declared.Refusal.{Refusal}
 use Rattle.spec.specs.Limits.{max_steps, max_files, max_mentions, max_path, max_text, max_written}
@@ -14,8 +14,6 @@ use Rattle.hold_columns.specs.Columns.{per_step, implicit_end, end_at, HoldsColu
 use Rattle.hold_reading.specs.declared.Counts.{Counts}
 use Rattle.hold_reading.specs.Held.{ends_start, phony_start, made_start, rule_start, columns_end, HoldsReading}
 use Rattle.hold_reading.specs.Buffers.{Buffers}
-use Rattle.hold_headers.specs.declared.AddedHeaders.{AddedHeaders}
-use Rattle.hold_headers.specs.declared.AddedHeaders.TheVariants.{Headed, Refused}
 use Rattle.hold_headers.specs.Headed.{listed_number}
 
 -- ------------------------------------------------------------------ the columns, as parts of their buffer
@@ -76,11 +74,11 @@ pub record HeadStepsAsked (t headers : List ℕ) (count : ℕ) (order : List ℕ
   pub holds : HoldsReading log bs c reading
 
 -- The answer agrees with the definition: what is headed is held, and a refusal is the same. The buffers are working space after a refusal.
-pub data AgreesSteps (names index second : List ℕ) (c : Counts) : Heading → AddedHeaders → Type 0 where
-  all_headed : {h : HeaderGraph} {d : Counts} → HeadedGraph names index second c d h → AgreesSteps names index second c (headed h) (Headed d)
-  one_refused : {r : Refusal} → AgreesSteps names index second c (headless r) (Refused r)
+pub data AgreesSteps (names index second : List ℕ) (c : Counts) : Heading → Result Counts Refusal → Type 0 where
+  all_headed : {h : HeaderGraph} {d : Counts} → HeadedGraph names index second c d h → AgreesSteps names index second c (headed h) (Ok d)
+  one_refused : {r : Refusal} → AgreesSteps names index second c (headless r) (Err r)
 
 -- ... whatever manifest was read
-pub record HeadsSteps (headers : List ℕ) (bs : Buffers) (c : Counts) (names index second : List ℕ) (r : AddedHeaders) : Type 0 where
+pub record HeadsSteps (headers : List ℕ) (bs : Buffers) (c : Counts) (names index second : List ℕ) (r : Result Counts Refusal) : Type 0 where
   pub agrees : (manifest : List ℕ) (log : List Logged) (rd : Reading) → read_manifest manifest ≡ accepted rd → HoldsReading log bs c rd
       → AgreesSteps names index second c (with_headers headers rd) r

@@ -1,5 +1,5 @@
 -- One step after another: what is held before each, and what its answer agrees with.
-use Rattle.std.specs.Prelude.{ℕ, ◌≤◌, ◌<◌, List, [], ◌≡◌, length}
+use Rattle.std.specs.Prelude.{ℕ, ◌≤◌, ◌<◌, List, [], ◌≡◌, length, Result}
 use Rattle.spec.specs.Limits.{max_path, max_text, max_written}
 use Rattle.spec.specs.Reading.{Reading}
 use Rattle.spec.specs.Sound.{SoundRules}
@@ -11,8 +11,8 @@ use Rattle.hold_bindings.specs.Log.{Logged}
 use Rattle.hold_reading.specs.declared.Counts.{Counts}
 use Rattle.hold_reading.specs.Held.{HoldsBound, Graphed}
 use Rattle.hold_reading.specs.Buffers.{Buffers, with_files}
-use Rattle.hold_headers.specs.declared.AddedHeaders.{AddedHeaders}
 use Rattle.hold_headers.specs.Headed.{HoldsHeaders, AgreesHeaders}
+use Rattle.spec.specs.declared.Refusal.{Refusal}
 
 -- a sound bundle of header lists, and room for its longest texts
 pub record ListsReady (t headers : List ℕ) (count : ℕ) (order names name word : List ℕ) : Type 0 where
@@ -41,7 +41,7 @@ pub record TurnAsked (t headers : List ℕ) (count : ℕ) (order : List ℕ) (bs
   pub held : TurnHeld log bs c second s d reading headed
 
 -- whatever was held
-pub record Turns (headers : List ℕ) (bs : Buffers) (c : Counts) (second : List ℕ) (s : ℕ) (d : Counts) (names index second' : List ℕ) (r : AddedHeaders) : Type 0 where
+pub record Turns (headers : List ℕ) (bs : Buffers) (c : Counts) (second : List ℕ) (s : ℕ) (d : Counts) (names index second' : List ℕ) (r : Result Counts Refusal) : Type 0 where
   pub agrees : (log : List Logged) (rd : Reading) (h : HeaderGraph) → TurnHeld log bs c second s d rd h
       → AgreesHeaders log (with_files bs names index second') rd (add_headers s (step_at rd.steps s) (depfile_of headers rd s) h) r
 
@@ -77,5 +77,5 @@ pub record WalkAsked (t headers : List ℕ) (count : ℕ) (order : List ℕ) (bs
   pub sound : SoundRules reading
   pub held : StartHeld log bs c second reading
 
-pub record HeadsAll (headers : List ℕ) (bs : Buffers) (c : Counts) (second names index second' : List ℕ) (r : AddedHeaders) : Type 0 where
+pub record HeadsAll (headers : List ℕ) (bs : Buffers) (c : Counts) (second names index second' : List ℕ) (r : Result Counts Refusal) : Type 0 where
   pub agrees : (log : List Logged) (rd : Reading) → StartHeld log bs c second rd → AgreesHeaders log (with_files bs names index second') rd (with_headers headers rd) r

@@ -1,4 +1,5 @@
-// The listed inputs of all steps: names and second columns as they are with them, or the first refusal (document 02, [4]).
+// The listed inputs of all steps: names and second columns as they are with them, or the first refusal (document 02,
+// [4]).
 #![tactic(auto)]
 
 ghost use Rattle.std.specs.Prelude.{◌+◌, ◌≤◌, length};
@@ -10,23 +11,22 @@ ghost use Rattle.ask_header_graph.specs.Begins.{Fills, BeginAsked, Begins};
 ghost use Rattle.ask_header_graph.specs.Turns.{TurnAsked, Turns, WalkAsked, HeadsAll};
 
 use arena::put;
-use ask_depfile_names::{StepDepfile, depfile_name};
+use ask_depfile_names::depfile_name;
 use ask_header_list::add_headers;
-use hold_headers::{AddedHeaders, listed_number};
+use hold_headers::listed_number;
 use hold_reading::Counts;
 use hold_reading::columns::{DEFAULTS_START, MADE_START, PHONY_START};
+use spec::Refusal;
 
 // What the depfile of each step tells, in two columns: is it missing, and how many files it lists.
 pub fn split_lists(second: &[u32], steps: usize, missing: &mut [u32], listed: &mut [u32])
     requires { SplitAsked second.now steps missing.old listed.old }
     ensures { SplitsLists second.now steps missing.new listed.new }
 {
-    let mut s = 0;
-    while s < steps {
+    for s in 0..steps {
         let n = listed_number(second, s);
         put(missing, s, n % 2);
         put(listed, s, n / 2);
-        s += 1;
     }
 }
 
@@ -35,11 +35,7 @@ fn fill_column(second: &mut [u32], at: usize, src: &[u32])
     requires { at + length src.now ≤ length second.old }
     ensures { Fills second.old at src.now second.new }
 {
-    let mut i = 0;
-    while i < src.len() {
-        second[at + i] = src[i];
-        i += 1;
-    }
+    second[at..at + src.len()].copy_from_slice(src);
 }
 
 // The second columns before the first step: what the written ones have beside the steps' files.
@@ -72,39 +68,26 @@ fn head_step(
     word: &mut [u8],
     s: usize,
     d: Counts,
-) -> AddedHeaders
+) -> Result<Counts, Refusal>
     requires { TurnAsked t.now headers.now count order.now (buffers names.old index.old texts.now bind.now graph.now) c second.old name.old word.old s d }
     ensures { Leaves ((Spare names.old names.new) × (Spare index.old index.new) × (Spare second.old second.new) × (Spare name.old name.new) × (Spare word.old word.new)) (Turns headers.now (buffers names.old index.old texts.now bind.now graph.now) c second.old s d names.new index.new second.new result) }
 {
-    match depfile_name(t, names, index, texts, bind, graph, c, d.files, s, name) {
-        StepDepfile::None => add_headers(
-            headers,
-            count,
-            order,
-            &name[..0],
-            graph,
-            names,
-            index,
-            second,
-            word,
-            s,
-            d,
-        ),
-        StepDepfile::Written(n) => add_headers(
-            headers,
-            count,
-            order,
-            &name[..n],
-            graph,
-            names,
-            index,
-            second,
-            word,
-            s,
-            d,
-        ),
-        StepDepfile::Refused(r) => AddedHeaders::Refused(r),
-    }
+    let named = depfile_name(t, names, index, texts, bind, graph, c, d.files, s, name)?;
+    // no depfile is one with an empty name
+    let n = named.unwrap_or(0);
+    add_headers(
+        headers,
+        count,
+        order,
+        &name[..n],
+        graph,
+        names,
+        index,
+        second,
+        word,
+        s,
+        d,
+    )
 }
 
 // All steps, where the second columns have none yet.
@@ -122,30 +105,21 @@ fn walk_steps(
     second: &mut [u32],
     name: &mut [u8],
     word: &mut [u8],
-) -> AddedHeaders
+) -> Result<Counts, Refusal>
     requires { WalkAsked t.now headers.now count order.now (buffers names.old index.old texts.now bind.now graph.now) c second.old name.old word.old }
     ensures { Leaves ((Spare names.old names.new) × (Spare index.old index.new) × (Spare second.old second.new) × (Spare name.old name.new) × (Spare word.old word.new)) (HeadsAll headers.now (buffers names.old index.old texts.now bind.now graph.now) c second.old names.new index.new second.new result) }
 {
-    let mut s = 0;
     let mut d = Counts { paths: 0, ..c };
-    while s < c.steps {
-        match head_step(
+    for s in 0..c.steps {
+        d = head_step(
             t, headers, count, order, texts, bind, graph, c, names, index, second, name, word, s, d,
-        ) {
-            AddedHeaders::Headed(e) => {
-                d = e;
-                s += 1;
-            }
-            AddedHeaders::Refused(r) => {
-                return AddedHeaders::Refused(r);
-            }
-        }
+        )?;
     }
-    AddedHeaders::Headed(d)
+    Ok(d)
 }
 
-// All steps with their listed inputs. `graph` has the written columns; `names` and `index` get the listed files, `second` the columns with them. What they hold after
-// a refusal is left open; `name` and `word` are working space.
+// All steps with their listed inputs. `graph` has the written columns; `names` and `index` get the listed files,
+// `second` the columns with them. What they hold after a refusal is left open; `name` and `word` are working space.
 pub fn head_steps(
     t: &[u8; 256],
     headers: &[u8],
@@ -160,7 +134,7 @@ pub fn head_steps(
     second: &mut [u32],
     name: &mut [u8],
     word: &mut [u8],
-) -> AddedHeaders
+) -> Result<Counts, Refusal>
     requires { HeadStepsAsked t.now headers.now count order.now (buffers names.old index.old texts.now bind.now graph.now) c second.old name.old word.old }
     ensures { Leaves ((Spare names.old names.new) × (Spare index.old index.new) × (Spare second.old second.new) × (Spare name.old name.new) × (Spare word.old word.new)) (HeadsSteps headers.now (buffers names.old index.old texts.now bind.now graph.now) c names.new index.new second.new result) }
 {

@@ -1,4 +1,5 @@
 -- The answer for a step: what is told of its depfile, and the second columns with the step.
+use Rattle.std.specs.Prelude.{Some, None, Ok, Err}
 use Prim.Native.Nat.{ℕ, ◌+◌, ◌*◌}
 use mathlib.Core.Bool.{Bool, true, false, ◌||◌}
 use mathlib.Core.List.{List, [], ◌++◌}
@@ -19,9 +20,7 @@ use Rattle.apply_files.specs.Lines.{LineHeld, Writing, with_paths, over_line}
 use Rattle.apply_files.proofs.Columns.{made_fit}
 use Rattle.apply_files.proofs.Closed.{paths_reading, length_numbers}
 use Rattle.apply_files.proofs.Limits.{mentioned_none}
-use Rattle.hold_headers.specs.declared.AddedHeaders.TheVariants.{Headed, Refused}
 use Rattle.hold_headers.specs.Headed.{listed_number, reading_with, head_line, HoldsHeaders, AgreesHeaders, heads, refuses}
-use Rattle.ask_header_list.specs.declared.DepfileTold.TheVariants.{Told, Refused as RefusedList}
 use Rattle.ask_header_list.specs.Places.{places_in}
 use Rattle.ask_header_list.specs.Copies.{Closes}
 use Rattle.ask_header_list.specs.Finds.{ToldFor, unnamed, absent, lists, passed, bad}
@@ -66,8 +65,8 @@ module _ {log : List Logged} {graph ns index texts bind second : List ℕ} {s : 
     none_told missing z k q =
         subst (λ (v : HeaderGraph). HoldsHeaders log (buffers ns' index' texts bind second₃) r rd v) (none_more (record { missing = missing; files = [] })) (step_held w missing [] k z q)
 
-    pub told_agrees : {d : FoundDepfile} {e : Counts} {n : ℕ} → ToldFor s (buffers ns' index' texts bind second₂) front d (Told e n) → Closes graph (places_in graph s) second₂ s c.paths e n second₃ r
-        → AgreesHeaders log (buffers ns' index' texts bind second₃) rd (add_headers s step d h) (Headed r)
+    pub told_agrees : {d : FoundDepfile} {e : Counts} {n : ℕ} → ToldFor s (buffers ns' index' texts bind second₂) front d (Some (e, n)) → Closes graph (places_in graph s) second₂ s c.paths e n second₃ r
+        → AgreesHeaders log (buffers ns' index' texts bind second₃) rd (add_headers s step d h) (Ok r)
     unfolding add_headers listed_number
     told_agrees (unnamed k) q = heads (none_told false refl k q)
     told_agrees (absent k) q = heads (none_told true refl k q)
@@ -77,8 +76,8 @@ module _ {log : List Logged} {graph ns index texts bind second : List ℕ} {s : 
         let m : n ≡ 2 * length (numbers_of (mention h.reading.files names) names) + 0 = omega (arith, z, length_numbers (mention h.reading.files names) names) in
         rw (o, y) (heads (step_held w false names k m q))
 
-  pub refused_agrees : {ns' index' second₂ second₃ : List ℕ} {d : FoundDepfile} → ToldFor s (buffers ns' index' texts bind second₂) front d RefusedList
-      → AgreesHeaders log (buffers ns' index' texts bind second₃) rd (add_headers s step d h) (Refused (BadHeaders s))
+  pub refused_agrees : {ns' index' second₂ second₃ : List ℕ} {d : FoundDepfile} → ToldFor s (buffers ns' index' texts bind second₂) front d None
+      → AgreesHeaders log (buffers ns' index' texts bind second₃) rd (add_headers s step d h) (Err (BadHeaders s))
   unfolding add_headers over_line
   refused_agrees (passed {ns = names} o) =
       let y : over_paths names || over_counts (mentioned names h.reading) ≡ true = sym (ap (λ (b : Bool). over_paths names || b) (over_same rd h.reading names w.holds.bindings)) ∙ o in

@@ -1,4 +1,5 @@
 -- The calls for a step, one after another: what each asks, and what is held after it.
+use Rattle.std.specs.Prelude.{Option, Some, None, Ok, Err}
 use Prim.Native.Nat.{ℕ, ◌+◌, ◌-◌, ◌*◌, ◌≤◌, ◌<◌}
 use mathlib.Core.List.{List, [], ◌++◌}
 use mathlib.Core.Path.{◌≡◌, sym, ◌∙◌, ap, subst}
@@ -19,13 +20,10 @@ use Rattle.apply_files.specs.Lines.{LineHeld, Writing}
 use Rattle.apply_files.proofs.Columns.{graph_long}
 use Rattle.apply_files.proofs.Closed.{paths_reading}
 use Rattle.scan_bundle.specs.Bundles.{BundleIndexed}
-use Rattle.hold_headers.specs.declared.AddedHeaders.TheVariants.{Headed, Refused}
 use Rattle.hold_headers.specs.Headed.{AgreesHeaders}
 use Rattle.ask_header_list.specs.declared.StepPlaces.{StepPlaces}
 use Rattle.ask_header_list.specs.declared.DepfilePlace.{DepfilePlace}
 use Rattle.ask_header_list.specs.declared.DepfilePlace.TheVariants.{Unnamed, Absent, Lists, Malformed}
-use Rattle.ask_header_list.specs.declared.DepfileTold.{DepfileTold}
-use Rattle.ask_header_list.specs.declared.DepfileTold.TheVariants.{Told, Refused as RefusedList}
 use Rattle.ask_header_list.specs.Places.{places_in, PlacesAsk}
 use Rattle.ask_header_list.specs.Copies.{CopyAsks, Copies, CloseAsks, Closes}
 use Rattle.ask_header_list.specs.Finds.{DepfileFor, FindAsks, FindsDepfile, StepPlaced, ToldAsks, ToldFor, unnamed, absent, lists, MentionsListed}
@@ -62,7 +60,7 @@ plain_fits w k b =
       low = k.mentions_low;
     }
 
-told_fits : {bs bs' : Buffers} {s : ℕ} {c e : Counts} {h : LineHeld} {d : FoundDepfile} {n : ℕ} → Writing bs c h → ToldFor s bs' h d (Told e n) → ToldFits c e n
+told_fits : {bs bs' : Buffers} {s : ℕ} {c e : Counts} {h : LineHeld} {d : FoundDepfile} {n : ℕ} → Writing bs c h → ToldFor s bs' h d (Some (e, n)) → ToldFits c e n
 unfolding mentioned
 told_fits w (unnamed k) = plain_fits w k (omega arith)
 told_fits w (absent k) = plain_fits w k (omega arith)
@@ -143,13 +141,13 @@ module _ {log : List Logged} {graph ns index texts bind second : List ℕ} {s : 
                 asks = record { names_long = m; word_long = l; texts = texts; bind = bind; line = front w; writing = front_held };
               }
 
-          module _ {ns' index' second₂ : List ℕ} {r : DepfileTold} (t : MentionsListed headers place ns index second₁ d ns' index' second₂ r) where
+          module _ {ns' index' second₂ : List ℕ} {r : Option (Counts × ℕ)} (t : MentionsListed headers place ns index second₁ d ns' index' second₂ r) where
             told : ToldFor s (buffers ns' index' texts bind second₂) (front w) (depfile_named headers rd s name) r
             told = t.tells rd s name found_for texts bind (front w) front_held
 
-            module _ {e : Counts} {n : ℕ} (y : r ≡ Told e n) where
-              told_here : ToldFor s (buffers ns' index' texts bind second₂) (front w) (depfile_named headers rd s name) (Told e n)
-              told_here = subst (λ (x : DepfileTold). ToldFor s (buffers ns' index' texts bind second₂) (front w) (depfile_named headers rd s name) x) y told
+            module _ {e : Counts} {n : ℕ} (y : r ≡ Some (e, n)) where
+              told_here : ToldFor s (buffers ns' index' texts bind second₂) (front w) (depfile_named headers rd s name) (Some (e, n))
+              told_here = subst (λ (x : Option (Counts × ℕ)). ToldFor s (buffers ns' index' texts bind second₂) (front w) (depfile_named headers rd s name) x) y told
 
               pub close_asked : length second₂ ≡ length second → CloseAsks graph p second₂ s c.paths e n
               close_asked l =
@@ -169,9 +167,9 @@ module _ {log : List Logged} {graph ns index texts bind second : List ℕ} {s : 
                   }
 
               pub headed_here : {second₃ : List ℕ} {g : Counts} → Closes graph p second₂ s c.paths e n second₃ g
-                  → AgreesHeaders log (buffers ns' index' texts bind second₃) rd (add_headers s (step w) (depfile_named headers rd s name) h) (Headed g)
+                  → AgreesHeaders log (buffers ns' index' texts bind second₃) rd (add_headers s (step w) (depfile_named headers rd s name) h) (Ok g)
               headed_here q = told_agrees w told_here (rw pl at q)
 
-            pub refused_here : r ≡ RefusedList → AgreesHeaders log (buffers ns' index' texts bind second₂) rd (add_headers s (step w) (depfile_named headers rd s name) h) (Refused (BadHeaders s))
+            pub refused_here : r ≡ None → AgreesHeaders log (buffers ns' index' texts bind second₂) rd (add_headers s (step w) (depfile_named headers rd s name) h) (Err (BadHeaders s))
             refused_here y =
-                refused_agrees w (subst (λ (x : DepfileTold). ToldFor s (buffers ns' index' texts bind second₂) (front w) (depfile_named headers rd s name) x) y told)
+                refused_agrees w (subst (λ (x : Option (Counts × ℕ)). ToldFor s (buffers ns' index' texts bind second₂) (front w) (depfile_named headers rd s name) x) y told)

@@ -1,4 +1,5 @@
 -- What is found of a step's depfile, by what the bundle has.
+use Rattle.std.specs.Prelude.{Option, Some, None}
 use Prim.Native.Nat.{ℕ, ◌≤◌, ◌<◌}
 use mathlib.Core.Bool.{true, false}
 use mathlib.Core.List.{List, [], ◌∷◌}
@@ -15,8 +16,6 @@ use Rattle.spec.specs.Headers.{depfile_lists, bad_depfile, first_output, depfile
 use Rattle.depfile.specs.Depfile.{depfile_rule, listed_for}
 use Rattle.hold_names.specs.Table.{NamesFile}
 use Rattle.spec.proofs.Numbers.{number_below}
-use Rattle.scan_bundle.specs.declared.FoundRecord.{FoundRecord}
-use Rattle.scan_bundle.specs.declared.FoundRecord.TheVariants.{At, Missing}
 use Rattle.scan_bundle.specs.Bundles.{found_record}
 use Rattle.scan_bundle.proofs.Laws.{found_at, found_none}
 use Rattle.scan_bundle.proofs.Lying.{length_names}
@@ -77,7 +76,7 @@ module _ (headers : List ℕ) (rd : Reading) (s : ℕ) (name : List ℕ) where
         }
     for_text {k} Malformed a q o x = by_text a ∙ rw (← q, o, x)
 
-pub find_low : (headers name : List ℕ) {r : FoundRecord} → r ≡ found_record name (bundle_names headers) → {k : ℕ} → r ≡ At k → k < number_at 0 4 headers
+pub find_low : (headers name : List ℕ) {r : Option ℕ} → r ≡ found_record name (bundle_names headers) → {k : ℕ} → r ≡ Some k → k < number_at 0 4 headers
 find_low headers name x e =
     let (a, q) = found_at name (bundle_names headers) x e in
     omega (arith, number_below name (bundle_names headers) a, length_names headers)
@@ -86,11 +85,11 @@ module _ {headers name names index : List ℕ} {files out : ℕ} where
   pub find_unnamed : length name ≡ 0 → FindsDepfile headers name names index files out Unnamed
   find_unnamed h = record { finds = λ paths w rd s o. for_unnamed headers rd s name h }
 
-  module _ (full : length name ≡ 0 → ⊥) {r : FoundRecord} (x : r ≡ found_record name (bundle_names headers)) where
-    pub find_absent : r ≡ Missing → FindsDepfile headers name names index files out Absent
+  module _ (full : length name ≡ 0 → ⊥) {r : Option ℕ} (x : r ≡ found_record name (bundle_names headers)) where
+    pub find_absent : r ≡ None → FindsDepfile headers name names index files out Absent
     find_absent e = record { finds = λ paths w rd s o. for_absent headers rd s name full (found_none name (bundle_names headers) x e) }
 
-    pub find_text : {k : ℕ} {text path : List ℕ} {p : DepfilePlace} → r ≡ At k → text ≡ list_text_in headers k → NamesFile names index files out path → StartsAt text path k p
+    pub find_text : {k : ℕ} {text path : List ℕ} {p : DepfilePlace} → r ≡ Some k → text ≡ list_text_in headers k → NamesFile names index files out path → StartsAt text path k p
         → FindsDepfile headers name names index files out p
     find_text {k} {text} {path} {p} e t n l =
         let (a, q) = found_at name (bundle_names headers) x e in

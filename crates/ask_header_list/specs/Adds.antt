@@ -1,5 +1,5 @@
 -- The listed inputs of one step: what is asked, and that the answer agrees with the definition.
-use Rattle.std.specs.Prelude.{ℕ, ◌≤◌, ◌<◌, List, ◌≡◌, length}
+use Rattle.std.specs.Prelude.{ℕ, ◌≤◌, ◌<◌, List, ◌≡◌, length, Result}
 use Rattle.spec.specs.Limits.{max_path, max_written}
 use Rattle.spec.specs.Reading.{Reading}
 use Rattle.spec.specs.Graph.{step_at}
@@ -9,8 +9,8 @@ use Rattle.hold_reading.specs.declared.Counts.{Counts}
 use Rattle.hold_reading.specs.Held.{Graphed}
 use Rattle.hold_reading.specs.Buffers.{buffers}
 use Rattle.scan_bundle.specs.Bundles.{BundleIndexed}
-use Rattle.hold_headers.specs.declared.AddedHeaders.{AddedHeaders}
 use Rattle.hold_headers.specs.Headed.{HoldsHeaders, AgreesHeaders}
+use Rattle.spec.specs.declared.Refusal.{Refusal}
 
 -- the steps before step s are headed
 pub record StepHeld (log : List Logged) (graph names index texts bind second : List ℕ) (s : ℕ) (c : Counts) (rd : Reading) (h : HeaderGraph) : Type 0 where
@@ -32,6 +32,6 @@ pub record AddHeadersAsks (headers : List ℕ) (count : ℕ) (order graph names 
   pub held : StepHeld log graph names index texts bind second s c reading headed
 
 -- Whatever was held, the answer is that of the depfile of this name.
-pub record AddsHeaders (headers name graph names index second : List ℕ) (s : ℕ) (c : Counts) (names' index' second' : List ℕ) (r : AddedHeaders) : Type 0 where
+pub record AddsHeaders (headers name graph names index second : List ℕ) (s : ℕ) (c : Counts) (names' index' second' : List ℕ) (r : Result Counts Refusal) : Type 0 where
   pub agrees : (log : List Logged) (texts bind : List ℕ) (rd : Reading) (h : HeaderGraph) → StepHeld log graph names index texts bind second s c rd h
       → AgreesHeaders log (buffers names' index' texts bind second') rd (add_headers s (step_at rd.steps s) (depfile_named headers rd s name) h) r

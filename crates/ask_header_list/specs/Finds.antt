@@ -1,5 +1,5 @@
 -- The depfile of a step, by its name: the record of the bundle, and where its names start.
-use Rattle.std.specs.Prelude.{ℕ, ◌*◌, ◌≤◌, ◌<◌, true, false, List, [], ◌≡◌, length, get_or}
+use Rattle.std.specs.Prelude.{ℕ, ◌*◌, ◌≤◌, ◌<◌, true, false, List, [], ◌≡◌, length, get_or, Option, Some, None}
 use Rattle.std.proofs.Math.Option.{none}
 use Rattle.spec.specs.declared.Refusal.TheVariants.{BadHeaders}
 use Rattle.spec.specs.Basics.{or_else}
@@ -18,8 +18,6 @@ use Rattle.depfile.specs.Depfile.{depfile_rule, listed_for}
 use Rattle.scan_depfile.specs.Answers.{listed_at, ListedFrom}
 use Rattle.ask_header_list.specs.declared.DepfilePlace.{DepfilePlace}
 use Rattle.ask_header_list.specs.declared.DepfilePlace.TheVariants.{Unnamed, Absent, Lists, Malformed}
-use Rattle.ask_header_list.specs.declared.DepfileTold.{DepfileTold}
-use Rattle.ask_header_list.specs.declared.DepfileTold.TheVariants.{Told, Refused}
 
 -- the names that text k lists for a first output start at `from`
 unfoldable pub StartsAt : List ℕ → List ℕ → ℕ → DepfilePlace → Type 0
@@ -69,13 +67,13 @@ pub record ToldAsks (headers : List ℕ) (place : DepfilePlace) (names index sec
   pub asks : HeaderAsks word names index second c
 
 -- The names are mentioned, or the step is refused; the number is that of what is told.
-pub data ToldFor (s : ℕ) (bs : Buffers) (h : LineHeld) : FoundDepfile → DepfileTold → Type 0 where
-  unnamed : {c : Counts} → Writing bs c h → ToldFor s bs h no_depfile (Told c 0)
-  absent : {c : Counts} → Writing bs c h → ToldFor s bs h missing_depfile (Told c 1)
-  lists : {ns : List (List ℕ)} {c : Counts} {n : ℕ} → Writing bs c (with_paths ns h) → over_paths ns ≡ false → n ≡ 2 * length ns → ToldFor s bs h (depfile_lists ns) (Told c n)
-  passed : {ns : List (List ℕ)} → over_line ns h.reading ≡ true → ToldFor s bs h (depfile_lists ns) Refused
-  bad : ToldFor s bs h (bad_depfile (BadHeaders s)) Refused
+pub data ToldFor (s : ℕ) (bs : Buffers) (h : LineHeld) : FoundDepfile → Option (Counts × ℕ) → Type 0 where
+  unnamed : {c : Counts} → Writing bs c h → ToldFor s bs h no_depfile (Some (c, 0))
+  absent : {c : Counts} → Writing bs c h → ToldFor s bs h missing_depfile (Some (c, 1))
+  lists : {ns : List (List ℕ)} {c : Counts} {n : ℕ} → Writing bs c (with_paths ns h) → over_paths ns ≡ false → n ≡ 2 * length ns → ToldFor s bs h (depfile_lists ns) (Some (c, n))
+  passed : {ns : List (List ℕ)} → over_line ns h.reading ≡ true → ToldFor s bs h (depfile_lists ns) None
+  bad : ToldFor s bs h (bad_depfile (BadHeaders s)) None
 
-pub record MentionsListed (headers : List ℕ) (place : DepfilePlace) (names index second : List ℕ) (c : Counts) (names' index' second' : List ℕ) (r : DepfileTold) : Type 0 where
+pub record MentionsListed (headers : List ℕ) (place : DepfilePlace) (names index second : List ℕ) (c : Counts) (names' index' second' : List ℕ) (r : Option (Counts × ℕ)) : Type 0 where
   pub tells : (rd : Reading) (s : ℕ) (name : List ℕ) → DepfileFor headers rd s name place → (texts bind : List ℕ) (h : LineHeld) → Writing (buffers names index texts bind second) c h
       → ToldFor s (buffers names' index' texts bind second') h (depfile_named headers rd s name) r

@@ -1,5 +1,5 @@
-// The listed inputs of one step: its depfile is looked up by its name, the names that it lists are mentioned, and the step is copied into the second
-// columns with them behind its implicit inputs.
+// The listed inputs of one step: its depfile is looked up by its name, the names that it lists are mentioned, and the
+// step is copied into the second columns with them behind its implicit inputs.
 #![tactic(auto)]
 
 ghost use Rattle.std.specs.Prelude.{◌≡◌};
@@ -9,16 +9,14 @@ ghost use Rattle.ask_header_list.specs.Copies.{CopyAsks, Copies, ended_in, EndAs
 ghost use Rattle.ask_header_list.specs.Finds.{StartsAt, FindAsks, FindsDepfile, ToldAsks, MentionsListed};
 ghost use Rattle.ask_header_list.specs.Adds.{AddHeadersAsks, AddsHeaders};
 
-use apply_files::Mentioned;
 use arena::put;
 use ask_header_names::add_header_list;
 use hold_columns::{IMPLICIT_END, INS_END, LAST_END, ORDER_ONLY_END, OUTS_END, end_place};
-use hold_headers::AddedHeaders;
 use hold_names::file_name;
 use hold_reading::Counts;
 use hold_reading::columns::{ENDS_START, RULE_START, step_end};
-use scan_bundle::{FoundRecord, find_record, record_text};
-use scan_depfile::{DepfileStart, depfile_start};
+use scan_bundle::{find_record, record_text};
+use scan_depfile::depfile_start;
 use slices::words::at;
 use spec::Refusal;
 
@@ -50,13 +48,6 @@ pub enum DepfilePlace {
     Malformed,
 }
 
-// What a step's depfile tells: the counts with its names mentioned, and its number; or the step's 20.
-#[derive(Clone, Copy)]
-pub enum DepfileTold {
-    Told(Counts, usize),
-    Refused,
-}
-
 fn start_of(graph: &[u32], s: usize) -> usize
     requires { PlacesAsk graph.now s }
     ensures { result ≡ start_in graph.now s }
@@ -78,11 +69,11 @@ fn places_of(graph: &[u32], s: usize) -> StepPlaces
     let implicit = step_end(graph, s, IMPLICIT_END);
     let order = step_end(graph, s, ORDER_ONLY_END);
     StepPlaces {
-        start: start,
-        outs: outs,
-        ins: ins,
-        implicit: implicit,
-        order: order,
+        start,
+        outs,
+        ins,
+        implicit,
+        order,
     }
 }
 
@@ -91,14 +82,12 @@ fn copy_mentions(graph: &[u32], from: usize, to: usize, second: &mut [u32], c: C
     requires { CopyAsks graph.now from to second.old c }
     ensures { Copies graph.now from to second.old c second.new result }
 {
-    let mut i = from;
     let mut paths = c.paths;
-    while i < to {
+    for i in from..to {
         put(second, paths, at(graph, i));
         paths += 1;
-        i += 1;
     }
-    Counts { paths: paths, ..c }
+    Counts { paths, ..c }
 }
 
 // Puts down the ends of a step's parts and the number for its depfile.
@@ -118,8 +107,8 @@ fn list_start(text: &[u8], out: &[u8], k: usize) -> DepfilePlace
     ensures { StartsAt text.now out.now k result }
 {
     match depfile_start(text, out) {
-        DepfileStart::Names(from) => DepfilePlace::Lists(k, from),
-        DepfileStart::Refused => DepfilePlace::Malformed,
+        Some(from) => DepfilePlace::Lists(k, from),
+        None => DepfilePlace::Malformed,
     }
 }
 
@@ -137,20 +126,21 @@ fn find_depfile(
     requires { FindAsks headers.now count order.now names.now index.now files out }
     ensures { FindsDepfile headers.now name.now names.now index.now files out result }
 {
-    if name.len() == 0 {
+    if name.is_empty() {
         return DepfilePlace::Unnamed;
     }
     match find_record(headers, count, order, name) {
-        FoundRecord::At(k) => list_start(
+        Some(k) => list_start(
             record_text(headers, k),
             file_name(names, index, files, out),
             k,
         ),
-        FoundRecord::Missing => DepfilePlace::Absent,
+        None => DepfilePlace::Absent,
     }
 }
 
-// The names that a step's depfile lists, mentioned. The word buffer is working space.
+// The names that a step's depfile lists, mentioned: the counts with them, and the number for the depfile. None where
+// it is the step's 20. The word buffer is working space.
 fn mention_listed(
     headers: &[u8],
     place: DepfilePlace,
@@ -159,20 +149,18 @@ fn mention_listed(
     second: &mut [u32],
     word: &mut [u8],
     c: Counts,
-) -> DepfileTold
+) -> Option<(Counts, usize)>
     requires { ToldAsks headers.now place names.old index.old second.old word.old c }
     ensures { Leaves ((Spare names.old names.new) × (Spare index.old index.new) × (Spare second.old second.new) × (Spare word.old word.new)) (MentionsListed headers.now place names.old index.old second.old c names.new index.new second.new result) }
 {
     match place {
-        DepfilePlace::Unnamed => DepfileTold::Told(c, 0),
-        DepfilePlace::Absent => DepfileTold::Told(c, 1),
-        DepfilePlace::Malformed => DepfileTold::Refused,
+        DepfilePlace::Unnamed => Some((c, 0)),
+        DepfilePlace::Absent => Some((c, 1)),
+        DepfilePlace::Malformed => None,
         DepfilePlace::Lists(k, from) => {
             let text = record_text(headers, k);
-            match add_header_list(text, from, names, index, second, word, c) {
-                Mentioned::On(d) => DepfileTold::Told(d, 2 * (d.paths - c.paths)),
-                Mentioned::Over => DepfileTold::Refused,
-            }
+            let d = add_header_list(text, from, names, index, second, word, c)?;
+            Some((d, 2 * (d.paths - c.paths)))
         }
     }
 }
@@ -201,8 +189,8 @@ fn close_step(
     d
 }
 
-// Step s with its listed inputs, by its depfile's name. `graph` has the written columns, `second` those of the steps before it with their listed inputs. The word
-// buffer is working space.
+// Step s with its listed inputs, by its depfile's name. `graph` has the written columns, `second` those of the steps
+// before it with their listed inputs. The word buffer is working space.
 pub fn add_headers(
     headers: &[u8],
     count: usize,
@@ -215,7 +203,7 @@ pub fn add_headers(
     word: &mut [u8],
     s: usize,
     c: Counts,
-) -> AddedHeaders
+) -> Result<Counts, Refusal>
     requires { AddHeadersAsks headers.now count order.now graph.now names.old index.old second.old word.old s c }
     ensures { Leaves ((Spare names.old names.new) × (Spare index.old index.new) × (Spare second.old second.new) × (Spare word.old word.new)) (AddsHeaders headers.now name.now graph.now names.old index.old second.old s c names.new index.new second.new result) }
 {
@@ -223,10 +211,8 @@ pub fn add_headers(
     let out = at(graph, p.start);
     let place = find_depfile(headers, count, order, name, names, index, c.files, out);
     let d = copy_mentions(graph, p.start, p.implicit, second, c);
-    match mention_listed(headers, place, names, index, second, word, d) {
-        DepfileTold::Told(e, n) => {
-            AddedHeaders::Headed(close_step(graph, p, second, s, c.paths, e, n))
-        }
-        DepfileTold::Refused => AddedHeaders::Refused(Refusal::BadHeaders(s)),
-    }
+    let Some((e, n)) = mention_listed(headers, place, names, index, second, word, d) else {
+        return Err(Refusal::BadHeaders(s));
+    };
+    Ok(close_step(graph, p, second, s, c.paths, e, n))
 }

@@ -1,14 +1,15 @@
-// The names that a depfile lists, each a mention more: its limits, its number by first mention, and that at the end of the second mentions.
+// The names that a depfile lists, each a mention more: its limits, its number by first mention, and that at the end of
+// the second mentions.
 #![tactic(auto)]
 
 ghost use Rattle.lists.specs.Lent.{Spare, Leaves};
 ghost use Rattle.ask_header_names.specs.Names.{HeaderAsks, AddsHeader, HeaderListAsks, AddsHeaderList};
 
-use apply_files::{Mentioned, add_listed, path_over};
+use apply_files::{add_listed, path_over};
 use hold_reading::Counts;
 use scan_depfile::{DepfileName, next_prerequisite};
 
-// A name of n bytes, of which `word` has as many as there is room for.
+// A name of n bytes, of which `word` has as many as there is room for. None where it is over a limit.
 fn add_header(
     word: &[u8],
     n: usize,
@@ -16,17 +17,18 @@ fn add_header(
     index: &mut [u32],
     graph: &mut [u32],
     c: Counts,
-) -> Mentioned
+) -> Option<Counts>
     requires { HeaderAsks word.now names.old index.old graph.old c }
     ensures { Leaves ((Spare names.old names.new) × (Spare index.old index.new) × (Spare graph.old graph.new)) (AddsHeader word.now n names.old index.old graph.old c names.new index.new graph.new result) }
 {
     if path_over(n, c) {
-        return Mentioned::Over;
+        return None;
     }
     add_listed(&word[..n], names, index, graph, c)
 }
 
-// All names that are listed from a place of a depfile on. Over where it is malformed, too: either is the step's 20. The word buffer is working space.
+// All names that are listed from a place of a depfile on. None where one is over a limit, and where the list is
+// malformed: either is the step's 20. The word buffer is working space.
 pub fn add_header_list(
     text: &[u8],
     from: usize,
@@ -35,7 +37,7 @@ pub fn add_header_list(
     graph: &mut [u32],
     word: &mut [u8],
     c: Counts,
-) -> Mentioned
+) -> Option<Counts>
     requires { HeaderListAsks text.now from names.old index.old graph.old word.old c }
     ensures { Leaves ((Spare names.old names.new) × (Spare index.old index.new) × (Spare graph.old graph.new) × (Spare word.old word.new)) (AddsHeaderList text.now from names.old index.old graph.old c names.new index.new graph.new result) }
 {
@@ -43,21 +45,12 @@ pub fn add_header_list(
     let mut d = c;
     loop {
         match next_prerequisite(text, i, word) {
-            DepfileName::Name(next, n) => match add_header(word, n, names, index, graph, d) {
-                Mentioned::On(e) => {
-                    d = e;
-                    i = next;
-                }
-                Mentioned::Over => {
-                    return Mentioned::Over;
-                }
-            },
-            DepfileName::End => {
-                return Mentioned::On(d);
+            DepfileName::Name(next, n) => {
+                d = add_header(word, n, names, index, graph, d)?;
+                i = next;
             }
-            DepfileName::Malformed => {
-                return Mentioned::Over;
-            }
+            DepfileName::End => return Some(d),
+            DepfileName::Malformed => return None,
         }
     }
 }

@@ -5,7 +5,7 @@ ghost use Rattle.std.specs.Prelude.{◌≡◌, length, ◌<◌};
 ghost use Rattle.lists.specs.Lent.{Spare, Leaves};
 ghost use Rattle.ask_judged_times.specs.Lists.{listed_part, some_absent, forced_in, marked_maker, AbsentAsked, ListedAsked, JudgedAsked, MarksAsked, MarkedAsked, ClearAsked, ForcedMarked, TimesCleared, TimesJudged};
 
-use hold_columns::{IMPLICIT_END, end_at, time};
+use hold_columns::{Columns, IMPLICIT_END, end_at, time};
 use slices::words::at;
 use spec::limits::STEPS;
 
@@ -14,16 +14,12 @@ fn some_absent(fs: &[u32], made: &[u32], times: &[u64]) -> bool
     requires { AbsentAsked fs.now made.now times.now }
     ensures { result ≡ some_absent made.now times.now fs.now }
 {
-    let mut i = 0;
-    while i < fs.len() {
-        let f = at(fs, i);
-        if at(made, f) != 0 {
-            i += 1;
-        } else {
-            if time(times, f) == 0 {
-                return true;
-            }
-            i += 1;
+    for &f in fs {
+        if at(made, f as usize) != 0 {
+            continue;
+        }
+        if time(times, f as usize) == 0 {
+            return true;
         }
     }
     false
@@ -45,46 +41,24 @@ fn listed_files<'a, 'b, 'c>(
 }
 
 // Does a depfile make the step stale.
-fn is_forced(
-    mentions: &[u32],
-    ends: &[u32],
-    made: &[u32],
-    missing: &[u32],
-    listed: &[u32],
-    times: &[u64],
-    s: usize,
-) -> bool
-    requires { JudgedAsked mentions.now ends.now made.now missing.now listed.now times.now × (s < length missing.now) }
-    ensures { result ≡ forced_in mentions.now ends.now made.now missing.now listed.now times.now s }
+fn is_forced(g: &Columns, missing: &[u32], listed: &[u32], times: &[u64], s: usize) -> bool
+    requires { JudgedAsked g.now.mentions.now g.now.ends.now g.now.made.now missing.now listed.now times.now × (s < length missing.now) }
+    ensures { result ≡ forced_in g.now.mentions.now g.now.ends.now g.now.made.now missing.now listed.now times.now s }
 {
     if at(missing, s) == 1 {
         return true;
     }
-    some_absent(listed_files(mentions, ends, listed, s), made, times)
+    some_absent(listed_files(g.mentions, g.ends, listed, s), g.made, times)
 }
 
 // Marks the steps that a depfile makes stale.
-fn mark_forced(
-    mentions: &[u32],
-    ends: &[u32],
-    made: &[u32],
-    missing: &[u32],
-    listed: &[u32],
-    times: &[u64],
-    marks: &mut [u32],
-)
-    requires { MarksAsked mentions.now ends.now made.now missing.now listed.now marks.old times.now }
-    ensures { ForcedMarked mentions.now ends.now made.now missing.now listed.now times.now marks.new }
+fn mark_forced(g: &Columns, missing: &[u32], listed: &[u32], times: &[u64], marks: &mut [u32])
+    requires { MarksAsked g.now.mentions.now g.now.ends.now g.now.made.now missing.now listed.now marks.old times.now }
+    ensures { ForcedMarked g.now.mentions.now g.now.ends.now g.now.made.now missing.now listed.now times.now marks.new }
 {
-    let mut s = 0;
-    while s < missing.len() {
-        if is_forced(mentions, ends, made, missing, listed, times, s) {
-            marks[s] = 1;
-            s += 1;
-        } else {
-            marks[s] = 0;
-            s += 1;
-        }
+    for s in 0..missing.len() {
+        let forced = is_forced(g, missing, listed, times, s);
+        marks[s] = u32::from(forced);
     }
 }
 
@@ -105,55 +79,34 @@ fn clear_times(made: &[u32], marks: &[u32], times: &mut [u64])
     requires { ClearAsked made.now marks.now times.old }
     ensures { TimesCleared made.now marks.now times.old times.new }
 {
-    let mut f = 0;
-    while f < made.len() {
+    for f in 0..made.len() {
         if marked_maker(made, marks, f) {
             times[f] = 0;
-            f += 1;
-        } else {
-            f += 1;
         }
     }
 }
 
 // The times by which steps are judged, in the place of the card's; `marks` is working space.
 fn mark_then_clear(
-    mentions: &[u32],
-    ends: &[u32],
-    made: &[u32],
+    g: &Columns,
     missing: &[u32],
     listed: &[u32],
     marks: &mut [u32],
     times: &mut [u64],
 )
-    requires { MarksAsked mentions.now ends.now made.now missing.now listed.now marks.old times.old }
-    ensures { Leaves (Spare marks.old marks.new) (TimesJudged mentions.now ends.now made.now missing.now listed.now times.old times.new) }
+    requires { MarksAsked g.now.mentions.now g.now.ends.now g.now.made.now missing.now listed.now marks.old times.old }
+    ensures { Leaves (Spare marks.old marks.new) (TimesJudged g.now.mentions.now g.now.ends.now g.now.made.now missing.now listed.now times.old times.new) }
 {
-    mark_forced(mentions, ends, made, missing, listed, times, marks);
-    clear_times(made, marks, times);
+    mark_forced(g, missing, listed, times, marks);
+    clear_times(g.made, marks, times);
 }
 
 // The same, with the working space.
-pub fn judge_times(
-    mentions: &[u32],
-    ends: &[u32],
-    made: &[u32],
-    missing: &[u32],
-    listed: &[u32],
-    times: &mut [u64],
-)
-    requires { JudgedAsked mentions.now ends.now made.now missing.now listed.now times.old }
-    ensures { TimesJudged mentions.now ends.now made.now missing.now listed.now times.old times.new }
+pub fn judge_times(g: &Columns, missing: &[u32], listed: &[u32], times: &mut [u64])
+    requires { JudgedAsked g.now.mentions.now g.now.ends.now g.now.made.now missing.now listed.now times.old }
+    ensures { TimesJudged g.now.mentions.now g.now.ends.now g.now.made.now missing.now listed.now times.old times.new }
 {
     let n = missing.len();
     let mut marks = [0u32; STEPS];
-    mark_then_clear(
-        mentions,
-        ends,
-        made,
-        missing,
-        listed,
-        &mut marks[..n],
-        times,
-    );
+    mark_then_clear(g, missing, listed, &mut marks[..n], times);
 }

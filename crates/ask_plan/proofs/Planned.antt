@@ -1,6 +1,7 @@
 -- What the plan ask answers by what the check of the header lists and the reader answer.
+use Rattle.std.specs.Prelude.{Option, Some, None, is_some, Result, Err}
 use Prim.Native.Nat.{ℕ, ◌≤◌}
-use mathlib.Core.Bool.{true, false}
+use mathlib.Core.Bool.{Bool, true, false}
 use mathlib.Core.List.{List}
 use mathlib.Core.Path.{◌≡◌, refl, sym, ◌∙◌}
 use native.Mathlib.Omega.{arith}
@@ -10,8 +11,6 @@ use lib.ListN.{length}
 use Rattle.lists.specs.Fill.{zeroed}
 use Rattle.spec.specs.declared.Refusal.{Refusal}
 use Rattle.spec.specs.declared.Refusal.TheVariants.{BadBundle, BadHeaders}
-use Rattle.spec.specs.declared.PlanAnswer.{PlanAnswer}
-use Rattle.spec.specs.declared.PlanAnswer.TheVariants.{Refused}
 use Rattle.spec.specs.Limits.{least_list, max_bundle, max_headers, max_written}
 use Rattle.spec.specs.Bundle.{sound_bundle}
 use Rattle.spec.specs.Manifest.{refused_with, read_manifest}
@@ -22,8 +21,6 @@ use Rattle.spec.specs.Promises.{left_by, PlanMeets, PlanPromise}
 use Rattle.spec.proofs.Demands.{no_bad_headers}
 use Rattle.spec.proofs.Manifests.{past_1, of_reading}
 use Rattle.spec.proofs.Promises.{cleared}
-use Rattle.scan_bundle.specs.declared.BundleAnswer.{BundleAnswer}
-use Rattle.scan_bundle.specs.declared.BundleAnswer.TheVariants.{Sound, Malformed}
 use Rattle.scan_bundle.specs.Bundles.{Indexes}
 use Rattle.scan_bundle.proofs.Laws.{opened, malformed_is}
 use Rattle.scan_classes.specs.Table.{classes}
@@ -40,7 +37,7 @@ module _ (manifest card targets headers list : List ℕ) where
 
   -- 19 and 2 to 10, past 20 at 0
   read_refuses : {r : Refusal} {exit : List ℕ} → least_list ≤ length list → bad_headers (inputs_of manifest card targets headers) ≡ false → read_manifest manifest ≡ refused_with r
-      → exit ≡ zeroed list 0 (length list) → PlanPromise (inputs_of manifest card targets headers) list (Refused r) exit
+      → exit ≡ zeroed list 0 (length list) → PlanPromise (inputs_of manifest card targets headers) list (Err r) exit
   unfolding plan_ask plan_manifest PlanMeets plan_says left_by
   read_refuses {r} room b e z =
       let p = past_1 (of_reading manifest e) in
@@ -49,11 +46,11 @@ module _ (manifest card targets headers list : List ℕ) where
 
   module _ (a : LentLists headers list) where
     pub unread : {r : Refusal} {exit : List ℕ} → read_manifest manifest ≡ refused_with r → exit ≡ zeroed list 0 (length list)
-        → PlanPromise (inputs_of manifest card targets headers) list (Refused r) exit
+        → PlanPromise (inputs_of manifest card targets headers) list (Err r) exit
     unread e z = read_refuses a.room (no_bad_headers (inputs_of manifest card targets headers) a.sound) e z
 
     -- 11 to 17, 20 at a step, and the list
-    pub planned : {bs : Buffers} {c : Counts} {r : PlanAnswer} {exit : List ℕ} → Held manifest bs c → PlansRead headers card targets bs c list r exit
+    pub planned : {bs : Buffers} {c : Counts} {r : Result ℕ Refusal} {exit : List ℕ} → Held manifest bs c → PlansRead headers card targets bs c list r exit
         → PlanPromise (inputs_of manifest card targets headers) list r exit
     unfolding plan_ask plan_manifest
     planned h p =
@@ -63,12 +60,12 @@ module _ (manifest card targets headers list : List ℕ) where
   -- the header lists are no sound bundle
   module _ (room : least_list ≤ length list) (x : sound_headers headers ≡ false) {exit : List ℕ} (z : exit ≡ zeroed list 0 (length list)) where
     -- 20 at 0
-    pub bad_lists : sound_bundle 1 max_bundle manifest ≡ true → PlanPromise (inputs_of manifest card targets headers) list (Refused (BadHeaders 0)) exit
+    pub bad_lists : sound_bundle 1 max_bundle manifest ≡ true → PlanPromise (inputs_of manifest card targets headers) list (Err (BadHeaders 0)) exit
     unfolding plan_ask bad_headers PlanMeets plan_says left_by number_of_refusal
     bad_lists s = rw (long room, s, x) (record { says = refl; leaves = z ∙ cleared list })
 
     -- 19
-    pub bad_both : sound_bundle 1 max_bundle manifest ≡ false → PlanPromise (inputs_of manifest card targets headers) list (Refused BadBundle) exit
+    pub bad_both : sound_bundle 1 max_bundle manifest ≡ false → PlanPromise (inputs_of manifest card targets headers) list (Err BadBundle) exit
     unfolding bad_headers
     bad_both s = read_refuses room (rw s) (not_sound manifest s) z
 
@@ -89,11 +86,15 @@ askable {manifest} a e n h =
 
 -- ---- by the check of the header lists
 
-module _ {headers order order' : List ℕ} {x : BundleAnswer} (i : Indexes headers 0 max_headers order order' x) where
-  pub lists_sound : {n : ℕ} → x ≡ Sound n → true ≡ sound_headers headers
+module _ {headers order order' : List ℕ} {x : Option ℕ} (i : Indexes headers 0 max_headers order order' x) where
+  lists_sound : {n : ℕ} → x ≡ Some n → true ≡ sound_headers headers
   unfolding sound_headers
   lists_sound e = sym (opened i e).sound
 
-  pub lists_malformed : x ≡ Malformed → false ≡ sound_headers headers
+  lists_malformed : x ≡ None → false ≡ sound_headers headers
   unfolding sound_headers
   lists_malformed e = sym (malformed_is i e)
+
+pub sound_by : {headers order order' : List ℕ} (x : Option ℕ) → Indexes headers 0 max_headers order order' x → {b : Bool} → b ≡ is_some x → b ≡ sound_headers headers
+sound_by (Some n) i e = e ∙ lists_sound i refl
+sound_by None i e = e ∙ lists_malformed i refl

@@ -1,4 +1,5 @@
-// The plan ask: 20 at 0 for the bundle of header lists; then the manifest is read into buffers of the ask's own, and the list is planned from them.
+// The plan ask: 20 at 0 for the bundle of header lists; then the manifest is read into buffers of the ask's own, and
+// the list is planned from them.
 #![tactic(auto)]
 
 ghost use Rattle.std.specs.Prelude.{◌≡◌, ◌≤◌, length};
@@ -8,27 +9,24 @@ ghost use Rattle.spec.specs.PlanAsk.{inputs_of};
 ghost use Rattle.spec.specs.Promises.{PlanPromise};
 ghost use Rattle.ask_plan.specs.Lists.{LentLists};
 
-use apply_manifest::{ReadAnswer, read_manifest};
+use apply_manifest::read_manifest;
 use ask_plan_reading::plan_read;
 use hold_bindings::{ROWS, TEXTS};
 use hold_names::NUMBERS;
 use hold_reading::columns::COLUMNS_ROOM;
-use scan_bundle::{BundleAnswer, index};
+use scan_bundle::index;
 use scan_classes::table;
 use scan_texts::is_sound_bundle;
 use slices::words::zero_words_from;
+use spec::Refusal;
 use spec::limits::{HEADERS, VALUE, WRITTEN};
-use spec::{PlanAnswer, Refusal};
 
 // Whether the header lists are a sound bundle of 0 to 512 records.
 fn has_sound_lists(headers: &[u8]) -> bool
     ensures { result ≡ sound_headers headers.now }
 {
     let mut order = [0u32; HEADERS];
-    match index(headers, 0, HEADERS, &mut order) {
-        BundleAnswer::Sound(_) => true,
-        BundleAnswer::Malformed => false,
-    }
+    index(headers, 0, HEADERS, &mut order).is_some()
 }
 
 // The ask where the header lists are a sound bundle.
@@ -38,7 +36,7 @@ fn plan_with_lists(
     card: &[u8],
     targets: &[u8],
     list: &mut [u32],
-) -> PlanAnswer
+) -> Result<usize, Refusal>
     requires { LentLists headers.now list.old }
     ensures { PlanPromise (inputs_of manifest.now card.now targets.now headers.now) list.old result list.new }
 {
@@ -52,24 +50,25 @@ fn plan_with_lists(
     match read_manifest(
         &t, manifest, &mut names, &mut index, &mut texts, &mut bind, &mut graph, &mut word,
     ) {
-        ReadAnswer::Accepted(c) => plan_read(
+        Ok(c) => plan_read(
             &t, headers, card, targets, &mut names, &mut index, &texts, &bind, &graph, c, list,
         ),
-        ReadAnswer::Refused(r) => {
+        Err(r) => {
             zero_words_from(list, 0);
-            PlanAnswer::Refused(r)
+            Err(r)
         }
     }
 }
 
-// With a list buffer of 512 numbers at least. Where the header lists are no sound bundle, the manifest's own says which it is: 20 at 0 comes after 19.
+// With a list buffer of 512 numbers at least. Where the header lists are no sound bundle, the manifest's own says
+// which it is: 20 at 0 comes after 19.
 pub fn plan_buffered(
     manifest: &[u8],
     headers: &[u8],
     card: &[u8],
     targets: &[u8],
     list: &mut [u32],
-) -> PlanAnswer
+) -> Result<usize, Refusal>
     requires { least_list ≤ length list.old }
     ensures { PlanPromise (inputs_of manifest.now card.now targets.now headers.now) list.old result list.new }
 {
@@ -78,7 +77,7 @@ pub fn plan_buffered(
     }
     zero_words_from(list, 0);
     if is_sound_bundle(manifest) {
-        return PlanAnswer::Refused(Refusal::BadHeaders(0));
+        return Err(Refusal::BadHeaders(0));
     }
-    PlanAnswer::Refused(Refusal::BadBundle)
+    Err(Refusal::BadBundle)
 }

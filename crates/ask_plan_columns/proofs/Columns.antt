@@ -1,4 +1,5 @@
 -- The columns of the graph as parts of the arena, and what is planned from the roots that they give.
+use Rattle.std.specs.Prelude.{Option, Some, None, Result, Err}
 use Prim.Native.Nat.{ℕ, ◌≤◌, ◌<◌}
 use mathlib.Core.List.{List}
 use mathlib.Core.Path.{◌≡◌, refl, sym, ◌∙◌, ap, subst}
@@ -6,8 +7,6 @@ use native.Mathlib.Omega.{arith}
 use lib.ListN.{length, take, get_or}
 use Rattle.lists.specs.Fill.{zeros, zeroed}
 use Rattle.spec.specs.declared.Refusal.TheVariants.{NoRoot}
-use Rattle.spec.specs.declared.PlanAnswer.{PlanAnswer}
-use Rattle.spec.specs.declared.PlanAnswer.TheVariants.{Refused}
 use Rattle.spec.specs.Limits.{max_steps, max_files, max_mentions}
 use Rattle.spec.specs.Reading.{Reading}
 use Rattle.spec.specs.Answers.{number_of_refusal, plan_says}
@@ -23,11 +22,10 @@ use Rattle.hold_reading.specs.Held.{columns_end, HoldsReading}
 use Rattle.hold_reading.specs.Buffers.{Buffers}
 use Rattle.hold_parts.specs.Parts.{mentions_in, ends_in, phony_in, made_in, defaults_in, Tabled}
 use Rattle.hold_parts.proofs.Parts.{tabled, parted, mentions_counted, defaults_are, tables, made_counted}
-use Rattle.ask_plan_roots.specs.declared.Roots.{Roots}
-use Rattle.ask_plan_roots.specs.declared.Roots.TheVariants.{From, None}
 use Rattle.ask_plan_roots.specs.Roots.{Chosen, ChoiceAsked, RootsFrom, RootsNone, RootsFound}
 use Rattle.ask_plan_headers.specs.Headers.{HeadersPlanAsked, PlansHeaders}
 use Rattle.ask_plan_columns.specs.Columns.{FoundIn, ChoiceAskedIn, ChoiceSpace, RootsSpaceAsked, PlansColumns}
+use Rattle.spec.specs.declared.Refusal.{Refusal}
 
 module _ (graph : List ℕ) (c : Counts) where
   -- the columns are these parts
@@ -100,27 +98,27 @@ chosen : {bs : Buffers} {c : Counts} {targets : List ℕ} (i : Inputs) {log : Li
     → Chosen i rd (mentions_in bs.graph c) (ends_in bs.graph c) (phony_in bs.graph c) (made_in bs.graph c) (defaults_in bs.graph c) targets
 chosen i rd h e = let s = spread (tabled h) in record { held = s.tables; defaulted = s.defaults; targeted = e }
 
-module _ {graph : List ℕ} {c : Counts} {targets out : List ℕ} {x : Roots} (f : FoundIn graph c targets out x) where
+module _ {graph : List ℕ} {c : Counts} {targets out : List ℕ} {x : Option ℕ} (f : FoundIn graph c targets out x) where
   none : x ≡ None → RootsNone (mentions_in graph c) (ends_in graph c) (phony_in graph c) (made_in graph c) (defaults_in graph c) targets
   unfolding RootsFound
   none e = subst (RootsFound (mentions_in graph c) (ends_in graph c) (phony_in graph c) (made_in graph c) (defaults_in graph c) targets out) e f.found
 
-  some : {k : ℕ} → x ≡ From k → RootsFrom (mentions_in graph c) (ends_in graph c) (phony_in graph c) (made_in graph c) (defaults_in graph c) targets out k
+  some : {k : ℕ} → x ≡ Some k → RootsFrom (mentions_in graph c) (ends_in graph c) (phony_in graph c) (made_in graph c) (defaults_in graph c) targets out k
   unfolding RootsFound
   some e = subst (RootsFound (mentions_in graph c) (ends_in graph c) (phony_in graph c) (made_in graph c) (defaults_in graph c) targets out) e f.found
 
-  pub roots_within : {k : ℕ} → x ≡ From k → k ≤ length out
+  pub roots_within : {k : ℕ} → x ≡ Some k → k ≤ length out
   roots_within e = (some e).put.within
 
-module _ {headers card : List ℕ} {bs : Buffers} {c : Counts} {targets out : List ℕ} {x : Roots} (f : FoundIn bs.graph c targets out x) where
+module _ {headers card : List ℕ} {bs : Buffers} {c : Counts} {targets out : List ℕ} {x : Option ℕ} (f : FoundIn bs.graph c targets out x) where
   -- 13
-  pub rootless : {list exit : List ℕ} → x ≡ None → exit ≡ zeroed list 0 (length list) → PlansColumns headers card bs c targets list (Refused NoRoot) exit
+  pub rootless : {list exit : List ℕ} → x ≡ None → exit ≡ zeroed list 0 (length list) → PlansColumns headers card bs c targets list (Err NoRoot) exit
   unfolding plan_rooted PlanMeets plan_says left_by number_of_refusal
   rootless {list} e z =
       record { plans = λ i log rd p q r h w. rw ((none f e).rootless i rd (chosen i rd h w)) (record { says = refl; leaves = z ∙ cleared list }) }
 
   -- past 13
-  pub from_roots : {t list before : List ℕ} {k : ℕ} → x ≡ From k → RootsSpaceAsked t headers card bs c targets before list → HeadersPlanAsked t headers card bs c (take k out) list
+  pub from_roots : {t list before : List ℕ} {k : ℕ} → x ≡ Some k → RootsSpaceAsked t headers card bs c targets before list → HeadersPlanAsked t headers card bs c (take k out) list
   from_roots e a =
       let h = a.asked.asked in
       record {
@@ -137,7 +135,7 @@ module _ {headers card : List ℕ} {bs : Buffers} {c : Counts} {targets out : Li
         room = h.room;
       }
 
-  pub rooted : {list exit : List ℕ} {r : PlanAnswer} {k : ℕ} → x ≡ From k → PlansHeaders headers card bs c (take k out) list r exit → PlansColumns headers card bs c targets list r exit
+  pub rooted : {list exit : List ℕ} {r : Result ℕ Refusal} {k : ℕ} → x ≡ Some k → PlansHeaders headers card bs c (take k out) list r exit → PlansColumns headers card bs c targets list r exit
   unfolding plan_rooted
   rooted e p =
       record {

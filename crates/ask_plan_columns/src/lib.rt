@@ -1,4 +1,5 @@
-// A stage of the plan ask: the graph's columns as the reader leaves them are cut once for the choice of the roots; 13, then the header lists.
+// A stage of the plan ask: the graph's columns as the reader leaves them are cut once for the choice of the roots; 13,
+// then the header lists.
 #![tactic(auto)]
 
 ghost use Rattle.lists.specs.Lent.{Spare, Leaves};
@@ -6,16 +7,22 @@ ghost use Rattle.hold_reading.specs.Buffers.{buffers};
 ghost use Rattle.ask_plan_columns.specs.Columns.{ChoiceAskedIn, ChoiceSpace, FoundIn, ColumnsAsked, RootsSpaceAsked, PlansColumns};
 
 use ask_plan_headers::plan_headers;
-use ask_plan_roots::{Roots, find_roots};
-use hold_columns::STEP_ENDS;
+use ask_plan_roots::find_roots;
+use hold_columns::{Columns, STEP_ENDS};
 use hold_reading::Counts;
 use hold_reading::columns::{DEFAULTS_START, ENDS_START, MADE_START, PHONY_START};
 use slices::words::zero_words_from;
+use spec::Refusal;
 use spec::limits::{FILES, MENTIONS};
-use spec::{PlanAnswer, Refusal};
 
 // The roots by the columns, where the targets' numbers are known; `marks` is working space.
-fn find_in(graph: &[u32], c: Counts, targets: &[u32], marks: &mut [u32], out: &mut [u32]) -> Roots
+fn find_in(
+    graph: &[u32],
+    c: Counts,
+    targets: &[u32],
+    marks: &mut [u32],
+    out: &mut [u32],
+) -> Option<usize>
     requires { ChoiceSpace graph.now c targets.now marks.old out.old }
     ensures { Leaves (Spare marks.old marks.new) (FoundIn graph.now c targets.now out.new result) }
 {
@@ -25,11 +32,17 @@ fn find_in(graph: &[u32], c: Counts, targets: &[u32], marks: &mut [u32], out: &m
     let phony = &graph[PHONY_START..PHONY_START + steps];
     let made = &graph[MADE_START..MADE_START + c.files];
     let defaults = &graph[DEFAULTS_START..DEFAULTS_START + c.defaults];
-    find_roots(mentions, ends, phony, made, defaults, targets, marks, out)
+    let g = Columns {
+        mentions,
+        ends,
+        phony,
+        made,
+    };
+    find_roots(&g, defaults, targets, marks, out)
 }
 
 // The same, with the marks.
-fn choose_roots(graph: &[u32], c: Counts, targets: &[u32], out: &mut [u32]) -> Roots
+fn choose_roots(graph: &[u32], c: Counts, targets: &[u32], out: &mut [u32]) -> Option<usize>
     requires { ChoiceAskedIn graph.now c targets.now out.old }
     ensures { FoundIn graph.now c targets.now out.new result }
 {
@@ -52,29 +65,27 @@ fn choose_then_plan(
     targets: &[u32],
     out: &mut [u32],
     list: &mut [u32],
-) -> PlanAnswer
+) -> Result<usize, Refusal>
     requires { RootsSpaceAsked t.now headers.now card.now (buffers names.old index.old texts.now bind.now graph.now) c targets.now out.old list.old }
     ensures { Leaves (Spare names.old names.new × Spare index.old index.new × Spare out.old out.new) (PlansColumns headers.now card.now (buffers names.old index.old texts.now bind.now graph.now) c targets.now list.old result list.new) }
 {
-    match choose_roots(graph, c, targets, out) {
-        Roots::None => {
-            zero_words_from(list, 0);
-            PlanAnswer::Refused(Refusal::NoRoot)
-        }
-        Roots::From(k) => plan_headers(
-            t,
-            headers,
-            card,
-            names,
-            index,
-            texts,
-            bind,
-            graph,
-            c,
-            &out[..k],
-            list,
-        ),
-    }
+    let Some(k) = choose_roots(graph, c, targets, out) else {
+        zero_words_from(list, 0);
+        return Err(Refusal::NoRoot);
+    };
+    plan_headers(
+        t,
+        headers,
+        card,
+        names,
+        index,
+        texts,
+        bind,
+        graph,
+        c,
+        &out[..k],
+        list,
+    )
 }
 
 // The plan of the columns, where the targets' numbers are known. `names` and `index` are working space behind it.
@@ -90,7 +101,7 @@ pub fn plan_columns(
     c: Counts,
     targets: &[u32],
     list: &mut [u32],
-) -> PlanAnswer
+) -> Result<usize, Refusal>
     requires { ColumnsAsked t.now headers.now card.now (buffers names.old index.old texts.now bind.now graph.now) c targets.now list.old }
     ensures { Leaves (Spare names.old names.new × Spare index.old index.new) (PlansColumns headers.now card.now (buffers names.old index.old texts.now bind.now graph.now) c targets.now list.old result list.new) }
 {

@@ -1,13 +1,14 @@
 -- The stages behind the header lists, one after another.
+use Rattle.std.specs.Prelude.{Result}
 use mathlib.Core.Path.{◌≡◌, ◌∙◌}
 use mathlib.Core.List.{List}
 use Prim.Native.Nat.{ℕ}
 use native.Mathlib.Omega.{arith}
 use lib.ListN.{length}
-use Rattle.spec.specs.declared.PlanAnswer.{PlanAnswer}
 use Rattle.ask_headed_times.specs.Times.{HeadedAsked, HeadedTimes}
 use Rattle.ask_plan_order.specs.Order.{RootsAsked, PlansOrdered}
 use Rattle.ask_plan_headed.specs.Headed.{HeadedSpaceAsked, PlansHeaded}
+use Rattle.spec.specs.declared.Refusal.{Refusal}
 
 module _ {card names index wmentions wends mentions ends phony made missing listed roots times list : List ℕ} (q : HeadedSpaceAsked card names index wmentions wends mentions ends phony made missing listed roots times list) where
   pub ask_times : HeadedAsked card names index mentions ends made missing listed times
@@ -29,6 +30,6 @@ module _ {card names index wmentions wends mentions ends phony made missing list
     roots_low = q.asked.roots_low;
   }
 
-pub planned : {card names index wmentions wends mentions ends phony made missing listed roots times list : List ℕ} {answer : PlanAnswer} {exit : List ℕ} → HeadedTimes card names index mentions ends made missing listed times
+pub planned : {card names index wmentions wends mentions ends phony made missing listed roots times list : List ℕ} {answer : Result ℕ Refusal} {exit : List ℕ} → HeadedTimes card names index mentions ends made missing listed times
     → PlansOrdered wmentions wends mentions ends phony made times roots list answer exit → PlansHeaded card names index wmentions wends mentions ends phony made missing listed roots list answer exit
 planned {phony = phony} t p = record { plans = λ i rd h c w x e. p.plans i rd h (record { held = w.held; timed = t.timed i h phony c w }) x e }

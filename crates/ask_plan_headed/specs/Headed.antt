@@ -1,6 +1,5 @@
 -- What the plan behind the header lists asks and promises: the times by which steps are judged, then 14, 15 and the list.
-use Rattle.std.specs.Prelude.{ℕ, ◌≤◌, ◌<◌, true, ◌≡◌, List, length, get_or}
-use Rattle.spec.specs.declared.PlanAnswer.{PlanAnswer}
+use Rattle.std.specs.Prelude.{ℕ, ◌≤◌, ◌<◌, true, ◌≡◌, List, length, get_or, Result}
 use Rattle.spec.specs.Limits.{least_list}
 use Rattle.spec.specs.Reading.{Reading}
 use Rattle.spec.specs.Card.{sound_card}
@@ -12,6 +11,7 @@ use Rattle.hold_names.specs.Table.{SoundNames}
 use Rattle.hold_columns.specs.Columns.{implicit_end, end_at, SoundColumns}
 use Rattle.ask_headed_times.specs.Times.{HoldsHeaded}
 use Rattle.ask_plan_sources.specs.Sources.{FilesBelow, WrittenAsked, WrittenInputs}
+use Rattle.spec.specs.declared.Refusal.{Refusal}
 
 -- past 13 and the header lists
 pub record HeadedPlanAsked (card names index wmentions wends mentions ends phony made missing listed roots list : List ℕ) : Type 0 where
@@ -31,6 +31,6 @@ pub record HeadedSpaceAsked (card names index wmentions wends mentions ends phon
   pub timed : length times ≡ length made
 
 -- whatever ask and reading it is, and whatever steps with their listed inputs the columns hold
-pub record PlansHeaded (card names index wmentions wends mentions ends phony made missing listed roots list : List ℕ) (answer : PlanAnswer) (exit : List ℕ) : Type 0 where
+pub record PlansHeaded (card names index wmentions wends mentions ends phony made missing listed roots list : List ℕ) (answer : Result ℕ Refusal) (exit : List ℕ) : Type 0 where
   pub plans : (i : Inputs) (rd : Reading) (h : HeaderGraph) → i.card ≡ card → HoldsHeaded h names index mentions ends phony made missing listed
       → WrittenInputs rd wmentions wends → roots ≡ roots_of i rd → PlanMeets (plan_ordered i rd h) list (plan_says answer) exit

@@ -1,9 +1,9 @@
 -- Where nothing is called `depfile`, the header lists add nothing.
+use Rattle.std.specs.Prelude.{Result}
 use Prim.Native.Nat.{ℕ}
 use mathlib.Core.Bool.{Bool, false}
 use mathlib.Core.List.{List}
 use mathlib.Core.Path.{◌≡◌, sym, ◌∙◌}
-use Rattle.spec.specs.declared.PlanAnswer.{PlanAnswer}
 use Rattle.spec.specs.Headers.{on_headed}
 use Rattle.spec.specs.PlanAsk.{plan_headers}
 use Rattle.spec.proofs.NoLists.{unlisted_reading}
@@ -16,6 +16,7 @@ use Rattle.ask_depfile_bound.specs.Bound.{depfile_bound}
 use Rattle.ask_depfile_bound.proofs.Bound.{nothing_bound}
 use Rattle.ask_plan_unlisted.specs.Unlisted.{UnlistedAsked, PlansUnlisted}
 use Rattle.ask_plan_headers.specs.Headers.{HeadersPlanAsked, PlansHeaders}
+use Rattle.spec.specs.declared.Refusal.{Refusal}
 
 module _ {t headers card : List ℕ} {bs : Buffers} {c : Counts} {roots list : List ℕ} (a : HeadersPlanAsked t headers card bs c roots list) where
   pub ask_bound : SoundBindings bs.texts bs.bind c.entries
@@ -31,7 +32,7 @@ module _ {t headers card : List ℕ} {bs : Buffers} {c : Counts} {roots list : L
     room = a.room;
   }
 
-pub planned_unlisted : {headers card : List ℕ} {bs : Buffers} {c : Counts} {roots list : List ℕ} {b : Bool} {answer : PlanAnswer} {exit : List ℕ}
+pub planned_unlisted : {headers card : List ℕ} {bs : Buffers} {c : Counts} {roots list : List ℕ} {b : Bool} {answer : Result ℕ Refusal} {exit : List ℕ}
     → ((log : List Logged) → HoldsBindings log bs.texts bs.bind c.entries → b ≡ depfile_bound log) → b ≡ false
     → PlansUnlisted card bs.names bs.index bs.graph c roots list answer exit → PlansHeaders headers card bs c roots list answer exit
 unfolding plan_headers on_headed

@@ -1,6 +1,5 @@
 -- What the plan from the header lists on asks and promises.
-use Rattle.std.specs.Prelude.{ℕ, ◌≤◌, ◌<◌, true, List, ◌≡◌, length, get_or}
-use Rattle.spec.specs.declared.PlanAnswer.{PlanAnswer}
+use Rattle.std.specs.Prelude.{ℕ, ◌≤◌, ◌<◌, true, List, ◌≡◌, length, get_or, Result}
 use Rattle.spec.specs.Limits.{least_list, max_written, max_headers}
 use Rattle.spec.specs.Reading.{Reading}
 use Rattle.spec.specs.Manifest.{read_manifest, accepted}
@@ -14,6 +13,7 @@ use Rattle.hold_bindings.specs.Log.{Logged}
 use Rattle.hold_reading.specs.declared.Counts.{Counts}
 use Rattle.hold_reading.specs.Held.{HoldsReading}
 use Rattle.hold_reading.specs.Buffers.{Buffers}
+use Rattle.spec.specs.declared.Refusal.{Refusal}
 
 -- a sound bundle of header lists, and room for the numbers of all that there may be
 pub record ListsAsked (headers order : List ℕ) : Type 0 where
@@ -35,6 +35,6 @@ pub record HeadersPlanAsked (t headers card : List ℕ) (bs : Buffers) (c : Coun
   pub room : least_list ≤ length list
 
 -- whatever ask and reading it is
-pub record PlansHeaders (headers card : List ℕ) (bs : Buffers) (c : Counts) (roots list : List ℕ) (r : PlanAnswer) (exit : List ℕ) : Type 0 where
+pub record PlansHeaders (headers card : List ℕ) (bs : Buffers) (c : Counts) (roots list : List ℕ) (r : Result ℕ Refusal) (exit : List ℕ) : Type 0 where
   pub plans : (i : Inputs) (log : List Logged) (rd : Reading) → i.headers ≡ headers → i.card ≡ card → read_manifest i.manifest ≡ accepted rd
       → HoldsReading log bs c rd → roots ≡ roots_of i rd → PlanMeets (plan_headers i rd) list (plan_says r) exit

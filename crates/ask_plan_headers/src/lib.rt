@@ -10,12 +10,11 @@ use ask_depfile_bound::depfile_bound;
 use ask_header_graph::head_steps;
 use ask_plan_second::plan_second;
 use ask_plan_unlisted::plan_unlisted;
-use hold_headers::AddedHeaders;
 use hold_reading::Counts;
 use hold_reading::columns::COLUMNS_END;
-use scan_bundle::{BundleAnswer, index as index_bundle};
+use scan_bundle::index as index_bundle;
 use slices::words::zero_words_from;
-use spec::PlanAnswer;
+use spec::Refusal;
 use spec::limits::{HEADERS, PATH, TEXT};
 
 // How many lists there are. `order` begins with their numbers, sorted by name.
@@ -23,10 +22,7 @@ fn index_lists(headers: &[u8], order: &mut [u32]) -> usize
     requires { ListsAsked headers.now order.old }
     ensures { Leaves (Spare order.old order.new) (BundleIndexed headers.now result order.new) }
 {
-    match index_bundle(headers, 0, HEADERS, order) {
-        BundleAnswer::Sound(n) => n,
-        BundleAnswer::Malformed => 0,
-    }
+    index_bundle(headers, 0, HEADERS, order).unwrap_or(0)
 }
 
 // The plan where something is called `depfile`.
@@ -42,7 +38,7 @@ fn plan_depfiles(
     c: Counts,
     roots: &[u32],
     list: &mut [u32],
-) -> PlanAnswer
+) -> Result<usize, Refusal>
     requires { HeadersPlanAsked t.now headers.now card.now (buffers names.old index.old texts.now bind.now graph.now) c roots.now list.old }
     ensures { Leaves (Spare names.old names.new × Spare index.old index.new) (PlansHeaders headers.now card.now (buffers names.old index.old texts.now bind.now graph.now) c roots.now list.old result list.new) }
 {
@@ -66,18 +62,16 @@ fn plan_depfiles(
         &mut name,
         &mut word,
     ) {
-        AddedHeaders::Headed(d) => plan_second(
-            card, names, index, graph, c, &second, d, roots, list,
-        ),
-        AddedHeaders::Refused(r) => {
+        Ok(d) => plan_second(card, names, index, graph, c, &second, d, roots, list),
+        Err(r) => {
             zero_words_from(list, 0);
-            PlanAnswer::Refused(r)
+            Err(r)
         }
     }
 }
 
-// The plan from the header lists on. `names` and `index` get the listed files; what they hold afterwards is left open. Where nothing is called `depfile` there is
-// nothing to look for, and no space for it is made.
+// The plan from the header lists on. `names` and `index` get the listed files; what they hold afterwards is left open.
+// Where nothing is called `depfile` there is nothing to look for, and no space for it is made.
 pub fn plan_headers(
     t: &[u8; 256],
     headers: &[u8],
@@ -90,7 +84,7 @@ pub fn plan_headers(
     c: Counts,
     roots: &[u32],
     list: &mut [u32],
-) -> PlanAnswer
+) -> Result<usize, Refusal>
     requires { HeadersPlanAsked t.now headers.now card.now (buffers names.old index.old texts.now bind.now graph.now) c roots.now list.old }
     ensures { Leaves (Spare names.old names.new × Spare index.old index.new) (PlansHeaders headers.now card.now (buffers names.old index.old texts.now bind.now graph.now) c roots.now list.old result list.new) }
 {

@@ -1,10 +1,10 @@
 -- The list by the times by which steps are judged is the ask's.
+use Rattle.std.specs.Prelude.{Ok}
 use Prim.Native.Nat.{ℕ}
 use native.Mathlib.Omega.{arith}
 use mathlib.Core.Path.{ap, fun_ext}
 use mathlib.Core.List.{List}
 use lib.ListN.{length}
-use Rattle.spec.specs.declared.PlanAnswer.TheVariants.{Listed}
 use Rattle.spec.specs.Answers.{plan_says, says}
 use Rattle.spec.specs.PlanAsk.{roots_of, plan_listed}
 use Rattle.spec.specs.Promises.{PlanMeets}
@@ -21,7 +21,7 @@ module _ {mentions ends phony made times order list : List ℕ} where
     room = omega (arith, q.asked.sound.few_steps, q.asked.room);
   }
 
-  pub listed : {k : ℕ} {exit : List ℕ} → StaleListed mentions ends phony made times order list k exit → PlansListed mentions ends phony made times order list (Listed k) exit
+  pub listed : {k : ℕ} {exit : List ℕ} → StaleListed mentions ends phony made times order list k exit → PlansListed mentions ends phony made times order list (Ok k) exit
   unfolding plan_listed PlanMeets plan_says
   listed l =
       record {

@@ -1,8 +1,7 @@
 -- What the stages of the plan ask behind the header lists are given, for whatever ask and reading it is, and what they ask of the lent slices.
-use Rattle.std.specs.Prelude.{ℕ, ◌≤◌, ◌<◌, ◌≡◌, List, length, get_or}
+use Rattle.std.specs.Prelude.{ℕ, ◌≤◌, ◌<◌, ◌≡◌, List, length, get_or, Result}
 use Rattle.orders.specs.Order.{IsOrder}
 use Rattle.orders.specs.Greedy.{In, By}
-use Rattle.spec.specs.declared.PlanAnswer.{PlanAnswer}
 use Rattle.spec.specs.Limits.{least_list}
 use Rattle.spec.specs.Reading.{Reading}
 use Rattle.spec.specs.Graph.{before, needed}
@@ -12,6 +11,7 @@ use Rattle.spec.specs.PlanAsk.{Inputs, judged_time, roots_of, plan_listed}
 use Rattle.spec.specs.Promises.{PlanMeets}
 use Rattle.hold_columns.specs.Columns.{before_in, HoldsColumns, SoundColumns, SortedSteps}
 use Rattle.graph_stale.specs.Judge.{time_at}
+use Rattle.spec.specs.declared.Refusal.{Refusal}
 
 -- the columns hold the steps with their listed inputs, and the times are those by which steps are judged
 pub record Staged (i : Inputs) (h : HeaderGraph) (mentions ends phony made times : List ℕ) : Type 0 where
@@ -35,6 +35,6 @@ pub record OrderAsked (mentions ends phony made times order list : List ℕ) : T
   pub steps : (s : ℕ) → s < length order → get_or order s 0 < length phony
 
 -- whatever ask and reading it is, this is the outcome where no check refuses
-pub record PlansListed (mentions ends phony made times order list : List ℕ) (answer : PlanAnswer) (exit : List ℕ) : Type 0 where
+pub record PlansListed (mentions ends phony made times order list : List ℕ) (answer : Result ℕ Refusal) (exit : List ℕ) : Type 0 where
   pub plans : (i : Inputs) (rd : Reading) (h : HeaderGraph) → Staged i h mentions ends phony made times → OrderOf i rd h order
       → PlanMeets (plan_listed i rd h) list (plan_says answer) exit

@@ -4,21 +4,19 @@
 ghost use Rattle.ask_plan_list.specs.Stages.{OrderAsked, PlansListed};
 
 use graph_list::list_stale;
-use spec::PlanAnswer;
+use hold_columns::Columns;
+use spec::Refusal;
 
 // The stale needed command steps, where `order` is an order of the needed steps.
 pub fn plan_listed(
-    mentions: &[u32],
-    ends: &[u32],
-    phony: &[u32],
-    made: &[u32],
+    g: &Columns,
     times: &[u64],
     order: &[u32],
     list: &mut [u32],
-) -> PlanAnswer
-    requires { OrderAsked mentions.now ends.now phony.now made.now times.now order.now list.old }
-    ensures { PlansListed mentions.now ends.now phony.now made.now times.now order.now list.old result list.new }
+) -> Result<usize, Refusal>
+    requires { OrderAsked g.now.mentions.now g.now.ends.now g.now.phony.now g.now.made.now times.now order.now list.old }
+    ensures { PlansListed g.now.mentions.now g.now.ends.now g.now.phony.now g.now.made.now times.now order.now list.old result list.new }
 {
-    let n = list_stale(mentions, ends, phony, made, times, order, list);
-    PlanAnswer::Listed(n)
+    let n = list_stale(g, times, order, list);
+    Ok(n)
 }

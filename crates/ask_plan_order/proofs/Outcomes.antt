@@ -1,4 +1,5 @@
 -- 14, and what comes after it.
+use Rattle.std.specs.Prelude.{Result, Ok, Err}
 use Prim.Native.Nat.{ℕ, ◌<◌}
 use native.Mathlib.Omega.{arith}
 use mathlib.Core.Path.{◌≡◌, ap}
@@ -12,8 +13,6 @@ use Rattle.orders.specs.Circle.{circle_not_whole}
 use Rattle.orders.specs.Reach.{Closed, reach_closed, reach_low, direct_earlier}
 use Rattle.orders.specs.Same.{circle_as}
 use Rattle.spec.specs.declared.Refusal.TheVariants.{Circle}
-use Rattle.spec.specs.declared.PlanAnswer.{PlanAnswer}
-use Rattle.spec.specs.declared.PlanAnswer.TheVariants.{Refused}
 use Rattle.spec.specs.Reading.{Reading}
 use Rattle.spec.specs.Headers.{HeaderGraph}
 use Rattle.spec.specs.Graph.{before, needed, has_order}
@@ -24,21 +23,20 @@ use Rattle.spec.proofs.Graph.{in_before, in_needed}
 use Rattle.hold_columns.specs.Columns.{makers_in, before_in, needed_in, FilesMade}
 use Rattle.hold_columns.proofs.Makers.{makers_small}
 use Rattle.hold_columns.proofs.Held.{before_small, held_before, held_needed, held_steps}
-use Rattle.graph_order.specs.declared.Sorting.{Sorting}
-use Rattle.graph_order.specs.declared.Sorting.TheVariants.{Ordered as OrderedSteps, Circular}
 use Rattle.graph_order.specs.Sort.{NeededAsked, NeededSorted, InOrder, InCircle}
 use Rattle.ask_plan_list.specs.Stages.{Staged, OrderOf}
 use Rattle.ask_plan_sources.specs.Sources.{SourcesAsked, PlansSources}
 use Rattle.ask_plan_order.specs.Order.{RootsAsked, OrderSpaceAsked, PlansOrdered}
+use Rattle.spec.specs.declared.Refusal.{Refusal}
 
 -- ---- what sorting tells, by its answer
 
-module _ (mentions ends made roots order list exit : List ℕ) {n m : ℕ} {o : Sorting} (s : NeededSorted mentions ends made roots n order list exit o) (z : n ≡ m) where
-  pub order_told : {k : ℕ} → o ≡ OrderedSteps k → InOrder mentions ends made roots m order k list exit
+module _ (mentions ends made roots order list exit : List ℕ) {n m : ℕ} {o : Result ℕ ℕ} (s : NeededSorted mentions ends made roots n order list exit o) (z : n ≡ m) where
+  pub order_told : {k : ℕ} → o ≡ Ok k → InOrder mentions ends made roots m order k list exit
   unfolding NeededSorted
   order_told e = rw (e, z) at s
 
-  pub circle_told : {k : ℕ} → o ≡ Circular k → InCircle mentions ends made roots m k list exit
+  pub circle_told : {k : ℕ} → o ≡ Err k → InCircle mentions ends made roots m k list exit
   unfolding NeededSorted
   circle_told e = rw (e, z) at s
 
@@ -55,7 +53,7 @@ module _ {i : Inputs} (rd : Reading) {h : HeaderGraph} {mentions ends phony made
 module _ {wmentions wends mentions ends phony made times roots list : List ℕ} where
   -- 14
   pub circle : {k : ℕ} {exit : List ℕ} → InCircle mentions ends made roots (length phony) k list exit
-      → PlansOrdered wmentions wends mentions ends phony made times roots list (Refused (Circle k)) exit
+      → PlansOrdered wmentions wends mentions ends phony made times roots list (Err (Circle k)) exit
   unfolding plan_ordered has_order PlanMeets plan_says number_of_refusal place_of_refusal
   circle c =
       record {
@@ -69,7 +67,7 @@ module _ {wmentions wends mentions ends phony made times roots list : List ℕ} 
       }
 
   -- the list is as it was
-  pub goes_on : {order lent exit : List ℕ} {k : ℕ} {answer : PlanAnswer} → InOrder mentions ends made roots (length phony) order k list lent
+  pub goes_on : {order lent exit : List ℕ} {k : ℕ} {answer : Result ℕ Refusal} → InOrder mentions ends made roots (length phony) order k list lent
       → PlansSources wmentions wends mentions ends phony made times roots (take k order) lent answer exit → PlansOrdered wmentions wends mentions ends phony made times roots list answer exit
   unfolding plan_ordered has_order
   goes_on r p =

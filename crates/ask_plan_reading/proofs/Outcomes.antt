@@ -1,4 +1,5 @@
 -- 11 and 12, and what comes after them.
+use Rattle.std.specs.Prelude.{Result, Ok, Err}
 use Prim.Native.Nat.{ℕ, ◌≤◌, ◌<◌}
 use mathlib.Core.Bool.{true, false}
 use mathlib.Core.List.{List}
@@ -9,8 +10,6 @@ use lib.ListN.{length, take}
 use lib.Seq.{length-take-le, get_or-take}
 use Rattle.lists.specs.Fill.{zeroed}
 use Rattle.spec.specs.declared.Refusal.TheVariants.{BadCard, BadTarget}
-use Rattle.spec.specs.declared.PlanAnswer.{PlanAnswer}
-use Rattle.spec.specs.declared.PlanAnswer.TheVariants.{Refused}
 use Rattle.spec.specs.Reading.{Reading}
 use Rattle.spec.specs.Card.{sound_card}
 use Rattle.spec.specs.Targets.{bad_target}
@@ -22,27 +21,26 @@ use Rattle.hold_bindings.specs.Log.{Logged}
 use Rattle.hold_reading.specs.declared.Counts.{Counts}
 use Rattle.hold_reading.specs.Held.{HoldsReading}
 use Rattle.hold_reading.specs.Buffers.{Buffers}
-use Rattle.ask_target_files.specs.declared.NumberedTargets.{NumberedTargets}
-use Rattle.ask_target_files.specs.declared.NumberedTargets.TheVariants.{All, Bad}
 use Rattle.ask_target_files.specs.Numbered.{target_numbers_of, NumberingAsked, TargetsNumbered, Says, NumbersTargets}
 use Rattle.ask_plan_columns.specs.Columns.{ColumnsAsked, PlansColumns}
 use Rattle.ask_plan_reading.specs.Asked.{NumbersSpaceAsked, PlansTargets, PlansRead}
+use Rattle.spec.specs.declared.Refusal.{Refusal}
 
 module _ {headers card targets : List ℕ} {bs : Buffers} {c : Counts} {list exit : List ℕ} where
   -- ---- 11
 
-  pub bad_card : sound_card card ≡ false → exit ≡ zeroed list 0 (length list) → PlansRead headers card targets bs c list (Refused BadCard) exit
+  pub bad_card : sound_card card ≡ false → exit ≡ zeroed list 0 (length list) → PlansRead headers card targets bs c list (Err BadCard) exit
   unfolding plan_read PlanMeets plan_says left_by number_of_refusal
   bad_card s z = record { plans = λ manifest log rd e h. rw s (record { says = refl; leaves = z ∙ cleared list }) }
 
-  pub good_card : sound_card card ≡ true → {answer : PlanAnswer} → PlansTargets headers card targets bs c list answer exit → PlansRead headers card targets bs c list answer exit
+  pub good_card : sound_card card ≡ true → {answer : Result ℕ Refusal} → PlansTargets headers card targets bs c list answer exit → PlansRead headers card targets bs c list answer exit
   unfolding plan_read
   good_card s p = record { plans = λ manifest log rd e h. rw s (p.plans manifest log rd e h) }
 
   -- ---- 12
 
-  pub bad_target_law : exit ≡ zeroed list 0 (length list) → {numbers : List ℕ} {r : NumberedTargets} {place : ℕ} → NumbersTargets targets bs.names bs.index c.files numbers r → r ≡ Bad place
-      → PlansTargets headers card targets bs c list (Refused (BadTarget place)) exit
+  pub bad_target_law : exit ≡ zeroed list 0 (length list) → {numbers : List ℕ} {r : Result ℕ ℕ} {place : ℕ} → NumbersTargets targets bs.names bs.index c.files numbers r → r ≡ Err place
+      → PlansTargets headers card targets bs c list (Err (BadTarget place)) exit
   unfolding plan_targets PlanMeets plan_says left_by number_of_refusal
   bad_target_law z {numbers} {place = place} n w =
       record {
@@ -60,8 +58,8 @@ numbering a =
 -- ---- past 12, by the columns
 
 -- the targets' numbers, as far as they are filled
-module _ {targets : List ℕ} {bs : Buffers} {c : Counts} {numbers : List ℕ} {x : NumberedTargets} {k : ℕ} (n : NumbersTargets targets bs.names bs.index c.files numbers x)
-    (w : x ≡ All k) where
+module _ {targets : List ℕ} {bs : Buffers} {c : Counts} {numbers : List ℕ} {x : Result ℕ ℕ} {k : ℕ} (n : NumbersTargets targets bs.names bs.index c.files numbers x)
+    (w : x ≡ Ok k) where
   numbered : {log : List Logged} {rd : Reading} → HoldsReading log bs c rd → TargetsNumbered targets numbers rd.files k
   numbered {rd = rd} h = subst (Says targets numbers rd.files) w (n.says rd.files h.named)
 
@@ -69,7 +67,7 @@ module _ {targets : List ℕ} {bs : Buffers} {c : Counts} {numbers : List ℕ} {
   unfolding target_files target_numbers_of
   targets_are h = (numbered h).numbers
 
-  pub good_targets : {headers card list exit : List ℕ} {answer : PlanAnswer} → PlansColumns headers card bs c (take k numbers) list answer exit
+  pub good_targets : {headers card list exit : List ℕ} {answer : Result ℕ Refusal} → PlansColumns headers card bs c (take k numbers) list answer exit
       → PlansTargets headers card targets bs c list answer exit
   unfolding plan_targets
   good_targets {headers} {card} p =

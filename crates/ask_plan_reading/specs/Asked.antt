@@ -1,6 +1,5 @@
 -- What the plan from a reading asks and promises.
-use Rattle.std.specs.Prelude.{ℕ, ◌≤◌, true, List, ◌≡◌, length}
-use Rattle.spec.specs.declared.PlanAnswer.{PlanAnswer}
+use Rattle.std.specs.Prelude.{ℕ, ◌≤◌, true, List, ◌≡◌, length, Result}
 use Rattle.spec.specs.Limits.{max_targets, max_written, least_list}
 use Rattle.spec.specs.Reading.{Reading}
 use Rattle.spec.specs.Manifest.{read_manifest, accepted}
@@ -14,6 +13,7 @@ use Rattle.hold_bindings.specs.Log.{Logged}
 use Rattle.hold_reading.specs.declared.Counts.{Counts}
 use Rattle.hold_reading.specs.Held.{HoldsReading}
 use Rattle.hold_reading.specs.Buffers.{Buffers}
+use Rattle.spec.specs.declared.Refusal.{Refusal}
 
 -- the buffers hold some manifest's reading, the header lists are a sound bundle, and the list has the room that 1 asks for
 pub record ReadAsked (t headers : List ℕ) (bs : Buffers) (c : Counts) (list : List ℕ) : Type 0 where
@@ -38,11 +38,11 @@ pub record NumbersSpaceAsked (t headers card : List ℕ) (bs : Buffers) (c : Cou
   pub long : length numbers ≡ max_targets
 
 -- whatever manifest was read, and whatever reading was held, this is the plan ask's outcome for it: past 11
-pub record PlansTargets (headers card targets : List ℕ) (bs : Buffers) (c : Counts) (list : List ℕ) (r : PlanAnswer) (exit : List ℕ) : Type 0 where
+pub record PlansTargets (headers card targets : List ℕ) (bs : Buffers) (c : Counts) (list : List ℕ) (r : Result ℕ Refusal) (exit : List ℕ) : Type 0 where
   pub plans : (manifest : List ℕ) (log : List Logged) (rd : Reading) → read_manifest manifest ≡ accepted rd → HoldsReading log bs c rd
       → PlanMeets (plan_targets (inputs_of manifest card targets headers) rd) list (plan_says r) exit
 
 -- and from 11 on
-pub record PlansRead (headers card targets : List ℕ) (bs : Buffers) (c : Counts) (list : List ℕ) (r : PlanAnswer) (exit : List ℕ) : Type 0 where
+pub record PlansRead (headers card targets : List ℕ) (bs : Buffers) (c : Counts) (list : List ℕ) (r : Result ℕ Refusal) (exit : List ℕ) : Type 0 where
   pub plans : (manifest : List ℕ) (log : List Logged) (rd : Reading) → read_manifest manifest ≡ accepted rd → HoldsReading log bs c rd
       → PlanMeets (plan_read (inputs_of manifest card targets headers) rd) list (plan_says r) exit

@@ -1,13 +1,13 @@
 -- The choice of the roots, and 13.
-use Prim.Native.Nat.{ℕ, ◌+◌, ◌≤◌, ◌<◌}
+use Rattle.std.specs.Prelude.{Some, None}
+use Prim.Native.Nat.{ℕ, ◌≤◌, ◌<◌}
 use native.Mathlib.Omega.{arith}
 use native.Mathlib.Nat.{not-suc-le-zero}
-use native.Mathlib.Numerals.{add-one}
 use mathlib.Core.Path.{◌≡◌, refl, sym, ◌∙◌}
 use mathlib.Core.Bool.{Bool, true, false, not, ◌&&◌}
-use mathlib.Core.List.{List, [], ◌∷◌}
-use lib.ListN.{length, get_or, take, set, length-set}
-use lib.Seq.{take-suc, take-suc-set, take_all, length-take-le}
+use mathlib.Core.List.{List, [], ◌∷◌, ◌++◌}
+use lib.ListN.{length, get_or, take, drop, length-append}
+use lib.Seq.{take-append_seam, length-take-le}
 use Rattle.lists.specs.Members.{in_at}
 use Rattle.spec.specs.Basics.{is_empty}
 use Rattle.spec.specs.Reading.{Reading}
@@ -15,7 +15,6 @@ use Rattle.spec.specs.Graph.{tops, roots, no_root}
 use Rattle.spec.specs.PlanAsk.{target_files}
 use Rattle.hold_columns.proofs.Held.{held_steps}
 use Rattle.graph_roots.specs.Tops.{TopsFound}
-use Rattle.ask_plan_roots.specs.declared.Roots.TheVariants.{From, None}
 use Rattle.ask_plan_roots.specs.Roots.{PutAsked, FilesPut, ChoiceAsked, RootsPut, RootsFound}
 
 some_in : {A : Type 0} (l : List A) → 0 < length l → is_empty l ≡ false
@@ -30,26 +29,10 @@ and_false : (b : Bool) → (b && false) ≡ false
 and_false true = refl
 and_false false = refl
 
--- ---- files put at the front: the first i are there
+-- ---- files put at the front
 
-pub record Putting (fs out now : List ℕ) (i : ℕ) : Type 0 where
-  pub within : i ≤ length fs
-  pub long : length now ≡ length out
-  pub front : take i now ≡ take i fs
-
-pub put_begin : {fs out : List ℕ} → Putting fs out out 0
-put_begin = record { within = omega arith; long = refl; front = refl }
-
-module _ {fs out now : List ℕ} {i : ℕ} (q : PutAsked fs out) (r : Putting fs out now i) where
-  pub put_more : i < length fs → {v : ℕ} → v ≡ get_or fs i 0 → Putting fs out (set now i v) (i + 1)
-  put_more b {v} e = record {
-    within = omega arith;
-    long = simp length-set r.long;
-    front = rw (add-one i, take-suc-set now i v (omega (arith, q.room, r.long)), take-suc fs i 0 b, r.front, e);
-  }
-
-  pub put_end : length fs ≤ i → FilesPut fs now i
-  put_end b = record { within = omega (arith, q.room, r.within, r.long); front = r.front ∙ take_all i fs b }
+pub put_all : {fs out now : List ℕ} → PutAsked fs out → now ≡ fs ++ drop (length fs) out → FilesPut fs now (length fs)
+put_all {fs} {out} q e = record { within = rw e (simp length-append (omega arith)); front = rw e (take-append_seam fs (drop (length fs) out)) }
 
 -- ---- 13
 
@@ -70,11 +53,11 @@ module _ {mentions ends phony made defaults targets out : List ℕ} {k : ℕ} (p
   long : length (take k out) ≡ k
   long = length-take-le k out p.within
 
-  pub found_some : 0 < k → RootsFound mentions ends phony made defaults targets out (From k)
+  pub found_some : 0 < k → RootsFound mentions ends phony made defaults targets out (Some k)
   unfolding RootsFound
   found_some b = record { put = p; rooted = λ i rd w. some_root rd (target_files i.targets rd) (p.are i rd w) (omega (arith, long, b)) }
 
-  pub found_stepless : length phony ≡ 0 → RootsFound mentions ends phony made defaults targets out (From k)
+  pub found_stepless : length phony ≡ 0 → RootsFound mentions ends phony made defaults targets out (Some k)
   unfolding RootsFound
   found_stepless z = record { put = p; rooted = λ i rd w. no_step rd (target_files i.targets rd) (p.are i rd w) (sym (held_steps w.held) ∙ z) }
 

@@ -1,12 +1,10 @@
 -- What the choice of the roots and 13 ask and promise. They go by the written columns.
-use Rattle.std.specs.Prelude.{ℕ, ◌≤◌, ◌<◌, ◌≡◌, true, false, List, length, get_or, take}
+use Rattle.std.specs.Prelude.{ℕ, ◌≤◌, ◌<◌, ◌≡◌, true, false, List, length, get_or, take, Option, Some, None}
 use Rattle.lists.specs.Fill.{zeros}
 use Rattle.spec.specs.Reading.{Reading}
 use Rattle.spec.specs.Graph.{no_root}
 use Rattle.spec.specs.PlanAsk.{Inputs, target_files, roots_of}
 use Rattle.hold_columns.specs.Columns.{HoldsColumns, SoundColumns}
-use Rattle.ask_plan_roots.specs.declared.Roots.{Roots}
-use Rattle.ask_plan_roots.specs.declared.Roots.TheVariants.{From, None}
 
 -- the columns hold the reading's steps, and the defaults and targets are those of the reading and the ask
 pub record Chosen (i : Inputs) (rd : Reading) (mentions ends phony made defaults targets : List ℕ) : Type 0 where
@@ -47,6 +45,6 @@ pub record RootsFrom (mentions ends phony made defaults targets out : List ℕ) 
 pub record RootsNone (mentions ends phony made defaults targets : List ℕ) : Type 0 where
   pub rootless : (i : Inputs) (rd : Reading) → Chosen i rd mentions ends phony made defaults targets → no_root rd (target_files i.targets rd) ≡ true
 
-unfoldable pub RootsFound : List ℕ → List ℕ → List ℕ → List ℕ → List ℕ → List ℕ → List ℕ → Roots → Type 0
-RootsFound mentions ends phony made defaults targets out (From k) = RootsFrom mentions ends phony made defaults targets out k
+unfoldable pub RootsFound : List ℕ → List ℕ → List ℕ → List ℕ → List ℕ → List ℕ → List ℕ → Option ℕ → Type 0
+RootsFound mentions ends phony made defaults targets out (Some k) = RootsFrom mentions ends phony made defaults targets out k
 RootsFound mentions ends phony made defaults targets out None = RootsNone mentions ends phony made defaults targets

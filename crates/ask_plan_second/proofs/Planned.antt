@@ -1,10 +1,10 @@
 -- The second columns are what the plan behind the header lists asks for.
+use Rattle.std.specs.Prelude.{Result}
 use Prim.Native.Nat.{ℕ, ◌<◌}
 use native.Mathlib.Omega.{arith}
 use mathlib.Core.List.{List}
 use mathlib.Core.Path.{◌≡◌}
 use lib.ListN.{length}
-use Rattle.spec.specs.declared.PlanAnswer.{PlanAnswer}
 use Rattle.spec.specs.Reading.{Reading}
 use Rattle.spec.specs.Headers.{HeaderGraph}
 use Rattle.hold_columns.proofs.Held.{held_inputs, held_sound}
@@ -17,6 +17,7 @@ use Rattle.ask_header_graph.proofs.Ready.{split_asked, ready, headed_held}
 use Rattle.ask_plan_sources.specs.Sources.{WrittenAsked}
 use Rattle.ask_plan_headed.specs.Headed.{HeadedPlanAsked, PlansHeaded}
 use Rattle.ask_plan_second.specs.Second.{SecondAsked, SecondSpaceAsked, PlansSecond}
+use Rattle.spec.specs.declared.Refusal.{Refusal}
 
 module _ {names index second : List ℕ} {c d : Counts} {h : HeaderGraph} (g : HeadedGraph names index second c d h) where
   pub second_parted : ColumnsCut second d
@@ -64,7 +65,7 @@ module _ {card names index graph : List ℕ} {c : Counts} {second : List ℕ} {d
           room = q.room;
         })
 
-    pub planned : {answer : PlanAnswer} {exit : List ℕ} → PlansHeaded card names index wmentions wends mentions ends phony made missing listed roots list answer exit
+    pub planned : {answer : Result ℕ Refusal} {exit : List ℕ} → PlansHeaded card names index wmentions wends mentions ends phony made missing listed roots list answer exit
         → PlansSecond card names index graph c second d roots list answer exit
     planned p = record {
       plans = λ i rd h a t g q.

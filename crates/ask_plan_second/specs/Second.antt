@@ -1,6 +1,5 @@
 -- What the plan from 14 on asks and promises where the listed inputs stand in the second columns.
-use Rattle.std.specs.Prelude.{ℕ, ◌≤◌, ◌<◌, true, List, ◌≡◌, length, get_or}
-use Rattle.spec.specs.declared.PlanAnswer.{PlanAnswer}
+use Rattle.std.specs.Prelude.{ℕ, ◌≤◌, ◌<◌, true, List, ◌≡◌, length, get_or, Result}
 use Rattle.spec.specs.Limits.{least_list}
 use Rattle.spec.specs.Reading.{Reading}
 use Rattle.spec.specs.Card.{sound_card}
@@ -11,6 +10,7 @@ use Rattle.spec.specs.Promises.{PlanMeets}
 use Rattle.hold_reading.specs.declared.Counts.{Counts}
 use Rattle.hold_parts.specs.Parts.{Tabled}
 use Rattle.ask_header_graph.specs.Graph.{HeadedGraph}
+use Rattle.spec.specs.declared.Refusal.{Refusal}
 
 -- past the header lists: `graph` has the written columns by the counts c, `second` those with the listed inputs by the counts d
 pub record SecondAsked (card names index graph : List ℕ) (c : Counts) (second : List ℕ) (d : Counts) (roots list : List ℕ) : Type 0 where
@@ -29,6 +29,6 @@ pub record SecondSpaceAsked (card names index graph : List ℕ) (c : Counts) (se
   pub listed_long : length listed ≡ d.steps
 
 -- whatever ask and reading it is, and whatever steps with their listed inputs the second columns hold
-pub record PlansSecond (card names index graph : List ℕ) (c : Counts) (second : List ℕ) (d : Counts) (roots list : List ℕ) (answer : PlanAnswer) (exit : List ℕ) : Type 0 where
+pub record PlansSecond (card names index graph : List ℕ) (c : Counts) (second : List ℕ) (d : Counts) (roots list : List ℕ) (answer : Result ℕ Refusal) (exit : List ℕ) : Type 0 where
   pub plans : (i : Inputs) (rd : Reading) (h : HeaderGraph) → i.card ≡ card → Tabled graph c rd → HeadedGraph names index second c d h → roots ≡ roots_of i rd
       → PlanMeets (plan_ordered i rd h) list (plan_says answer) exit

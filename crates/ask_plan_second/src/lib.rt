@@ -1,4 +1,5 @@
-// A stage of the plan ask, behind the header lists: what the depfiles tell in two columns, then 14 on the columns with the listed inputs.
+// A stage of the plan ask, behind the header lists: what the depfiles tell in two columns, then 14 on the columns with
+// the listed inputs.
 #![tactic(auto)]
 
 ghost use Rattle.lists.specs.Lent.{Spare, Leaves};
@@ -6,9 +7,10 @@ ghost use Rattle.ask_plan_second.specs.Second.{SecondAsked, SecondSpaceAsked, Pl
 
 use ask_header_graph::split_lists;
 use ask_plan_headed::plan_headed;
+use hold_columns::Columns;
 use hold_parts::{ends_part, made_part, mentions_part, phony_part};
 use hold_reading::Counts;
-use spec::PlanAnswer;
+use spec::Refusal;
 use spec::limits::STEPS;
 
 // 14 and on by the second columns, of the counts d; `missing` and `listed` are working space.
@@ -24,7 +26,7 @@ fn split_then_plan(
     missing: &mut [u32],
     listed: &mut [u32],
     list: &mut [u32],
-) -> PlanAnswer
+) -> Result<usize, Refusal>
     requires { SecondSpaceAsked card.now names.now index.now graph.now c second.now d roots.now missing.old listed.old list.old }
     ensures { Leaves (Spare missing.old missing.new × Spare listed.old listed.new) (PlansSecond card.now names.now index.now graph.now c second.now d roots.now list.old result list.new) }
 {
@@ -35,10 +37,19 @@ fn split_then_plan(
     let ends = ends_part(second, d);
     let phony = phony_part(second, d);
     let made = made_part(second, d);
-    plan_headed(
-        card, names, index, wmentions, wends, mentions, ends, phony, made, missing, listed, roots,
-        list,
-    )
+    let g = Columns {
+        mentions,
+        ends,
+        phony,
+        made,
+    };
+    // The steps and makers are the same as in the columns that were read.
+    let w = Columns {
+        mentions: wmentions,
+        ends: wends,
+        ..g
+    };
+    plan_headed(card, names, index, &w, &g, missing, listed, roots, list)
 }
 
 // The same, with the working space.
@@ -52,7 +63,7 @@ pub fn plan_second(
     d: Counts,
     roots: &[u32],
     list: &mut [u32],
-) -> PlanAnswer
+) -> Result<usize, Refusal>
     requires { SecondAsked card.now names.now index.now graph.now c second.now d roots.now list.old }
     ensures { PlansSecond card.now names.now index.now graph.now c second.now d roots.now list.old result list.new }
 {

@@ -1,20 +1,21 @@
 -- 15, and what comes after it.
-use Prim.Native.Nat.{ℕ, ◌≤◌, ◌<◌}
+use Rattle.std.specs.Prelude.{Option, Some, None, Result, Err}
+use Prim.Native.Nat.{ℕ}
+use native.Mathlib.Nat.{le_refl}
 use mathlib.Core.Path.{◌≡◌, refl, ◌∙◌}
 use mathlib.Core.List.{List}
 use lib.ListN.{length, get_or}
 use Rattle.lists.specs.Fill.{zeroed}
 use Rattle.spec.specs.declared.Refusal.TheVariants.{MissingSource}
-use Rattle.spec.specs.declared.PlanAnswer.{PlanAnswer}
-use Rattle.spec.specs.declared.PlanAnswer.TheVariants.{Refused}
 use Rattle.spec.specs.Answers.{number_of_refusal, plan_says}
 use Rattle.spec.specs.PlanAsk.{plan_sources}
 use Rattle.spec.specs.Promises.{left_by, PlanMeets}
 use Rattle.spec.proofs.Promises.{cleared}
-use Rattle.graph_sources.specs.Sources.{LowestMissing, SourceAsked}
+use Rattle.graph_sources.specs.Sources.{MissingFound, SourceAsked}
 use Rattle.ask_plan_list.specs.Stages.{PlansListed}
 use Rattle.ask_plan_sources.specs.Sources.{SourcesAsked, PlansSources}
 use Rattle.ask_plan_sources.proofs.Missing.{missing_found, missing_not}
+use Rattle.spec.specs.declared.Refusal.{Refusal}
 
 pub ask_missing : {wmentions wends mentions ends phony made times roots order list : List ℕ} → SourcesAsked wmentions wends mentions ends phony made times roots order list
     → SourceAsked wmentions wends made times roots order
@@ -25,13 +26,13 @@ ask_missing {order = order} q = record {
   timed = q.asked.asked.timed;
 }
 
-module _ {wmentions wends mentions ends phony made times roots order list : List ℕ} {r : ℕ} (m : LowestMissing wmentions wends made times roots order (length made) r) {exit : List ℕ} where
+module _ {wmentions wends mentions ends phony made times roots order list : List ℕ} {o : Option ℕ} (m : MissingFound wmentions wends made times roots order (length made) o) {exit : List ℕ} where
   -- 15
-  pub missing : r < length made → exit ≡ zeroed list 0 (length list) → PlansSources wmentions wends mentions ends phony made times roots order list (Refused (MissingSource r)) exit
-  unfolding plan_sources PlanMeets plan_says left_by number_of_refusal
-  missing b z = record { plans = λ i rd h s w e o. rw (missing_found s w o (rw e at m) b) (record { says = refl; leaves = z ∙ cleared list }) }
+  pub missing : {r : ℕ} → o ≡ Some r → exit ≡ zeroed list 0 (length list) → PlansSources wmentions wends mentions ends phony made times roots order list (Err (MissingSource r)) exit
+  unfolding plan_sources PlanMeets plan_says left_by number_of_refusal MissingFound
+  missing k z = let (l, b) = rw k at m in record { plans = λ i rd h s w e o. rw (missing_found s w o (rw e at l) b) (record { says = refl; leaves = z ∙ cleared list }) }
 
-  pub goes_on : length made ≤ r → {answer : PlanAnswer} → PlansListed mentions ends phony made times order list answer exit
+  pub goes_on : o ≡ None → {answer : Result ℕ Refusal} → PlansListed mentions ends phony made times order list answer exit
       → PlansSources wmentions wends mentions ends phony made times roots order list answer exit
-  unfolding plan_sources
-  goes_on b p = record { plans = λ i rd h s w e o. rw (missing_not s w o (rw e at m) b) (p.plans i rd h s o) }
+  unfolding plan_sources MissingFound
+  goes_on k p = let l = rw k at m in record { plans = λ i rd h s w e o. rw (missing_not s w o (rw e at l) (le_refl (length made))) (p.plans i rd h s o) }

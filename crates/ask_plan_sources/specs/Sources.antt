@@ -1,6 +1,5 @@
 -- What 15 asks and promises, with the list after it.
-use Rattle.std.specs.Prelude.{ℕ, ◌<◌, ◌≡◌, List, length, get_or}
-use Rattle.spec.specs.declared.PlanAnswer.{PlanAnswer}
+use Rattle.std.specs.Prelude.{ℕ, ◌<◌, ◌≡◌, List, length, get_or, Result}
 use Rattle.lists.specs.Members.{◌∈◌}
 use Rattle.spec.specs.Reading.{Reading}
 use Rattle.spec.specs.Graph.{inputs, step_at}
@@ -10,6 +9,7 @@ use Rattle.spec.specs.PlanAsk.{Inputs, roots_of, plan_sources}
 use Rattle.spec.specs.Promises.{PlanMeets}
 use Rattle.hold_columns.specs.Columns.{inputs_in, PartsPlaced}
 use Rattle.ask_plan_list.specs.Stages.{Staged, OrderOf, OrderAsked}
+use Rattle.spec.specs.declared.Refusal.{Refusal}
 
 -- files by number
 abbrev pub FilesBelow : List ℕ → List ℕ → Type 0
@@ -29,6 +29,6 @@ pub record SourcesAsked (wmentions wends mentions ends phony made times roots or
   pub written : WrittenAsked (length phony) wmentions wends made
   pub roots_low : FilesBelow roots made
 
-pub record PlansSources (wmentions wends mentions ends phony made times roots order list : List ℕ) (answer : PlanAnswer) (exit : List ℕ) : Type 0 where
+pub record PlansSources (wmentions wends mentions ends phony made times roots order list : List ℕ) (answer : Result ℕ Refusal) (exit : List ℕ) : Type 0 where
   pub plans : (i : Inputs) (rd : Reading) (h : HeaderGraph) → Staged i h mentions ends phony made times → WrittenInputs rd wmentions wends → roots ≡ roots_of i rd
       → OrderOf i rd h order → PlanMeets (plan_sources i rd h) list (plan_says answer) exit

@@ -5,30 +5,26 @@ ghost use Rattle.ask_plan_sources.specs.Sources.{SourcesAsked, PlansSources};
 
 use ask_plan_list::plan_listed;
 use graph_sources::missing_source;
+use hold_columns::Columns;
 use slices::words::zero_words_from;
-use spec::{PlanAnswer, Refusal};
+use spec::Refusal;
 
-// 15 where a needed source is missing, where `order` is an order of the needed steps; else the list. The inputs that count as sources are those of the
-// written columns: a listed file by itself is none.
+// 15 where a needed source is missing, where `order` is an order of the needed steps; else the list. The inputs that
+// count as sources are those of the written columns: a listed file by itself is none.
 pub fn plan_sources(
-    wmentions: &[u32],
-    wends: &[u32],
-    mentions: &[u32],
-    ends: &[u32],
-    phony: &[u32],
-    made: &[u32],
+    w: &Columns,
+    g: &Columns,
     times: &[u64],
     roots: &[u32],
     order: &[u32],
     list: &mut [u32],
-) -> PlanAnswer
-    requires { SourcesAsked wmentions.now wends.now mentions.now ends.now phony.now made.now times.now roots.now order.now list.old }
-    ensures { PlansSources wmentions.now wends.now mentions.now ends.now phony.now made.now times.now roots.now order.now list.old result list.new }
+) -> Result<usize, Refusal>
+    requires { SourcesAsked w.now.mentions.now w.now.ends.now g.now.mentions.now g.now.ends.now g.now.phony.now g.now.made.now times.now roots.now order.now list.old }
+    ensures { PlansSources w.now.mentions.now w.now.ends.now g.now.mentions.now g.now.ends.now g.now.phony.now g.now.made.now times.now roots.now order.now list.old result list.new }
 {
-    let f = missing_source(wmentions, wends, made, times, roots, order);
-    if f < made.len() {
+    if let Some(f) = missing_source(w.mentions, w.ends, g.made, times, roots, order) {
         zero_words_from(list, 0);
-        return PlanAnswer::Refused(Refusal::MissingSource(f));
+        return Err(Refusal::MissingSource(f));
     }
-    plan_listed(mentions, ends, phony, made, times, order, list)
+    plan_listed(g, times, order, list)
 }

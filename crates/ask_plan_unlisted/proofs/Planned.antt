@@ -1,10 +1,10 @@
 -- The card's times are those by which steps are judged where no depfile tells anything, and the columns are what was read.
+use Rattle.std.specs.Prelude.{Result}
 use Prim.Native.Nat.{ℕ}
 use native.Mathlib.Nat.{le_of_eq}
 use mathlib.Core.List.{List}
 use mathlib.Core.Path.{◌≡◌, sym, ◌∙◌}
 use lib.ListN.{length}
-use Rattle.spec.specs.declared.PlanAnswer.{PlanAnswer}
 use Rattle.spec.specs.PlanAsk.{card_time}
 use Rattle.spec.proofs.NoLists.{by_card}
 use Rattle.hold_columns.proofs.Held.{held_inputs, held_steps, held_sound}
@@ -14,6 +14,7 @@ use Rattle.ask_file_times.specs.Times.{TimesAsked, Timed}
 use Rattle.ask_headed_times.proofs.Judging.{filled_times}
 use Rattle.ask_plan_order.specs.Order.{RootsAsked, PlansOrdered}
 use Rattle.ask_plan_unlisted.specs.Unlisted.{CardPlanAsked, PlansByCard, UnlistedAsked, PlansUnlisted}
+use Rattle.spec.specs.declared.Refusal.{Refusal}
 
 module _ {card names index mentions ends phony made roots times list : List ℕ} (q : CardPlanAsked card names index mentions ends phony made roots times list) where
   pub ask_times : TimesAsked card names index (length made) times
@@ -26,7 +27,7 @@ module _ {card names index mentions ends phony made roots times list : List ℕ}
     roots_low = q.roots_low;
   }
 
-  pub planned : {after : List ℕ} {answer : PlanAnswer} {exit : List ℕ} → Timed card names index (length made) times after
+  pub planned : {after : List ℕ} {answer : Result ℕ Refusal} {exit : List ℕ} → Timed card names index (length made) times after
       → PlansOrdered mentions ends mentions ends phony made after roots list answer exit → PlansByCard card names index mentions ends phony made roots list answer exit
   planned t p = record {
     plans = λ i rd ls a n h w e.
@@ -52,6 +53,6 @@ module _ {card names index graph : List ℕ} {c : Counts} {roots list mentions e
         room = a.room;
       }
 
-  pub plans_unlisted : {answer : PlanAnswer} {exit : List ℕ} → PlansByCard card names index mentions ends phony made roots list answer exit
+  pub plans_unlisted : {answer : Result ℕ Refusal} {exit : List ℕ} → PlansByCard card names index mentions ends phony made roots list answer exit
       → PlansUnlisted card names index graph c roots list answer exit
   plans_unlisted p = record { plans = λ i rd ls a n h w q. p.plans i rd ls a (rw (cut_counted e h) n) (cut_tables e h) w q }

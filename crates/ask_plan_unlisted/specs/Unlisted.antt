@@ -1,6 +1,5 @@
 -- What the plan from 14 on asks and promises where no depfile tells anything: steps are judged by the card's times, and the columns are the written ones.
-use Rattle.std.specs.Prelude.{ℕ, ◌≤◌, ◌<◌, true, List, ◌≡◌, length, get_or}
-use Rattle.spec.specs.declared.PlanAnswer.{PlanAnswer}
+use Rattle.std.specs.Prelude.{ℕ, ◌≤◌, ◌<◌, true, List, ◌≡◌, length, get_or, Result}
 use Rattle.spec.specs.Limits.{least_list}
 use Rattle.spec.specs.Reading.{Reading}
 use Rattle.spec.specs.Card.{sound_card}
@@ -13,6 +12,7 @@ use Rattle.hold_columns.specs.Columns.{HoldsColumns, SoundColumns}
 use Rattle.hold_reading.specs.declared.Counts.{Counts}
 use Rattle.hold_parts.specs.Parts.{Tabled}
 use Rattle.ask_plan_sources.specs.Sources.{FilesBelow}
+use Rattle.spec.specs.declared.Refusal.{Refusal}
 
 -- no step's depfile is missing or lists a file
 abbrev pub NothingListed : List Listed → Type 0
@@ -29,7 +29,7 @@ pub record CardPlanAsked (card names index mentions ends phony made roots times 
   pub timed : length times ≡ length made
   pub room : least_list ≤ length list
 
-pub record PlansByCard (card names index mentions ends phony made roots list : List ℕ) (answer : PlanAnswer) (exit : List ℕ) : Type 0 where
+pub record PlansByCard (card names index mentions ends phony made roots list : List ℕ) (answer : Result ℕ Refusal) (exit : List ℕ) : Type 0 where
   pub plans : (i : Inputs) (rd : Reading) (ls : List Listed) → i.card ≡ card → HoldsNames names index (length made) rd.files
       → HoldsColumns rd.steps (length rd.files) mentions ends phony made → NothingListed ls → roots ≡ roots_of i rd
       → PlanMeets (plan_ordered i rd (record { reading = rd; lists = ls })) list (plan_says answer) exit
@@ -45,6 +45,6 @@ pub record UnlistedAsked (card names index graph : List ℕ) (c : Counts) (roots
   pub room : least_list ≤ length list
 
 -- whatever ask and reading it is
-pub record PlansUnlisted (card names index graph : List ℕ) (c : Counts) (roots list : List ℕ) (answer : PlanAnswer) (exit : List ℕ) : Type 0 where
+pub record PlansUnlisted (card names index graph : List ℕ) (c : Counts) (roots list : List ℕ) (answer : Result ℕ Refusal) (exit : List ℕ) : Type 0 where
   pub plans : (i : Inputs) (rd : Reading) (ls : List Listed) → i.card ≡ card → HoldsNames names index c.files rd.files → Tabled graph c rd
       → NothingListed ls → roots ≡ roots_of i rd → PlanMeets (plan_ordered i rd (record { reading = rd; lists = ls })) list (plan_says answer) exit

@@ -1,4 +1,5 @@
 -- The walk over a target list that puts each name's number into the buffer.
+use Rattle.std.specs.Prelude.{Option, Some, None, Ok, Err}
 use Prim.Native.Nat.{ℕ, ◌+◌, ◌^◌, ◌≤◌, ◌<◌}
 use mathlib.Core.Bool.{true, false}
 use mathlib.Core.List.{List, [], ◌∷◌, ◌++◌}
@@ -13,15 +14,12 @@ use Rattle.lists.specs.Parts.{part}
 use Rattle.spec.specs.Limits.{max_targets}
 use Rattle.spec.specs.Reading.{number_of}
 use Rattle.spec.specs.Targets.{malformed}
-use Rattle.hold_names.specs.declared.FoundName.{FoundName}
-use Rattle.hold_names.specs.declared.FoundName.TheVariants.{At, Missing}
 use Rattle.hold_names.specs.Table.{HoldsNames, SoundNames, FindsName}
 use Rattle.hold_names.proofs.Laws.{find_at, find_missing}
 use Rattle.scan_targets.specs.declared.NextTarget.{NextTarget}
 use Rattle.scan_targets.specs.declared.NextTarget.TheVariants.{End, Bad as BadName, Name}
 use Rattle.scan_targets.specs.Next.{next_in}
 use Rattle.scan_targets.proofs.Walk.{names_from, Turn, Walking, walk_malformed, walk_begin, walk_end, walk_bad, walk_turn, walk_missing, walk_more}
-use Rattle.ask_target_files.specs.declared.NumberedTargets.TheVariants.{All, Bad}
 use Rattle.ask_target_files.specs.Numbered.{NumberingAsked, target_numbers_of, NumbersTargets}
 
 -- the numbers of the names up to a place are there, whatever names are held
@@ -36,7 +34,7 @@ pub record Walked (targets names index : List ℕ) (count : ℕ) (start : List �
   pub walks : (files : List (List ℕ)) → HoldsNames names index count files → Walking files targets from (take n out)
 
 module _ {targets names index : List ℕ} {count : ℕ} where
-  pub form_bad : {out : List ℕ} → malformed targets ≡ true → NumbersTargets targets names index count out (Bad 0)
+  pub form_bad : {out : List ℕ} → malformed targets ≡ true → NumbersTargets targets names index count out (Err 0)
   form_bad h = record { says = λ files d. walk_malformed files targets h }
 
   pub begin : {out : List ℕ} → NumberingAsked names index count out → malformed targets ≡ false → Walked targets names index count out 0 0 out
@@ -45,7 +43,7 @@ module _ {targets names index : List ℕ} {count : ℕ} where
       record { same = refl; named = a.named; room = a.room; within = w.within; short = w.short; few = omega arith; low = λ i b. absurd (not-suc-le-zero b); walks = λ files d. walk_begin files targets h }
 
   module _ {from n : ℕ} {start out : List ℕ} (w : Walked targets names index count start from n out) {r : NextTarget} (a : r ≡ next_in (names_from targets from)) where
-    pub ended : r ≡ End → NumbersTargets targets names index count out (All n)
+    pub ended : r ≡ End → NumbersTargets targets names index count out (Ok n)
     unfolding target_numbers_of
     ended e =
         record {
@@ -55,7 +53,7 @@ module _ {targets names index : List ℕ} {count : ℕ} where
               record { good = g; within = k; counted = sym (ap length h ∙ length-take-le n out k); numbers = sym h; low = rw (← d.counted) w.low };
         }
 
-    pub bad : r ≡ BadName → NumbersTargets targets names index count out (Bad from)
+    pub bad : r ≡ BadName → NumbersTargets targets names index count out (Err from)
     bad e = record { says = λ files d. walk_bad (w.walks files d) a e }
 
     module _ {end : ℕ} (e : r ≡ Name end) where
@@ -65,11 +63,11 @@ module _ {targets names index : List ℕ} {count : ℕ} where
       pub turn : Turn targets from end
       turn = turned w.named.files w.named.holds
 
-      module _ {x : FoundName} (f : FindsName names index count (part targets from end) x) where
-        pub unknown : x ≡ Missing → NumbersTargets targets names index count out (Bad from)
+      module _ {x : Option ℕ} (f : FindsName names index count (part targets from end) x) where
+        pub unknown : x ≡ None → NumbersTargets targets names index count out (Err from)
         unknown m = record { says = λ files d. walk_missing (w.walks files d) a e (find_missing f d m) }
 
-        below : {k : ℕ} → x ≡ At k → k < count
+        below : {k : ℕ} → x ≡ Some k → k < count
         below m =
             let (i, j, k) = find_at f w.named.holds m in
             k
@@ -77,13 +75,13 @@ module _ {targets names index : List ℕ} {count : ℕ} where
         there : n < length out
         there = omega (arith, w.room, w.few, w.within, w.short, turn.some, turn.within)
 
-        pub known : {k : ℕ} → x ≡ At k → k < 2 ^ 32
+        pub known : {k : ℕ} → x ≡ Some k → k < 2 ^ 32
         known m =
             let h = w.named.holds in
             let (i, j, k) = find_at f h m in
             omega (arith, h.few)
 
-        pub more : {k : ℕ} → x ≡ At k → Walked targets names index count start (end + 1) (n + 1) (set out n k)
+        pub more : {k : ℕ} → x ≡ Some k → Walked targets names index count start (end + 1) (n + 1) (set out n k)
         more {k} m =
             record {
               same = simp length-set w.same;

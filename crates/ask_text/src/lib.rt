@@ -5,18 +5,24 @@ ghost use Rattle.std.specs.Prelude.{◌≤◌, length};
 ghost use Rattle.spec.specs.Limits.{max_text};
 ghost use Rattle.spec.specs.Promises.{TextPromise};
 
-use apply_manifest::{ReadAnswer, read_manifest};
+use apply_manifest::read_manifest;
 use hold_bindings::{ROWS, TEXTS};
 use hold_names::NUMBERS;
+use hold_reading::ReadBuffers;
 use hold_reading::columns::COLUMNS_ROOM;
 use scan_classes::table;
 use slices::bytes::zero_bytes_from;
 use spec::limits::{VALUE, WRITTEN};
-use spec::{TextAnswer, Wanted};
+use spec::{Refusal, Wanted};
 use text_step::{StepText, text_of};
 
 // With a text buffer of 8,192 bytes at least.
-pub fn text_buffered(manifest: &[u8], step: usize, wanted: Wanted, buffer: &mut [u8]) -> TextAnswer
+pub fn text_buffered(
+    manifest: &[u8],
+    step: usize,
+    wanted: Wanted,
+    buffer: &mut [u8],
+) -> Result<usize, Refusal>
     requires { max_text ≤ length buffer.old }
     ensures { TextPromise manifest.now step wanted buffer.old result buffer.new }
 {
@@ -27,23 +33,23 @@ pub fn text_buffered(manifest: &[u8], step: usize, wanted: Wanted, buffer: &mut 
     let mut bind = [0u32; ROWS];
     let mut graph = [0u32; COLUMNS_ROOM];
     let mut word = [0u8; VALUE];
+    // no `?`: a refusal leaves the lent buffers zero
     match read_manifest(
         &t, manifest, &mut names, &mut index, &mut texts, &mut bind, &mut graph, &mut word,
     ) {
-        ReadAnswer::Accepted(c) => text_of(
-            &t,
-            &names,
-            &index,
-            &texts,
-            &bind,
-            &graph,
-            c,
-            StepText { step, wanted },
-            buffer,
-        ),
-        ReadAnswer::Refused(r) => {
+        Ok(c) => {
+            let read = ReadBuffers {
+                names: &names,
+                index: &index,
+                texts: &texts,
+                bind: &bind,
+                graph: &graph,
+            };
+            text_of(&t, &read, c, StepText { step, wanted }, buffer)
+        }
+        Err(r) => {
             zero_bytes_from(buffer, 0);
-            TextAnswer::Refused(r)
+            Err(r)
         }
     }
 }

@@ -1,4 +1,5 @@
 -- What the texts ask answers by what the reader answers.
+use Rattle.std.specs.Prelude.{Result, Err}
 use Prim.Native.Nat.{ℕ, ◌≤◌}
 use native.Mathlib.Omega.{arith}
 use mathlib.Core.Bool.{false}
@@ -20,8 +21,6 @@ use Rattle.scan_classes.specs.Table.{classes}
 use Rattle.hold_reading.specs.declared.Counts.{Counts}
 use Rattle.hold_reading.specs.Buffers.{Buffers}
 use Rattle.apply_manifest.specs.Manifests.{Held}
-use Rattle.text_batch.specs.declared.TextsAnswer.{TextsAnswer}
-use Rattle.text_batch.specs.declared.TextsAnswer.TheVariants.{Refused}
 use Rattle.text_batch.specs.TextsAsk.{texts_read, texts_ask}
 use Rattle.text_batch.specs.TextsPromise.{texts_says, TextsMeets, TextsPromise}
 use Rattle.text_batch.specs.Batch.{BatchAsk, TextsOf}
@@ -32,7 +31,7 @@ module _ (manifest bytes ends : List ℕ) (room : max_text ≤ length bytes) whe
 
   -- 19 and 2 to 10
   pub unread : (steps : List ℕ) (wanted : Wanted) {r : Refusal} {bytes_exit ends_exit : List ℕ} → read_manifest manifest ≡ refused_with r
-      → bytes_exit ≡ zeroed bytes 0 (length bytes) → ends_exit ≡ zeroed ends 0 (length ends) → TextsPromise manifest steps wanted bytes ends (Refused r) bytes_exit ends_exit
+      → bytes_exit ≡ zeroed bytes 0 (length bytes) → ends_exit ≡ zeroed ends 0 (length ends) → TextsPromise manifest steps wanted bytes ends (Err r) bytes_exit ends_exit
   unfolding texts_ask texts_read TextsMeets texts_says left_by
   unread steps wanted {r} e x y =
       let b = past_1 (of_reading manifest e) in
@@ -41,7 +40,7 @@ module _ (manifest bytes ends : List ℕ) (room : max_text ≤ length bytes) whe
 
   module _ {bs : Buffers} {c : Counts} (h : Held manifest bs c) where
     -- step by step
-    pub written : {steps : List ℕ} {wanted : Wanted} {r : TextsAnswer} {bytes_exit ends_exit : List ℕ} → TextsOf bs c steps wanted bytes ends bytes_exit ends_exit r
+    pub written : {steps : List ℕ} {wanted : Wanted} {r : Result ℕ Refusal} {bytes_exit ends_exit : List ℕ} → TextsOf bs c steps wanted bytes ends bytes_exit ends_exit r
         → TextsPromise manifest steps wanted bytes ends r bytes_exit ends_exit
     unfolding texts_ask texts_read
     written p = rw (enough, h.is) (p.meets h.log h.reading h.holds)

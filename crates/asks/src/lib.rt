@@ -10,31 +10,36 @@ use ask_plan::plan_buffered;
 use ask_text::text_buffered;
 use ask_texts::texts_buffered;
 use spec::limits::{LIST, TEXT};
-use spec::{PlanAnswer, Refusal, TextAnswer, Wanted};
-use text_batch::TextsAnswer;
+use spec::{Refusal, Wanted};
 
-// The list of the stale needed command steps for a manifest, the header lists of its steps, a card of file times and a list of targets.
+// The list of the stale needed command steps for a manifest, the header lists of its steps, a card of file times and a
+// list of targets.
 pub fn plan(
     manifest: &[u8],
     headers: &[u8],
     card: &[u8],
     targets: &[u8],
     list: &mut [u32],
-) -> PlanAnswer
+) -> Result<usize, Refusal>
     ensures { PlanDemands (inputs_of manifest.now card.now targets.now headers.now) list.old (plan_says result) list.new }
 {
     if list.len() < LIST {
-        return PlanAnswer::Refused(Refusal::ShortBuffer);
+        return Err(Refusal::ShortBuffer);
     }
     plan_buffered(manifest, headers, card, targets, list)
 }
 
 // The text of a step's command or description.
-pub fn text(manifest: &[u8], step: usize, wanted: Wanted, buffer: &mut [u8]) -> TextAnswer
+pub fn text(
+    manifest: &[u8],
+    step: usize,
+    wanted: Wanted,
+    buffer: &mut [u8],
+) -> Result<usize, Refusal>
     ensures { TextDemands manifest.now step wanted buffer.old (text_says result) buffer.new }
 {
     if buffer.len() < TEXT {
-        return TextAnswer::Refused(Refusal::ShortBuffer);
+        return Err(Refusal::ShortBuffer);
     }
     text_buffered(manifest, step, wanted, buffer)
 }
@@ -46,11 +51,11 @@ pub fn texts(
     wanted: Wanted,
     bytes: &mut [u8],
     ends: &mut [u32],
-) -> TextsAnswer
+) -> Result<usize, Refusal>
     ensures { TextsPromise manifest.now steps.now wanted bytes.old ends.old result bytes.new ends.new }
 {
     if bytes.len() < TEXT {
-        return TextsAnswer::Refused(Refusal::ShortBuffer);
+        return Err(Refusal::ShortBuffer);
     }
     texts_buffered(manifest, steps, wanted, bytes, ends)
 }

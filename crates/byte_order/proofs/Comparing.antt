@@ -1,5 +1,5 @@
 -- A turn of a loop that compares byte by byte: what it keeps of its state, and what the ways out of it give.
-use Prim.Native.Nat.{ℕ, suc, ◌+◌, ◌≤◌, ◌<◌}
+use Prim.Native.Nat.{ℕ, suc, ◌+◌, ◌≤◌, ◌<◌, min}
 use mathlib.Core.Bool.{true, false}
 use mathlib.Core.List.{List}
 use mathlib.Core.Path.{◌≡◌, refl, sym, ◌∙◌, ap}
@@ -10,7 +10,10 @@ use lib.ListN.{length, drop, get_or, drop_of_length-le}
 use lib.Seq.{drop-cons}
 use Rattle.lists.specs.Bytes.{eq_bytes, less_bytes, ne_eq_bytes, less_lower}
 use Rattle.lists.specs.Order.{order_bytes, less_order, greater_order, equal_order, order_same}
-use Rattle.lists.specs.declared.Order.TheVariants.{Less, Equal, Greater}
+use Rattle.std.specs.Cmp.{ranked}
+use Rattle.std.specs.Ordering.{nat_cmp}
+use Rattle.std.specs.declared.cmp.Ordering.{Ordering}
+use Rattle.std.specs.declared.cmp.Ordering.TheVariants.{Less, Equal, Greater}
 
 -- ---- two lists side by side, of which n places are compared
 
@@ -45,17 +48,22 @@ module _ {s t : List ℕ} {n i : ℕ} (r : Comparing eq_bytes s t n i) where
 
 module _ {s t : List ℕ} {n i : ℕ} (r : Comparing order_bytes s t n i) where
   module _ (hs : i < length s) (ht : i < length t) where
-    pub order_lower : get_or s i 0 < get_or t i 0 → Less ≡ order_bytes s t
+    order_lower : get_or s i 0 < get_or t i 0 → Less ≡ order_bytes s t
     order_lower h =
         sym
         (r.rest
         ∙ rw (drop-cons s i 0 hs, drop-cons t i 0 ht) (less_order _ _ (less_lower _ _ (drop (suc i) s) (drop (suc i) t) h)))
 
-    pub order_higher : get_or t i 0 < get_or s i 0 → Greater ≡ order_bytes s t
+    order_higher : get_or t i 0 < get_or s i 0 → Greater ≡ order_bytes s t
     order_higher h =
         sym
         (r.rest
         ∙ rw (drop-cons s i 0 hs, drop-cons t i 0 ht) (greater_order _ _ (less_lower _ _ (drop (suc i) t) (drop (suc i) s) h)))
+
+    pub order_differs : (get_or s i 0 ≡ get_or t i 0 → ⊥) → (o : Ordering) → o ≡ nat_cmp (get_or s i 0) (get_or t i 0) → o ≡ order_bytes s t
+    order_differs h Less e = order_lower (ranked _ _ Less e)
+    order_differs h Equal e = absurd (h (ranked _ _ Equal e))
+    order_differs h Greater e = order_higher (ranked _ _ Greater e)
 
     pub order_more : i < n → get_or s i 0 ≡ get_or t i 0 → Comparing order_bytes s t n (i + 1)
     order_more h e =
@@ -65,16 +73,28 @@ module _ {s t : List ℕ} {n i : ℕ} (r : Comparing order_bytes s t n i) where
         }
 
   -- One of the two is at its end.
-  pub order_shorter : length s ≤ i → i < length t → Less ≡ order_bytes s t
+  order_shorter : length s ≤ i → i < length t → Less ≡ order_bytes s t
   unfolding less_bytes
   order_shorter hs ht =
       sym (r.rest ∙ rw (drop_of_length-le s {i = i} hs, drop-cons t i 0 ht) (less_order _ _ refl))
 
-  pub order_longer : length t ≤ i → i < length s → Greater ≡ order_bytes s t
+  order_longer : length t ≤ i → i < length s → Greater ≡ order_bytes s t
   unfolding less_bytes
   order_longer ht hs =
       sym (r.rest ∙ rw (drop_of_length-le t {i = i} ht, drop-cons s i 0 hs) (greater_order _ _ refl))
 
-  pub order_end : length s ≤ i → length t ≤ i → Equal ≡ order_bytes s t
+  order_end : length s ≤ i → length t ≤ i → Equal ≡ order_bytes s t
   order_end hs ht =
       sym (r.rest ∙ rw (drop_of_length-le s {i = i} hs, drop_of_length-le t {i = i} ht) (equal_order _ _ refl))
+
+  -- The shorter is at its end: the lengths decide.
+  pub order_lengths : n ≡ min (length s) (length t) → n ≤ i → (o : Ordering) → o ≡ nat_cmp (length s) (length t) → o ≡ order_bytes s t
+  order_lengths h k Less e =
+      let l : length s < length t = ranked _ _ Less e in
+      order_shorter (omega (arith, r.within)) (omega (arith, r.within))
+  order_lengths h k Equal e =
+      let l : length s ≡ length t = ranked _ _ Equal e in
+      order_end (omega (arith, r.within)) (omega (arith, r.within))
+  order_lengths h k Greater e =
+      let l : length t < length s = ranked _ _ Greater e in
+      order_longer (omega (arith, r.within)) (omega (arith, r.within))

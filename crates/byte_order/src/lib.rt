@@ -5,7 +5,7 @@ ghost use Rattle.std.specs.Prelude.{◌≡◌, min, length};
 ghost use Rattle.lists.specs.Bytes.{eq_bytes, less_bytes};
 ghost use Rattle.lists.specs.Order.{order_bytes};
 
-use lists::Order;
+use std::cmp::Ordering;
 use windows::{compare_long, equal_long};
 
 pub fn equal(a: &[u8], b: &[u8]) -> bool
@@ -25,12 +25,10 @@ fn equal_short(a: &[u8], b: &[u8]) -> bool
     requires { length a.now ≡ length b.now }
     ensures { result ≡ eq_bytes a.now b.now }
 {
-    let mut i = 0;
-    while i < a.len() {
+    for i in 0..a.len() {
         if a[i] != b[i] {
             return false;
         }
-        i += 1;
     }
     true
 }
@@ -39,10 +37,10 @@ fn equal_short(a: &[u8], b: &[u8]) -> bool
 pub fn lesser(x: usize, y: usize) -> usize
     ensures { result ≡ min x y }
 {
-    if x < y { x } else { y }
+    x.min(y)
 }
 
-pub fn compare(a: &[u8], b: &[u8]) -> Order
+pub fn compare(a: &[u8], b: &[u8]) -> Ordering
     ensures { result ≡ order_bytes a.now b.now }
 {
     let n = lesser(a.len(), b.len());
@@ -53,37 +51,22 @@ pub fn compare(a: &[u8], b: &[u8]) -> Order
 }
 
 // How two slices compare where the shorter has n bytes, byte by byte.
-fn compare_short(a: &[u8], b: &[u8], n: usize) -> Order
+fn compare_short(a: &[u8], b: &[u8], n: usize) -> Ordering
     requires { n ≡ min (length a.now) (length b.now) }
     ensures { result ≡ order_bytes a.now b.now }
 {
-    let mut i = 0;
-    while i < n {
+    for i in 0..n {
         let x = a[i];
         let y = b[i];
-        if x < y {
-            return Order::Less;
+        if x != y {
+            return x.cmp(&y);
         }
-        if y < x {
-            return Order::Greater;
-        }
-        i += 1;
     }
-    if a.len() < b.len() {
-        return Order::Less;
-    }
-    if b.len() < a.len() {
-        return Order::Greater;
-    }
-    Order::Equal
+    a.len().cmp(&b.len())
 }
 
 pub fn less(a: &[u8], b: &[u8]) -> bool
     ensures { result ≡ less_bytes a.now b.now }
 {
-    match compare(a, b) {
-        Order::Less => true,
-        Order::Equal => false,
-        Order::Greater => false,
-    }
+    compare(a, b).is_lt()
 }

@@ -1,17 +1,17 @@
-// Puts every case of the folder cases/ to both asks, from the packed file that `pack` of second/ writes, and compares the answers and
-// the whole of each lent buffer with what is expected.
+// Puts every case of the folder cases/ to both asks, from the packed file that `pack` of second/ writes, and compares
+// the answers and the whole of each lent buffer with what is expected.
 #![tactic(auto)]
 
 ghost use Rattle.std.specs.Prelude.{length};
 ghost use Rattle.test_packed.specs.Parts.{PartsBehind};
 
 use answer_places::locate;
-use answers::{of_plan, of_text};
+use answers::of_reply;
 use asks::{plan, text};
 use spec::Wanted;
 use std::fs::File;
 use std::os::fd::AsRawFd;
-use test_packed::{Ask, CaseHead, Met, check, is_sound, read_ask, read_head, read_part};
+use test_packed::{Ask, CaseHead, check, is_sound, read_ask, read_head, read_part};
 
 // Standard output's descriptor.
 const STDOUT_FILENO: i32 = 1;
@@ -19,34 +19,24 @@ const STDOUT_FILENO: i32 = 1;
 // What the lent buffers hold before an ask: nothing that an ask would write there.
 const BEFORE: u8 = 7;
 
-fn fill_bytes(buf: &mut [u8]) {
-    let mut i = 0;
-    while i < buf.len() {
-        buf[i] = BEFORE;
-        i += 1;
-    }
+// How the packed file goes on.
+#[derive(Clone, Copy, PartialEq, Eq)]
+enum Next {
+    Case,
+    End,
+    CutOff,
 }
 
-fn fill_words(list: &mut [u32]) {
-    let mut i = 0;
-    while i < list.len() {
-        list[i] = BEFORE as u32;
-        i += 1;
-    }
-}
-
-// How many cases and asks there were, and how many were answered otherwise than expected; whether more cases follow, and whether the
-// packed file was read as it should be.
+// How many cases and asks there were, how many were answered otherwise than expected, and what follows.
 #[derive(Clone, Copy)]
 struct Tally {
     cases: u64,
     asks: u64,
     wrong: u64,
-    more: bool,
-    whole: bool,
+    next: Next,
 }
 
-// The plan, where the list has the length that the case asks for.
+// The plan, where the list has the length that the case asks for; `None` where the packed file is cut off.
 fn ask_plan(
     fd: i32,
     answers: usize,
@@ -56,9 +46,9 @@ fn ask_plan(
     targets: &[u8],
     list: &mut [u32],
     bytes: &mut [u8],
-) -> Met {
-    fill_words(list);
-    let n = locate(of_plan(plan(bundle, headers, card, targets, list)), bundle);
+) -> Option<bool> {
+    list.fill(u32::from(BEFORE));
+    let n = locate(of_reply(plan(bundle, headers, card, targets, list)), bundle);
     check(fd, answers, n, true, list, bundle, bytes)
 }
 
@@ -70,20 +60,20 @@ fn wanted(kind: usize) -> Wanted {
 }
 
 // The text, where the buffer has the length that the case asks for.
-fn ask_text(fd: i32, a: Ask, bundle: &[u8], list: &[u32], buf: &mut [u8], bytes: &mut [u8]) -> Met {
-    fill_bytes(buf);
-    let n = locate(of_text(text(bundle, a.step, wanted(a.kind), buf)), bundle);
+fn ask_text(
+    fd: i32,
+    a: Ask,
+    bundle: &[u8],
+    list: &[u32],
+    buf: &mut [u8],
+    bytes: &mut [u8],
+) -> Option<bool> {
+    buf.fill(BEFORE);
+    let n = locate(of_reply(text(bundle, a.step, wanted(a.kind), buf)), bundle);
     check(fd, a.answers, n, false, list, buf, bytes)
 }
 
-fn no_ask() -> Met {
-    Met {
-        yes: false,
-        whole: false,
-    }
-}
-
-// The next ask of a case.
+// The next ask of a case; `None` where the packed file is cut off, or asks for more room than the buffers have.
 fn ask_next(
     fd: i32,
     bundle: &[u8],
@@ -93,15 +83,12 @@ fn ask_next(
     list: &mut [u32],
     buf: &mut [u8],
     bytes: &mut [u8],
-) -> Met {
-    let a = read_ask(fd);
+) -> Option<bool> {
+    let a = read_ask(fd)?;
     let room = a.room;
-    if !a.whole {
-        return no_ask();
-    }
     if a.kind == 0 {
         if list.len() < room {
-            return no_ask();
+            return None;
         }
         return ask_plan(
             fd,
@@ -115,56 +102,21 @@ fn ask_next(
         );
     }
     if buf.len() < room {
-        return no_ask();
+        return None;
     }
     ask_text(fd, a, bundle, list, &mut buf[..room], bytes)
 }
 
-fn one_more(n: u64) -> u64 {
-    if n < u64::MAX { n + 1 } else { n }
-}
-
-fn cut_off(t: Tally) -> Tally {
-    Tally {
-        cases: t.cases,
-        asks: t.asks,
-        wrong: t.wrong,
-        more: false,
-        whole: false,
-    }
-}
-
-fn ended(t: Tally) -> Tally {
-    Tally {
-        cases: t.cases,
-        asks: t.asks,
-        wrong: t.wrong,
-        more: false,
-        whole: t.whole,
-    }
-}
-
 // Counts an answer, and names the case of a wrong one.
-fn counted(t: Tally, m: Met, name: &[u8]) -> Tally {
-    let asks = one_more(t.asks);
-    if m.yes {
-        return Tally {
-            cases: t.cases,
-            asks,
-            wrong: t.wrong,
-            more: t.more,
-            whole: t.whole,
-        };
+fn counted(t: Tally, right: bool, name: &[u8]) -> Tally {
+    let asks = t.asks.saturating_add(1);
+    if right {
+        return Tally { asks, ..t };
     }
     io::write_all(STDOUT_FILENO, name);
     io::write_all(STDOUT_FILENO, b" is answered otherwise\n");
-    Tally {
-        cases: t.cases,
-        asks,
-        wrong: one_more(t.wrong),
-        more: t.more,
-        whole: t.whole,
-    }
+    let wrong = t.wrong.saturating_add(1);
+    Tally { asks, wrong, ..t }
 }
 
 // Every ask of a case whose parts are read.
@@ -190,26 +142,16 @@ fn ask_all(
     let card = &input[c..d];
     let targets = &input[d..e];
     let mut tally = t;
-    let mut i = 0;
-    while i < h.asks {
-        let m = ask_next(fd, bundle, headers, card, targets, list, buf, bytes);
-        if !m.whole {
-            return cut_off(tally);
-        }
-        tally = counted(tally, m, name);
-        i += 1;
+    for _ in 0..h.asks {
+        let Some(right) = ask_next(fd, bundle, headers, card, targets, list, buf, bytes) else {
+            return Tally {
+                next: Next::CutOff,
+                ..tally
+            };
+        };
+        tally = counted(tally, right, name);
     }
     tally
-}
-
-fn with_case(t: Tally) -> Tally {
-    Tally {
-        cases: one_more(t.cases),
-        asks: t.asks,
-        wrong: t.wrong,
-        more: t.more,
-        whole: t.whole,
-    }
 }
 
 // The next case, whose parts are read into `input`; one with no bytes is the end.
@@ -221,18 +163,28 @@ fn case_next(
     buf: &mut [u8],
     bytes: &mut [u8],
 ) -> Tally {
-    let h = read_head(fd);
-    let end = h.targets;
+    let cut_off = Tally {
+        next: Next::CutOff,
+        ..t
+    };
+    let Some(h) = read_head(fd) else {
+        return cut_off;
+    };
     if !is_sound(h) {
-        return cut_off(t);
+        return cut_off;
     }
+    let end = h.targets;
     if end == 0 {
-        return ended(t);
+        return Tally {
+            next: Next::End,
+            ..t
+        };
     }
     if !read_part(fd, input, end) {
-        return cut_off(t);
+        return cut_off;
     }
-    ask_all(fd, h, with_case(t), input, list, buf, bytes)
+    let cases = t.cases.saturating_add(1);
+    ask_all(fd, h, Tally { cases, ..t }, input, list, buf, bytes)
 }
 
 // Every case. The count of turns only shows that the loop ends.
@@ -241,13 +193,13 @@ fn run_all(fd: i32, input: &mut [u8], list: &mut [u32], buf: &mut [u8], bytes: &
         cases: 0,
         asks: 0,
         wrong: 0,
-        more: true,
-        whole: true,
+        next: Next::Case,
     };
-    let mut turns = u64::MAX;
-    while turns > 0 && t.more {
+    for _ in 0..u64::MAX {
         t = case_next(fd, t, input, list, buf, bytes);
-        turns -= 1;
+        if t.next != Next::Case {
+            break;
+        }
     }
     t
 }
@@ -259,7 +211,7 @@ fn report(t: Tally) {
     io::write_all(STDOUT_FILENO, b" asks, ");
     io::print_decimal(STDOUT_FILENO, t.wrong);
     io::write_all(STDOUT_FILENO, b" answered otherwise\n");
-    if !t.whole {
+    if t.next == Next::CutOff {
         io::write_all(STDOUT_FILENO, b"the packed file is cut off\n");
     }
 }

@@ -10,7 +10,7 @@ ghost use Rattle.cut_forms.specs.Statements.{BarsAt, HeadAt, StatementAt};
 
 use cut_bindings::rule_name;
 use cut_forms::paths::listed;
-use cut_forms::{Bars, BuildPlaces, Fault, Head, Listed, Named, Statement};
+use cut_forms::{Bars, BuildPlaces, Fault, Head, Statement};
 use scan_tokens::gap;
 
 // `||` is read before `|`.
@@ -25,129 +25,113 @@ fn bars(l: &[u8], at: usize) -> Bars
         return Bars::Other;
     }
     let next = at + 1;
-    if l.len() <= next {
-        return Bars::One(next);
-    }
-    if l[next] == b'|' {
+    if next < l.len() && l[next] == b'|' {
         return Bars::Two(next + 1);
     }
     Bars::One(next)
 }
 
 // The order-only inputs, up to the line's end.
-fn order_only(t: &[u8; 256], l: &[u8], h: Head, implicit: usize, at: usize) -> Statement
+fn order_only(
+    t: &[u8; 256],
+    l: &[u8],
+    h: Head,
+    implicit: usize,
+    at: usize,
+) -> Result<Statement, Fault>
     requires { (t.now ≡ classes) × (at ≤ length l.now) }
     ensures { (b : BuildLine) (i m : List (List ℕ)) → HeadAt l.now h b i → PathsAt l.now implicit m → StatementAt l.now (cut_order_only b i m (drop at l.now)) result }
 {
-    match listed(t, l, at) {
-        Listed::Ends(_, end) => {
-            if end < l.len() {
-                return Statement::Wrong(Fault::NoForm);
-            }
-            Statement::Build(BuildPlaces {
-                outs: h.outs,
-                rule: h.rule,
-                ins: h.ins,
-                implicit,
-                order: at,
-            })
-        }
-        Listed::Wrong(f) => Statement::Wrong(f),
+    let (_, end) = listed(t, l, at)?;
+    if end < l.len() {
+        return Err(Fault::NoForm);
     }
+    Ok(Statement::Build(BuildPlaces {
+        outs: h.outs,
+        rule: h.rule,
+        ins: h.ins,
+        implicit,
+        order: at,
+    }))
 }
 
 // What stands after the implicit inputs.
-fn after_implicit(t: &[u8; 256], l: &[u8], h: Head, implicit: usize, at: usize) -> Statement
+fn after_implicit(
+    t: &[u8; 256],
+    l: &[u8],
+    h: Head,
+    implicit: usize,
+    at: usize,
+) -> Result<Statement, Fault>
     requires { (t.now ≡ classes) × (at ≤ length l.now) }
     ensures { (b : BuildLine) (i m : List (List ℕ)) → HeadAt l.now h b i → PathsAt l.now implicit m → StatementAt l.now (after_implicit b i m (bars_at (drop at l.now))) result }
 {
     match bars(l, at) {
-        Bars::LineEnd => Statement::Build(BuildPlaces {
+        Bars::LineEnd => Ok(Statement::Build(BuildPlaces {
             outs: h.outs,
             rule: h.rule,
             ins: h.ins,
             implicit,
             order: l.len(),
-        }),
-        Bars::One(_) => Statement::Wrong(Fault::NoForm),
+        })),
         Bars::Two(next) => order_only(t, l, h, implicit, next),
-        Bars::Other => Statement::Wrong(Fault::NoForm),
+        Bars::One(_) | Bars::Other => Err(Fault::NoForm),
     }
 }
 
 // The implicit inputs, and what stands after them.
-fn implicit(t: &[u8; 256], l: &[u8], h: Head, at: usize) -> Statement
+fn implicit(t: &[u8; 256], l: &[u8], h: Head, at: usize) -> Result<Statement, Fault>
     requires { (t.now ≡ classes) × (at ≤ length l.now) }
     ensures { (b : BuildLine) (i : List (List ℕ)) → HeadAt l.now h b i → StatementAt l.now (after_inputs b i (one_bar (drop at l.now))) result }
 {
-    match listed(t, l, at) {
-        Listed::Ends(_, end) => after_implicit(t, l, h, at, end),
-        Listed::Wrong(f) => Statement::Wrong(f),
-    }
+    let (_, end) = listed(t, l, at)?;
+    after_implicit(t, l, h, at, end)
 }
 
 // What stands after the explicit inputs.
-fn after_inputs(t: &[u8; 256], l: &[u8], h: Head, at: usize) -> Statement
+fn after_inputs(t: &[u8; 256], l: &[u8], h: Head, at: usize) -> Result<Statement, Fault>
     requires { (t.now ≡ classes) × (at ≤ length l.now) }
     ensures { (b : BuildLine) (i : List (List ℕ)) → HeadAt l.now h b i → StatementAt l.now (after_inputs b i (bars_at (drop at l.now))) result }
 {
     let none = l.len();
     match bars(l, at) {
-        Bars::LineEnd => Statement::Build(BuildPlaces {
+        Bars::LineEnd => Ok(Statement::Build(BuildPlaces {
             outs: h.outs,
             rule: h.rule,
             ins: h.ins,
             implicit: none,
             order: none,
-        }),
+        })),
         Bars::One(next) => implicit(t, l, h, next),
         Bars::Two(next) => order_only(t, l, h, none, next),
-        Bars::Other => Statement::Wrong(Fault::NoForm),
+        Bars::Other => Err(Fault::NoForm),
     }
 }
 
 // From the rule's name on.
-fn cut_inputs(t: &[u8; 256], l: &[u8], outs: usize, from: usize) -> Statement
+fn cut_inputs(t: &[u8; 256], l: &[u8], outs: usize, from: usize) -> Result<Statement, Fault>
     requires { (t.now ≡ classes) × (from ≤ length l.now) }
     ensures { (os : List (List ℕ)) → PathsAt l.now outs os → StatementAt l.now (cut_inputs os (drop from l.now)) result }
 {
-    match rule_name(t, l, from) {
-        Named::To(to) => match listed(t, l, to) {
-            Listed::Ends(_, end) => after_inputs(
-                t,
-                l,
-                Head {
-                    outs,
-                    rule: from,
-                    ins: to,
-                },
-                end,
-            ),
-            Listed::Wrong(f) => Statement::Wrong(f),
-        },
-        Named::Wrong(f) => Statement::Wrong(f),
-    }
+    let to = rule_name(t, l, from)?;
+    let (_, end) = listed(t, l, to)?;
+    let h = Head {
+        outs,
+        rule: from,
+        ins: to,
+    };
+    after_inputs(t, l, h, end)
 }
 
 // A build line, from behind the keyword on.
-pub fn cut_build(t: &[u8; 256], l: &[u8], at: usize) -> Statement
+pub fn cut_build(t: &[u8; 256], l: &[u8], at: usize) -> Result<Statement, Fault>
     requires { (t.now ≡ classes) × (at ≤ length l.now) }
     ensures { StatementAt l.now (cut_build (drop at l.now)) result }
 {
-    match listed(t, l, at) {
-        Listed::Ends(any, end) => {
-            if l.len() <= end {
-                return Statement::Wrong(Fault::NoForm);
-            }
-            if l[end] != b':' {
-                return Statement::Wrong(Fault::NoForm);
-            }
-            if !any {
-                return Statement::Wrong(Fault::NoForm);
-            }
-            let from = gap(l, end + 1);
-            cut_inputs(t, l, at, from)
-        }
-        Listed::Wrong(f) => Statement::Wrong(f),
+    let (any, end) = listed(t, l, at)?;
+    if l.len() <= end || l[end] != b':' || !any {
+        return Err(Fault::NoForm);
     }
+    let from = gap(l, end + 1);
+    cut_inputs(t, l, at, from)
 }

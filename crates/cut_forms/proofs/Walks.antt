@@ -1,4 +1,5 @@
 -- A walk over a list of paths: what each path that is passed leaves of the list, and the list that was passed.
+use Rattle.std.specs.Prelude.{Option, Some, None}
 use Prim.Native.Nat.{ℕ, ◌≤◌}
 use mathlib.Core.Bool.{Bool, true, false, not}
 use mathlib.Core.List.{List, [], ◌∷◌, ◌++◌}
@@ -12,8 +13,6 @@ use Rattle.spec.specs.Forms.{Cut, fits, fails, then, Paths, with_path, paths}
 use Rattle.scan_raw.specs.Texts.{PathsStop, PathNext, PathsBad}
 use Rattle.scan_raw.proofs.PathLists.{Listing, list_begin, list_next, list_stop, list_bad}
 use Rattle.cut_forms.specs.declared.Fault.TheVariants.{BadDollar}
-use Rattle.cut_forms.specs.declared.ListPath.{ListPath}
-use Rattle.cut_forms.specs.declared.ListPath.TheVariants.{Path, Stop}
 use Rattle.cut_forms.specs.Faults.{Fails}
 use Rattle.cut_forms.specs.Paths.{PathsAt, NextListed, ListEnds}
 use Rattle.cut_forms.proofs.Faults.{bad_dollar_law}
@@ -49,12 +48,12 @@ walk_bad a w = ap raw_of (sym w.cut ∙ a.is)
 
 -- ---- what `next_path` answers
 
-module _ (l : List ℕ) (i : ℕ) (r : ListPath) (n : NextListed l i r) where
-  pub goes_on : {from to : ℕ} → r ≡ Path from to → PathNext l i from to
+module _ (l : List ℕ) (i : ℕ) (r : Option (ℕ × ℕ)) (n : NextListed l i r) where
+  pub goes_on : {from to : ℕ} → r ≡ Some (from, to) → PathNext l i from to
   unfolding NextListed
   goes_on e = rw e at n
 
-  pub stops : r ≡ Stop → (ps : List (List ℕ)) → PathsAt l i ps → ps ≡ []
+  pub stops : r ≡ None → (ps : List (List ℕ)) → PathsAt l i ps → ps ≡ []
   unfolding NextListed
   stops e = rw e at n
 

@@ -1,32 +1,29 @@
 -- What the answers about a line say of the rules' cut, case by case.
-use Rattle.std.specs.Prelude.{ℕ, ◌≤◌, ◌<◌, Bool, List, ◌≡◌, length, drop}
+use Rattle.std.specs.Prelude.{ℕ, ◌≤◌, ◌<◌, Bool, List, ◌≡◌, length, drop, Result, Ok, Err}
 use Rattle.std.proofs.Math.Option.{none}
 use Rattle.lists.specs.Parts.{part}
 use Rattle.lists.specs.Runs.{Reads}
 use Rattle.spec.specs.Dollars.{bad_dollar}
 use Rattle.spec.specs.Forms.{Cut, fits, after_name, Form, rule_form, build_form, default_form, open_form, binding_form, raw_value, BuildLine}
-use Rattle.cut_forms.specs.declared.Named.{Named}
-use Rattle.cut_forms.specs.declared.Named.TheVariants.{To, Wrong as Named-as-Wrong}
 use Rattle.cut_forms.specs.declared.Bars.{Bars}
 use Rattle.cut_forms.specs.declared.Bars.TheVariants.{LineEnd, One, Two, Other}
 use Rattle.cut_forms.specs.declared.Head.{Head}
 use Rattle.cut_forms.specs.declared.BuildPlaces.{BuildPlaces}
-use Rattle.cut_forms.specs.declared.Statement.{Statement}
-use Rattle.cut_forms.specs.declared.Statement.TheVariants.{Rule, Build, Default, Open, Binding, Wrong}
-use Rattle.cut_forms.specs.declared.Assignment.{Assignment}
-use Rattle.cut_forms.specs.declared.Assignment.TheVariants.{Binding as Assignment-as-Binding, Wrong as Assignment-as-Wrong}
 use Rattle.cut_forms.specs.Faults.{Fails}
 use Rattle.cut_forms.specs.Paths.{PathsAt}
 use Rattle.cut_forms.specs.Inputs.{Bars as Met, line_end, one_bar, two_bars, other_byte, bars_at}
+use Rattle.cut_forms.specs.declared.Statement.{Statement}
+use Rattle.cut_forms.specs.declared.Fault.{Fault}
+use Rattle.cut_forms.specs.declared.Statement.TheVariants.{Rule, Build, Default, Open, Binding}
 
 -- A name goes from one place to another.
 pub record NameEnds (l : List ℕ) (from to : ℕ) (x : Cut (List ℕ)) : Type 0 where
   pub reads : Reads after_name l from to
   pub cut : x ≡ fits (part l from to)
 
-unfoldable pub NamedAt : List ℕ → ℕ → Cut (List ℕ) → Named → Type 0
-NamedAt l from x (To to) = NameEnds l from to x
-NamedAt l from x (Named-as-Wrong f) = Fails l x f
+unfoldable pub NamedAt : List ℕ → ℕ → Cut (List ℕ) → Result ℕ Fault → Type 0
+NamedAt l from x (Ok to) = NameEnds l from to x
+NamedAt l from x (Err f) = Fails l x f
 
 -- What stands after a list of inputs.
 pub record BarEnds (l : List ℕ) (next : ℕ) (x y : Met) : Type 0 where
@@ -86,14 +83,14 @@ pub record BindingAt (l : List ℕ) (x : Cut Form) (from to at : ℕ) : Type 0 w
   pub starts : at ≤ length l
   pub cut : x ≡ fits (binding_form (part l from to) (raw_value (drop at l)))
 
-unfoldable pub StatementAt : List ℕ → Cut Form → Statement → Type 0
-StatementAt l x (Rule from to) = RuleAt l x from to
-StatementAt l x (Build p) = BuildAt l x p
-StatementAt l x (Default at) = DefaultAt l x at
-StatementAt l x (Open sub from to) = OpenAt l x sub from to
-StatementAt l x (Binding from to at) = BindingAt l x from to at
-StatementAt l x (Wrong f) = Fails l x f
+unfoldable pub StatementAt : List ℕ → Cut Form → Result Statement Fault → Type 0
+StatementAt l x (Ok (Rule from to)) = RuleAt l x from to
+StatementAt l x (Ok (Build p)) = BuildAt l x p
+StatementAt l x (Ok (Default at)) = DefaultAt l x at
+StatementAt l x (Ok (Open sub from to)) = OpenAt l x sub from to
+StatementAt l x (Ok (Binding from to at)) = BindingAt l x from to at
+StatementAt l x (Err f) = Fails l x f
 
-unfoldable pub AssignmentAt : List ℕ → Cut Form → Assignment → Type 0
-AssignmentAt l x (Assignment-as-Binding from to at) = BindingAt l x from to at
-AssignmentAt l x (Assignment-as-Wrong f) = Fails l x f
+unfoldable pub AssignmentAt : List ℕ → Cut Form → Result (ℕ × ℕ × ℕ) Fault → Type 0
+AssignmentAt l x (Ok (from, to, at)) = BindingAt l x from to at
+AssignmentAt l x (Err f) = Fails l x f

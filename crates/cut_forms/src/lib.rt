@@ -16,14 +16,6 @@ pub enum Statement {
     Open(bool, usize, usize),
     // where the name starts and ends, and the place behind the `=`: `raw_value` hands the value back from there
     Binding(usize, usize, usize),
-    Wrong(Fault),
-}
-
-// What an indented line is.
-#[derive(Clone, Copy)]
-pub enum Assignment {
-    Binding(usize, usize, usize),
-    Wrong(Fault),
 }
 
 // What is wrong with a line's bytes: 4, 5 with the place of the `$`, or 6.
@@ -34,8 +26,8 @@ pub enum Fault {
     NotYet,
 }
 
-// Where the parts of a build line start. The rule's name ends where the explicit inputs start. Implicit or order-only inputs that are not
-// there start at the line's end, where no path is.
+// Where the parts of a build line start. The rule's name ends where the explicit inputs start. Implicit or order-only
+// inputs that are not there start at the line's end, where no path is.
 #[derive(Clone, Copy)]
 pub struct BuildPlaces {
     pub outs: usize,
@@ -43,27 +35,6 @@ pub struct BuildPlaces {
     pub ins: usize,
     pub implicit: usize,
     pub order: usize,
-}
-
-// The next path of a list: where it starts and ends.
-#[derive(Clone, Copy)]
-pub enum ListPath {
-    Path(usize, usize),
-    Stop,
-}
-
-// A list of paths: whether it has any, and where it ends.
-#[derive(Clone, Copy)]
-pub enum Listed {
-    Ends(bool, usize),
-    Wrong(Fault),
-}
-
-// Where a name ends.
-#[derive(Clone, Copy)]
-pub enum Named {
-    To(usize),
-    Wrong(Fault),
 }
 
 // What stands after a list of inputs: nothing, `|` or `||` with the place behind it, or a byte that does not fit.

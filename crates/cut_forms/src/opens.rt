@@ -8,8 +8,9 @@ use crate::{Fault, Statement};
 use scan_raw::{NextPath, texts};
 use scan_tokens::gap;
 
-// From behind the keyword on: one path, and nothing behind it. A bad `$` behind the path is no 5, since the path is all that fits.
-pub fn cut_open(t: &[u8; 256], l: &[u8], at: usize, sub: bool) -> Statement
+// From behind the keyword on: one path, and nothing behind it. A bad `$` behind the path is no 5, since the path is
+// all that fits.
+pub fn cut_open(t: &[u8; 256], l: &[u8], at: usize, sub: bool) -> Result<Statement, Fault>
     requires { (t.now ≡ classes) × (at ≤ length l.now) }
     ensures { StatementAt l.now (cut_open sub (drop at l.now)) result }
 {
@@ -17,11 +18,11 @@ pub fn cut_open(t: &[u8; 256], l: &[u8], at: usize, sub: bool) -> Statement
         NextPath::Path(from, to) => {
             let end = gap(l, to);
             if end < l.len() {
-                return Statement::Wrong(Fault::NoForm);
+                return Err(Fault::NoForm);
             }
-            Statement::Open(sub, from, to)
+            Ok(Statement::Open(sub, from, to))
         }
-        NextPath::Stop(_) => Statement::Wrong(Fault::NoForm),
-        NextPath::BadDollar(p) => Statement::Wrong(Fault::BadDollar(p)),
+        NextPath::Stop(_) => Err(Fault::NoForm),
+        NextPath::BadDollar(p) => Err(Fault::BadDollar(p)),
     }
 }

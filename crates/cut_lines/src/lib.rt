@@ -11,11 +11,11 @@ use cut_bindings::{cut_binding, cut_rule};
 use cut_builds::cut_build;
 use cut_forms::opens::cut_open;
 use cut_forms::paths::cut_default;
-use cut_forms::{Assignment, Statement};
+use cut_forms::{Fault, Statement};
 use scan_tokens::{name_end, spaces};
 
 // A line without indent; a keyword at its start always begins its statement.
-pub fn cut_statement(t: &[u8; 256], l: &[u8]) -> Statement
+pub fn cut_statement(t: &[u8; 256], l: &[u8]) -> Result<Statement, Fault>
     requires { t.now ≡ classes }
     ensures { StatementAt l.now (cut_statement l.now) result }
 {
@@ -36,14 +36,13 @@ pub fn cut_statement(t: &[u8; 256], l: &[u8]) -> Statement
     if equal(w, b"subninja") {
         return cut_open(t, l, end, true);
     }
-    match cut_binding(t, l, 0, end) {
-        Assignment::Binding(from, to, at) => Statement::Binding(from, to, at),
-        Assignment::Wrong(f) => Statement::Wrong(f),
-    }
+    let (from, to, at) = cut_binding(t, l, 0, end)?;
+    Ok(Statement::Binding(from, to, at))
 }
 
-// An indented line; in a block the first word is always a key.
-pub fn cut_indented(t: &[u8; 256], l: &[u8]) -> Assignment
+// An indented line: where its key starts and ends, and the place behind the `=`. In a block the first word is always a
+// key.
+pub fn cut_indented(t: &[u8; 256], l: &[u8]) -> Result<(usize, usize, usize), Fault>
     requires { t.now ≡ classes }
     ensures { AssignmentAt l.now (cut_indented l.now) result }
 {

@@ -1,4 +1,5 @@
 -- What the cut of a line's bytes says of the line, one law for each answer.
+use Rattle.std.specs.Prelude.{Result, Ok, Err}
 use Prim.Native.Nat.{ℕ, ◌+◌, ◌≤◌}
 use mathlib.Core.Bool.{Bool, true, false}
 use mathlib.Core.List.{List}
@@ -19,11 +20,9 @@ use Rattle.cut_forms.specs.Faults.{fault_in, FaultWithin, Fails}
 use Rattle.cut_forms.specs.declared.BuildPlaces.{BuildPlaces}
 use Rattle.cut_forms.specs.Statements.{RuleAt, BuildAt, DefaultAt, OpenAt, BindingAt}
 use Rattle.cut_refusals.specs.Cuts.{refusal_of, Near, Wrong, SoundBinding, FileLineAt, BlockLineAt}
-use Rattle.cut_refusals.specs.declared.FileLine.{FileLine}
-use Rattle.cut_refusals.specs.declared.FileLine.TheVariants.{Rule, Build, Default, Open, Binding, Refused}
-use Rattle.cut_refusals.specs.declared.BlockLine.{BlockLine}
-use Rattle.cut_refusals.specs.declared.BlockLine.TheVariants.{Binding as Setting, Refused as NoSetting}
 use Rattle.cut_refusals.proofs.Dollars.{Sound}
+use Rattle.cut_forms.specs.declared.Statement.{Statement}
+use Rattle.cut_forms.specs.declared.Statement.TheVariants.{Rule, Build, Default, Open, Binding}
 
 -- ---- a fault, and a line that is not ended
 
@@ -50,35 +49,35 @@ module _ (l : Line) {x : Cut Form} where
 -- ---- by the answer
 
 module _ (l : Line) where
-  pub setting_told : {x : BlockLine} {from to at : ℕ} → BlockLineAt l x → x ≡ Setting from to at → SoundBinding l (cut_indented l.text) from to at
+  pub setting_told : {x : Result (ℕ × ℕ × ℕ) Refusal} {from to at : ℕ} → BlockLineAt l x → x ≡ Ok (from, to, at) → SoundBinding l (cut_indented l.text) from to at
   unfolding BlockLineAt
   setting_told a e = subst (BlockLineAt l) e a
 
-  pub wrong_told : {x : BlockLine} {r : Refusal} → BlockLineAt l x → x ≡ NoSetting r → Wrong l (cut_indented l.text) r
+  pub wrong_told : {x : Result (ℕ × ℕ × ℕ) Refusal} {r : Refusal} → BlockLineAt l x → x ≡ Err r → Wrong l (cut_indented l.text) r
   unfolding BlockLineAt
   wrong_told a e = subst (BlockLineAt l) e a
 
-  pub rule_told : {x : FileLine} {from to : ℕ} → FileLineAt l x → x ≡ Rule from to → (l.ended ≡ true) × RuleAt l.text (cut_statement l.text) from to
+  pub rule_told : {x : Result Statement Refusal} {from to : ℕ} → FileLineAt l x → x ≡ Ok (Rule from to) → (l.ended ≡ true) × RuleAt l.text (cut_statement l.text) from to
   unfolding FileLineAt
   rule_told a e = subst (FileLineAt l) e a
 
-  pub build_told : {x : FileLine} {p : BuildPlaces} → FileLineAt l x → x ≡ Build p → (l.ended ≡ true) × BuildAt l.text (cut_statement l.text) p
+  pub build_told : {x : Result Statement Refusal} {p : BuildPlaces} → FileLineAt l x → x ≡ Ok (Build p) → (l.ended ≡ true) × BuildAt l.text (cut_statement l.text) p
   unfolding FileLineAt
   build_told a e = subst (FileLineAt l) e a
 
-  pub default_told : {x : FileLine} {at : ℕ} → FileLineAt l x → x ≡ Default at → (l.ended ≡ true) × DefaultAt l.text (cut_statement l.text) at
+  pub default_told : {x : Result Statement Refusal} {at : ℕ} → FileLineAt l x → x ≡ Ok (Default at) → (l.ended ≡ true) × DefaultAt l.text (cut_statement l.text) at
   unfolding FileLineAt
   default_told a e = subst (FileLineAt l) e a
 
-  pub open_told : {x : FileLine} {sub : Bool} {from to : ℕ} → FileLineAt l x → x ≡ Open sub from to
+  pub open_told : {x : Result Statement Refusal} {sub : Bool} {from to : ℕ} → FileLineAt l x → x ≡ Ok (Open sub from to)
       → (l.ended ≡ true) × OpenAt l.text (cut_statement l.text) sub from to
   unfolding FileLineAt
   open_told a e = subst (FileLineAt l) e a
 
-  pub binding_told : {x : FileLine} {from to at : ℕ} → FileLineAt l x → x ≡ Binding from to at → SoundBinding l (cut_statement l.text) from to at
+  pub binding_told : {x : Result Statement Refusal} {from to at : ℕ} → FileLineAt l x → x ≡ Ok (Binding from to at) → SoundBinding l (cut_statement l.text) from to at
   unfolding FileLineAt
   binding_told a e = subst (FileLineAt l) e a
 
-  pub refused_told : {x : FileLine} {r : Refusal} → FileLineAt l x → x ≡ Refused r → Wrong l (cut_statement l.text) r
+  pub refused_told : {x : Result Statement Refusal} {r : Refusal} → FileLineAt l x → x ≡ Err r → Wrong l (cut_statement l.text) r
   unfolding FileLineAt
   refused_told a e = subst (FileLineAt l) e a

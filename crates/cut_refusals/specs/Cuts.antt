@@ -1,5 +1,5 @@
 -- What is said of a line: where it lies in the manifest, and its cut.
-use Rattle.std.specs.Prelude.{ℕ, ◌+◌, ◌≤◌, true, List, ◌≡◌, length, drop}
+use Rattle.std.specs.Prelude.{ℕ, ◌+◌, ◌≤◌, true, List, ◌≡◌, length, drop, Result, Ok, Err}
 use Rattle.std.proofs.Math.Option.{none}
 use Rattle.spec.specs.declared.Refusal.{Refusal}
 use Rattle.spec.specs.declared.Refusal.TheVariants.{BadLine, BadDollar, NotYet}
@@ -13,10 +13,8 @@ use Rattle.scan_classes.specs.Table.{classes}
 use Rattle.cut_forms.specs.declared.Fault.{Fault}
 use Rattle.cut_forms.specs.declared.Fault.TheVariants.{NoForm, BadDollar as WrongDollar, NotYet as Later}
 use Rattle.cut_forms.specs.Statements.{RuleAt, BuildAt, DefaultAt, OpenAt, BindingAt}
-use Rattle.cut_refusals.specs.declared.FileLine.{FileLine}
-use Rattle.cut_refusals.specs.declared.FileLine.TheVariants.{Rule, Build, Default, Open, Binding, Refused}
-use Rattle.cut_refusals.specs.declared.BlockLine.{BlockLine}
-use Rattle.cut_refusals.specs.declared.BlockLine.TheVariants.{Binding as Setting, Refused as NoSetting}
+use Rattle.cut_forms.specs.declared.Statement.{Statement}
+use Rattle.cut_forms.specs.declared.Statement.TheVariants.{Rule, Build, Default, Open, Binding}
 
 -- ---- faults
 
@@ -49,14 +47,14 @@ pub record SoundBinding (l : Line) (x : Cut Form) (from to at : ℕ) : Type 0 wh
   pub places : BindingAt l.text x from to at
   pub dollars : bad_dollar (raw_value (drop at l.text)) ≡ none
 
-unfoldable pub FileLineAt : Line → FileLine → Type 0
-FileLineAt l (Rule from to) = (l.ended ≡ true) × RuleAt l.text (cut_statement l.text) from to
-FileLineAt l (Build p) = (l.ended ≡ true) × BuildAt l.text (cut_statement l.text) p
-FileLineAt l (Default at) = (l.ended ≡ true) × DefaultAt l.text (cut_statement l.text) at
-FileLineAt l (Open sub from to) = (l.ended ≡ true) × OpenAt l.text (cut_statement l.text) sub from to
-FileLineAt l (Binding from to at) = SoundBinding l (cut_statement l.text) from to at
-FileLineAt l (Refused r) = Wrong l (cut_statement l.text) r
+unfoldable pub FileLineAt : Line → Result Statement Refusal → Type 0
+FileLineAt l (Ok (Rule from to)) = (l.ended ≡ true) × RuleAt l.text (cut_statement l.text) from to
+FileLineAt l (Ok (Build p)) = (l.ended ≡ true) × BuildAt l.text (cut_statement l.text) p
+FileLineAt l (Ok (Default at)) = (l.ended ≡ true) × DefaultAt l.text (cut_statement l.text) at
+FileLineAt l (Ok (Open sub from to)) = (l.ended ≡ true) × OpenAt l.text (cut_statement l.text) sub from to
+FileLineAt l (Ok (Binding from to at)) = SoundBinding l (cut_statement l.text) from to at
+FileLineAt l (Err r) = Wrong l (cut_statement l.text) r
 
-unfoldable pub BlockLineAt : Line → BlockLine → Type 0
-BlockLineAt l (Setting from to at) = SoundBinding l (cut_indented l.text) from to at
-BlockLineAt l (NoSetting r) = Wrong l (cut_indented l.text) r
+unfoldable pub BlockLineAt : Line → Result (ℕ × ℕ × ℕ) Refusal → Type 0
+BlockLineAt l (Ok (from, to, at)) = SoundBinding l (cut_indented l.text) from to at
+BlockLineAt l (Err r) = Wrong l (cut_indented l.text) r

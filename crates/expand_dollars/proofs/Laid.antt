@@ -1,5 +1,5 @@
 -- Bytes written over a buffer as far as they fit, and one part after another.
-use Prim.Native.Nat.{ℕ, ◌+◌, ◌-◌, ◌≤◌, ◌<◌}
+use Prim.Native.Nat.{ℕ, ◌+◌, ◌-◌, ◌≤◌, ◌<◌, min}
 use mathlib.Core.List.{List, [], ◌++◌, append-nil}
 use mathlib.Core.Path.{◌≡◌, sym, ◌∙◌, ap}
 use native.Mathlib.Decide.{dec_lt}
@@ -31,6 +31,12 @@ module _ (d : List ℕ) (at : ℕ) (s : List ℕ) where
   laid_part h k =
       let n : length (take (length d - at) s) ≡ length d - at = length-take-le (length d - at) s (omega arith) in
       rw (n, take-take (length d - at) (length d - at) s (omega arith), drop_of_length-le d {i = at + (length d - at)} (omega arith), drop_of_length-le d {i = at + length s} (omega arith))
+
+  pub laid_least : at < length d → {n : ℕ} → n ≡ min (length s) (length d - at) → paste d at (take n s) (length (take n s)) ≡ laid_at d at s
+  laid_least h {n} e = elim (dec_lt (length d - at) (length s)) [
+    | yes k ↦ (let z : n ≡ length d - at = omega (arith, e) in rw z (laid_part h k))
+    | no k ↦ (let z : n ≡ length s = omega (arith, e) in rw (z, take_all (length s) s (omega arith)) (laid_whole (omega arith)))
+  ]
 
 -- ---- one part after another
 

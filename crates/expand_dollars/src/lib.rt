@@ -17,12 +17,8 @@ fn put(word: &mut [u8], at: usize, s: &[u8])
     if word.len() <= at {
         return;
     }
-    let room = word.len() - at;
-    if s.len() <= room {
-        copy_at(word, at, s);
-    } else {
-        copy_at(word, at, &s[..room]);
-    }
+    let n = s.len().min(word.len() - at);
+    copy_at(word, at, &s[..n]);
 }
 
 // Writes a run into the buffer from place `at` on, as far as it fits.
@@ -30,12 +26,10 @@ fn put_run(word: &mut [u8], at: usize, raw: &[u8], texts: &[u8], r: Run)
     requires { RunPlaced raw.now texts.now r }
     ensures { word.new ≡ laid_at word.old at (bytes_of raw.now texts.now r) }
 {
-    let from = r.from;
-    let to = r.to;
     if r.bound {
-        put(word, at, &texts[from..to]);
+        put(word, at, &texts[r.from..r.to]);
     } else {
-        put(word, at, &raw[from..to]);
+        put(word, at, &raw[r.from..r.to]);
     }
 }
 

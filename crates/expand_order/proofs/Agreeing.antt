@@ -10,7 +10,7 @@ use lib.Seq.{length-take-le}
 use Rattle.lists.specs.Bytes.{less_bytes, less_same, less_lower, less_cons}
 use Rattle.lists.specs.Order.{order_bytes, less_order, greater_order, order_less, order_equal, order_greater, order_same}
 use Rattle.lists.specs.Tests.{differ}
-use Rattle.lists.specs.declared.Order as order
+use Rattle.std.specs.declared.cmp.Ordering as order
 use Rattle.expand_order.specs.declared.Ahead.TheVariants.{Less, Greater, Both}
 use Rattle.expand_order.specs.Ahead.{Agree, FrontsCompared}
 
@@ -38,7 +38,7 @@ less_more (x ∷ u) (y ∷ v) s t e h =
     (λ (l : (x ≡ y) × (less_bytes u v ≡ true)). less_same x y (u ++ s) (v ++ t) l.0 ∙ less_more u v s t (omega arith) l.1)
     (less_cons x y u v h)
 
-module _ (p q : List ℕ) {n : ℕ} (k : n ≡ min (length p) (length q)) {r : order.Order} (e : r ≡ order_bytes (take n p) (take n q)) where
+module _ (p q : List ℕ) {n : ℕ} (k : n ≡ min (length p) (length q)) {r : order.Ordering} (e : r ≡ order_bytes (take n p) (take n q)) where
   level : length (take n p) ≡ length (take n q)
   level = length-take-le n p (omega arith) ∙ sym (length-take-le n q (omega arith))
 

@@ -12,7 +12,7 @@ use Rattle.lists.specs.Tests.{split}
 use Rattle.lists.specs.Bytes.{less_prefix}
 use Rattle.lists.specs.Order.{order_bytes, less_order, greater_order, equal_order}
 use Rattle.lists.specs.Parts.{drop_part}
-use Rattle.lists.specs.declared.Order as order
+use Rattle.std.specs.declared.cmp.Ordering as order
 use Rattle.hold_bindings.specs.Log.{Logged}
 use Rattle.hold_bindings.specs.Held.{HoldsBindings}
 use Rattle.expand_parts.specs.declared.Run.{Run}
@@ -127,7 +127,7 @@ module _ {t a b texts bind : List ℕ} {count : ℕ} {x y p q : Run} (m : Matchi
       pub shorter : n ≡ min (p.to - p.from) (q.to - q.from)
       shorter = agreed.count ∙ rw (length_bytes f.placed, length_bytes g.placed)
 
-      pub match_end : n ≡ 0 → {o : order.Order} → o ≡ order_lengths (p.to - p.from) (q.to - q.from) → (log : List Logged) → HoldsBindings log texts bind count → o ≡ order_bytes (expanded_by log a) (expanded_by log b)
+      pub match_end : n ≡ 0 → {o : order.Ordering} → o ≡ order_lengths (p.to - p.from) (q.to - q.from) → (log : List Logged) → HoldsBindings log texts bind count → o ≡ order_bytes (expanded_by log a) (expanded_by log b)
       match_end z l log h =
           l
           ∙ ends (sym shorter ∙ z) (λ o. left_last f o log) (λ o. left_last g o log) (left_longer f.placed log) (left_longer g.placed log)

@@ -2,7 +2,7 @@
 use Rattle.std.specs.Prelude.{ℕ, min, List, ◌++◌, ◌≡◌, ltb, length, take}
 use Rattle.lists.specs.Tests.{if_b}
 use Rattle.lists.specs.Order.{order_bytes}
-use Rattle.lists.specs.declared.Order as order
+use Rattle.std.specs.declared.cmp.Ordering as order
 use Rattle.expand_order.specs.declared.Ahead.{Ahead}
 use Rattle.expand_order.specs.declared.Ahead.TheVariants.{Less, Greater, Both}
 
@@ -18,5 +18,5 @@ FrontsCompared p q Greater = (s t : List ℕ) → order_bytes (p ++ s) (q ++ t) 
 FrontsCompared p q (Both n) = Agree p q n
 
 -- the order of two lists by their lengths, of which one is empty
-unfoldable pub order_lengths : ℕ → ℕ → order.Order
+unfoldable pub order_lengths : ℕ → ℕ → order.Ordering
 order_lengths i j = if_b (ltb i j) (λ _. order.TheVariants.Less) (λ _. if_b (ltb j i) (λ _. order.TheVariants.Greater) (λ _. order.TheVariants.Equal))

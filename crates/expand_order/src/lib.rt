@@ -12,9 +12,10 @@ mod fronts;
 
 use crate::fronts::runs_ahead;
 use expand_parts::{Run, filled};
-use lists::Order;
+use std::cmp::Ordering;
 
-// What the front of two runs says: which of the two comes first, or the first n bytes are the same, and one of the two has no more.
+// What the front of two runs says: which of the two comes first, or the first n bytes are the same, and one of the two
+// has no more.
 #[derive(Clone, Copy)]
 pub enum Ahead {
     Less,
@@ -23,20 +24,21 @@ pub enum Ahead {
 }
 
 // How the lengths of two runs compare.
-fn longer(i: usize, j: usize) -> Order
+fn longer(i: usize, j: usize) -> Ordering
     ensures { result ≡ order_lengths i j }
 {
-    if i < j {
-        return Order::Less;
-    }
-    if j < i {
-        return Order::Greater;
-    }
-    Order::Equal
+    i.cmp(&j)
 }
 
 // How what two raw texts expand to compares.
-pub fn order(t: &[u8; 256], a: &[u8], b: &[u8], texts: &[u8], bind: &[u32], count: usize) -> Order
+pub fn order(
+    t: &[u8; 256],
+    a: &[u8],
+    b: &[u8],
+    texts: &[u8],
+    bind: &[u32],
+    count: usize,
+) -> Ordering
     requires { ExpandReady t.now a.now texts.now bind.now count 0 × ExpandReady t.now b.now texts.now bind.now count 0 }
     ensures { (log : List Logged) → HoldsBindings log texts.now bind.now count → result ≡ order_bytes (expanded_by log a.now) (expanded_by log b.now) }
 {
@@ -56,12 +58,8 @@ pub fn order(t: &[u8; 256], a: &[u8], b: &[u8], texts: &[u8], bind: &[u32], coun
         x = filled(t, a, texts, bind, count, x);
         y = filled(t, b, texts, bind, count, y);
         match runs_ahead(a, b, texts, x, y) {
-            Ahead::Less => {
-                return Order::Less;
-            }
-            Ahead::Greater => {
-                return Order::Greater;
-            }
+            Ahead::Less => return Ordering::Less,
+            Ahead::Greater => return Ordering::Greater,
             Ahead::Both(n) => {
                 if n == 0 {
                     return longer(x.to - x.from, y.to - y.from);

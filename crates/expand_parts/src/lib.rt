@@ -5,11 +5,12 @@ ghost use Rattle.std.specs.Prelude.{List, ℕ, ◌<◌, length};
 ghost use Rattle.hold_bindings.specs.Held.{SoundBindings};
 ghost use Rattle.expand_parts.specs.Runs.{BeginsRun, Variable, ExpandReady, Going, Filled};
 
-use hold_bindings::{FoundEntry, newest_seen, value_place};
+use hold_bindings::{newest_seen, value_place};
 use scan_dollars::{Escape, dollar};
 use slices::bytes::find;
 
-// A run of bytes of an expansion: a part of the raw text, or of the bound texts, and where the raw text goes on behind it.
+// A run of bytes of an expansion: a part of the raw text, or of the bound texts, and where the raw text goes on behind
+// it.
 #[derive(Clone, Copy)]
 pub struct Run {
     pub bound: bool,
@@ -24,7 +25,7 @@ fn variable(wanted: &[u8], texts: &[u8], bind: &[u32], count: usize, next: usize
     ensures { (raw : List ℕ) → Variable wanted.now raw texts.now bind.now count next result }
 {
     match newest_seen(texts, bind, count, wanted) {
-        FoundEntry::At(k) => {
+        Some(k) => {
             let p = value_place(texts, bind, k);
             Run {
                 bound: true,
@@ -33,7 +34,7 @@ fn variable(wanted: &[u8], texts: &[u8], bind: &[u32], count: usize, next: usize
                 next,
             }
         }
-        FoundEntry::Missing => Run {
+        None => Run {
             bound: false,
             from: next,
             to: next,

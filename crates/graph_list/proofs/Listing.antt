@@ -1,4 +1,5 @@
 -- The loop that lists the pending steps.
+use Rattle.std.specs.Prelude.{Option, Some, None}
 use Prim.Native.Nat.{ℕ, ◌+◌, ◌≤◌, ◌<◌}
 use native.Mathlib.Numerals.{add-one}
 use native.Mathlib.Decide.{dec_lt, ℕ_discrete}
@@ -19,7 +20,7 @@ use Rattle.orders.specs.Reach.{upstream, in_upstream}
 use Rattle.spec.specs.Promises.{filled}
 use Rattle.hold_columns.specs.Columns.{before_in, Shown}
 use Rattle.hold_columns.proofs.Held.{before_small}
-use Rattle.graph_list.specs.Listing.{marked, Unblocked, ClearSteps, NextReady, PassAsked, ReadyPassed, ListAsked, least_in}
+use Rattle.graph_list.specs.Listing.{marked, Unblocked, ClearSteps, NextReady, ReadyFound, PassAsked, ReadyPassed, ListAsked, least_in}
 
 -- the marked steps
 
@@ -46,14 +47,13 @@ Pending marks = In (marked (length marks) marks)
 abbrev pub Up : List ℕ → List ℕ → List ℕ → List ℕ → ℕ → ℕ → Type 0
 Up mentions ends made marks = By (upstream (before_in mentions ends made) (length marks))
 
--- so many steps are listed, and s is the next
-pub record Listing (mentions ends made order first lent pending clear list : List ℕ) (count s : ℕ) : Type 0 where
+-- so many steps are listed
+pub record Listing (mentions ends made order first lent pending clear list : List ℕ) (count : ℕ) : Type 0 where
   pub pending_long : length pending ≡ length first
   pub clear_long : length clear ≡ length first
   pub list_long : length list ≡ length lent
   pub count_in : count ≤ length first
   pub clear_now : ClearSteps (before_in mentions ends made) pending clear
-  pub next : NextReady (before_in mentions ends made) pending order (length first) s
   pub left : (u : ℕ) → get_or pending u 0 ≡ 1 → (get_or first u 0 ≡ 1) × (u ∉ take count list)
   pub still : (u : ℕ) → get_or first u 0 ≡ 1 → u ∉ take count list → get_or pending u 0 ≡ 1
   pub lowest : Each (Lowest (Pending first) (Up mentions ends made first)) (take count list)
@@ -68,22 +68,30 @@ module _ {mentions ends made order pending clear list : List ℕ} (q : ListAsked
     clear_now = λ s h. absurd (omega (arith, sym h ∙ ap (λ (l : List ℕ). get_or l s 0) q.unclear ∙ get_or_zeros (length pending) s));
   }
 
-  pub list_begin : {exit : List ℕ} {s : ℕ} → ReadyPassed mentions ends made order pending exit s → Listing mentions ends made order pending list pending exit list 0 s
-  list_begin p = record {
+  pub list_begin : Listing mentions ends made order pending list pending clear list 0
+  list_begin = record {
     pending_long = refl;
-    clear_long = p.long;
+    clear_long = list_ask.long;
     list_long = refl;
     count_in = omega arith;
-    clear_now = p.clear_now;
-    next = p.next;
+    clear_now = list_ask.clear_now;
     left = λ u h. (h, not_in_nil);
     still = λ u h d. h;
     lowest = each_nil (Lowest (Pending pending) (Up mentions ends made pending));
   }
 
-module _ {mentions ends made order first before_clear lent pending clear list : List ℕ} {count s : ℕ} (q : ListAsked mentions ends made order first before_clear lent)
-    (r : Listing mentions ends made order first lent pending clear list count s) where
-  pub list_count : length (take count list) ≡ count
+module _ {mentions ends made order first before_clear lent pending clear list : List ℕ} {count : ℕ} (q : ListAsked mentions ends made order first before_clear lent)
+    (r : Listing mentions ends made order first lent pending clear list count) where
+  pub list_again : PassAsked mentions ends made order pending clear
+  list_again = record {
+    sound = rw r.pending_long q.sound;
+    sorted = q.sorted;
+    steps = rw r.pending_long q.steps;
+    long = r.clear_long ∙ sym r.pending_long;
+    clear_now = r.clear_now;
+  }
+
+  list_count : length (take count list) ≡ count
   list_count = length-take-le count list (omega (arith, r.count_in, r.list_long, q.room))
 
   -- the ready steps are the pending ones with none upstream
@@ -109,12 +117,20 @@ module _ {mentions ends made order first before_clear lent pending clear list : 
             (r.left m p).1 (w.after m ((in_upstream (before_in mentions ends made) (length first) (before_small q.sound) u b).1 h) (marked_in (length first) first (mark_low first (r.left m p).0) (r.left m p).0)),
       )
 
-  least_of : (u : ℕ) → Ready (Pending first) (Up mentions ends made first) (take count list) u → s ≤ u
-  least_of u w = let (p, free) = of_ready u w in r.next.least u (q.inside u (r.left u p).0) p free
+  least_of : {n s : ℕ} → NextReady (before_in mentions ends made) pending order n s → (u : ℕ) → Ready (Pending first) (Up mentions ends made first) (take count list) u → s ≤ u
+  least_of next u w = let (p, free) = of_ready u w in next.least u (q.inside u (r.left u p).0) p free
 
-  module _ (b : s < length first) where
+  -- s is the next
+  module _ {exit : List ℕ} {o : Option ℕ} (passed : ReadyPassed mentions ends made order pending exit o) {s : ℕ} (found : o ≡ Some s) where
+    next_is : NextReady (before_in mentions ends made) pending order (length pending) s × (s < length pending)
+    unfolding ReadyFound
+    next_is = rw found at passed.next
+
+    pub next_low : s < length first
+    next_low = rw r.pending_long at next_is.1
+
     lowest_is : Lowest (Pending first) (Up mentions ends made first) (take count list) s
-    lowest_is = let (i, p, free) = r.next.found b in record { ready = ready_of s p free; least = least_of }
+    lowest_is = let (i, p, free) = next_is.0.found next_is.1 in record { ready = ready_of s p free; least = least_of next_is.0 }
 
     now_lowest : Each (Lowest (Pending first) (Up mentions ends made first)) (take count list ++ (s ∷ []))
     now_lowest = each_snoc (Lowest (Pending first) (Up mentions ends made first)) (take count list) s r.lowest lowest_is
@@ -132,31 +148,19 @@ module _ {mentions ends made order first before_clear lent pending clear list : 
 
     off : (u : ℕ) → get_or (set pending s 0) u 0 ≡ 1 → (u ≡ s → ⊥) × (get_or pending u 0 ≡ 1)
     off u h = elim (ℕ_discrete u s) [
-      | yes e ↦ absurd (omega (arith, sym (get_or-set_same pending s 0 0 (omega (arith, r.pending_long))) ∙ (rw e at h)))
+      | yes e ↦ absurd (omega (arith, sym (get_or-set_same pending s 0 0 next_is.1) ∙ (rw e at h)))
       | no d ↦ (d, sym (get_or-set_other pending s u 0 0 d) ∙ h)
     ]
 
-    pub list_again : PassAsked mentions ends made order (set pending s 0) clear
-    list_again =
-        let e : length (set pending s 0) ≡ length first = simp length-set r.pending_long in
-        record {
-          sound = rw e q.sound;
-          sorted = q.sorted;
-          steps = rw e q.steps;
-          long = r.clear_long ∙ sym e;
-          clear_now = λ u h. (let (d, free) = r.clear_now u h in (λ p. d (off u p).1, λ m w p. free m w (off m p).1));
-        }
-
-    pub list_more : {exit : List ℕ} {k : ℕ} → ReadyPassed mentions ends made order (set pending s 0) exit k → Listing mentions ends made order first lent (set pending s 0) exit (set list count s) (count + 1) k
-    list_more p =
+    pub list_more : Listing mentions ends made order first lent (set pending s 0) exit (set list count s) (count + 1)
+    list_more =
         let e : length (set pending s 0) ≡ length first = simp length-set r.pending_long in
         record {
           pending_long = e;
-          clear_long = p.long ∙ e;
+          clear_long = passed.long ∙ r.pending_long;
           list_long = simp length-set r.list_long;
           count_in = omega (arith, list_room);
-          clear_now = p.clear_now;
-          next = rw e at p.next;
+          clear_now = λ u h. (let (d, free) = passed.clear_now u h in (λ p. d (off u p).1, λ m w p. free m w (off m p).1));
           left = λ u h. (
               let (d, w) = off u h in
               let (f, n) = r.left u w in
@@ -170,11 +174,15 @@ module _ {mentions ends made order first before_clear lent pending clear list : 
         }
 
   -- nothing is ready
-  module _ (b : length first ≤ s) where
+  module _ {exit : List ℕ} {o : Option ℕ} (passed : ReadyPassed mentions ends made order pending exit o) (none : o ≡ None) where
+    next_none : NextReady (before_in mentions ends made) pending order (length pending) (length pending)
+    unfolding ReadyFound
+    next_none = rw none at passed.next
+
     listed_all : take count list ≡ least_in mentions ends made first
     unfolding least_in
     listed_all = lowest_greedy (marked (length first) first) (upstream (before_in mentions ends made) (length first)) (rising_marked (length first) first) (take count list) r.lowest
-        (λ u w. let c = (in_marked (length first) first w.wanted).0 in absurd (omega (arith, least_of u w)))
+        (λ u w. let c = (in_marked (length first) first w.wanted).0 in absurd (omega (arith, least_of next_none u w, r.pending_long)))
 
     pub list_end : Shown (least_in mentions ends made first) lent count (zeroed list count (length list))
     unfolding zeroed filled

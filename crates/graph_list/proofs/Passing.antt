@@ -1,4 +1,5 @@
 -- One pass along the order.
+use Rattle.std.specs.Prelude.{Some, None}
 use Prim.Native.Nat.{ℕ, ◌+◌, ◌≤◌, ◌<◌}
 use native.Mathlib.Numerals.{add-one}
 use native.Mathlib.Decide.{dec_lt}
@@ -14,7 +15,7 @@ use borrow.Author.Tests.{eqb-true, eq-eqb}
 use Rattle.lists.specs.Members.{◌∈◌, all_true, true_all, in_snoc, in_left, in_right, here, not_in_nil}
 use Rattle.orders.specs.Reach.{direct, further}
 use Rattle.hold_columns.specs.Columns.{inputs_in, before_in, SortedSteps}
-use Rattle.graph_list.specs.Listing.{all_clear, Unblocked, ClearSteps, LooksAt, LookAsked, NextReady, PassAsked, ReadyPassed}
+use Rattle.graph_list.specs.Listing.{all_clear, Unblocked, ClearSteps, LooksAt, LookAsked, NextReady, ReadyFound, PassAsked, ReadyPassed}
 
 pub record Passing (mentions ends made order pending clear : List ℕ) (best i : ℕ) : Type 0 where
   pub within : i ≤ length order
@@ -85,8 +86,21 @@ module _ {mentions ends made order pending clear : List ℕ} {best i : ℕ} (q :
     };
   }
 
-pub pass_end : {mentions ends made order pending clear : List ℕ} {best i : ℕ} → Passing mentions ends made order pending clear best i → length order ≤ i → ReadyPassed mentions ends made order pending clear best
-pass_end {order} {i} r b = record { next = rw (take_all i order b) at r.next; long = r.long; clear_now = r.clear_now }
+module _ {mentions ends made order pending clear : List ℕ} {best i : ℕ} (r : Passing mentions ends made order pending clear best i) (b : length order ≤ i) where
+  next_end : NextReady (before_in mentions ends made) pending order (length pending) best
+  next_end = rw (take_all i order b) at r.next
+
+  pub pass_found : best < length pending → ReadyPassed mentions ends made order pending clear (Some best)
+  unfolding ReadyFound
+  pass_found c = record { next = (next_end, c); long = r.long; clear_now = r.clear_now }
+
+  pub pass_none : length pending ≤ best → ReadyPassed mentions ends made order pending clear None
+  unfolding ReadyFound
+  pass_none c = record {
+    next = (let e : best ≡ length pending = omega (arith, r.next.within) in rw e at next_end);
+    long = r.long;
+    clear_now = r.clear_now;
+  }
 
 pub pass_ask : {mentions ends made order pending before_clear clear : List ℕ} {best i s : ℕ} → PassAsked mentions ends made order pending before_clear → Passing mentions ends made order pending clear best i
     → i < length order → s ≡ get_or order i 0 → LookAsked mentions ends made pending clear s

@@ -1,5 +1,5 @@
 -- The list of the pending steps: at each place the lowest of them not yet listed with none of them upstream.
-use Rattle.std.specs.Prelude.{ℕ, ◌≤◌, ◌<◌, ◌≡◌, ◌⊎◌, Bool, true, List, eqb, length, get_or}
+use Rattle.std.specs.Prelude.{ℕ, ◌≤◌, ◌<◌, ◌≡◌, ◌⊎◌, Bool, true, List, eqb, length, get_or, Option, Some, None}
 use Rattle.lists.specs.Fill.{zeros}
 use Rattle.lists.specs.Members.{◌∈◌, all, keep, up_to}
 use Rattle.orders.specs.Order.{IsOrder}
@@ -50,6 +50,11 @@ pub record NextReady (before : ℕ → List ℕ) (pending order : List ℕ) (n r
   pub found : r < n → (r ∈ order) × (get_or pending r 0 ≡ 1) × Unblocked before pending r
   pub least : (s : ℕ) → s ∈ order → get_or pending s 0 ≡ 1 → Unblocked before pending s → r ≤ s
 
+-- the lowest such step of n, or none
+unfoldable pub ReadyFound : (ℕ → List ℕ) → List ℕ → List ℕ → ℕ → Option ℕ → Type 0
+ReadyFound before pending order n (Some s) = NextReady before pending order n s × (s < n)
+ReadyFound before pending order n None = NextReady before pending order n n
+
 pub record PassAsked (mentions ends made order pending clear : List ℕ) : Type 0 where
   pub sound : SoundColumns (length pending) mentions ends made
   pub sorted : SortedSteps (before_in mentions ends made) order
@@ -57,8 +62,8 @@ pub record PassAsked (mentions ends made order pending clear : List ℕ) : Type 
   pub long : length clear ≡ length pending
   pub clear_now : ClearSteps (before_in mentions ends made) pending clear
 
-pub record ReadyPassed (mentions ends made order pending exit : List ℕ) (r : ℕ) : Type 0 where
-  pub next : NextReady (before_in mentions ends made) pending order (length pending) r
+pub record ReadyPassed (mentions ends made order pending exit : List ℕ) (r : Option ℕ) : Type 0 where
+  pub next : ReadyFound (before_in mentions ends made) pending order (length pending) r
   pub long : length exit ≡ length pending
   pub clear_now : ClearSteps (before_in mentions ends made) pending exit
 

@@ -45,5 +45,11 @@ module _ {fs made seen : List ℕ} {from i : ℕ} (r : Opening fs made seen from
       not_done = λ h w. z (p ∙ rw e w);
     }
 
-  pub open_end : length fs ≤ i → OpenInput fs made seen from i
-  open_end b = record { forward = r.forward; within = r.within; over = r.over; made_there = λ h. absurd (omega arith); not_done = λ h. absurd (omega arith) }
+  pub open_end : length fs ≤ i → OpenInput fs made seen from (length fs)
+  open_end b = record {
+    forward = omega (arith, r.forward, r.within);
+    within = le_refl (length fs);
+    over = λ j p q. r.over j p (omega arith);
+    made_there = λ h. absurd (omega arith);
+    not_done = λ h. absurd (omega arith);
+  }

@@ -1,4 +1,5 @@
 -- The walks from the makers of the roots, one after another.
+use Rattle.std.specs.Prelude.{Result, Ok, Err}
 use Prim.Native.Nat.{ℕ, suc, ◌+◌, ◌-◌, ◌≤◌, ◌<◌}
 use native.Mathlib.Decide.{dec_lt}
 use native.Mathlib.Omega.{arith}
@@ -15,8 +16,6 @@ use Rattle.lists.specs.Fill.{length_zeros, get_or_zeros}
 use Rattle.hold_columns.specs.Columns.{maker_at, makers_in, before_in, needed_in, SoundColumns, FilesMade}
 use Rattle.hold_columns.proofs.Makers.{in_makers_in, makers_in_in, maker_low, makers_small}
 use Rattle.hold_columns.proofs.Held.{before_small}
-use Rattle.graph_order.specs.declared.Visit.{Visit}
-use Rattle.graph_order.specs.declared.Visit.TheVariants.{Done, Circle}
 use Rattle.graph_order.specs.Walk.{mark, Walk, Visited, Circled, Explored, Starts, Rooted, RootSeen, RootAsked, SortAsked, OrderFound}
 use Rattle.graph_order.proofs.Walk.{mark_zero, walk_none}
 
@@ -113,14 +112,14 @@ module _ {mentions ends made roots : List ℕ} {i : ℕ} {seen next path order :
       | inr a ↦ r.state.visited.walk.done_wanted x a
     ])
 
-    pub root_found : (seen' next' path' order' : List ℕ) (o : Visit) → Explored mentions ends made (length order) (take done order) (k - 1) seen' next' path' order' o
+    pub root_found : (seen' next' path' order' : List ℕ) (o : Result ℕ (ℕ × ℕ)) → Explored mentions ends made (length order) (take done order) (k - 1) seen' next' path' order' o
         → RootSeen mentions ends made roots (length order) (i + 1) seen' next' path' order' o
     unfolding Explored RootSeen
-    root_found seen' next' path' order' (Done n) s = record {
+    root_found seen' next' path' order' (Ok n) s = record {
       visited = visited_more (λ x h w. root_reached x w) s.visited;
       rooted = one_more made roots (take n order') i (λ j b m q. s.kept m (r.state.rooted j b m q)) (λ m q. rw (root_is m q) s.root_done);
     }
-    root_found seen' next' path' order' (Circle from to) c = circled_more root_reached c
+    root_found seen' next' path' order' (Err (from, to)) c = circled_more root_reached c
 
 -- between two roots
 pub record Rooting (mentions ends made roots : List ℕ) (n : ℕ) (seen next path order : List ℕ) (done i : ℕ) : Type 0 where
@@ -161,16 +160,16 @@ module _ {mentions ends made roots : List ℕ} {n : ℕ} {seen next path order :
       record { sound = rw e sound; files = rw e files; state = rw e r.state; path_long = rw e r.path_long; one_more = b }
 
   -- what a walk says with the length of `order`, it says with n
-  told : (seen' next' path' order' : List ℕ) {o : Visit} {w : Visit} → RootSeen mentions ends made roots (length order) (i + 1) seen' next' path' order' o → o ≡ w
+  told : (seen' next' path' order' : List ℕ) {o : Result ℕ (ℕ × ℕ)} {w : Result ℕ (ℕ × ℕ)} → RootSeen mentions ends made roots (length order) (i + 1) seen' next' path' order' o → o ≡ w
       → RootSeen mentions ends made roots n (i + 1) seen' next' path' order' w
   told seen' next' path' order' s e = rw (r.state.visited.order_long, e) at s
 
-  pub roots_more : (seen' next' path' order' : List ℕ) {o : Visit} {k : ℕ} → i < length roots → RootSeen mentions ends made roots (length order) (i + 1) seen' next' path' order' o → o ≡ Done k
+  pub roots_more : (seen' next' path' order' : List ℕ) {o : Result ℕ (ℕ × ℕ)} {k : ℕ} → i < length roots → RootSeen mentions ends made roots (length order) (i + 1) seen' next' path' order' o → o ≡ Ok k
       → length path' ≡ length path → Rooting mentions ends made roots n seen' next' path' order' k (i + 1)
   unfolding RootSeen
   roots_more seen' next' path' order' b s e l = record { within = omega arith; path_long = l ∙ r.path_long; state = told seen' next' path' order' s e }
 
-  pub roots_circle : (seen' next' path' order' : List ℕ) {o : Visit} {from to : ℕ} → RootSeen mentions ends made roots (length order) (i + 1) seen' next' path' order' o → o ≡ Circle from to
+  pub roots_circle : (seen' next' path' order' : List ℕ) {o : Result ℕ (ℕ × ℕ)} {from to : ℕ} → RootSeen mentions ends made roots (length order) (i + 1) seen' next' path' order' o → o ≡ Err (from, to)
       → Circled (before_in mentions ends made) (In (needed_in mentions ends made n roots)) path' from to
   unfolding RootSeen needed_in
   roots_circle seen' next' path' order' s e = circled_more (λ x h. reach_complete before n start (before_small sound) (makers_small files) h) (told seen' next' path' order' s e)

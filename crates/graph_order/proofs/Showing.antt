@@ -1,4 +1,5 @@
 -- A circle on the path, shown in the list.
+use Rattle.std.specs.Prelude.{Result, Ok, Err}
 use Prim.Native.Nat.{ℕ, ◌≤◌}
 use native.Mathlib.Omega.{arith}
 use mathlib.Core.Path.{◌≡◌, refl}
@@ -7,17 +8,15 @@ use lib.ListN.{length, length-take, length-drop}
 use Rattle.lists.specs.Parts.{part, drop_take}
 use Rattle.orders.specs.Greedy.{In}
 use Rattle.hold_columns.specs.Columns.{before_in, needed_in, Shown}
-use Rattle.graph_order.specs.declared.Visit.{Visit}
-use Rattle.graph_order.specs.declared.Visit.TheVariants.{Done, Circle}
 use Rattle.graph_order.specs.Walk.{Circled, FindsOrder}
 use Rattle.graph_order.specs.Sort.{Showable, InOrder, InCircle}
 
-module _ (mentions ends made roots : List ℕ) (n : ℕ) (path order : List ℕ) {o : Visit} (s : FindsOrder mentions ends made roots n path order o) where
-  pub shows_order : {k : ℕ} → o ≡ Done k → (list : List ℕ) → InOrder mentions ends made roots n order k list list
+module _ (mentions ends made roots : List ℕ) (n : ℕ) (path order : List ℕ) {o : Result ℕ (ℕ × ℕ)} (s : FindsOrder mentions ends made roots n path order o) where
+  pub shows_order : {k : ℕ} → o ≡ Ok k → (list : List ℕ) → InOrder mentions ends made roots n order k list list
   unfolding FindsOrder
   shows_order e list = record { sorted = rw e at s; kept = refl }
 
-  module _ {from to : ℕ} (e : o ≡ Circle from to) where
+  module _ {from to : ℕ} (e : o ≡ Err (from, to)) where
     circled : Circled (before_in mentions ends made) (In (needed_in mentions ends made n roots)) path from to
     unfolding FindsOrder
     circled = rw e at s

@@ -1,10 +1,8 @@
 -- What the sorting of the needed steps leaves in the lent buffers: an order of them, or a circle shown in the list.
-use Rattle.std.specs.Prelude.{ℕ, ◌≤◌, ◌≡◌, List, length}
+use Rattle.std.specs.Prelude.{ℕ, ◌≤◌, ◌≡◌, List, length, Result, Ok, Err}
 use Rattle.orders.specs.Order.{IsCircle}
 use Rattle.orders.specs.Greedy.{In, By}
 use Rattle.hold_columns.specs.Columns.{before_in, needed_in, SoundColumns, FilesMade, Shown}
-use Rattle.graph_order.specs.declared.Sorting.{Sorting}
-use Rattle.graph_order.specs.declared.Sorting.TheVariants.{Ordered as OrderedSteps, Circular}
 use Rattle.graph_order.specs.Walk.{SortAsked, OrderFound}
 
 pub record NeededAsked (mentions ends made roots order list : List ℕ) : Type 0 where
@@ -31,6 +29,6 @@ pub record InCircle (mentions ends made roots : List ℕ) (n k : ℕ) (list exit
   pub real : IsCircle (In (needed_in mentions ends made n roots)) (By (before_in mentions ends made)) circle
   pub shown : Shown circle list k exit
 
-unfoldable pub NeededSorted : List ℕ → List ℕ → List ℕ → List ℕ → ℕ → List ℕ → List ℕ → List ℕ → Sorting → Type 0
-NeededSorted mentions ends made roots n order list exit (OrderedSteps k) = InOrder mentions ends made roots n order k list exit
-NeededSorted mentions ends made roots n order list exit (Circular k) = InCircle mentions ends made roots n k list exit
+unfoldable pub NeededSorted : List ℕ → List ℕ → List ℕ → List ℕ → ℕ → List ℕ → List ℕ → List ℕ → Result ℕ ℕ → Type 0
+NeededSorted mentions ends made roots n order list exit (Ok k) = InOrder mentions ends made roots n order k list exit
+NeededSorted mentions ends made roots n order list exit (Err k) = InCircle mentions ends made roots n k list exit

@@ -1,5 +1,5 @@
 -- A walk through the steps before a step, and before those: the path that it stands on, and the steps that it is done with.
-use Rattle.std.specs.Prelude.{ℕ, suc, ◌-◌, ◌≤◌, ◌<◌, ◌≡◌, List, [], ◌∷◌, length, get_or, take, drop}
+use Rattle.std.specs.Prelude.{ℕ, suc, ◌-◌, ◌≤◌, ◌<◌, ◌≡◌, List, [], ◌∷◌, length, get_or, take, drop, Result, Ok, Err}
 use Rattle.lists.specs.Tests.{if_b}
 use Rattle.lists.specs.Fill.{zeros}
 use Rattle.lists.specs.Members.{◌∈◌, ◌∉◌, ◌⊆◌, Each, Once, has}
@@ -8,8 +8,6 @@ use Rattle.orders.specs.Greedy.{In, By}
 use Rattle.orders.specs.Reach.{Reached}
 use Rattle.orders.specs.Circle.{Linked}
 use Rattle.hold_columns.specs.Columns.{maker_at, makers_in, inputs_in, before_in, needed_in, SoundColumns, FilesMade}
-use Rattle.graph_order.specs.declared.Visit.{Visit}
-use Rattle.graph_order.specs.declared.Visit.TheVariants.{Done, Circle}
 
 -- what is marked of a step: 0 not seen, 1 on the path, 2 done
 unfoldable pub mark : List ℕ → List ℕ → ℕ → ℕ
@@ -65,9 +63,9 @@ pub record Circled (before : ℕ → List ℕ) (Want : ℕ → Type 0) (path : L
   pub within : to ≤ length path
   pub circle : IsCircle Want (By before) (drop from (take to path))
 
-unfoldable pub Explored : List ℕ → List ℕ → List ℕ → ℕ → List ℕ → ℕ → List ℕ → List ℕ → List ℕ → List ℕ → Visit → Type 0
-Explored mentions ends made n old root seen next path order (Done k) = Settled mentions ends made n old root seen next order k
-Explored mentions ends made n old root seen next path order (Circle from to) =
+unfoldable pub Explored : List ℕ → List ℕ → List ℕ → ℕ → List ℕ → ℕ → List ℕ → List ℕ → List ℕ → List ℕ → Result ℕ (ℕ × ℕ) → Type 0
+Explored mentions ends made n old root seen next path order (Ok k) = Settled mentions ends made n old root seen next order k
+Explored mentions ends made n old root seen next path order (Err (from, to)) =
     Circled (before_in mentions ends made) (Reached (before_in mentions ends made) (root ∷ old)) path from to
 
 -- What a walk starts from: sound tables, a step not seen yet, and what was done before.
@@ -90,9 +88,9 @@ pub record Rooted (mentions ends made roots : List ℕ) (n : ℕ) (seen next ord
   pub rooted : (j : ℕ) → j < i → (m : ℕ) → maker_at made roots j ≡ suc m → m ∈ take done order
 
 -- What the walks find: those from one more root, or a circle.
-unfoldable pub RootSeen : List ℕ → List ℕ → List ℕ → List ℕ → ℕ → ℕ → List ℕ → List ℕ → List ℕ → List ℕ → Visit → Type 0
-RootSeen mentions ends made roots n i seen next path order (Done k) = Rooted mentions ends made roots n seen next order k i
-RootSeen mentions ends made roots n i seen next path order (Circle from to) =
+unfoldable pub RootSeen : List ℕ → List ℕ → List ℕ → List ℕ → ℕ → ℕ → List ℕ → List ℕ → List ℕ → List ℕ → Result ℕ (ℕ × ℕ) → Type 0
+RootSeen mentions ends made roots n i seen next path order (Ok k) = Rooted mentions ends made roots n seen next order k i
+RootSeen mentions ends made roots n i seen next path order (Err (from, to)) =
     Circled (before_in mentions ends made) (Reached (before_in mentions ends made) (makers_in made roots)) path from to
 
 -- what the walk from root i asks
@@ -117,6 +115,6 @@ pub record OrderFound (mentions ends made roots : List ℕ) (n : ℕ) (order : L
   pub in_order : IsOrder (In (needed_in mentions ends made n roots)) (By (before_in mentions ends made)) (take k order)
 
 -- What they find: an order of the needed steps, or a circle of needed ones.
-unfoldable pub FindsOrder : List ℕ → List ℕ → List ℕ → List ℕ → ℕ → List ℕ → List ℕ → Visit → Type 0
-FindsOrder mentions ends made roots n path order (Done k) = OrderFound mentions ends made roots n order k
-FindsOrder mentions ends made roots n path order (Circle from to) = Circled (before_in mentions ends made) (In (needed_in mentions ends made n roots)) path from to
+unfoldable pub FindsOrder : List ℕ → List ℕ → List ℕ → List ℕ → ℕ → List ℕ → List ℕ → Result ℕ (ℕ × ℕ) → Type 0
+FindsOrder mentions ends made roots n path order (Ok k) = OrderFound mentions ends made roots n order k
+FindsOrder mentions ends made roots n path order (Err (from, to)) = Circled (before_in mentions ends made) (In (needed_in mentions ends made n roots)) path from to

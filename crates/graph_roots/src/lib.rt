@@ -5,7 +5,7 @@ ghost use Rattle.std.specs.Prelude.{ℕ, ◌<◌, length, get_or};
 ghost use Rattle.lists.specs.Lent.{Spare, Leaves};
 ghost use Rattle.graph_roots.specs.Tops.{MarkedToo, MarkAsked, InputsMarked, AppendAsked, Appended, TopsAsked, TopsFound};
 
-use hold_columns::{inputs, outs};
+use hold_columns::{Columns, inputs, outs};
 use slices::words::at;
 
 // Marks these files.
@@ -13,22 +13,18 @@ fn mark(fs: &[u32], marks: &mut [u32])
     requires { (i : ℕ) → i < length fs.now → get_or fs.now i 0 < length marks.old }
     ensures { MarkedToo fs.now marks.old marks.new }
 {
-    let mut i = 0;
-    while i < fs.len() {
-        marks[at(fs, i)] = 1;
-        i += 1;
+    for &f in fs {
+        marks[f as usize] = 1;
     }
 }
 
 // Marks the inputs of all steps.
-fn mark_inputs(mentions: &[u32], ends: &[u32], phony: &[u32], made: &[u32], marks: &mut [u32])
-    requires { MarkAsked mentions.now ends.now phony.now made.now marks.old }
-    ensures { InputsMarked mentions.now ends.now (length phony.now) (length made.now) marks.new }
+fn mark_inputs(g: &Columns, marks: &mut [u32])
+    requires { MarkAsked g.now.mentions.now g.now.ends.now g.now.phony.now g.now.made.now marks.old }
+    ensures { InputsMarked g.now.mentions.now g.now.ends.now (length g.now.phony.now) (length g.now.made.now) marks.new }
 {
-    let mut s = 0;
-    while s < phony.len() {
-        mark(inputs(mentions, ends, s), marks);
-        s += 1;
+    for s in 0..g.phony.len() {
+        mark(inputs(g.mentions, g.ends, s), marks);
     }
 }
 
@@ -38,38 +34,25 @@ fn append_unmarked(fs: &[u32], marks: &[u32], out: &mut [u32], k: usize) -> usiz
     ensures { Appended fs.now marks.now out.old k out.new result }
 {
     let mut n = k;
-    let mut i = 0;
-    while i < fs.len() {
-        let f = at(fs, i);
-        if at(marks, f) == 1 {
-            i += 1;
-        } else {
-            out[n] = f as u32;
-            n += 1;
-            i += 1;
+    for &f in fs {
+        if at(marks, f as usize) == 1 {
+            continue;
         }
+        out[n] = f;
+        n += 1;
     }
     n
 }
 
 // Puts the outputs that are no step's input at the front of `out`; their number.
-pub fn tops(
-    mentions: &[u32],
-    ends: &[u32],
-    phony: &[u32],
-    made: &[u32],
-    marks: &mut [u32],
-    out: &mut [u32],
-) -> usize
-    requires { TopsAsked mentions.now ends.now phony.now made.now marks.old out.old }
-    ensures { Leaves (Spare marks.old marks.new) (TopsFound mentions.now ends.now phony.now made.now out.new result) }
+pub fn tops(g: &Columns, marks: &mut [u32], out: &mut [u32]) -> usize
+    requires { TopsAsked g.now.mentions.now g.now.ends.now g.now.phony.now g.now.made.now marks.old out.old }
+    ensures { Leaves (Spare marks.old marks.new) (TopsFound g.now.mentions.now g.now.ends.now g.now.phony.now g.now.made.now out.new result) }
 {
-    mark_inputs(mentions, ends, phony, made, marks);
+    mark_inputs(g, marks);
     let mut k: usize = 0;
-    let mut s = 0;
-    while s < phony.len() {
-        k = append_unmarked(outs(mentions, ends, s), marks, out, k);
-        s += 1;
+    for s in 0..g.phony.len() {
+        k = append_unmarked(outs(g.mentions, g.ends, s), marks, out, k);
     }
     k
 }

@@ -11,7 +11,8 @@ use lib.ListN.{length, get_or, take}
 use lib.Seq.{take-suc, take_all}
 use Rattle.lists.specs.Members.{here, in_cons, in_left, in_right, in_append, in_snoc, not_in_nil}
 use Rattle.hold_columns.specs.Columns.{inputs_in}
-use Rattle.graph_sources.specs.Sources.{Absent, Lowered, LowestMissing}
+use Rattle.std.specs.Prelude.{Some, None}
+use Rattle.graph_sources.specs.Sources.{Absent, Lowered, LowestMissing, MissingFound}
 
 module _ {times made : List ℕ} where
   pub lower_none : {low : ℕ} → Lowered times made [] low low
@@ -97,5 +98,14 @@ module _ {mentions ends made times roots order : List ℕ} {n low i : ℕ} (p : 
       → Searching mentions ends made times roots order n r (i + 1)
   lowest_more b {s} e q w = record { within = omega arith; lowest = rw (add-one i, take-suc order i 0 b, ← e) (lowest_append s p.lowest (rw q at w)) }
 
-  pub lowest_end : length order ≤ i → LowestMissing mentions ends made times roots order n low
-  lowest_end b = rw (take_all i order b) at p.lowest
+  module _ (b : length order ≤ i) where
+    lowest_end : LowestMissing mentions ends made times roots order n low
+    lowest_end = rw (take_all i order b) at p.lowest
+
+    pub found_end : low < n → MissingFound mentions ends made times roots order n (Some low)
+    unfolding MissingFound
+    found_end c = (lowest_end, c)
+
+    pub none_end : n ≤ low → MissingFound mentions ends made times roots order n None
+    unfolding MissingFound
+    none_end c = let e : low ≡ n = omega (arith, p.lowest.within) in rw e at lowest_end

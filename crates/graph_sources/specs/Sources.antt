@@ -1,5 +1,5 @@
 -- Sources: files that no step makes; which of them are needed and missing, and the lowest of these.
-use Rattle.std.specs.Prelude.{ℕ, ◌≤◌, ◌<◌, ◌≡◌, ◌⊎◌, List, length, get_or}
+use Rattle.std.specs.Prelude.{ℕ, ◌≤◌, ◌<◌, ◌≡◌, ◌⊎◌, List, length, get_or, Option, Some, None}
 use Rattle.lists.specs.Members.{◌∈◌}
 use Rattle.hold_columns.specs.Columns.{inputs_in, PartsPlaced}
 
@@ -22,6 +22,11 @@ pub record LowestMissing (mentions ends made times roots order : List ℕ) (n r 
   pub within : r ≤ n
   pub found : r < n → SourceWanted mentions ends roots order r × Absent times made r
   pub least : (f : ℕ) → SourceWanted mentions ends roots order f → Absent times made f → r ≤ f
+
+-- the lowest missing source that is wanted, of n files, or none
+unfoldable pub MissingFound : List ℕ → List ℕ → List ℕ → List ℕ → List ℕ → List ℕ → ℕ → Option ℕ → Type 0
+MissingFound mentions ends made times roots order n (Some f) = LowestMissing mentions ends made times roots order n f × (f < n)
+MissingFound mentions ends made times roots order n None = LowestMissing mentions ends made times roots order n n
 
 -- what the search asks: sound tables, a time for each file, and steps
 pub record SourceAsked (mentions ends made times roots order : List ℕ) : Type 0 where

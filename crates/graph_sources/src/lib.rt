@@ -2,12 +2,13 @@
 #![tactic(auto)]
 
 ghost use Rattle.std.specs.Prelude.{◌≡◌, [], ◌∷◌, ℕ, ◌<◌, length, get_or};
-ghost use Rattle.graph_sources.specs.Sources.{Lowered, LowestMissing, SourceAsked};
+ghost use Rattle.graph_sources.specs.Sources.{Lowered, MissingFound, SourceAsked};
 
 use hold_columns::{inputs, time};
 use slices::words::at;
 
 // f where it is a missing source below `low`, else `low`.
+// The number of files stands for none: one compare then finds the lowest, and `missing_source` answers an `Option`.
 fn lower(f: usize, made: &[u32], times: &[u64], low: usize) -> usize
     requires { (f < length made.now) × (length times.now ≡ length made.now) }
     ensures { Lowered times.now made.now (f ∷ []) low result }
@@ -30,15 +31,13 @@ fn lowest_absent(fs: &[u32], made: &[u32], times: &[u64], best: usize) -> usize
     ensures { Lowered times.now made.now fs.now best result }
 {
     let mut low = best;
-    let mut i = 0;
-    while i < fs.len() {
-        low = lower(at(fs, i), made, times, low);
-        i += 1;
+    for &f in fs {
+        low = lower(f as usize, made, times, low);
     }
     low
 }
 
-// The lowest missing source among the roots and the inputs of these steps, or the number of files where there is none.
+// The lowest missing source among the roots and the inputs of these steps, or none.
 pub fn missing_source(
     mentions: &[u32],
     ends: &[u32],
@@ -46,16 +45,17 @@ pub fn missing_source(
     times: &[u64],
     roots: &[u32],
     order: &[u32],
-) -> usize
+) -> Option<usize>
     requires { SourceAsked mentions.now ends.now made.now times.now roots.now order.now }
-    ensures { LowestMissing mentions.now ends.now made.now times.now roots.now order.now (length made.now) result }
+    ensures { MissingFound mentions.now ends.now made.now times.now roots.now order.now (length made.now) result }
 {
     let mut low = lowest_absent(roots, made, times, made.len());
-    let mut i = 0;
-    while i < order.len() {
-        let fs = inputs(mentions, ends, at(order, i));
+    for &s in order {
+        let fs = inputs(mentions, ends, s as usize);
         low = lowest_absent(fs, made, times, low);
-        i += 1;
     }
-    low
+    if low < made.len() {
+        return Some(low);
+    }
+    None
 }

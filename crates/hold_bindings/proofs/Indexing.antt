@@ -1,4 +1,5 @@
 -- The index of a log: halving finds a key's place in it, the newest entry of a key stands in front of that place, and an entry more is put in there.
+use Rattle.std.specs.Prelude.{Some, None}
 use Prim.Native.Nat.{ℕ, suc, ◌+◌, ◌-◌, ◌≤◌, ◌<◌}
 use mathlib.Core.Bool.{true, false}
 use mathlib.Core.List.{List, [], ◌∷◌}
@@ -14,7 +15,6 @@ use Rattle.lists.specs.Tests.{split, differ}
 use Rattle.lists.specs.Bytes.{less_bytes, eq_bytes_true, eq_bytes_refl, less_trans, less_ne, less_total}
 use Rattle.arena.specs.Inserted.{inserted}
 use Rattle.arena.proofs.Inserting.{length_inserted, each_inserted, pairs_inserted, has_inserted, keeps_inserted}
-use Rattle.hold_bindings.specs.declared.FoundEntry.TheVariants.{At, Missing}
 use Rattle.hold_bindings.specs.Log.{Logged, entry_at, is_named, newest}
 use Rattle.hold_bindings.specs.Index.{key_of, key_at, Before, Indexed, KeyBetween}
 use Rattle.hold_bindings.proofs.Lookups.{entry_kept, entry_newest}
@@ -96,7 +96,7 @@ module _ (o : ℕ) (n : List ℕ) (e : Logged) where
 
 -- An entry is the newest of its name if it has the name and no later one does.
 newest_at : (o : ℕ) (n : List ℕ) (log : List Logged) (k : ℕ) → k < length log → is_named o n (entry_at k log) ≡ true
-    → ((j : ℕ) → k < j → j < length log → is_named o n (entry_at j log) ≡ false) → newest o n log ≡ At k
+    → ((j : ℕ) → k < j → j < length log → is_named o n (entry_at j log) ≡ false) → newest o n log ≡ Some k
 unfolding newest
 newest_at o n [] k b h f = absurd (not-suc-le-zero b)
 newest_at o n (e ∷ l) k b h f =
@@ -108,11 +108,11 @@ newest_at o n (e ∷ l) k b h f =
       | no p ↦ (
           let z : k ≡ length l = omega arith in
           let q : is_named o n e ≡ true = rw (z, entry_newest e l) at h in
-          rw q (ap At (sym z))
+          rw q (ap Some (sym z))
           )
     ]
 
-newest_none : (o : ℕ) (n : List ℕ) (log : List Logged) → ((j : ℕ) → j < length log → is_named o n (entry_at j log) ≡ false) → newest o n log ≡ Missing
+newest_none : (o : ℕ) (n : List ℕ) (log : List Logged) → ((j : ℕ) → j < length log → is_named o n (entry_at j log) ≡ false) → newest o n log ≡ None
 unfolding newest
 newest_none o n [] f = refl
 newest_none o n (e ∷ l) f =
@@ -131,7 +131,7 @@ module _ {log : List Logged} {index : List ℕ} (x : Indexed log index) {o : ℕ
         | no y ↦ absurd (less_ne (b.after i (omega arith) c) (q ∙ ap (key_at log) (sym e)))
       ]
 
-  pub none_in_front : p ≡ 0 → newest o n log ≡ Missing
+  pub none_in_front : p ≡ 0 → newest o n log ≡ None
   none_in_front z =
       newest_none o n log
       (λ j h. not_named o n (entry_at j log)
@@ -157,13 +157,13 @@ module _ {log : List Logged} {index : List ℕ} (x : Indexed log index) {o : ℕ
               )
         ]
 
-    pub last_named : is_named o n (entry_at (get_or index (p - 1) 0) log) ≡ true → newest o n log ≡ At (get_or index (p - 1) 0)
+    pub last_named : is_named o n (entry_at (get_or index (p - 1) 0) log) ≡ true → newest o n log ≡ Some (get_or index (p - 1) 0)
     last_named h =
         newest_at o n log (get_or index (p - 1) 0) (x.below (p - 1) (omega (arith, b.within))) h
         (λ j c d. not_named o n (entry_at j log)
         (λ t. let w = (last j d (named_key o n (entry_at j log) t)).1 in omega arith))
 
-    pub last_other : is_named o n (entry_at (get_or index (p - 1) 0) log) ≡ false → newest o n log ≡ Missing
+    pub last_other : is_named o n (entry_at (get_or index (p - 1) 0) log) ≡ false → newest o n log ≡ None
     last_other h =
         newest_none o n log
         (λ j d. not_named o n (entry_at j log)

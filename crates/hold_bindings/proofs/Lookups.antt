@@ -1,4 +1,5 @@
 -- What is looked up in a log, as the reading looks it up, and what an entry more changes.
+use Rattle.std.specs.Prelude.{Option as StdOption, Some, None}
 use Prim.Native.Nat.{ℕ, suc, ◌-◌, ◌≤◌, ◌<◌}
 use mathlib.Core.Bool.{true, false}
 use mathlib.Core.List.{List, [], ◌∷◌, map}
@@ -13,18 +14,16 @@ use Rattle.lists.specs.Bytes.{eq_bytes}
 use Rattle.lists.specs.Members.{any}
 use Rattle.spec.specs.Basics.{or_else, among}
 use Rattle.spec.specs.Reading.{Rule, bound_to, has_key, keys_of}
-use Rattle.hold_bindings.specs.declared.FoundEntry.{FoundEntry}
-use Rattle.hold_bindings.specs.declared.FoundEntry.TheVariants.{At, Missing}
 use Rattle.hold_bindings.specs.Log.{Logged, of_scope, of_rules, of_marks, of_keys, of_block, entry_at, is_named, newest, is_at, value_of, bound_of, bound_by, rules_in, rules_of, newest_rule, keys_at, with_key, Owner, Owned}
 
 -- ---- numbers of entries
 
-pub newest_below : (o : ℕ) (n : List ℕ) (log : List Logged) (k : ℕ) → newest o n log ≡ At k → k < length log
+pub newest_below : (o : ℕ) (n : List ℕ) (log : List Logged) (k : ℕ) → newest o n log ≡ Some k → k < length log
 unfolding newest
 newest_below o n [] k e = let z : ◌≡◌ {A = ℕ} 0 1 = cc in omega arith
 newest_below o n (x ∷ l) k e =
     split (is_named o n x)
-    (λ (t : is_named o n x ≡ true). let p : At (length l) ≡ At k = rw t at e in let q : length l ≡ k = cc in omega arith)
+    (λ (t : is_named o n x ≡ true). let p : Some (length l) ≡ Some k = rw t at e in let q : length l ≡ k = cc in omega arith)
     (λ (t : is_named o n x ≡ false). let h = newest_below o n l k (rw t at e) in omega arith)
 
 -- An entry keeps its number.
@@ -49,10 +48,10 @@ module _ (e : Logged) (l : List Logged) (o : ℕ) where
 
 -- ---- the newest entry of a name is what a lookup finds
 
-value_kept : (x : Logged) (l : List Logged) (f : FoundEntry) → ((k : ℕ) → f ≡ At k → k < length l) → value_of f (x ∷ l) ≡ value_of f l
+value_kept : (x : Logged) (l : List Logged) (f : StdOption ℕ) → ((k : ℕ) → f ≡ Some k → k < length l) → value_of f (x ∷ l) ≡ value_of f l
 unfolding value_of
-value_kept x l (At k) h = ap (λ (e : Logged). some e.value) (entry_kept x l k (h k refl))
-value_kept x l Missing h = refl
+value_kept x l (Some k) h = ap (λ (e : Logged). some e.value) (entry_kept x l k (h k refl))
+value_kept x l None h = refl
 
 pub find_newest : (o : ℕ) (n : List ℕ) (log : List Logged) → bound_to n (bound_by o log) ≡ value_of (newest o n log) log
 unfolding bound_to bound_by newest is_named value_of
@@ -178,24 +177,24 @@ module _ (e : Logged) (l : List Logged) where
       rw (eq-eqb e.owner of_rules h, bound_other e l (of_keys (length l)) (f (length l)), no_keys steps l (length l) w (omega arith))
       (ap (λ (rs : List Rule). record { name = e.name; keys = [] } ∷ rs) (other_keys e l l (λ k b. f k)))
 
-  more_keys : (k : ℕ) → e.owner ≡ of_keys k → (m : List Logged) → newest_rule m ≡ At k → rules_in (e ∷ l) m ≡ with_key (bound_of e) (rules_in l m)
+  more_keys : (k : ℕ) → e.owner ≡ of_keys k → (m : List Logged) → newest_rule m ≡ Some k → rules_in (e ∷ l) m ≡ with_key (bound_of e) (rules_in l m)
   unfolding rules_in newest_rule with_key
   more_keys k h [] q = refl
   more_keys k h (x ∷ m) q =
       split (eqb x.owner of_rules)
       (λ (p : eqb x.owner of_rules ≡ true).
-      let r : At (length m) ≡ At k = rw p at q in
+      let r : Some (length m) ≡ Some k = rw p at q in
       let z : length m ≡ k = cc in
       rw (p, bound_same e l (of_keys (length m)) (omega arith))
       (ap (λ (rs : List Rule). record { name = x.name; keys = bound_of e ∷ bound_by (of_keys (length m)) l } ∷ rs) (other_keys e l m (λ j b y. omega arith))))
       (λ (p : eqb x.owner of_rules ≡ false). rw p (more_keys k h m (rw p at q)))
 
   -- A key of the newest rule.
-  pub rules_key : (k : ℕ) → e.owner ≡ of_keys k → newest_rule l ≡ At k → rules_of (e ∷ l) ≡ with_key (bound_of e) (rules_of l)
+  pub rules_key : (k : ℕ) → e.owner ≡ of_keys k → newest_rule l ≡ Some k → rules_of (e ∷ l) ≡ with_key (bound_of e) (rules_of l)
   unfolding rules_of rules_in
   rules_key k h q = rw (ne_eqb e.owner of_rules (λ p. omega arith)) (more_keys k h l q)
 
-  pub rule_begun : e.owner ≡ of_rules → newest_rule (e ∷ l) ≡ At (length l)
+  pub rule_begun : e.owner ≡ of_rules → newest_rule (e ∷ l) ≡ Some (length l)
   unfolding newest_rule
   rule_begun h = rw (eq-eqb e.owner of_rules h)
 

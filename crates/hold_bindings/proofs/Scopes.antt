@@ -1,4 +1,5 @@
 -- The scopes of a log: what is seen from one is what the reading sees from it, what an entry more changes, and how the buffers tell the way outward.
+use Rattle.std.specs.Prelude.{Option, Some, None}
 use Prim.Native.Nat.{ℕ, zero, suc, ◌+◌, ◌-◌, ◌≤◌, ◌<◌}
 use mathlib.Core.Bool.{true, false}
 use mathlib.Core.List.{List, [], ◌∷◌, ◌++◌}
@@ -15,8 +16,6 @@ use Rattle.lists.specs.Bytes.{eq_bytes}
 use Rattle.spec.specs.Reading.{Bound, Scope, scope_at, bound_to, own_vars, seen_from, var_from, file_var, bind_in}
 use Rattle.spec.specs.Statements.{bound}
 use Rattle.spec.specs.Manifest.{entered}
-use Rattle.hold_bindings.specs.declared.FoundEntry.{FoundEntry}
-use Rattle.hold_bindings.specs.declared.FoundEntry.TheVariants.{At, Missing}
 use Rattle.hold_bindings.specs.Log.{Logged, logged, of_scope, of_marks, entering, back_to, Owned, scoping_after, newest, or_newest, value_of, bound_of, bound_by, Scoping, scoping_of, scopes_from, variables_of, newest_through, newest_from}
 use Rattle.hold_bindings.specs.Held.{scopes_at, current_at, parents_at, max_rows, Parent, top, inside, HoldsScopes, HoldsBindings, HasScope}
 use Rattle.hold_bindings.proofs.Lookups.{newest_below, find_newest, or_empty, bound_same, bound_other}
@@ -139,11 +138,11 @@ module _ (n : List ℕ) where
       (λ (p : eq_bytes n x.name ≡ true). let q : some x.value ≡ none = rw p at e in let z : ◌≡◌ {A = ℕ} 0 1 = cc in absurd (omega arith))
       (λ (p : eq_bytes n x.name ≡ false). rw p (bound_second a b (rw p at e)))
 
-  found_first : (log : List Logged) (a b : List Bound) (f g : FoundEntry) → bound_to n a ≡ value_of f log → bound_to n b ≡ value_of g log
+  found_first : (log : List Logged) (a b : List Bound) (f g : Option ℕ) → bound_to n a ≡ value_of f log → bound_to n b ≡ value_of g log
       → bound_to n (a ++ b) ≡ value_of (or_newest f g) log
   unfolding or_newest value_of
-  found_first log a b (At k) g p q = bound_first a b _ p
-  found_first log a b Missing g p q = bound_second a b p ∙ q
+  found_first log a b (Some k) g p q = bound_first a b _ p
+  found_first log a b None g p q = bound_second a b p ∙ q
 
 -- ---- what is seen from a scope
 
@@ -196,18 +195,18 @@ module _ (log : List Logged) {bind : List ℕ} (h : HoldsScopes (scoping_of log)
 
 -- ---- the number of what is seen
 
-or_below : (m : ℕ) (f g : FoundEntry) → ((j : ℕ) → f ≡ At j → j < m) → ((j : ℕ) → g ≡ At j → j < m) → (j : ℕ) → or_newest f g ≡ At j → j < m
+or_below : (m : ℕ) (f g : Option ℕ) → ((j : ℕ) → f ≡ Some j → j < m) → ((j : ℕ) → g ≡ Some j → j < m) → (j : ℕ) → or_newest f g ≡ Some j → j < m
 unfolding or_newest
-or_below m (At k) g a b j e = a j e
-or_below m Missing g a b j e = b j e
+or_below m (Some k) g a b j e = a j e
+or_below m None g a b j e = b j e
 
-through_below : (ks n : List ℕ) (log : List Logged) (j : ℕ) → newest_through ks n log ≡ At j → j < length log
+through_below : (ks n : List ℕ) (log : List Logged) (j : ℕ) → newest_through ks n log ≡ Some j → j < length log
 unfolding newest_through
 through_below [] n log j e = let z : ◌≡◌ {A = ℕ} 0 1 = cc in omega arith
 through_below (k ∷ ks) n log j e =
     or_below (length log) (newest (of_scope k) n log) (newest_through ks n log) (newest_below (of_scope k) n log) (through_below ks n log) j e
 
-pub newest_from_below : (k : ℕ) (n : List ℕ) (log : List Logged) (j : ℕ) → newest_from k n log ≡ At j → j < length log
+pub newest_from_below : (k : ℕ) (n : List ℕ) (log : List Logged) (j : ℕ) → newest_from k n log ≡ Some j → j < length log
 unfolding newest_from
 newest_from_below k n log j e = through_below (k ∷ get_or (scoping_of log).outers k []) n log j e
 
@@ -222,15 +221,15 @@ pub out_begin : {texts bind : List ℕ} {count k : ℕ} (n : List ℕ) → HasSc
 out_begin n s =
     record { within = λ log h. omega (arith, s.below, s.held.scopes.counted, h.scopes.counted); same = λ log h. refl }
 
-module _ {texts bind : List ℕ} {count first : ℕ} {n : List ℕ} {k : ℕ} (x : Outward texts bind count first n k) {f : FoundEntry}
+module _ {texts bind : List ℕ} {count first : ℕ} {n : List ℕ} {k : ℕ} (x : Outward texts bind count first n k) {f : Option ℕ}
     (q : (log : List Logged) → HoldsBindings log texts bind count → f ≡ newest (of_scope k) n log) where
-  pub out_found : {e : ℕ} → f ≡ At e → (log : List Logged) → HoldsBindings log texts bind count → At e ≡ newest_from first n log
+  pub out_found : {e : ℕ} → f ≡ Some e → (log : List Logged) → HoldsBindings log texts bind count → Some e ≡ newest_from first n log
   unfolding newest_from newest_through or_newest
   out_found e log h = sym (x.same log h ∙ rw (sym (q log h) ∙ e))
 
   -- The scope has no such variable, and v is the number for its parent.
-  module _ (m : f ≡ Missing) {v : ℕ} (p : v ≡ get_or bind (parents_at + k) 0) where
-    pub out_none : v ≡ 0 → (log : List Logged) → HoldsBindings log texts bind count → Missing ≡ newest_from first n log
+  module _ (m : f ≡ None) {v : ℕ} (p : v ≡ get_or bind (parents_at + k) 0) where
+    pub out_none : v ≡ 0 → (log : List Logged) → HoldsBindings log texts bind count → None ≡ newest_from first n log
     unfolding newest_from newest_through or_newest
     out_none z log h =
         sym (x.same log h ∙ rw (sym (q log h) ∙ m, around_none (h.scopes.parents k (x.within log h)) (sym p ∙ z)))

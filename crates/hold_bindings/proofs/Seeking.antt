@@ -1,4 +1,5 @@
 -- The newest entry of a name: one entry against the name, the halving of the index, and the entry in front of the name's place.
+use Rattle.std.specs.Prelude.{Some, None}
 use Prim.Native.Nat.{ℕ, ◌+◌, ◌*◌, ◌-◌, ◌≤◌, ◌<◌}
 use mathlib.Core.Bool.{Bool, true, false}
 use mathlib.Core.List.{List, ◌∷◌}
@@ -8,7 +9,6 @@ use borrow.Author.Tests.{eq-eqb, ne_eqb}
 use lib.ListN.{length, drop, get_or}
 use lib.Seq.{get_or-take, get_or-drop}
 use Rattle.lists.specs.Bytes.{eq_bytes, less_bytes, less_same, less_lower, less_asym}
-use Rattle.hold_bindings.specs.declared.FoundEntry.TheVariants.{At, Missing}
 use Rattle.hold_bindings.specs.Log.{Logged, entry_at, is_named, newest}
 use Rattle.hold_bindings.specs.Index.{key_of, key_at, KeyBetween}
 use Rattle.hold_bindings.specs.Held.{rows_end, index_in, HoldsBindings, Row, PlaceOf}
@@ -93,7 +93,7 @@ module _ {texts bind : List ℕ} {count o : ℕ} {n : List ℕ} {low high : ℕ}
 -- ---- the newest entry
 
 module _ {texts bind : List ℕ} {count o : ℕ} {n : List ℕ} {p : ℕ} (w : PlaceOf texts bind count o n p) where
-  pub seek_none : p ≡ 0 → (log : List Logged) → HoldsBindings log texts bind count → Missing ≡ newest o n log
+  pub seek_none : p ≡ 0 → (log : List Logged) → HoldsBindings log texts bind count → None ≡ newest o n log
   seek_none z log h = sym (none_in_front h.index (w.between log h) z)
 
   -- The entry in front of place p is k, and r says whether it is named.
@@ -105,8 +105,8 @@ module _ {texts bind : List ℕ} {count o : ℕ} {n : List ℕ} {p : ℕ} (w : P
     tested : {log : List Logged} → HoldsBindings log texts bind count → {b : Bool} → r ≡ b → is_named o n (entry_at (get_or (index_in bind count) (p - 1) 0) log) ≡ b
     tested {log} h e = rw (entry_in_front h) (sym (t log count h (index_below h (omega (arith, w.within)) q)) ∙ e)
 
-    pub seek_found : r ≡ true → (log : List Logged) → HoldsBindings log texts bind count → At k ≡ newest o n log
-    seek_found e log h = sym (last_named h.index (w.between log h) a (tested h e) ∙ ap At (entry_in_front h))
+    pub seek_found : r ≡ true → (log : List Logged) → HoldsBindings log texts bind count → Some k ≡ newest o n log
+    seek_found e log h = sym (last_named h.index (w.between log h) a (tested h e) ∙ ap Some (entry_in_front h))
 
-    pub seek_other : r ≡ false → (log : List Logged) → HoldsBindings log texts bind count → Missing ≡ newest o n log
+    pub seek_other : r ≡ false → (log : List Logged) → HoldsBindings log texts bind count → None ≡ newest o n log
     seek_other e log h = sym (last_other h.index (w.between log h) a (tested h e))

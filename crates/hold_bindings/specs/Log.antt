@@ -1,12 +1,10 @@
 -- The log of a reading: every line so far that binds a name or declares a rule, and every scope that was entered or gone back to, the newest first;
 -- and what is looked up in it.
-use Rattle.std.specs.Prelude.{ℕ, suc, ◌+◌, ◌*◌, ◌-◌, ◌<◌, Bool, true, false, ◌&&◌, List, [], ◌∷◌, ◌++◌, ◌≡◌, eqb, length, get_or, drop}
+use Rattle.std.specs.Prelude.{ℕ, suc, ◌+◌, ◌*◌, ◌-◌, ◌<◌, Bool, true, false, ◌&&◌, List, [], ◌∷◌, ◌++◌, ◌≡◌, eqb, length, get_or, drop, Option as StdOption, Some, None}
 use Rattle.std.proofs.Math.Option.{Option, none, some}
 use Rattle.lists.specs.Tests.{if_b}
 use Rattle.lists.specs.Bytes.{eq_bytes}
 use Rattle.spec.specs.Reading.{Bound, Rule, Scope, Variables}
-use Rattle.hold_bindings.specs.declared.FoundEntry.{FoundEntry}
-use Rattle.hold_bindings.specs.declared.FoundEntry.TheVariants.{At, Missing}
 
 -- One line: whose it is, the name, and the value. A declaration has the rule's name and no value; a rule's key has its value as written, any
 -- other line its value expanded.
@@ -61,24 +59,24 @@ unfolding eq_bytes
 is_named o n e = eqb e.owner o && eq_bytes n e.name
 
 -- "a later line replaces it", "last one wins"
-unfoldable pub newest : ℕ → List ℕ → List Logged → FoundEntry
+unfoldable pub newest : ℕ → List ℕ → List Logged → StdOption ℕ
 unfolding is_named
-newest o n [] = Missing
-newest o n (e ∷ l) = if_b (is_named o n e) (λ _. At (length l)) (λ _. newest o n l)
+newest o n [] = None
+newest o n (e ∷ l) = if_b (is_named o n e) (λ _. Some (length l)) (λ _. newest o n l)
 
-unfoldable pub is_at : FoundEntry → Bool
-is_at (At k) = true
-is_at Missing = false
+unfoldable pub is_at : StdOption ℕ → Bool
+is_at (Some k) = true
+is_at None = false
 
 -- the first of two that is there
-unfoldable pub or_newest : FoundEntry → FoundEntry → FoundEntry
-or_newest (At k) g = At k
-or_newest Missing g = g
+unfoldable pub or_newest : StdOption ℕ → StdOption ℕ → StdOption ℕ
+or_newest (Some k) g = Some k
+or_newest None g = g
 
-unfoldable pub value_of : FoundEntry → List Logged → Option (List ℕ)
+unfoldable pub value_of : StdOption ℕ → List Logged → Option (List ℕ)
 unfolding entry_at
-value_of (At k) log = some (entry_at k log).value
-value_of Missing log = none
+value_of (Some k) log = some (entry_at k log).value
+value_of None log = none
 
 -- ------------------------------------------------------------------ what it means for the reading
 
@@ -116,13 +114,13 @@ unfolding scoping_of scopes_from
 variables_of log = record { scopes = scopes_from 0 (scoping_of log).outers log; current = (scoping_of log).current }
 
 -- the newest entry of a name that is seen through these scopes, the first of them that has one
-unfoldable pub newest_through : List ℕ → List ℕ → List Logged → FoundEntry
+unfoldable pub newest_through : List ℕ → List ℕ → List Logged → StdOption ℕ
 unfolding newest
-newest_through [] n log = Missing
+newest_through [] n log = None
 newest_through (k ∷ ks) n log = or_newest (newest (of_scope k) n log) (newest_through ks n log)
 
 -- .. that is seen from a scope
-unfoldable pub newest_from : ℕ → List ℕ → List Logged → FoundEntry
+unfoldable pub newest_from : ℕ → List ℕ → List Logged → StdOption ℕ
 unfolding newest_through scoping_of
 newest_from k n log = newest_through (k ∷ get_or (scoping_of log).outers k []) n log
 
@@ -138,14 +136,14 @@ unfolding rules_in
 rules_of log = rules_in log log
 
 -- the number of the newest declaration: the rule whose block is open, while one is
-unfoldable pub newest_rule : List Logged → FoundEntry
-newest_rule [] = Missing
-newest_rule (e ∷ l) = if_b (eqb e.owner of_rules) (λ _. At (length l)) (λ _. newest_rule l)
+unfoldable pub newest_rule : List Logged → StdOption ℕ
+newest_rule [] = None
+newest_rule (e ∷ l) = if_b (eqb e.owner of_rules) (λ _. Some (length l)) (λ _. newest_rule l)
 
-unfoldable pub keys_at : FoundEntry → List Logged → List Bound
+unfoldable pub keys_at : StdOption ℕ → List Logged → List Bound
 unfolding bound_by
-keys_at (At k) log = bound_by (of_keys k) log
-keys_at Missing log = []
+keys_at (Some k) log = bound_by (of_keys k) log
+keys_at None log = []
 
 -- the newest rule with a key more
 unfoldable pub with_key : Bound → List Rule → List Rule

@@ -1,4 +1,5 @@
-// The table of everything that a manifest binds: file variables, rules with their keys, and the lines of steps' blocks.
+// The table of everything that a manifest binds: file variables, rules with their keys, and the lines of steps'
+// blocks.
 #![tactic(auto)]
 
 ghost use Rattle.std.specs.Prelude.{◌≡◌, List, [], ◌∷◌, ℕ, ◌+◌, ◌*◌, ◌^◌, ◌≤◌, ◌<◌, length, set};
@@ -37,13 +38,6 @@ const PARENTS: usize = SCOPE_COUNT + 2;
 
 pub const ROWS: usize = PARENTS + SCOPES;
 
-// The number of an entry, if there is one.
-#[derive(Clone, Copy)]
-pub enum FoundEntry {
-    At(usize),
-    Missing,
-}
-
 // A part of the texts.
 #[derive(Clone, Copy)]
 pub struct ValuePlace {
@@ -56,10 +50,7 @@ fn start(bind: &[u32], k: usize) -> usize
     requires { (3 * k ≤ length bind.now) × (k < 2 ^ 32) }
     ensures { result ≡ entry_start bind.now k }
 {
-    if k == 0 {
-        return 0;
-    }
-    at(bind, 3 * k - 2)
+    if k == 0 { 0 } else { at(bind, 3 * k - 2) }
 }
 
 pub fn entry_name<'a, 'b>(texts: &'a [u8], bind: &'b [u32], k: usize) -> &'a [u8]
@@ -86,9 +77,7 @@ pub fn value<'a, 'b>(texts: &'a [u8], bind: &'b [u32], k: usize) -> &'a [u8]
     ensures { (log : List Logged) (count : ℕ) → HoldsBindings log texts.now bind.now count → k < count → result.now ≡ (entry_at k log).value }
 {
     let p = value_place(texts, bind, k);
-    let from = p.from;
-    let to = p.to;
-    &texts[from..to]
+    &texts[p.from..p.to]
 }
 
 // Whether entry k has this owner and this name.
@@ -96,10 +85,7 @@ fn is_named(texts: &[u8], bind: &[u32], k: usize, owner: usize, wanted: &[u8]) -
     requires { HasEntry texts.now bind.now k }
     ensures { (log : List Logged) (count : ℕ) → HoldsBindings log texts.now bind.now count → k < count → result ≡ is_named owner wanted.now (entry_at k log) }
 {
-    if at(bind, 3 * k + 2) != owner {
-        return false;
-    }
-    equal(wanted, entry_name(texts, bind, k))
+    at(bind, 3 * k + 2) == owner && equal(wanted, entry_name(texts, bind, k))
 }
 
 // Whether this owner and this name come before those of entry k.
@@ -108,6 +94,7 @@ fn is_before(texts: &[u8], bind: &[u32], k: usize, owner: usize, wanted: &[u8]) 
     ensures { (log : List Logged) (count : ℕ) → HoldsBindings log texts.now bind.now count → k < count → result ≡ less_bytes (owner ∷ wanted.now) (key_at log k) }
 {
     let o = at(bind, 3 * k + 2);
+    // a match on `owner.cmp(&o)` is no plainer: each of its three arms would answer what these tests do
     if owner < o {
         return true;
     }
@@ -136,19 +123,26 @@ fn place_of(texts: &[u8], bind: &[u32], count: usize, owner: usize, wanted: &[u8
 }
 
 // The newest entry of this owner and this name.
-pub fn newest(texts: &[u8], bind: &[u32], count: usize, owner: usize, wanted: &[u8]) -> FoundEntry
+pub fn newest(
+    texts: &[u8],
+    bind: &[u32],
+    count: usize,
+    owner: usize,
+    wanted: &[u8],
+) -> Option<usize>
     requires { SoundBindings texts.now bind.now count }
     ensures { (log : List Logged) → HoldsBindings log texts.now bind.now count → result ≡ newest owner wanted.now log }
 {
     let p = place_of(texts, bind, count, owner, wanted);
     if p == 0 {
-        return FoundEntry::Missing;
+        return None;
     }
     let k = at(bind, INDEX + (p - 1));
     if is_named(texts, bind, k, owner, wanted) {
-        return FoundEntry::At(k);
+        Some(k)
+    } else {
+        None
     }
-    FoundEntry::Missing
 }
 
 // Makes the table one of no entries and of one scope.
@@ -176,29 +170,25 @@ pub fn newest_from(
     count: usize,
     scope: usize,
     wanted: &[u8],
-) -> FoundEntry
+) -> Option<usize>
     requires { HasScope texts.now bind.now count scope }
     ensures { (log : List Logged) → HoldsBindings log texts.now bind.now count → result ≡ newest_from scope wanted.now log }
 {
     let mut k = scope;
     loop {
-        match newest(texts, bind, count, 3 * k, wanted) {
-            FoundEntry::At(e) => {
-                return FoundEntry::At(e);
-            }
-            FoundEntry::Missing => {
-                let parent = at(bind, PARENTS + k);
-                if parent == 0 {
-                    return FoundEntry::Missing;
-                }
-                k = parent - 1;
-            }
+        if let Some(e) = newest(texts, bind, count, 3 * k, wanted) {
+            return Some(e);
         }
+        let parent = at(bind, PARENTS + k);
+        if parent == 0 {
+            return None;
+        }
+        k = parent - 1;
     }
 }
 
 // The same from the scope that is read in.
-pub fn newest_seen(texts: &[u8], bind: &[u32], count: usize, wanted: &[u8]) -> FoundEntry
+pub fn newest_seen(texts: &[u8], bind: &[u32], count: usize, wanted: &[u8]) -> Option<usize>
     requires { SoundBindings texts.now bind.now count }
     ensures { (log : List Logged) → HoldsBindings log texts.now bind.now count → result ≡ newest_from (scoping_of log).current wanted.now log }
 {

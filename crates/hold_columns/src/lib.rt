@@ -6,7 +6,18 @@ ghost use Rattle.hold_columns.specs.Columns.{PartsPlaced, last_end, end_place, e
 
 use slices::words::at;
 
-// How many ends a step has, and which is which: those of its outputs, its inputs, its implicit and its order-only inputs.
+// The columns of a read graph that a plan is made from: the files that each step mentions, where its parts end among
+// them, which steps are phony, and each file's maker: its step's number and one more, or 0.
+#[derive(Clone, Copy)]
+pub struct Columns<'a> {
+    pub mentions: &'a [u32],
+    pub ends: &'a [u32],
+    pub phony: &'a [u32],
+    pub made: &'a [u32],
+}
+
+// How many ends a step has, and which is which: those of its outputs, its inputs, its implicit and its order-only
+// inputs.
 pub const STEP_ENDS: usize = 4;
 
 pub const OUTS_END: usize = 0;
@@ -46,6 +57,7 @@ pub fn inputs<'a, 'b>(mentions: &'a [u32], ends: &'b [u32], s: usize) -> &'a [u3
 }
 
 // The step's inputs that are not order-only.
+// Its body differs from that of `inputs` by one number: a parameter for it would say less at each call.
 pub fn non_order_only<'a, 'b>(mentions: &'a [u32], ends: &'b [u32], s: usize) -> &'a [u32]
     requires { PartsPlaced mentions.now ends.now s }
     ensures { result.now ≡ non_order_only_in mentions.now ends.now s }
@@ -77,6 +89,7 @@ pub fn outs<'a, 'b>(mentions: &'a [u32], ends: &'b [u32], s: usize) -> &'a [u32]
 }
 
 // The maker of the file at place i, as the makers' column has it.
+// 0 stands for none, as in the column, which is fixed memory that C can lend.
 pub fn maker(fs: &[u32], i: usize, made: &[u32]) -> usize
     requires { (i < length fs.now) × (get_or fs.now i 0 < length made.now) }
     ensures { result ≡ maker_at made.now fs.now i }

@@ -1,6 +1,6 @@
 -- What the second columns of the graph hold while the listed inputs of the steps are added. They are laid out as the first ones are, with two changes: they have
 -- the steps so far with their listed inputs, and what each step's depfile tells stands where the first ones have rules.
-use Rattle.std.specs.Prelude.{ℕ, ◌+◌, ◌*◌, ◌≤◌, ◌<◌, false, List, ◌++◌, map, ◌≡◌, length, drop, get_or}
+use Rattle.std.specs.Prelude.{ℕ, ◌+◌, ◌*◌, ◌≤◌, ◌<◌, false, List, ◌++◌, map, ◌≡◌, length, drop, get_or, Result, Ok, Err}
 use Rattle.lists.specs.Members.{◌∈◌}
 use Rattle.spec.specs.declared.Refusal.{Refusal}
 use Rattle.spec.specs.Basics.{is_empty, concat}
@@ -13,8 +13,6 @@ use Rattle.hold_reading.specs.declared.Counts.{Counts}
 use Rattle.hold_reading.specs.Held.{rule_start}
 use Rattle.hold_reading.specs.Buffers.{Buffers}
 use Rattle.apply_files.specs.Lines.{LineHeld, Writing}
-use Rattle.hold_headers.specs.declared.AddedHeaders.{AddedHeaders}
-use Rattle.hold_headers.specs.declared.AddedHeaders.TheVariants.{Headed, Refused}
 
 -- ------------------------------------------------------------------ what a step's depfile tells, as a number
 
@@ -67,6 +65,6 @@ pub record HoldsHeaders (log : List Logged) (bs : Buffers) (c : Counts) (rd : Re
   pub outputs : (s : ℕ) → s < length rd.steps → is_empty (step_at rd.steps s).outs ≡ false
 
 -- With a step more they agree: what is headed is held, and a refusal is the same. The buffers are working space after a refusal.
-pub data AgreesHeaders (log : List Logged) (bs : Buffers) (rd : Reading) : Heading → AddedHeaders → Type 0 where
-  heads : {h : HeaderGraph} {c : Counts} → HoldsHeaders log bs c rd h → AgreesHeaders log bs rd (headed h) (Headed c)
-  refuses : {r : Refusal} → AgreesHeaders log bs rd (headless r) (Refused r)
+pub data AgreesHeaders (log : List Logged) (bs : Buffers) (rd : Reading) : Heading → Result Counts Refusal → Type 0 where
+  heads : {h : HeaderGraph} {c : Counts} → HoldsHeaders log bs c rd h → AgreesHeaders log bs rd (headed h) (Ok c)
+  refuses : {r : Refusal} → AgreesHeaders log bs rd (headless r) (Err r)

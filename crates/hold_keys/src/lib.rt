@@ -57,17 +57,11 @@ pub fn key_name(names: &[u8; 38], k: usize) -> &[u8]
     ensures { result.now ≡ get_or key_names k [] }
 {
     let all: &[u8] = names;
-    if k == 0 {
-        return &all[0..7];
+    match k {
+        0 => &all[0..7],
+        1 => &all[7..18],
+        2 => &all[18..27],
+        3 => &all[27..34],
+        _ => &all[34..38],
     }
-    if k == 1 {
-        return &all[7..18];
-    }
-    if k == 2 {
-        return &all[18..27];
-    }
-    if k == 3 {
-        return &all[27..34];
-    }
-    &all[34..38]
 }

@@ -11,8 +11,8 @@ use borrow.Author.Tests.{lt-ltb, le-ltb}
 use lib.ListN.{length, get_or}
 use Rattle.lists.specs.Bytes.{less_bytes, less_trans}
 use Rattle.lists.specs.Order.{order_bytes, order_less, order_equal, order_greater}
-use Rattle.lists.specs.declared.Order.{Order}
-use Rattle.lists.specs.declared.Order.TheVariants.{Less, Equal, Greater}
+use Rattle.std.specs.declared.cmp.Ordering.{Ordering}
+use Rattle.std.specs.declared.cmp.Ordering.TheVariants.{Less, Equal, Greater}
 use Rattle.hold_names.specs.declared.Compared.{Compared}
 use Rattle.hold_names.specs.declared.Compared.TheVariants.{Before, Same, Behind}
 use Rattle.hold_names.specs.Table.{name_at, picked, Between, compared_of, on_order, halvings, HoldsNames, SoundNames, NamesFile, ComparesName, PicksNames, Halves}
@@ -24,7 +24,7 @@ clash z = absurd (omega arith)
 
 -- ---- what one compare tells
 
-module _ (n : ℕ) {o : Order} where
+module _ (n : ℕ) {o : Ordering} where
   pub tell_before : o ≡ Less → Before n ≡ compared_of n o
   unfolding compared_of
   tell_before e = rw e
@@ -43,19 +43,19 @@ pub compares_name : {names index : List ℕ} {count k : ℕ} {path n : List ℕ}
 compares_name {path = path} {made = made} f e =
     record { answer = λ files h. e ∙ ap (λ (y : List ℕ). compared_of (made + 1) (order_bytes path y)) (f.answer files h) }
 
-pub told_before : (n : ℕ) (o : Order) (m : ℕ) → Before m ≡ compared_of n o → (o ≡ Less) × (m ≡ n)
+pub told_before : (n : ℕ) (o : Ordering) (m : ℕ) → Before m ≡ compared_of n o → (o ≡ Less) × (m ≡ n)
 unfolding compared_of
 told_before n Less m e = (refl, cc)
 told_before n Equal m e = let q : Before m ≡ Same n = e in clash (cc)
 told_before n Greater m e = let q : Before m ≡ Behind n = e in clash (cc)
 
-pub told_same : (n : ℕ) (o : Order) (m : ℕ) → Same m ≡ compared_of n o → (o ≡ Equal) × (m ≡ n)
+pub told_same : (n : ℕ) (o : Ordering) (m : ℕ) → Same m ≡ compared_of n o → (o ≡ Equal) × (m ≡ n)
 unfolding compared_of
 told_same n Less m e = let q : Same m ≡ Before n = e in clash (cc)
 told_same n Equal m e = (refl, cc)
 told_same n Greater m e = let q : Same m ≡ Behind n = e in clash (cc)
 
-pub told_behind : (n : ℕ) (o : Order) (m : ℕ) → Behind m ≡ compared_of n o → (o ≡ Greater) × (m ≡ n)
+pub told_behind : (n : ℕ) (o : Ordering) (m : ℕ) → Behind m ≡ compared_of n o → (o ≡ Greater) × (m ≡ n)
 unfolding compared_of
 told_behind n Less m e = let q : Behind m ≡ Before n = e in clash (cc)
 told_behind n Equal m e = let q : Behind m ≡ Same n = e in clash (cc)
@@ -72,7 +72,7 @@ module _ (files : List (List ℕ)) (pick : ℕ → ℕ) (path : List ℕ) (more 
   abbrev runs : ℕ → ℕ → ℕ → ℕ
   runs f low high = halvings f files pick path more low high
 
-  abbrev against : ℕ → Order
+  abbrev against : ℕ → Ordering
   against mid = order_bytes path (name_at files (pick mid))
 
   halvings_zero : (low high : ℕ) → runs 0 low high ≡ more low
@@ -105,7 +105,7 @@ module _ (files : List (List ℕ)) (pick : ℕ → ℕ) (path : List ℕ) (more 
   -- What can be told apart by w compares takes no more, and those that follow.
   few_step : (w f low high : ℕ) → low < high
       → runs f low (middle low high) ≤ w → runs f (middle low high + 1) high ≤ w
-      → (o : Order) → against (middle low high) ≡ o → runs (suc f) low high ≤ suc w
+      → (o : Ordering) → against (middle low high) ≡ o → runs (suc f) low high ≤ suc w
   unfolding halvings on_order
   few_step w f low high h a b Less e = rw (lt-ltb low high h, e) (omega (arith, a))
   few_step w f low high h a b Equal e = rw (lt-ltb low high h, e) (omega arith)

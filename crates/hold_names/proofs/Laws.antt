@@ -1,4 +1,5 @@
 -- What a caller learns from each answer, said of the list of names alone.
+use Rattle.std.specs.Prelude.{Option, Some, None}
 use Prim.Native.Nat.{ℕ, ◌+◌, ◌≤◌, ◌<◌}
 use mathlib.Core.Bool.{true, false}
 use mathlib.Core.List.{List, [], ◌∷◌, ◌++◌}
@@ -11,8 +12,6 @@ use Rattle.lists.specs.Tests.{split, differ}
 use Rattle.spec.specs.Limits.{max_files}
 use Rattle.spec.specs.Basics.{among, concat}
 use Rattle.spec.specs.Reading.{number_of, mention}
-use Rattle.hold_names.specs.declared.FoundName.{FoundName}
-use Rattle.hold_names.specs.declared.FoundName.TheVariants.{At, Missing}
 use Rattle.hold_names.specs.declared.Added.{Added}
 use Rattle.hold_names.specs.declared.Added.TheVariants.{Old, New, Full}
 use Rattle.hold_names.specs.Table.{HoldsNames, fits, added, files_after, count_after, FindsName, AddsName}
@@ -22,13 +21,13 @@ use Rattle.hold_names.proofs.Steps.{found_at, found_missing}
 
 -- ---- after `find`
 
-module _ {names index : List ℕ} {count : ℕ} {p : List ℕ} {r : FoundName} (f : FindsName names index count p r) {files : List (List ℕ)} (h : HoldsNames names index count files) where
-  pub find_at : {k : ℕ} → r ≡ At k → (among p files ≡ true) × (k ≡ number_of p files) × (k < count)
+module _ {names index : List ℕ} {count : ℕ} {p : List ℕ} {r : Option ℕ} (f : FindsName names index count p r) {files : List (List ℕ)} (h : HoldsNames names index count files) where
+  pub find_at : {k : ℕ} → r ≡ Some k → (among p files ≡ true) × (k ≡ number_of p files) × (k < count)
   find_at {k} e =
       let (a, q) = found_at p files k (sym e ∙ f.answer files h) in
       (a, q, omega (arith, number_below p files a, h.counted))
 
-  pub find_missing : r ≡ Missing → among p files ≡ false
+  pub find_missing : r ≡ None → among p files ≡ false
   find_missing e = found_missing p files (sym e ∙ f.answer files h)
 
 -- ---- after `add`

@@ -11,8 +11,8 @@ use lib.ListN.{length, get_or}
 use Rattle.lists.specs.Bytes.{eq_bytes, less_bytes, eq_bytes_true, eq_bytes_false, less_ne, less_total, less_trans}
 use Rattle.lists.specs.Order.{order_bytes, less_order, equal_order, greater_order, order_less, order_greater}
 use Rattle.lists.specs.Tests.{split}
-use Rattle.lists.specs.declared.Order.{Order}
-use Rattle.lists.specs.declared.Order.TheVariants.{Less, Equal, Greater}
+use Rattle.std.specs.declared.cmp.Ordering.{Ordering}
+use Rattle.std.specs.declared.cmp.Ordering.TheVariants.{Less, Equal, Greater}
 use Rattle.spec.specs.Reading.{number_of}
 use Rattle.hold_names.specs.declared.Halved.{Halved}
 use Rattle.hold_names.specs.declared.Matched.{Matched}
@@ -25,7 +25,7 @@ use Rattle.hold_names.proofs.Halving.{seven}
 -- ---- a compare with one name
 
 -- the path is another
-abbrev Other : Order → Type 0
+abbrev Other : Ordering → Type 0
 Other o = (o ≡ Less) ⊎ (o ≡ Greater)
 
 other_ne : (s t : List ℕ) → Other (order_bytes s t) → t ≡ s → ⊥
@@ -57,7 +57,7 @@ module _ (path : List ℕ) (files : List (List ℕ)) where
       let z : suc k - 1 ≡ k = omega arith in
       ⊎_elim (λ (e : order_bytes path (name_at files (suc k - 1)) ≡ Less). rw (rw z at e)) (λ (e : order_bytes path (name_at files (suc k - 1)) ≡ Greater). rw (rw z at e)) o
 
-  compares_one : (o : Order) (more : ℕ) → on_order o (λ _. more) (λ _. 0) (λ _. more) ≤ more
+  compares_one : (o : Ordering) (more : ℕ) → on_order o (λ _. more) (λ _. 0) (λ _. more) ≤ more
   unfolding on_order
   compares_one Less more = omega arith
   compares_one Equal more = omega arith

@@ -1,4 +1,5 @@
 -- What each way out of `find_name` and `add` gives.
+use Rattle.std.specs.Prelude.{Option, Some, None}
 use Prim.Native.Nat.{ℕ, suc, ◌+◌, ◌*◌, ◌-◌, ◌≤◌, ◌<◌}
 use mathlib.Core.Bool.{true, false}
 use mathlib.Core.List.{List, [], ◌∷◌, ◌++◌}
@@ -12,8 +13,6 @@ use Rattle.lists.specs.Tests.{split}
 use Rattle.spec.specs.Limits.{max_files}
 use Rattle.spec.specs.Basics.{among, concat}
 use Rattle.spec.specs.Reading.{number_of}
-use Rattle.hold_names.specs.declared.FoundName.{FoundName}
-use Rattle.hold_names.specs.declared.FoundName.TheVariants.{At, Missing}
 use Rattle.hold_names.specs.declared.Added.TheVariants.{Old, New, Full}
 use Rattle.hold_names.specs.declared.Lookup.{Lookup}
 use Rattle.hold_names.specs.Table.{bucket_of, pair_base, pair_at, second_in, last_block, size_of, Searched, HoldsNames, found, fits, added, files_after, count_after, FindsName, AddsName, name_start, Fits, SeeksName, Entered}
@@ -25,7 +24,7 @@ use Rattle.hold_names.proofs.Halving.{clash}
 -- ---- the answer of a lookup
 
 module _ {names index : List ℕ} {count : ℕ} {p : List ℕ} {r : Lookup} (f : SeeksName names index count p r) where
-  pub sought_at : r.number < count → FindsName names index count p (At r.number)
+  pub sought_at : r.number < count → FindsName names index count p (Some r.number)
   unfolding found
   sought_at l =
       record {
@@ -34,7 +33,7 @@ module _ {names index : List ℕ} {count : ℕ} {p : List ℕ} {r : Lookup} (f :
             (λ (a : among p files ≡ false). absurd (omega (arith, f.number files h, number_missing p files a, h.counted)));
       }
 
-  pub sought_none : count ≤ r.number → FindsName names index count p Missing
+  pub sought_none : count ≤ r.number → FindsName names index count p None
   unfolding found
   sought_none l =
       record {
@@ -45,24 +44,24 @@ module _ {names index : List ℕ} {count : ℕ} {p : List ℕ} {r : Lookup} (f :
 
 -- ---- what the answers of `find` say
 
-pub found_at : (p : List ℕ) (files : List (List ℕ)) (k : ℕ) → At k ≡ found p files → (among p files ≡ true) × (k ≡ number_of p files)
+pub found_at : (p : List ℕ) (files : List (List ℕ)) (k : ℕ) → Some k ≡ found p files → (among p files ≡ true) × (k ≡ number_of p files)
 unfolding found
 found_at p files k e =
     split (among p files)
-    (λ (h : among p files ≡ true). (h, (let q : At k ≡ At (number_of p files) = rw h at e in cc)))
-    (λ (h : among p files ≡ false). let q : At k ≡ Missing = rw h at e in clash (cc))
+    (λ (h : among p files ≡ true). (h, (let q : Some k ≡ Some (number_of p files) = rw h at e in cc)))
+    (λ (h : among p files ≡ false). let q : Some k ≡ None = rw h at e in clash (cc))
 
-pub found_missing : (p : List ℕ) (files : List (List ℕ)) → Missing ≡ found p files → among p files ≡ false
+pub found_missing : (p : List ℕ) (files : List (List ℕ)) → None ≡ found p files → among p files ≡ false
 unfolding found
 found_missing p files e =
     split (among p files)
-    (λ (h : among p files ≡ true). let q : Missing ≡ At (number_of p files) = rw h at e in clash (cc))
+    (λ (h : among p files ≡ true). let q : None ≡ Some (number_of p files) = rw h at e in clash (cc))
     (λ (h : among p files ≡ false). h)
 
 -- ---- one name more, or none
 
-module _ {names index : List ℕ} {count : ℕ} {p : List ℕ} {r : FoundName} (f : FindsName names index count p r) where
-  pub add_old : {k : ℕ} → r ≡ At k → AddsName names index count p names index (Old k)
+module _ {names index : List ℕ} {count : ℕ} {p : List ℕ} {r : Option ℕ} (f : FindsName names index count p r) where
+  pub add_old : {k : ℕ} → r ≡ Some k → AddsName names index count p names index (Old k)
   unfolding added count_after files_after
   add_old {k} e =
       record {
@@ -70,7 +69,7 @@ module _ {names index : List ℕ} {count : ℕ} {p : List ℕ} {r : FoundName} (
         after = λ files h. h;
       }
 
-  module _ (e : r ≡ Missing) where
+  module _ (e : r ≡ None) where
     absent : (files : List (List ℕ)) → HoldsNames names index count files → among p files ≡ false
     absent files h = found_missing p files (sym e ∙ f.answer files h)
 
@@ -124,7 +123,7 @@ searched_more {index = index} {count = count} h a p {to = to} g b w z =
       ]
     ]
 
-module _ {names index : List ℕ} {count : ℕ} {p : List ℕ} {r : Lookup} (f : SeeksName names index count p r) (m : FindsName names index count p Missing) (a : count < max_files) {from : ℕ}
+module _ {names index : List ℕ} {count : ℕ} {p : List ℕ} {r : Lookup} (f : SeeksName names index count p r) (m : FindsName names index count p None) (a : count < max_files) {from : ℕ}
     (s : from ≡ name_start index count) (l : length p ≤ length names - from) {index' : List ℕ}
     (g : Entered index count r.bucket (from + length p) r.block r.place index') (y : length index' ≡ length index) where
   entered : (files : List (List ℕ)) → HoldsNames names index count files → HoldsNames (paste names from p (length p)) index' (count + 1) (files ++ (p ∷ []))

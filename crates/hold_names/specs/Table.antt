@@ -1,15 +1,13 @@
 -- What a table of names holds, and what its functions answer. Nothing but this file says how names lie in the two buffers.
-use Rattle.std.specs.Prelude.{ℕ, zero, suc, ◌+◌, ◌*◌, ◌-◌, ◌/◌, ◌%◌, ◌^◌, ◌≤◌, ◌<◌, min, Bool, true, false, ◌&&◌, List, [], ◌∷◌, ◌++◌, ◌⊎◌, ◌≡◌, ltb, leb, length, take, drop, get_or, set}
+use Rattle.std.specs.Prelude.{ℕ, zero, suc, ◌+◌, ◌*◌, ◌-◌, ◌/◌, ◌%◌, ◌^◌, ◌≤◌, ◌<◌, min, Bool, true, false, ◌&&◌, List, [], ◌∷◌, ◌++◌, ◌⊎◌, ◌≡◌, ltb, leb, length, take, drop, get_or, set, Option, Some, None}
 use Rattle.lists.specs.Tests.{if_b}
 use Rattle.lists.specs.Bytes.{eq_bytes, less_bytes}
 use Rattle.lists.specs.Order.{order_bytes}
-use Rattle.lists.specs.declared.Order.{Order}
-use Rattle.lists.specs.declared.Order.TheVariants.{Less, Equal, Greater}
+use Rattle.std.specs.declared.cmp.Ordering.{Ordering}
+use Rattle.std.specs.declared.cmp.Ordering.TheVariants.{Less, Equal, Greater}
 use Rattle.spec.specs.Limits.{max_files}
 use Rattle.spec.specs.Basics.{among, concat}
 use Rattle.spec.specs.Reading.{number_of}
-use Rattle.hold_names.specs.declared.FoundName.{FoundName}
-use Rattle.hold_names.specs.declared.FoundName.TheVariants.{At, Missing}
 use Rattle.hold_names.specs.declared.Added.{Added}
 use Rattle.hold_names.specs.declared.Added.TheVariants.{Old, New, Full}
 use Rattle.hold_names.specs.declared.Compared.{Compared}
@@ -144,8 +142,8 @@ pub record SoundNames (names index : List ℕ) (count : ℕ) : Type 0 where
 
 -- ---- the answers, by the names held
 
-unfoldable pub found : List ℕ → List (List ℕ) → FoundName
-found p files = if_b (among p files) (λ _. At (number_of p files)) (λ _. Missing)
+unfoldable pub found : List ℕ → List (List ℕ) → Option ℕ
+found p files = if_b (among p files) (λ _. Some (number_of p files)) (λ _. None)
 
 -- is there room for one more, with so many bytes
 unfoldable pub fits : ℕ → List ℕ → List (List ℕ) → Bool
@@ -167,7 +165,7 @@ count_after (Old k) n = n
 count_after (New k) n = n + 1
 count_after Full n = n
 
-pub record FindsName (names index : List ℕ) (count : ℕ) (path : List ℕ) (r : FoundName) : Type 0 where
+pub record FindsName (names index : List ℕ) (count : ℕ) (path : List ℕ) (r : Option ℕ) : Type 0 where
   pub answer : (files : List (List ℕ)) → HoldsNames names index count files → r ≡ found path files
 
 pub record AddsName (names index : List ℕ) (count : ℕ) (path names' index' : List ℕ) (r : Added) : Type 0 where
@@ -185,12 +183,12 @@ name_start index (suc k) = get_or index k 0
 -- ---- the search, and with how many names it compares the path
 
 -- what a compare with one name tells, with the number of compares made so far
-unfoldable pub compared_of : ℕ → Order → Compared
+unfoldable pub compared_of : ℕ → Ordering → Compared
 compared_of n Less = Before n
 compared_of n Equal = Same n
 compared_of n Greater = Behind n
 
-unfoldable pub on_order : Order → (Unit {0} → ℕ) → (Unit {0} → ℕ) → (Unit {0} → ℕ) → ℕ
+unfoldable pub on_order : Ordering → (Unit {0} → ℕ) → (Unit {0} → ℕ) → (Unit {0} → ℕ) → ℕ
 on_order Less f g h = f tt
 on_order Equal f g h = g tt
 on_order Greater f g h = h tt

@@ -1,5 +1,6 @@
-// The table of file names: a number for each path, by first mention. The bytes of the names lie end to end in `names`. `index` has where each ends;
-// then for each bucket two names, as one number; then, sorted and in blocks, the numbers of those that found no room in their bucket.
+// The table of file names: a number for each path, by first mention. The bytes of the names lie end to end in `names`.
+// `index` has where each ends; then for each bucket two names, as one number; then, sorted and in blocks, the numbers
+// of those that found no room in their bucket.
 #![tactic(auto)]
 
 ghost use Rattle.std.specs.Prelude.{◌≡◌, ◌+◌, ◌-◌, ◌^◌, ◌≤◌, ◌<◌, length, drop};
@@ -8,11 +9,11 @@ ghost use Rattle.spec.specs.Limits.{max_files};
 ghost use Rattle.hold_names.specs.Table.{buckets, bucket_from, Summed, bucket_of, heads_from, max_numbers, max_blocks, last_block, size_of, Shape, SoundNames, FindsName, AddsName, NamesFile, name_start, compared_of, ComparesName, MatchesName, PicksNames, Halves, SeeksSorted, SeeksSecond, SeeksName, Lifted, Roomed, PutIn, Parted, Spared, Entered};
 
 use arena::put;
-use byte_order::{compare, equal, lesser};
-use lists::Order;
+use byte_order::{compare, equal};
 use slices::bytes::copy_at;
 use slices::words::{at, zero_words_in};
 use spec::limits::FILES;
+use std::cmp::Ordering;
 
 // The numbers lie in three parts: where each name ends, the names of each bucket, the sorted names.
 const HEADS: usize = FILES;
@@ -30,12 +31,6 @@ pub const NUMBERS: usize = BLOCKS + FILES / 63 * 128;
 const PAIR: usize = 65536;
 
 #[derive(Clone, Copy)]
-pub enum FoundName {
-    At(usize),
-    Missing,
-}
-
-#[derive(Clone, Copy)]
 pub enum Added {
     // It was there, with this number.
     Old(usize),
@@ -45,7 +40,8 @@ pub enum Added {
     Full,
 }
 
-// How a path compares with a name: it stands before it, is the same, or stands behind it. Each has how many compares were made with this one.
+// How a path compares with a name: it stands before it, is the same, or stands behind it. Each has how many compares
+// were made with this one.
 #[derive(Clone, Copy)]
 pub enum Compared {
     Before(usize),
@@ -60,7 +56,8 @@ pub struct Matched {
     pub compares: usize,
 }
 
-// The end of halving: the number of the path, or the count of names; how many compares were made; how many of those looked at are less than the path.
+// The end of halving: the number of the path, or the count of names; how many compares were made; how many of those
+// looked at are less than the path.
 #[derive(Clone, Copy)]
 pub struct Halved {
     pub number: usize,
@@ -93,7 +90,8 @@ fn wide(b: u8) -> usize
     b as usize
 }
 
-// The sum of a path's bytes behind one of those before place i, four more of them at once: that sum is multiplied once where it would be four times.
+// The sum of a path's bytes behind one of those before place i, four more of them at once: that sum is multiplied once
+// where it would be four times.
 fn sum_four(path: &[u8], i: usize, h: usize) -> usize
     requires { (i + 4 ≤ length path.now) × (h < max_files) }
     ensures { Summed path.now h i result (i + 4) }
@@ -111,10 +109,8 @@ fn sum_rest(path: &[u8], from: usize, sum: usize) -> usize
     ensures { result ≡ bucket_from sum (drop from path.now) }
 {
     let mut h = sum;
-    let mut i = from;
-    while i < path.len() {
+    for i in from..path.len() {
         h = (h * 117 + wide(path[i])) % FILES;
-        i += 1;
     }
     h
 }
@@ -129,7 +125,7 @@ fn bucket(path: &[u8]) -> usize
         h = sum_four(path, i, h);
         i += 4;
     }
-    lesser(sum_rest(path, i, h), BUCKETS - 1)
+    sum_rest(path, i, h).min(BUCKETS - 1)
 }
 
 // Makes the table one of no names.
@@ -141,18 +137,19 @@ pub fn clear(index: &mut [u32])
 }
 
 // One compare more than n.
-fn counted(order: Order, n: usize) -> Compared
+fn counted(order: Ordering, n: usize) -> Compared
     requires { n < 2 ^ 32 }
     ensures { result ≡ compared_of (n + 1) order }
 {
     match order {
-        Order::Less => Compared::Before(n + 1),
-        Order::Equal => Compared::Same(n + 1),
-        Order::Greater => Compared::Behind(n + 1),
+        Ordering::Less => Compared::Before(n + 1),
+        Ordering::Equal => Compared::Same(n + 1),
+        Ordering::Greater => Compared::Behind(n + 1),
     }
 }
 
-// One compare of a path with name k: which of them comes first. Nothing but this and `match_name` compares names in this table.
+// One compare of a path with name k: which of them comes first. Nothing but this and `match_name` compares names in
+// this table.
 fn compare_name(
     names: &[u8],
     index: &[u32],
@@ -177,7 +174,8 @@ fn step(names: &[u8], index: &[u32], count: usize, k: usize, path: &[u8], n: usi
     compare_name(names, index, count, k, path, n)
 }
 
-// One compare of a path with name k: whether they are the same. Names of other lengths are told apart by their lengths.
+// One compare of a path with name k: whether they are the same. Names of other lengths are told apart by their
+// lengths.
 fn match_name(names: &[u8], index: &[u32], count: usize, k: usize, path: &[u8], n: usize) -> Matched
     requires sound_names { SoundNames names.now index.now count }
     requires k_lt_count { (k < count) × (n < 2 ^ 32) }
@@ -205,7 +203,8 @@ fn match_entry(
     match_name(names, index, count, entry - 1, path, n)
 }
 
-// The path among so many sorted names, by halving: their numbers stand from place `from` on, each `by` places behind the one before.
+// The path among so many sorted names, by halving: their numbers stand from place `from` on, each `by` places behind
+// the one before.
 fn halve(
     names: &[u8],
     index: &[u32],
@@ -359,15 +358,16 @@ fn seek(names: &[u8], index: &[u32], count: usize, path: &[u8]) -> Lookup
 }
 
 // The number of a path.
-pub fn find_name(names: &[u8], index: &[u32], count: usize, path: &[u8]) -> FoundName
+pub fn find_name(names: &[u8], index: &[u32], count: usize, path: &[u8]) -> Option<usize>
     requires { SoundNames names.now index.now count }
     ensures { FindsName names.now index.now count path.now result }
 {
     let s = seek(names, index, count, path);
     if s.number < count {
-        return FoundName::At(s.number);
+        Some(s.number)
+    } else {
+        None
     }
-    FoundName::Missing
 }
 
 // Moves the numbers between two places up, the last one first.
@@ -375,24 +375,23 @@ fn lift(index: &mut [u32], from: usize, to: usize, by: usize)
     requires { (from ≤ to) × (to + by ≤ length index.old) }
     ensures { Lifted index.old from to by index.new }
 {
-    let mut i = to;
-    while from < i {
-        i -= 1;
+    for i in (from..to).rev() {
         index[i + by] = index[i];
     }
 }
 
-// Up to where a block of n names moves from a place on: so many numbers that eight at once leave none over, as far as the block reaches.
+// Up to where a block of n names moves from a place on: so many numbers that eight at once leave none over, as far as
+// the block reaches.
 fn by_eights(place: usize, n: usize) -> usize
     requires { (place ≤ n) × (n ≤ 126) }
     ensures { (n ≤ result) × (result ≤ 127) }
 {
     let up = place + (n - place + 7) / 8 * 8;
-    if up < 127 { up } else { 127 }
+    up.min(127)
 }
 
-// Moves the names of a block of n from a place on up by one, and some of what lies behind them: the compiler moves eight numbers at once, and those that are
-// left over one by one.
+// Moves the names of a block of n from a place on up by one, and some of what lies behind them: the compiler moves
+// eight numbers at once, and those that are left over one by one.
 fn make_room(index: &mut [u32], from: usize, place: usize, n: usize)
     requires { (place ≤ n) × (n ≤ 126) × (from + 128 ≤ length index.old) }
     ensures { Roomed index.old (from + place) (from + n) (from + 128) index.new }
@@ -481,8 +480,8 @@ pub fn add(names: &mut [u8], index: &mut [u32], count: usize, path: &[u8]) -> Ad
     Added::New(count)
 }
 
-// The same for names that header lists bring. It stands by itself for speed: `add` is built into what calls it, and that into the reader's function for a
-// path, only while each of them is called from one place.
+// The same for names that header lists bring. It stands by itself for speed: `add` is built into what calls it, and
+// that into the reader's function for a path, only while each of them is called from one place.
 pub fn add_listed_name(names: &mut [u8], index: &mut [u32], files: usize, path: &[u8]) -> Added
     requires { SoundNames names.old index.old files }
     ensures { AddsName names.old index.old files path.now names.new index.new result }
@@ -519,8 +518,5 @@ fn start(index: &[u32], k: usize) -> usize
     requires { k ≤ length index.now }
     ensures { result ≡ name_start index.now k }
 {
-    if k == 0 {
-        return 0;
-    }
-    at(index, k - 1)
+    if k == 0 { 0 } else { at(index, k - 1) }
 }

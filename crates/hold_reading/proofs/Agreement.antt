@@ -1,4 +1,5 @@
 -- What an agreement says of the outcome, by the answer; and what is held before the first line.
+use Rattle.std.specs.Prelude.{Result, Err}
 use Prim.Native.Nat.{ℕ, ◌≤◌, ◌<◌}
 use mathlib.Core.Bool.{Bool, false}
 use mathlib.Core.Option.{none}
@@ -24,11 +25,11 @@ use Rattle.hold_bindings.specs.Held.{HoldsBindings, values_in}
 use Rattle.hold_columns.specs.Columns.{made_by}
 use Rattle.hold_reading.specs.declared.Counts.{Counts}
 use Rattle.hold_reading.specs.declared.Open.{Open}
-use Rattle.hold_reading.specs.declared.LineAnswer.{LineAnswer}
-use Rattle.hold_reading.specs.declared.LineAnswer.TheVariants.{Goes, Refused}
 use Rattle.hold_reading.specs.declared.LineTurn.TheVariants.{Answered, Opens as TurnOpens}
 use Rattle.hold_reading.specs.Held.{joined, OpensBlock, capacities, HoldsReading, Agrees, goes, refuses, TurnAgrees, turn_opens, turn_answers}
 use Rattle.hold_reading.specs.Buffers.{Buffers}
+use Rattle.hold_reading.specs.declared.State.{State}
+use Rattle.hold_reading.specs.Went.{went}
 
 -- ---- by the answer
 
@@ -42,10 +43,10 @@ pub record GoesOn (bs : Buffers) (c : Counts) (o : Open) (out : Outcome) : Type 
   pub opens : OpensBlock log block o
 
 module _ {bs : Buffers} where
-  pub agreed_on : {out : Outcome} {c : Counts} {o : Open} → Agrees bs out (Goes c o) → GoesOn bs c o out
+  pub agreed_on : {out : Outcome} {c : Counts} {o : Open} → Agrees bs out (went c o) → GoesOn bs c o out
   agreed_on (goes {log = l} {rd = rd} {b = b} h p) = record { log = l; reading = rd; block = b; outcome = refl; holds = h; opens = p }
 
-  pub agreed_refused : {out : Outcome} {r : Refusal} → Agrees bs out (Refused r) → out ≡ refused r
+  pub agreed_refused : {out : Outcome} {r : Refusal} → Agrees bs out (Err r) → out ≡ refused r
   agreed_refused refuses = refl
 
 -- ---- a line that may open a file
@@ -61,7 +62,7 @@ pub record OpensAt (l : Line) (bs : Buffers) (c : Counts) (sub : Bool) (from to 
   pub sound : bad_dollar (part l.text from to) ≡ none
 
 module _ {l : Line} {bs : Buffers} where
-  pub turned_answer : {out : Outcome} {a : LineAnswer} → TurnAgrees l bs out (Answered a) → Agrees bs out a
+  pub turned_answer : {out : Outcome} {a : Result State Refusal} → TurnAgrees l bs out (Answered a) → Agrees bs out a
   turned_answer (turn_answers g) = g
 
   pub turned_opens : {out : Outcome} {c : Counts} {sub : Bool} {from to : ℕ} → TurnAgrees l bs out (TurnOpens c sub from to) → OpensAt l bs c sub from to out

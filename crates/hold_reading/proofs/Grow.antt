@@ -1,4 +1,5 @@
 -- The table of bindings with an entry more: a rule, a key of the open rule, a variable, or a line of the open step's block.
+use Rattle.std.specs.Prelude.{Some}
 use Prim.Native.Nat.{ℕ, ◌+◌, ◌≤◌, ◌<◌}
 use mathlib.Core.Bool.{true, false}
 use mathlib.Core.List.{List, [], ◌∷◌, ◌++◌, map}
@@ -14,7 +15,6 @@ use Rattle.spec.specs.Reading.{Bound as Binding, Rule, Step, Reading}
 use Rattle.spec.specs.Statements.{bound, count_binding, set_var}
 use Rattle.spec.specs.Manifest.{with_rule, with_step}
 use Rattle.spec.specs.Graph.{no_step, step_at}
-use Rattle.hold_bindings.specs.declared.FoundEntry.TheVariants.{At}
 use Rattle.hold_bindings.specs.Log.{Logged, logged, of_scope, of_rules, of_marks, of_keys, of_block, bound_by, scoping_of, variables_of, rules_in, rules_of, newest_rule, with_key, Owned}
 use Rattle.hold_bindings.specs.Held.{max_entries, max_owner, HoldsBindings, EntryRoom, values_in}
 use Rattle.hold_bindings.proofs.Lookups.{bound_same, bound_other, owner_scope, owner_rules, owner_keys, owner_step, keys_not_step, rules_other, rules_declared, rules_key}
@@ -26,21 +26,21 @@ use Rattle.hold_reading.proofs.Bare.{bare_last}
 
 -- ---- the newest rule
 
-pub newest_rule_below : (log : List Logged) (k : ℕ) → newest_rule log ≡ At k → k < length log
+pub newest_rule_below : (log : List Logged) (k : ℕ) → newest_rule log ≡ Some k → k < length log
 unfolding newest_rule
 newest_rule_below [] k e = let z : ◌≡◌ {A = ℕ} 0 1 = cc in omega arith
 newest_rule_below (x ∷ l) k e =
     split (eqb x.owner of_rules)
-    (λ (t : eqb x.owner of_rules ≡ true). let p : At (length l) ≡ At k = rw t at e in let q : length l ≡ k = cc in omega arith)
+    (λ (t : eqb x.owner of_rules ≡ true). let p : Some (length l) ≡ Some k = rw t at e in let q : length l ≡ k = cc in omega arith)
     (λ (t : eqb x.owner of_rules ≡ false). let h = newest_rule_below l k (rw t at e) in omega arith)
 
-newest_keys : (log m : List Logged) (k : ℕ) (r : Rule) (rs : List Rule) → newest_rule m ≡ At k → rules_in log m ≡ r ∷ rs → r.keys ≡ bound_by (of_keys k) log
+newest_keys : (log m : List Logged) (k : ℕ) (r : Rule) (rs : List Rule) → newest_rule m ≡ Some k → rules_in log m ≡ r ∷ rs → r.keys ≡ bound_by (of_keys k) log
 unfolding newest_rule rules_in
 newest_keys log [] k r rs e h = let z : ◌≡◌ {A = ℕ} 0 1 = cc in absurd (omega arith)
 newest_keys log (x ∷ m) k r rs e h =
     split (eqb x.owner of_rules)
     (λ (t : eqb x.owner of_rules ≡ true).
-    let p : At (length m) ≡ At k = rw t at e in
+    let p : Some (length m) ≡ Some k = rw t at e in
     let q : length m ≡ k = cc in
     let g : record { name = x.name; keys = bound_by (of_keys (length m)) log } ∷ rules_in log m ≡ r ∷ rs = rw t at h in
     let w : r ≡ record { name = x.name; keys = bound_by (of_keys (length m)) log } = cc in
@@ -48,7 +48,7 @@ newest_keys log (x ∷ m) k r rs e h =
     (λ (t : eqb x.owner of_rules ≡ false). newest_keys log m k r rs (rw t at e) (rw t at h))
 
 -- The keys of the newest rule are the lines of its owner.
-pub open_keys : (log : List Logged) (k : ℕ) (r : Rule) (rs : List Rule) → newest_rule log ≡ At k → r ∷ rs ≡ rules_of log → r.keys ≡ bound_by (of_keys k) log
+pub open_keys : (log : List Logged) (k : ℕ) (r : Rule) (rs : List Rule) → newest_rule log ≡ Some k → r ∷ rs ≡ rules_of log → r.keys ≡ bound_by (of_keys k) log
 unfolding rules_of
 open_keys log k r rs e h = newest_keys log log k r rs e (sym h)
 
@@ -150,7 +150,7 @@ module _ {log : List Logged} {texts bind texts' bind' : List ℕ} {c : Counts} {
 
 -- a key of the open rule
 module _ {log : List Logged} {texts bind texts' bind' : List ℕ} {c : Counts} (rd : Reading) (r : Rule) (k : ℕ) (b : HoldsBound log texts bind c (with_rule r rd))
-    (o : newest_rule log ≡ At k) (n v : List ℕ) (h : HoldsBindings (logged (of_keys k) n v ∷ log) texts' bind' (c.entries + 1)) (f : c.bindings < max_bindings)
+    (o : newest_rule log ≡ Some k) (n v : List ℕ) (h : HoldsBindings (logged (of_keys k) n v ∷ log) texts' bind' (c.entries + 1)) (f : c.bindings < max_bindings)
     (w : c.written + length v ≤ max_written) where
   pub bound_key : HoldsBound (logged (of_keys k) n v ∷ log) texts' bind' (counted_more (length v) c) (with_rule (key_more n v r) (count_binding (length v) rd))
   unfolding with_rule with_key count_binding

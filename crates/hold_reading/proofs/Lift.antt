@@ -1,4 +1,5 @@
 -- A line that binds is held by all buffers: the log grows, and the names and the columns of the graph hold the outcome's reading as before.
+use Rattle.std.specs.Prelude.{Result, Err}
 use Prim.Native.Nat.{ℕ, ◌<◌}
 use mathlib.Core.List.{List, [], ◌∷◌, ◌++◌}
 use mathlib.Core.Path.{◌≡◌, refl, sym, ◌∙◌, ap}
@@ -14,12 +15,11 @@ use Rattle.hold_bindings.proofs.Lookups.{entry_kept}
 use Rattle.hold_reading.specs.declared.Counts.{Counts}
 use Rattle.hold_reading.specs.declared.Open.{Open}
 use Rattle.hold_reading.specs.declared.Open.TheVariants.{Nothing}
-use Rattle.hold_reading.specs.declared.LineAnswer.{LineAnswer}
-use Rattle.hold_reading.specs.declared.LineAnswer.TheVariants.{Refused}
 use Rattle.hold_reading.specs.Held.{joined, OpensBlock, nothing, HoldsBound, Ruled, phony, declared, rule_with_scope, RuledIn, Graphed, HoldsReading, Agrees, goes, refuses}
 use Rattle.hold_reading.specs.Binds.{without_block, Known, SoundBlock, Beside, Binds, Meets}
 use Rattle.hold_reading.proofs.Bare.{same_count, same_step, same_tables}
 use Rattle.hold_reading.specs.Buffers.{Buffers, with_bindings}
+use Rattle.hold_reading.specs.declared.State.{State}
 
 -- ---- the log grows
 
@@ -72,7 +72,7 @@ module _ {c c' : Counts} {rd rd' : Reading} (s : Beside c rd c' rd') where
 -- ---- a line
 
 module _ {log : List Logged} {bs : Buffers} {c : Counts} {rd : Reading} where
-  pub lifted : {texts' bind' : List ℕ} {out : Outcome} {r : LineAnswer} → HoldsReading log bs c rd → Binds log c rd texts' bind' out r
+  pub lifted : {texts' bind' : List ℕ} {out : Outcome} {r : Result State Refusal} → HoldsReading log bs c rd → Binds log c rd texts' bind' out r
       → Agrees (with_bindings bs texts' bind') out r
   lifted h (Binds.goes more b o s) = goes (record { named = named_beside s h.named; bound = b; graphed = graphed_beside s more h.graphed; short = rw s.files h.short }) o
   lifted h Binds.refuses = refuses
@@ -93,13 +93,13 @@ module _ {log : List Logged} {bs : Buffers} {c : Counts} (rd : Reading) {b : Blo
   sound = record { log = log; reading = rd; block = b; known = known }
 
   -- what it gives
-  pub met : {line : Reading → Block → Outcome} {texts' bind' : List ℕ} {r : LineAnswer} → Meets bs.texts bs.bind c o line texts' bind' r
+  pub met : {line : Reading → Block → Outcome} {texts' bind' : List ℕ} {r : Result State Refusal} → Meets bs.texts bs.bind c o line texts' bind' r
       → Agrees (with_bindings bs texts' bind') (line rd b) r
   met m = lifted h (m.agrees log rd b known)
 
 -- ---- what a line's laws begin with
 
-pub refused_by : {log : List Logged} {c : Counts} {rd : Reading} {texts bind : List ℕ} {out : Outcome} {r : Refusal} → out ≡ refused r → Binds log c rd texts bind out (Refused r)
+pub refused_by : {log : List Logged} {c : Counts} {rd : Reading} {texts bind : List ℕ} {out : Outcome} {r : Refusal} → out ≡ refused r → Binds log c rd texts bind out (Err r)
 refused_by e = rw e Binds.refuses
 
 -- Where no block is open, nothing is joined.

@@ -1,6 +1,6 @@
 -- What a line that only binds is held to: rule lines, keys, variables and the lines of blocks touch the table of bindings alone. What holds of all
 -- buffers then follows by proofs/Lift.antt.
-use Rattle.std.specs.Prelude.{ℕ, ◌+◌, ◌≤◌, ◌≡◌, List, [], ◌∷◌, ◌++◌, map, length}
+use Rattle.std.specs.Prelude.{ℕ, ◌+◌, ◌≤◌, ◌≡◌, List, [], ◌∷◌, ◌++◌, map, length, Result, Err}
 use Rattle.spec.specs.declared.Refusal.{Refusal}
 use Rattle.spec.specs.Limits.{max_files, max_mentions}
 use Rattle.spec.specs.Reading.{Rule, Step, Reading}
@@ -9,8 +9,8 @@ use Rattle.hold_bindings.specs.Log.{Logged}
 use Rattle.hold_reading.specs.Held.{joined, OpensBlock, HoldsBound}
 use Rattle.hold_reading.specs.declared.Counts.{Counts}
 use Rattle.hold_reading.specs.declared.Open.{Open}
-use Rattle.hold_reading.specs.declared.LineAnswer.{LineAnswer}
-use Rattle.hold_reading.specs.declared.LineAnswer.TheVariants.{Goes, Refused}
+use Rattle.hold_reading.specs.declared.State.{State}
+use Rattle.hold_reading.specs.Went.{went}
 
 -- the table of bindings holds this reading and block
 pub record Known (log : List Logged) (texts bind : List ℕ) (c : Counts) (rd : Reading) (b : Block) (o : Open) : Type 0 where
@@ -130,11 +130,11 @@ pub record Beside (c : Counts) (rd : Reading) (c' : Counts) (rd' : Reading) : Ty
   pub mentions_counted : c'.mentions ≡ c.mentions
 
 -- An outcome and an answer agree: what goes on is held by the log with more entries, and all else stays; a refusal is the same.
-pub data Binds (log : List Logged) (c : Counts) (rd : Reading) (texts bind : List ℕ) : Outcome → LineAnswer → Type 0 where
+pub data Binds (log : List Logged) (c : Counts) (rd : Reading) (texts bind : List ℕ) : Outcome → Result State Refusal → Type 0 where
   goes : {rd' : Reading} {b : Block} {c' : Counts} {o : Open} (more : List Logged) → HoldsBound (more ++ log) texts bind c' (joined rd' b) → OpensBlock (more ++ log) b o
-      → Beside c rd c' (joined rd' b) → Binds log c rd texts bind (goes_on rd' b) (Goes c' o)
-  refuses : {r : Refusal} → Binds log c rd texts bind (refused r) (Refused r)
+      → Beside c rd c' (joined rd' b) → Binds log c rd texts bind (goes_on rd' b) (went c' o)
+  refuses : {r : Refusal} → Binds log c rd texts bind (refused r) (Err r)
 
 -- A line's answer agrees with its outcome, whatever reading and block were held.
-pub record Meets (texts bind : List ℕ) (c : Counts) (o : Open) (line : Reading → Block → Outcome) (texts' bind' : List ℕ) (r : LineAnswer) : Type 0 where
+pub record Meets (texts bind : List ℕ) (c : Counts) (o : Open) (line : Reading → Block → Outcome) (texts' bind' : List ℕ) (r : Result State Refusal) : Type 0 where
   pub agrees : (log : List Logged) (rd : Reading) (b : Block) → Known log texts bind c rd b o → Binds log c (joined rd b) texts' bind' (line rd b) r

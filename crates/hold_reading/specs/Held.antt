@@ -1,6 +1,6 @@
 -- What the reader's lent buffers hold between lines: the files' names, the table of bindings, and the columns of the graph. It is the reading
 -- with the open block already joined to it, so that closing a block changes no buffer.
-use Rattle.std.specs.Prelude.{ℕ, suc, ◌+◌, ◌*◌, ◌≤◌, ◌<◌, ◌≡◌, Bool, true, false, List, [], ◌∷◌, length, get_or}
+use Rattle.std.specs.Prelude.{ℕ, suc, ◌+◌, ◌*◌, ◌≤◌, ◌<◌, ◌≡◌, Bool, true, false, List, [], ◌∷◌, length, get_or, Some, Result, Err}
 use Rattle.std.proofs.Math.Option.{none}
 use Rattle.lists.specs.Parts.{part}
 use Rattle.spec.specs.declared.Refusal.{Refusal}
@@ -14,18 +14,17 @@ use Rattle.spec.specs.Manifest.{with_rule, with_step}
 use Rattle.spec.specs.Graph.{step_at}
 use Rattle.arena.specs.Columns.{Lies, start_of}
 use Rattle.hold_names.specs.Table.{HoldsNames}
-use Rattle.hold_bindings.specs.declared.FoundEntry.TheVariants.{At}
 use Rattle.hold_bindings.specs.Log.{Logged, of_rules, of_block, entry_at, bound_by, scoping_of, variables_of, rules_of, newest_rule, Owned}
 use Rattle.hold_bindings.specs.Held.{max_entries, HoldsBindings, values_in}
 use Rattle.hold_columns.specs.Columns.{per_step, end_place, HoldsColumns}
 use Rattle.hold_reading.specs.declared.Counts.{Counts}
 use Rattle.hold_reading.specs.declared.Open.{Open}
 use Rattle.hold_reading.specs.declared.Open.TheVariants.{Nothing, Rule as OpenRule, Step as OpenStep}
-use Rattle.hold_reading.specs.declared.LineAnswer.{LineAnswer}
-use Rattle.hold_reading.specs.declared.LineAnswer.TheVariants.{Goes, Refused}
 use Rattle.hold_reading.specs.declared.LineTurn.{LineTurn}
 use Rattle.hold_reading.specs.declared.LineTurn.TheVariants.{Answered, Opens as TurnOpens}
 use Rattle.hold_reading.specs.Buffers.{Buffers}
+use Rattle.hold_reading.specs.declared.State.{State}
+use Rattle.hold_reading.specs.Went.{went}
 
 -- the reading with its open block closed
 unfoldable pub joined : Reading → Block → Reading
@@ -37,7 +36,7 @@ joined rd (build_block s) = with_step s rd
 -- the open block as the code has it
 pub data OpensBlock (log : List Logged) : Block → Open → Type 0 where
   nothing : OpensBlock log no_block Nothing
-  a_rule : {start k : ℕ} {r : Rule} → newest_rule log ≡ At k → OpensBlock log (rule_block start r) (OpenRule start k)
+  a_rule : {start k : ℕ} {r : Rule} → newest_rule log ≡ Some k → OpensBlock log (rule_block start r) (OpenRule start k)
   a_step : {s : Step} → OpensBlock log (build_block s) OpenStep
 
 -- the scopes around the current one
@@ -147,13 +146,13 @@ pub record HoldsReading (log : List Logged) (bs : Buffers) (c : Counts) (rd : Re
 
 -- An outcome and an answer agree: what goes on is held, and a refusal is the same. The buffers are working space after a refusal, which the
 -- promises say by their room (`SameRoom`, `Spare`).
-pub data Agrees (bs : Buffers) : Outcome → LineAnswer → Type 0 where
+pub data Agrees (bs : Buffers) : Outcome → Result State Refusal → Type 0 where
   goes : {log : List Logged} {rd : Reading} {b : Block} {c : Counts} {o : Open} → HoldsReading log bs c (joined rd b) → OpensBlock log b o
-      → Agrees bs (goes_on rd b) (Goes c o)
-  refuses : {r : Refusal} → Agrees bs (refused r) (Refused r)
+      → Agrees bs (goes_on rd b) (went c o)
+  refuses : {r : Refusal} → Agrees bs (refused r) (Err r)
 
 -- The same of the line `l` that may open a file.
 pub data TurnAgrees (l : Line) (bs : Buffers) : Outcome → LineTurn → Type 0 where
-  turn_answers : {out : Outcome} {a : LineAnswer} → Agrees bs out a → TurnAgrees l bs out (Answered a)
+  turn_answers : {out : Outcome} {a : Result State Refusal} → Agrees bs out a → TurnAgrees l bs out (Answered a)
   turn_opens : {log : List Logged} {rd : Reading} {c : Counts} {sub : Bool} {from to : ℕ} → HoldsReading log bs c rd → from < to → to ≤ length l.text
       → bad_dollar (part l.text from to) ≡ none → TurnAgrees l bs (opens l.start sub (part l.text from to) rd) (TurnOpens c sub from to)

@@ -1,4 +1,5 @@
-// What the reader keeps beside its lent buffers: counts and the open block. `specs/Held.antt` says what the buffers hold.
+// What the reader keeps beside its lent buffers: counts and the open block. `specs/Held.antt` says what the buffers
+// hold.
 #![tactic(auto)]
 
 ghost use Rattle.std.specs.Prelude.{◌≡◌};
@@ -7,7 +8,8 @@ pub mod columns;
 
 use spec::Refusal;
 
-// What has been counted so far. `paths` are the mentions of build lines alone, `entries` the rows of the binding table.
+// What has been counted so far. `paths` are the mentions of build lines alone, `entries` the rows of the binding
+// table.
 #[derive(Clone, Copy)]
 pub struct Counts {
     pub files: usize,
@@ -20,6 +22,17 @@ pub struct Counts {
     pub mentions: usize,
     pub written: usize,
     pub opened: usize,
+}
+
+// The buffers of a reading that is over, read alone: the bytes and the numbers of the names, the bytes and the rows of
+// the bindings, and the columns of the graph.
+#[derive(Clone, Copy)]
+pub struct ReadBuffers<'a> {
+    pub names: &'a [u8],
+    pub index: &'a [u32],
+    pub texts: &'a [u8],
+    pub bind: &'a [u32],
+    pub graph: &'a [u32],
 }
 
 #[derive(Clone, Copy)]
@@ -45,22 +58,17 @@ pub struct State {
     pub open: Open,
 }
 
-// What a line does: the reading goes on, or it is refused.
-#[derive(Clone, Copy)]
-pub enum LineAnswer {
-    Goes(Counts, Open),
-    Refused(Refusal),
-}
-
-// The same of a line that may open a file: in a new scope or not, by the raw path from one place of the line to another.
+// What a line does that may open a file. It is answered like the others, by what goes on or a refusal; or it opens
+// one, in a new scope or not, by the raw path from one place of the line to another.
+// No `Result`: a file that is opened is no failure, and the answer holds one already.
 #[derive(Clone, Copy)]
 pub enum LineTurn {
-    Answered(LineAnswer),
+    Answered(Result<State, Refusal>),
     Opens(Counts, bool, usize, usize),
 }
 
 // A line that opens none.
-pub fn turned(a: LineAnswer) -> LineTurn
+pub fn turned(a: Result<State, Refusal>) -> LineTurn
     ensures { result ≡ LineTurn.Answered a }
 {
     LineTurn::Answered(a)

@@ -1,4 +1,5 @@
 -- What is looked up for a rule's block is what the rules ask.
+use Rattle.std.specs.Prelude.{Some}
 use Prim.Native.Nat.{ℕ, ◌≤◌}
 use mathlib.Core.Bool.{Bool, true, false, not, ◌||◌}
 use mathlib.Core.List.{List, [], ◌∷◌}
@@ -14,7 +15,6 @@ use Rattle.spec.specs.Limits.{max_name}
 use Rattle.spec.specs.Reading.{Rule, Reading, is_phony, declared, has_key}
 use Rattle.spec.specs.Statements.{rule_key}
 use Rattle.spec.specs.Text.{key_name, key_names}
-use Rattle.hold_bindings.specs.declared.FoundEntry.TheVariants.{At}
 use Rattle.hold_bindings.specs.Log.{Logged, of_rules, of_keys, newest, is_at, newest_rule, rules_of}
 use Rattle.hold_bindings.proofs.Lookups.{declared_newest, key_newest}
 use Rattle.hold_reading.specs.declared.Counts.{Counts}
@@ -28,7 +28,7 @@ unfolding declared
 declared_held {log} b n = rw b.rules (ap (λ (t : Bool). is_phony n || t) (declared_newest n log))
 
 -- The rule whose block is open.
-module _ (log : List Logged) (k : ℕ) (r : Rule) (rs : List Rule) (o : newest_rule log ≡ At k) (h : r ∷ rs ≡ rules_of log) (n : List ℕ) where
+module _ (log : List Logged) (k : ℕ) (r : Rule) (rs : List Rule) (o : newest_rule log ≡ Some k) (h : r ∷ rs ≡ rules_of log) (n : List ℕ) where
   pub keyed_held : has_key n r.keys ≡ keyed k n log
   unfolding keyed
   keyed_held = rw (open_keys log k r rs o h) (key_newest (of_keys k) n log)

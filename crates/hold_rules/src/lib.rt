@@ -11,11 +11,12 @@ ghost use Rattle.hold_reading.specs.Held.{HoldsBound};
 ghost use Rattle.hold_rules.specs.Tests.{OfRule, keyed, bad_key};
 
 use byte_order::equal;
-use hold_bindings::{FoundEntry, newest};
+use hold_bindings::newest;
 use hold_keys::key_number;
 use hold_reading::Counts;
 
-// The keys of this edition are the first four: "`command` (needed), `description`, `generator`", and "Accept `depfile`" (document 02).
+// The keys of this edition are the first four: "`command` (needed), `description`, `generator`", and "Accept
+// `depfile`" (document 02).
 const EDITION: usize = 4;
 
 // Whether an owner has a line of this name.
@@ -23,10 +24,7 @@ fn has_line(texts: &[u8], bind: &[u32], count: usize, owner: usize, name: &[u8])
     requires { SoundBindings texts.now bind.now count }
     ensures { (log : List Logged) → HoldsBindings log texts.now bind.now count → result ≡ is_at (newest owner name.now log) }
 {
-    match newest(texts, bind, count, owner, name) {
-        FoundEntry::At(_) => true,
-        FoundEntry::Missing => false,
-    }
+    newest(texts, bind, count, owner, name).is_some()
 }
 
 // "`phony` is declared from the start."
@@ -34,10 +32,7 @@ pub fn is_declared(texts: &[u8], bind: &[u32], c: Counts, name: &[u8]) -> bool
     requires { SoundBindings texts.now bind.now c.entries }
     ensures { (log : List Logged) (rd : Reading) → HoldsBound log texts.now bind.now c rd → result ≡ declared name.now rd }
 {
-    if equal(name, b"phony") {
-        return true;
-    }
-    has_line(texts, bind, c.entries, 1, name)
+    equal(name, b"phony") || has_line(texts, bind, c.entries, 1, name)
 }
 
 fn is_rule_key(name: &[u8]) -> bool
@@ -59,10 +54,7 @@ pub fn is_bad_key(texts: &[u8], bind: &[u32], count: usize, entry: usize, name: 
     requires { OfRule texts.now bind.now count entry }
     ensures { (log : List Logged) → HoldsBindings log texts.now bind.now count → result ≡ bad_key entry name.now log }
 {
-    if !is_rule_key(name) {
-        return true;
-    }
-    has_key(texts, bind, count, entry, name)
+    !is_rule_key(name) || has_key(texts, bind, count, entry, name)
 }
 
 pub fn has_command(texts: &[u8], bind: &[u32], c: Counts, entry: usize) -> bool

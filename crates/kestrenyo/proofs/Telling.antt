@@ -1,12 +1,14 @@
 -- What three numbers tell: an ask's answer with its place among the lent texts, or a status line's.
+use Rattle.std.specs.Prelude.{Result, Ok, Err}
 use Prim.Native.Nat.{ℕ}
 use mathlib.Core.Bool.{true, false}
 use mathlib.Core.List.{List, []}
 use mathlib.Core.Path.{◌≡◌, refl, subst}
 use lib.ListN.{length}
 use Rattle.lists.specs.Tests.{split}
+use Rattle.spec.specs.declared.Refusal.{Refusal}
 use Rattle.spec.specs.declared.Wanted.{Wanted}
-use Rattle.spec.specs.Answers.{Said, plain, spot, placed}
+use Rattle.spec.specs.Answers.{Said, plain, spot, placed, text_says}
 use Rattle.spec.specs.Bundle.{bundle_texts}
 use Rattle.spec.specs.PlanAsk.{Inputs}
 use Rattle.spec.specs.Demands.{PlanDemands, TextDemands}
@@ -14,7 +16,7 @@ use Rattle.answers.specs.declared.Numbers.{Numbers}
 use Rattle.answers.specs.declared.Placed.{Placed}
 use Rattle.answers.specs.Numbers.{said}
 use Rattle.text_batch.specs.TextsAsk.{texts_ask}
-use Rattle.text_batch.specs.TextsPromise.{TextsMeets}
+use Rattle.text_batch.specs.TextsPromise.{texts_says, TextsMeets}
 use Rattle.answer_places.specs.Places.{HasPlace, PlacedIn, Sited}
 use Rattle.answer_places.proofs.Placing.{placed_sited}
 use Rattle.answer_places.proofs.Siting.{plan_sited, text_sited}
@@ -33,6 +35,12 @@ tells_plan {i} {lent} {exit} n {s} e p d = tells_sited i.manifest n e p (plan_si
 pub tells_text : {b : List ℕ} {step : ℕ} {wanted : Wanted} {lent exit : List ℕ} (n : Numbers) {s : Said} {r : Placed} → said n ≡ s → PlacedIn b (said n) r
     → TextDemands b step wanted lent s exit → Tells (bundle_texts b) (λ x. TextDemands b step wanted lent x exit) r
 tells_text {b} {step} {wanted} {lent} {exit} n {s} e p d = tells_sited b n e p (text_sited b step wanted (length lent) lent s exit d.promise) d
+
+-- many texts are answered as one is
+pub says_texts : (a : Result ℕ Refusal) → text_says a ≡ texts_says a
+unfolding text_says texts_says
+says_texts (Ok n) = refl
+says_texts (Err r) = refl
 
 pub tells_texts : (b steps : List ℕ) (wanted : Wanted) (room places : ℕ) (bytes ends bytes_exit ends_exit : List ℕ) (n : Numbers) (s : Said) {r : Placed} → said n ≡ s
     → PlacedIn b (said n) r → TextsMeets (texts_ask b steps wanted room places) bytes ends s bytes_exit ends_exit

@@ -1,5 +1,5 @@
-// The three asks and the status line for C and Rust: numbers and slices alone. None asks anything of its caller, and each says what documents 01 and 02 say in three
-// numbers.
+// The three asks and the status line for C and Rust: numbers and slices alone. None asks anything of its caller, and
+// each says what documents 01 and 02 say in three numbers.
 #![tactic(auto)]
 
 ghost use Rattle.std.specs.Prelude.{◌≡◌, [], length};
@@ -10,7 +10,7 @@ ghost use Rattle.spec.specs.Demands.{PlanDemands, TextDemands};
 ghost use Rattle.answers.specs.Numbers.{said};
 ghost use Rattle.answer_places.specs.Places.{HasPlace};
 ghost use Rattle.text_batch.specs.TextsAsk.{texts_ask};
-ghost use Rattle.text_batch.specs.TextsPromise.{texts_says, TextsMeets};
+ghost use Rattle.text_batch.specs.TextsPromise.{TextsMeets};
 ghost use Rattle.status_record.specs.Record.{first_status, moved_to, start_at, finish_at};
 ghost use Rattle.status_line.specs.LineAsk.{line_outcome, StatusLineMeets};
 ghost use Rattle.status_numbers.specs.Numbers.{status_held, record_of};
@@ -18,13 +18,12 @@ ghost use Rattle.kestrenyo.specs.Tells.{Tells};
 ghost use Rattle.kestrenyo.specs.Wants.{wanted_of};
 
 use answer_places::locate;
-use answers::{Numbers, Placed, of_plan, of_refusal, of_text};
+use answers::{Numbers, Placed, of_reply};
 use asks::{plan, text, texts};
 use spec::Wanted;
 use status_numbers::{
     StatusRecord, first_record, record_finished, record_line, record_moved, record_started,
 };
-use text_batch::TextsAnswer;
 
 // What stands in no text.
 fn outside(n: Numbers) -> Placed
@@ -48,7 +47,7 @@ pub extern "C" fn kestrenyo_plan(
 ) -> Placed
     ensures { Tells (bundle_texts bundle.now) (λ said. PlanDemands (inputs_of bundle.now card.now targets.now headers.now) list.old said list.new) result }
 {
-    locate(of_plan(plan(bundle, headers, card, targets, list)), bundle)
+    locate(of_reply(plan(bundle, headers, card, targets, list)), bundle)
 }
 
 // What a number asks for.
@@ -61,7 +60,8 @@ fn wanted_of(n: usize) -> Wanted
     Wanted::Description
 }
 
-// The text ask, of a command where `wanted` is 0 and else of a description: 0 and the number of bytes written, or a refusal's number and place.
+// The text ask, of a command where `wanted` is 0 and else of a description: 0 and the number of bytes written, or a
+// refusal's number and place.
 #[unsafe(no_mangle)]
 pub extern "C" fn kestrenyo_text(
     bundle: &[u8],
@@ -72,25 +72,13 @@ pub extern "C" fn kestrenyo_text(
     ensures { Tells (bundle_texts bundle.now) (λ said. TextDemands bundle.now step (wanted_of wanted) buffer.old said buffer.new) result }
 {
     locate(
-        of_text(text(bundle, step, wanted_of(wanted), buffer)),
+        of_reply(text(bundle, step, wanted_of(wanted), buffer)),
         bundle,
     )
 }
 
-fn of_texts(a: TextsAnswer) -> Numbers
-    ensures { said result ≡ texts_says a }
-{
-    match a {
-        TextsAnswer::Written(n) => Numbers {
-            number: 0,
-            text: false,
-            value: n,
-        },
-        TextsAnswer::Refused(r) => of_refusal(r),
-    }
-}
-
-// The texts ask, of commands where `wanted` is 0 and else of descriptions: 0 and the number of texts written, or a refusal's number and place.
+// The texts ask, of commands where `wanted` is 0 and else of descriptions: 0 and the number of texts written, or a
+// refusal's number and place.
 #[unsafe(no_mangle)]
 pub extern "C" fn kestrenyo_texts(
     bundle: &[u8],
@@ -102,7 +90,7 @@ pub extern "C" fn kestrenyo_texts(
     ensures { Tells (bundle_texts bundle.now) (λ said. TextsMeets (texts_ask bundle.now steps.now (wanted_of wanted) (length bytes.old) (length ends.old)) bytes.old ends.old said bytes.new ends.new) result }
 {
     locate(
-        of_texts(texts(bundle, steps, wanted_of(wanted), bytes, ends)),
+        of_reply(texts(bundle, steps, wanted_of(wanted), bytes, ends)),
         bundle,
     )
 }

@@ -1,12 +1,13 @@
 -- The order of two lists of bytes as one answer of three.
 use Rattle.std.specs.Prelude.{ℕ, true, false, List, ◌∷◌, ◌≡◌}
+use Rattle.std.specs.Ordering.{is_eq, is_lt}
 use Rattle.std.proofs.Common.{sym}
-use Rattle.lists.specs.Bytes.{less_bytes, less_same, less_total, less_asym, less_irrefl}
+use Rattle.lists.specs.Bytes.{eq_bytes, eq_eq_bytes, ne_eq_bytes, less_bytes, less_same, less_total, less_asym, less_irrefl, less_ne}
 use Rattle.lists.specs.Tests.{if_b, split}
-use Rattle.lists.specs.declared.Order.{Order}
-use Rattle.lists.specs.declared.Order.TheVariants.{Less, Equal, Greater}
+use Rattle.std.specs.declared.cmp.Ordering.{Ordering}
+use Rattle.std.specs.declared.cmp.Ordering.TheVariants.{Less, Equal, Greater}
 
-unfoldable pub order_bytes : List ℕ → List ℕ → Order
+unfoldable pub order_bytes : List ℕ → List ℕ → Ordering
 order_bytes s t = if_b (less_bytes s t) (λ _. Less) (λ _. if_b (less_bytes t s) (λ _. Greater) (λ _. Equal))
 
 -- What each answer says, and which answer there is.
@@ -46,6 +47,23 @@ module _ (s t : List ℕ) where
       split (less_bytes t s)
       (λ (q : less_bytes t s ≡ true). let e : order_bytes s t ≡ Greater = greater_order q in cc)
       (λ (q : less_bytes t s ≡ false). less_total s t p q))
+
+  -- The tests of the answer are those of the lists.
+  pub order_is_lt : is_lt (order_bytes s t) ≡ less_bytes s t
+  unfolding order_bytes
+  order_is_lt =
+      split (less_bytes s t) (λ (p : less_bytes s t ≡ true). rw p)
+      (λ (p : less_bytes s t ≡ false).
+      split (less_bytes t s) (λ (q : less_bytes t s ≡ true). rw (p, q)) (λ (q : less_bytes t s ≡ false). rw (p, q)))
+
+  pub order_is_eq : is_eq (order_bytes s t) ≡ eq_bytes s t
+  unfolding order_bytes
+  order_is_eq =
+      split (less_bytes s t) (λ (p : less_bytes s t ≡ true). rw (p, ne_eq_bytes s t (less_ne p)))
+      (λ (p : less_bytes s t ≡ false).
+      split (less_bytes t s)
+      (λ (q : less_bytes t s ≡ true). rw (p, q, ne_eq_bytes s t (λ (e : s ≡ t). less_ne q (sym e))))
+      (λ (q : less_bytes t s ≡ false). rw (p, q, eq_eq_bytes (less_total s t p q))))
 
 -- Equal first bytes decide nothing.
 pub order_same : (x y : ℕ) (s t : List ℕ) → x ≡ y → order_bytes (x ∷ s) (y ∷ t) ≡ order_bytes s t

@@ -93,3 +93,7 @@ module _ {p : ℕ → Bool} {s : List ℕ} {i k : ℕ} (a : Scanning p s i k) wh
   pub scan_end : length s ≤ k → Reads (after_run p) s i k
   unfolding after_run
   scan_end h = record { forward = a.forward; within = a.within; rest = sym (a.rest ∙ rw (drop_of_length-le s {i = k} h)) }
+
+  -- The same, told by the length, as a `for` over the places ends.
+  pub scan_all : length s ≤ k → Reads (after_run p) s i (length s)
+  scan_all h = let e : k ≡ length s = omega (arith, a.within) in rw e at (scan_end h)

@@ -48,7 +48,7 @@ const OUT: usize = TEXTS + 45 * LIST;
 fn within(n: u64) -> usize
     ensures { result ≤ 128 }
 {
-    if n < 128 { n as usize } else { 128 }
+    n.min(128) as usize
 }
 
 // The text of an error without its number, which std writes behind it.
@@ -72,8 +72,8 @@ fn warn(rt: &impl Eprint, warning: &str, e: Error) {
     let _ = eprintln!(rt; "{warning}: {why}");
 }
 
-// Reads until the buffer is full or the input ends. Where a read fails, standard error has why, after the warning given, and nothing
-// counts as read.
+// Reads until the buffer is full or the input ends. Where a read fails, standard error has why, after the warning
+// given, and nothing counts as read.
 fn read_all<E: Eprint, R: Read>(rt: &E, from: &mut R, warning: &str, buf: &mut [u8]) -> usize
     ensures { IsPrefixLen result buf.new }
 {
@@ -118,8 +118,8 @@ fn write(rt: &(impl Print + Eprint), bytes: &[u8]) -> bool {
     }
 }
 
-// The lines of all listed steps, in list order, as many at once as have their texts in the buffers, as long as they can be written; whether
-// all were. The texts of the first `held` steps are in the buffers.
+// The lines of all listed steps, in list order, as many at once as have their texts in the buffers, as long as they
+// can be written; whether all were. The texts of the first `held` steps are in the buffers.
 fn write_steps<R: Print + Eprint>(
     rt: &R,
     bundle: &[u8],

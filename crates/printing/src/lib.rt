@@ -8,7 +8,6 @@ ghost use Rattle.printing.specs.Writes.{line_room, step_room, place_room, refuse
 
 use answers::Placed;
 use slices::bytes::{copy_at, zero_bytes_from};
-use slices::words::at;
 
 // Writes s from place `from` on, and gives the place behind it.
 fn put(line: &mut [u8], from: usize, s: &[u8]) -> usize
@@ -93,10 +92,8 @@ fn put_steps(line: &mut [u8], from: usize, steps: &[u32]) -> usize
     ensures { PutsUpTo (21 * length steps.now) (spaced steps.now) line.old from line.new result }
 {
     let mut behind = from;
-    let mut i = 0;
-    while i < steps.len() {
-        behind = put_worded(line, behind, b" ", at(steps, i));
-        i += 1;
+    for &step in steps {
+        behind = put_worded(line, behind, b" ", step as usize);
     }
     behind
 }
@@ -129,7 +126,8 @@ fn put_head(line: &mut [u8], from: usize, place: usize, count: usize) -> usize
     put(line, bracket, b"] ")
 }
 
-// "a line for each listed step, with its place in the list, the list's length and its `command` text", from place `from` on.
+// "a line for each listed step, with its place in the list, the list's length and its `command` text", from place
+// `from` on.
 pub fn put_step_line(line: &mut [u8], from: usize, place: usize, count: usize, text: &[u8]) -> usize
     requires { from + (length text.now + step_room) ≤ length line.old }
     ensures { PutsUpTo (length text.now + step_room) (step_line_of place count text.now) line.old from line.new result }

@@ -1,4 +1,5 @@
 -- The start of the output: what the line holds, and that what is written in all is right.
+use Rattle.std.specs.Prelude.{Ok, Err}
 use Prim.Native.Nat.{ℕ, ◌-◌, ◌≤◌}
 use native.Mathlib.Omega.{arith}
 use mathlib.Core.List.{List, [], ◌∷◌, append-nil}
@@ -19,7 +20,6 @@ use Rattle.report_output.specs.declared.Begun.TheVariants.{Whole, Refusal, Steps
 use Rattle.report_output.specs.Output.{Checks, fine, stopped, check_texts, checked_output, list_output, step_lines, Outputs}
 use Rattle.report_output.specs.Opens.{whole, refusal, to_come, starts_as, Opening, whole_output, refusing, refusal_line, OpensReport}
 use Rattle.report.specs.Begins.{checked_opening, list_opening, plan_opening, HeldBy, OpensHolding, written_by, StartWithin, Rooms, Planned, BeginsReport}
-use Rattle.report.specs.declared.Checked.TheVariants.{All, Refused}
 use Rattle.report.specs.Held.{AllFine, CheckedIs}
 use Rattle.spec.proofs.Answers.{refusal_not_0}
 use Rattle.answer_places.proofs.Siting.{sited_plan}
@@ -59,7 +59,7 @@ unfolding list_opening
 list_some bundle [] e = absurd (e refl)
 list_some bundle (s ∷ steps) e = refl
 
-pub list_fine : (bundle steps d f bytes ends : List ℕ) (n : ℕ) → (length steps ≡ 0 → ⊥) → CheckedIs bundle steps bytes ends (All n) → f ≡ zeroed d 0 (length d)
+pub list_fine : (bundle steps d f bytes ends : List ℕ) (n : ℕ) → (length steps ≡ 0 → ⊥) → CheckedIs bundle steps bytes ends (Ok n) → f ≡ zeroed d 0 (length d)
     → OpensHolding (list_opening bundle steps) bundle steps d (Steps (length steps) n) f bytes ends
 unfolding checked_opening zeroed filled CheckedIs
 list_fine bundle steps d f bytes ends n h c w =
@@ -70,7 +70,7 @@ list_fine bundle steps d f bytes ends n h c w =
       held = rw t c;
     }
 
-pub list_stopped : (bundle steps d f bytes ends : List ℕ) (x : Two) {r : Begun} → (length steps ≡ 0 → ⊥) → CheckedIs bundle steps bytes ends (Refused x)
+pub list_stopped : (bundle steps d f bytes ends : List ℕ) (x : Two) {r : Begun} → (length steps ≡ 0 → ⊥) → CheckedIs bundle steps bytes ends (Err x)
     → OpensReport (refusing (refusal_line bundle (said x))) d r f → OpensHolding (list_opening bundle steps) bundle steps d r f bytes ends
 unfolding checked_opening CheckedIs
 list_stopped bundle steps d f bytes ends x h c p = opens_refusing (refusal_line bundle (said x)) (list_some bundle steps h ∙ ap (checked_opening bundle (length steps)) (sym c)) p

@@ -1,4 +1,6 @@
 -- Readings for texts, one behind another: the check of all texts, and the lines of those that are held.
+use Rattle.std.specs.Prelude.{Result, Ok, Err}
+use Rattle.std.specs.Result.{result_unwrap_or}
 use Prim.Native.Nat.{ℕ, ◌+◌, ◌≤◌, ◌<◌}
 use native.Mathlib.Omega.{arith}
 use mathlib.Core.List.{List, ◌++◌}
@@ -10,8 +12,6 @@ use Rattle.answers.specs.declared.Numbers.{Numbers as Two}
 use Rattle.printing.specs.Writes.{LeavesOutput}
 use Rattle.report_lines.specs.Cut.{TextsInOrder, cut_texts, lines_of_texts, CutWanted}
 use Rattle.report_output.specs.Output.{fine, check_texts, step_lines}
-use Rattle.report.specs.declared.TextsRead.TheVariants.{Held, Refused as NotHeld}
-use Rattle.report.specs.declared.Checked.TheVariants.{All, Refused}
 use Rattle.report.specs.declared.Lines.{Lines}
 use Rattle.report.specs.Held.{AreCommands, HeldTexts, TextRooms, TextsWanted, HoldsSome, AskedIs, AllFine, CheckedIs, ToWrite, LineRooms, NextWanted, LinesWanted, MakesLines}
 use Rattle.report.proofs.Texts.{front_filled, commands_pass, commands_lines, lines_apart}
@@ -49,14 +49,14 @@ module _ {bundle steps bytes₀ ends₀ bytes ends : List ℕ} {i : ℕ} (k : i 
       }
 
   module _ (bytes₁ ends₁ : List ℕ) where
-    asked_some : (n : ℕ) → AskedIs bundle (part steps i (length steps)) bytes₁ ends₁ (Held n) → HoldsSome bundle (drop i steps) bytes₁ ends₁ n
+    asked_some : (n : ℕ) → AskedIs bundle (part steps i (length steps)) bytes₁ ends₁ (Ok n) → HoldsSome bundle (drop i steps) bytes₁ ends₁ n
     unfolding AskedIs
     asked_some n a = rw (part_to_end steps i) at a
 
-    pub checking_more : (n : ℕ) → AskedIs bundle (part steps i (length steps)) bytes₁ ends₁ (Held n) → (0 < n) × (i + n ≤ length steps)
+    pub checking_more : (n : ℕ) → AskedIs bundle (part steps i (length steps)) bytes₁ ends₁ (Ok n) → (0 < n) × (i + n ≤ length steps)
     checking_more n a = ((asked_some n a).some, omega (arith, k, (asked_some n a).held.few, length-drop i steps))
 
-    pub checking_on : (n : ℕ) → length bytes₁ ≡ length bytes → length ends₁ ≡ length ends → AskedIs bundle (part steps i (length steps)) bytes₁ ends₁ (Held n)
+    pub checking_on : (n : ℕ) → length bytes₁ ≡ length bytes → length ends₁ ≡ length ends → AskedIs bundle (part steps i (length steps)) bytes₁ ends₁ (Ok n)
         → Checking bundle steps bytes₀ ends₀ bytes₁ ends₁ (i + n)
     checking_on n x y a =
         record {
@@ -67,19 +67,19 @@ module _ {bundle steps bytes₀ ends₀ bytes ends : List ℕ} {i : ℕ} (k : i 
         }
 
     -- All steps' texts are held: it was the first reading.
-    pub checking_all : (n : ℕ) → n ≡ length steps → AskedIs bundle (part steps i (length steps)) bytes₁ ends₁ (Held n) → CheckedIs bundle steps bytes₁ ends₁ (All n)
+    pub checking_all : (n : ℕ) → n ≡ length steps → AskedIs bundle (part steps i (length steps)) bytes₁ ends₁ (Ok n) → CheckedIs bundle steps bytes₁ ends₁ (Ok n)
     unfolding CheckedIs
     checking_all n e a =
         let z : i ≡ 0 = omega (arith, k, e, (asked_some n a).held.few, length-drop i steps) in
         let h : HeldTexts bundle steps bytes₁ ends₁ n = rw z at (asked_some n a).held in
         record { fine = sym (held_pass h ∙ none_left bundle steps n e); held = h }
 
-    pub checking_stops : (x : Two) → AskedIs bundle (part steps i (length steps)) bytes₁ ends₁ (NotHeld x) → CheckedIs bundle steps bytes₁ ends₁ (Refused x)
+    pub checking_stops : (x : Two) → AskedIs bundle (part steps i (length steps)) bytes₁ ends₁ (Err x) → CheckedIs bundle steps bytes₁ ends₁ (Err x)
     unfolding CheckedIs AskedIs
     checking_stops x a = a ∙ ap (check_texts bundle) (part_to_end steps i) ∙ c.rest
 
 pub checking_end : {bundle steps bytes₀ ends₀ bytes ends : List ℕ} {i : ℕ} → length steps ≤ i → Checking bundle steps bytes₀ ends₀ bytes ends i
-    → CheckedIs bundle steps bytes ends (All 0)
+    → CheckedIs bundle steps bytes ends (Ok 0)
 unfolding CheckedIs
 checking_end {bundle} {steps} {bytes₀} {ends₀} {bytes} {ends} {i} h c =
     record { fine = sym (sym c.rest ∙ none_left bundle steps i (omega (arith, c.within))); held = held_none bundle steps bytes ends }
@@ -90,16 +90,20 @@ module _ {bundle steps bytes ends : List ℕ} {held : ℕ} (w : NextWanted bundl
   pub next_held : (held ≡ 0 → ⊥) → HoldsSome bundle steps bytes ends held
   next_held h = record { some = omega (arith, h); held = w.rest.held }
 
-  pub next_asked : (n : ℕ) (bytes₁ ends₁ : List ℕ) → AskedIs bundle steps bytes₁ ends₁ (Held n) → HoldsSome bundle steps bytes₁ ends₁ n
+  next_asked : (n : ℕ) (bytes₁ ends₁ : List ℕ) → AskedIs bundle steps bytes₁ ends₁ (Ok n) → HoldsSome bundle steps bytes₁ ends₁ n
   unfolding AskedIs
   next_asked n bytes₁ ends₁ a = a
 
   -- All texts are checked.
-  pub next_refused : {A : Type 0} (x : Two) (bytes₁ ends₁ : List ℕ) → AskedIs bundle steps bytes₁ ends₁ (NotHeld x) → A
+  next_refused : {A : Type 0} (x : Two) (bytes₁ ends₁ : List ℕ) → AskedIs bundle steps bytes₁ ends₁ (Err x) → A
   unfolding AskedIs
   next_refused x bytes₁ ends₁ a =
       let e = a ∙ sym w.rest.fine in
       absurd (let z : ◌≡◌ {A = ℕ} 0 1 = cc in omega arith)
+
+  pub next_or : (r : Result ℕ Two) (bytes₁ ends₁ : List ℕ) → AskedIs bundle steps bytes₁ ends₁ r → HoldsSome bundle steps bytes₁ ends₁ (result_unwrap_or r 0)
+  next_or (Ok n) bytes₁ ends₁ a = next_asked n bytes₁ ends₁ a
+  next_or (Err x) bytes₁ ends₁ a = next_refused x bytes₁ ends₁ a
 
 -- What was to be written is the lines that were made, and those from the next place on.
 lines_on : (bundle steps : List ℕ) {out out_exit : List ℕ} {r : ℕ} (place n : ℕ) → LeavesOutput (step_lines bundle (length steps) place (take n (drop place steps))) out r out_exit

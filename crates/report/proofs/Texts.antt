@@ -1,4 +1,5 @@
 -- Texts in the buffers: what a reading for them gives, and the check of all texts.
+use Rattle.std.specs.Prelude.{Result, Ok, Err, MatchResult, IsErrAnd}
 use Prim.Native.Nat.{ℕ, zero, suc, ◌+◌, ◌-◌, ◌≤◌, ◌<◌}
 use native.Mathlib.Omega.{arith}
 use mathlib.Core.Bool.{true, false}
@@ -18,13 +19,11 @@ use Rattle.spec.specs.TextAsk.{TextOutcome, text, no_text, text_read, text_ask}
 use Rattle.spec.specs.Promises.{filled}
 use Rattle.answers.specs.declared.Numbers.{Numbers as Two}
 use Rattle.answers.specs.Numbers.{said}
-use Rattle.text_batch.specs.declared.TextsAnswer.TheVariants.{Written, Refused}
 use Rattle.text_batch.specs.TextsAsk.{TextsOutcome, texts, no_texts, in_front, on_text, has_room, texts_from, endable, texts_ask, ends_from}
 use Rattle.text_batch.specs.TextsPromise.{texts_says, Are, TextsMeets}
 use Rattle.text_batch.proofs.Asked.{on_read, each_asked, texts_leading, texts_progress}
 use Rattle.report_lines.specs.Cut.{TextsInOrder, cut_texts, lines_of_texts}
 use Rattle.report_output.specs.Output.{command_text, stopped, after_text, check_texts, step_line, step_lines}
-use Rattle.report.specs.declared.TextsRead.TheVariants.{Held, Refused as NotHeld}
 use Rattle.report.specs.Held.{AreCommands, TextsWanted, HoldsSome, AskedIs}
 use Rattle.spec.proofs.Answers.{refusal_not_0}
 
@@ -169,7 +168,7 @@ module _ (bundle : List ℕ) where
 
 module _ (bundle steps bytes ends bytes_exit ends_exit : List ℕ) (w : TextsWanted steps bytes ends) where
   held_of : (ts : List (List ℕ)) (n : ℕ) → texts_ask bundle steps Command (length bytes) (length ends) ≡ texts ts → length ends_exit ≡ length ends
-      → Are (texts_says (Written n)) bytes_exit ends_exit (says 0 (length ts)) (filled (concat ts) bytes) (filled (ends_from 0 ts) ends)
+      → Are (texts_says (Ok n)) bytes_exit ends_exit (says 0 (length ts)) (filled (concat ts) bytes) (filled (ends_from 0 ts) ends)
       → HoldsSome bundle steps bytes_exit ends_exit n
   unfolding texts_says command_text filled
   held_of ts n q k a =
@@ -189,25 +188,32 @@ module _ (bundle steps bytes ends bytes_exit ends_exit : List ℕ) (w : TextsWan
       }
 
   held_by : (o : TextsOutcome) (n : ℕ) → texts_ask bundle steps Command (length bytes) (length ends) ≡ o → length ends_exit ≡ length ends
-      → TextsMeets o bytes ends (texts_says (Written n)) bytes_exit ends_exit → HoldsSome bundle steps bytes_exit ends_exit n
+      → TextsMeets o bytes ends (texts_says (Ok n)) bytes_exit ends_exit → HoldsSome bundle steps bytes_exit ends_exit n
   unfolding TextsMeets texts_says number_of_refusal
   held_by (texts ts) n q k m = held_of ts n q k m
   held_by (no_texts r) n q k m = absurd (refusal_not_0 r (sym (ap (λ (x : Said). x.number) m.says)))
 
   refused_by : (o : TextsOutcome) (r : Refusal) → texts_ask bundle steps Command (length bytes) (length ends) ≡ o
-      → TextsMeets o bytes ends (texts_says (Refused r)) bytes_exit ends_exit → stopped (refusal_says r) ≡ check_texts bundle steps
+      → TextsMeets o bytes ends (texts_says (Err r)) bytes_exit ends_exit → stopped (refusal_says r) ≡ check_texts bundle steps
   unfolding TextsMeets texts_says number_of_refusal
   refused_by (texts ts) r q m = absurd (refusal_not_0 r (ap (λ (x : Said). x.number) m.says))
   refused_by (no_texts x) r q m = ap stopped m.says ∙ texts_refused bundle steps (length bytes) (length ends) x w.rooms.bytes_room w.some q
 
-  pub asked_held : (n : ℕ) → length ends_exit ≡ length ends
-      → TextsMeets (texts_ask bundle steps Command (length bytes) (length ends)) bytes ends (texts_says (Written n)) bytes_exit ends_exit
-      → AskedIs bundle steps bytes_exit ends_exit (Held n)
+  asked_held : (n : ℕ) → length ends_exit ≡ length ends
+      → TextsMeets (texts_ask bundle steps Command (length bytes) (length ends)) bytes ends (texts_says (Ok n)) bytes_exit ends_exit
+      → AskedIs bundle steps bytes_exit ends_exit (Ok n)
   unfolding AskedIs
   asked_held n k m = held_by (texts_ask bundle steps Command (length bytes) (length ends)) n refl k m
 
-  pub asked_refused : (r : Refusal) (x : Two) → said x ≡ refusal_says r
-      → TextsMeets (texts_ask bundle steps Command (length bytes) (length ends)) bytes ends (texts_says (Refused r)) bytes_exit ends_exit
-      → AskedIs bundle steps bytes_exit ends_exit (NotHeld x)
+  asked_refused : (r : Refusal) (x : Two) → said x ≡ refusal_says r
+      → TextsMeets (texts_ask bundle steps Command (length bytes) (length ends)) bytes ends (texts_says (Err r)) bytes_exit ends_exit
+      → AskedIs bundle steps bytes_exit ends_exit (Err x)
   unfolding AskedIs
   asked_refused r x e m = ap stopped e ∙ refused_by (texts_ask bundle steps Command (length bytes) (length ends)) r refl m
+
+  pub asked : (a : Result ℕ Refusal) (r : Result ℕ Two) → MatchResult a (λ n. r ≡ Ok n) (λ e. IsErrAnd r (λ x. said x ≡ refusal_says e)) → length ends_exit ≡ length ends
+      → TextsMeets (texts_ask bundle steps Command (length bytes) (length ends)) bytes ends (texts_says a) bytes_exit ends_exit
+      → AskedIs bundle steps bytes_exit ends_exit r
+  asked (Ok n) r q k m = rw q (asked_held n k m)
+  asked (Err e) (Ok n) q k m = elim q [ ]
+  asked (Err e) (Err x) q k m = asked_refused e x q m

@@ -1,16 +1,13 @@
 -- Texts that stand in lent buffers: end to end in one of bytes, and where each ends in one of numbers.
-use Rattle.std.specs.Prelude.{ℕ, ◌+◌, ◌*◌, ◌≤◌, ◌<◌, List, [], ◌∷◌, ◌++◌, ◌≡◌, length, take, drop}
+use Rattle.std.specs.Prelude.{ℕ, ◌+◌, ◌*◌, ◌≤◌, ◌<◌, List, [], ◌∷◌, ◌++◌, ◌≡◌, length, take, drop, Result, Ok, Err}
 use Rattle.spec.specs.Limits.{max_text}
 use Rattle.spec.specs.TextAsk.{text}
 use Rattle.answers.specs.Numbers.{said}
 use Rattle.printing.specs.Writes.{step_room, LeavesOutput}
 use Rattle.report_lines.specs.Cut.{TextsInOrder, cut_texts}
 use Rattle.report_output.specs.Output.{fine, stopped, command_text, check_texts, step_lines}
-use Rattle.report.specs.declared.TextsRead.{TextsRead}
-use Rattle.report.specs.declared.TextsRead.TheVariants.{Held, Refused as NotHeld}
-use Rattle.report.specs.declared.Checked.{Checked}
-use Rattle.report.specs.declared.Checked.TheVariants.{All, Refused}
 use Rattle.report.specs.declared.Lines.{Lines}
+use Rattle.answers.specs.declared.Numbers.{Numbers}
 
 -- these are the `command` texts of these steps
 unfoldable pub AreCommands : List ℕ → List ℕ → List (List ℕ) → Type 0
@@ -43,10 +40,10 @@ pub record HoldsSome (bundle steps bytes ends : List ℕ) (n : ℕ) : Type 0 whe
   pub some : 0 < n
   pub held : HeldTexts bundle steps bytes ends n
 
-unfoldable pub AskedIs : List ℕ → List ℕ → List ℕ → List ℕ → TextsRead → Type 0
+unfoldable pub AskedIs : List ℕ → List ℕ → List ℕ → List ℕ → Result ℕ Numbers → Type 0
 unfolding check_texts
-AskedIs bundle steps bytes ends (Held n) = HoldsSome bundle steps bytes ends n
-AskedIs bundle steps bytes ends (NotHeld x) = stopped (said x) ≡ check_texts bundle steps
+AskedIs bundle steps bytes ends (Ok n) = HoldsSome bundle steps bytes ends n
+AskedIs bundle steps bytes ends (Err x) = stopped (said x) ≡ check_texts bundle steps
 
 -- ------------------------------------------------------------------ the check of all texts
 
@@ -55,10 +52,10 @@ pub record AllFine (bundle steps bytes ends : List ℕ) (n : ℕ) : Type 0 where
   pub fine : fine ≡ check_texts bundle steps
   pub held : HeldTexts bundle steps bytes ends n
 
-unfoldable pub CheckedIs : List ℕ → List ℕ → List ℕ → List ℕ → Checked → Type 0
+unfoldable pub CheckedIs : List ℕ → List ℕ → List ℕ → List ℕ → Result ℕ Numbers → Type 0
 unfolding check_texts
-CheckedIs bundle steps bytes ends (All n) = AllFine bundle steps bytes ends n
-CheckedIs bundle steps bytes ends (Refused x) = stopped (said x) ≡ check_texts bundle steps
+CheckedIs bundle steps bytes ends (Ok n) = AllFine bundle steps bytes ends n
+CheckedIs bundle steps bytes ends (Err x) = stopped (said x) ≡ check_texts bundle steps
 
 -- ------------------------------------------------------------------ the lines
 

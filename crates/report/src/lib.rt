@@ -7,7 +7,7 @@ ghost use Rattle.answers.specs.Numbers.{said};
 ghost use Rattle.report.specs.Begins.{list_opening, plan_opening, OpensHolding, Rooms, ListRooms, Planned, BeginsReport};
 ghost use Rattle.report.specs.Held.{TextRooms, TextsWanted, AskedIs, CheckedIs, NextWanted, HoldsSome, LinesWanted, MakesLines};
 
-use answers::{Numbers, of_plan, of_refusal};
+use answers::{Numbers, of_refusal, of_reply};
 use asks::{plan, texts};
 use printing::say_no_work;
 use report_bundle::no_lists;
@@ -15,21 +15,6 @@ use report_lines::text_lines;
 use report_output::{Begun, refuse, refuse_circle};
 use slices::bytes::zero_bytes_from;
 use spec::Wanted;
-use text_batch::TextsAnswer;
-
-// What a reading for texts gives: how many leading steps have their texts in the buffers, or the first refusal.
-#[derive(Clone, Copy)]
-pub enum TextsRead {
-    Held(usize),
-    Refused(Numbers),
-}
-
-// What the check of all texts finds: that each listed step has one, and for how many first steps the buffers hold them; or the first refusal.
-#[derive(Clone, Copy)]
-pub enum Checked {
-    All(usize),
-    Refused(Numbers),
-}
 
 // Lines that were made: of so many steps, and so many bytes long.
 #[derive(Clone, Copy)]
@@ -39,36 +24,37 @@ pub struct Lines {
 }
 
 // One reading: the texts of as many of the steps as have room.
-fn ask_texts(bundle: &[u8], steps: &[u32], bytes: &mut [u8], ends: &mut [u32]) -> TextsRead
+fn ask_texts(
+    bundle: &[u8],
+    steps: &[u32],
+    bytes: &mut [u8],
+    ends: &mut [u32],
+) -> Result<usize, Numbers>
     requires { TextsWanted steps.now bytes.old ends.old }
     ensures { AskedIs bundle.now steps.now bytes.new ends.new result }
 {
-    match texts(bundle, steps, Wanted::Command, bytes, ends) {
-        TextsAnswer::Written(n) => TextsRead::Held(n),
-        TextsAnswer::Refused(r) => TextsRead::Refused(of_refusal(r)),
-    }
+    texts(bundle, steps, Wanted::Command, bytes, ends).map_err(of_refusal)
 }
 
 // "Texts are all checked, in list order": by one reading, where the buffers have room for all.
-fn check_texts(bundle: &[u8], steps: &[u32], bytes: &mut [u8], ends: &mut [u32]) -> Checked
+fn check_texts(
+    bundle: &[u8],
+    steps: &[u32],
+    bytes: &mut [u8],
+    ends: &mut [u32],
+) -> Result<usize, Numbers>
     requires { TextRooms bytes.old ends.old }
     ensures { CheckedIs bundle.now steps.now bytes.new ends.new result }
 {
     let mut i = 0;
     while i < steps.len() {
-        match ask_texts(bundle, &steps[i..], bytes, ends) {
-            TextsRead::Held(n) => {
-                if n == steps.len() {
-                    return Checked::All(n);
-                }
-                i += n;
-            }
-            TextsRead::Refused(n) => {
-                return Checked::Refused(n);
-            }
+        let n = ask_texts(bundle, &steps[i..], bytes, ends)?;
+        if n == steps.len() {
+            return Ok(n);
         }
+        i += n;
     }
-    Checked::All(0)
+    Ok(0)
 }
 
 // The start of the output for a list.
@@ -86,11 +72,11 @@ fn begin_list(
         return Begun::Whole(say_no_work(line));
     }
     match check_texts(bundle, steps, bytes, ends) {
-        Checked::All(held) => {
+        Ok(held) => {
             zero_bytes_from(line, 0);
             Begun::Steps(steps.len(), held)
         }
-        Checked::Refused(n) => refuse(line, bundle, n),
+        Err(n) => refuse(line, bundle, n),
     }
 }
 
@@ -116,7 +102,8 @@ fn begin_planned(
     refuse(line, bundle, n)
 }
 
-// Asks for the plan, with no header lists, and checks all texts. The output is whole in the line, or the line of each listed step is to be written.
+// Asks for the plan, with no header lists, and checks all texts. The output is whole in the line, or the line of each
+// listed step is to be written.
 pub fn begin(
     bundle: &[u8],
     card: &[u8],
@@ -130,7 +117,7 @@ pub fn begin(
     ensures { BeginsReport (inputs_of bundle.now card.now targets.now no_lists) list.old line.old result list.new line.new bytes.new ends.new }
 {
     let lists = no_lists();
-    let n = of_plan(plan(bundle, &lists, card, targets, list));
+    let n = of_reply(plan(bundle, &lists, card, targets, list));
     begin_planned(bundle, n, list, line, bytes, ends)
 }
 
@@ -142,14 +129,12 @@ fn hold_next(bundle: &[u8], steps: &[u32], held: usize, bytes: &mut [u8], ends: 
     if held != 0 {
         return held;
     }
-    match ask_texts(bundle, steps, bytes, ends) {
-        TextsRead::Held(n) => n,
-        // never met: all texts are checked
-        TextsRead::Refused(_) => 0,
-    }
+    // all texts are checked, so that none is refused here
+    ask_texts(bundle, steps, bytes, ends).unwrap_or(0)
 }
 
-// The lines of the steps from `place` on, as many as have their texts in the buffers, once a reading was made for them where none are held.
+// The lines of the steps from `place` on, as many as have their texts in the buffers, once a reading was made for them
+// where none are held.
 pub fn next_lines(
     bundle: &[u8],
     steps: &[u32],

@@ -8,7 +8,8 @@ ghost use Rattle.report_bundle.specs.Lends.{alone_room, LendsAlone};
 use scan_bundle::wrap;
 use spec::limits::MANIFEST;
 
-// The bundle of `build.ninja` alone, in a lent buffer: its length. Of a text over the limit one byte more is lent, so that it is seen to be too long.
+// The bundle of `build.ninja` alone, in a lent buffer: its length. Of a text over the limit one byte more is lent, so
+// that it is seen to be too long.
 pub fn lend_alone(manifest: &[u8], bundle: &mut [u8]) -> usize
     requires { alone_room ≤ length bundle.old }
     ensures { LendsAlone manifest.now bundle.old bundle.new result }

@@ -13,14 +13,13 @@ pub fn text_lines(place: usize, count: usize, bytes: &[u8], ends: &[u32], out: &
     requires { CutWanted bytes.now ends.now out.old place count }
     ensures { LeavesOutput (lines_of_texts count place (cut_texts bytes.now 0 ends.now)) out.old result out.new }
 {
-    let mut i = 0;
     let mut from = 0;
     let mut behind = 0;
-    while i < ends.len() {
+    // by index: the number in a line counts with it
+    for i in 0..ends.len() {
         let end = at(ends, i);
         behind = put_step_line(out, behind, place + i + 1, count, &bytes[from..end]);
         from = end;
-        i += 1;
     }
     zero_bytes_from(out, behind);
     behind

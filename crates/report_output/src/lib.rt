@@ -11,8 +11,9 @@ use answer_places::locate;
 use answers::Numbers;
 use printing::{say_circle, say_refused};
 
-// How the output begins: the line holds all of it, this many bytes, which say that there is no work or that the planner refuses; or the
-// lines of this many steps are to come, and for so many of the first the buffers hold the texts.
+// How the output begins: the line holds all of it, this many bytes, which say that there is no work or that the
+// planner refuses; or the lines of this many steps are to come, and for so many of the first the buffers hold the
+// texts.
 #[derive(Clone, Copy)]
 pub enum Begun {
     Whole(usize),

@@ -1,4 +1,5 @@
 -- The answers by their cases, and the depths copied.
+use Rattle.std.specs.Prelude.{Option, Some, None, Result, Ok, Err, Float}
 use Prim.Native.Nat.{ℕ, suc, ◌+◌, ◌-◌, ◌*◌, ◌≤◌, ◌<◌}
 use mathlib.Core.Bool.{Bool, true, false}
 use mathlib.Core.List.{List, ◌++◌, append-nil}
@@ -13,13 +14,8 @@ use lib.Seq.{paste, paste-zero, paste-suc, length-paste, length-take-le, take-le
 use Rattle.lists.specs.Tests.{split}
 use Rattle.lists.specs.Fill.{zeros, length_zeros, get_or_zeros}
 use Rattle.run_rules.specs.declared.Job.{Job}
-use Rattle.run_rules.specs.declared.FinishAnswer.{FinishAnswer}
-use Rattle.run_rules.specs.declared.FinishAnswer.TheVariants.{Noted, NotRunning}
-use Rattle.run_rules.specs.declared.Gate.{Gate}
 use Rattle.run_rules.specs.Runner.{finish_of, next_start}
 use Rattle.run_rules.specs.Places.{job_place}
-use Rattle.run_core.specs.declared.StartAnswer.{StartAnswer}
-use Rattle.run_core.specs.declared.StartAnswer.TheVariants.{Starts, NoneStarts}
 use Rattle.run_core.specs.Numbers.{jobs_in, given_in}
 use Rattle.run_core.specs.Passes.{start_answer}
 use Rattle.run_columns.specs.declared.Change.{Change}
@@ -29,30 +25,30 @@ use Rattle.run_columns.specs.Changes.{no_change, short_change, end_state, finish
 use Rattle.run_columns.specs.Chosen.{start_steps, start_pools, asked_gate, depths_of, asked_given, start_change, started_in}
 
 -- ---- finish_at
-module _ (t : List Job) (s : ℕ) (good : Bool) {f : FinishAnswer} (e : f ≡ finish_of t s) where
-  pub finish_noted_law : {p w : ℕ} → f ≡ Noted → p ≡ job_place s 1 t → w ≡ end_state good → record { place = p; state = w; number = 0; step = s } ≡ finish_change t s good (finish_of t s)
+module _ (t : List Job) (s : ℕ) (good : Bool) {f : Result Unit ℕ} (e : f ≡ finish_of t s) where
+  pub finish_noted_law : {p w : ℕ} → f ≡ (Ok tt) → p ≡ job_place s 1 t → w ≡ end_state good → record { place = p; state = w; number = 0; step = s } ≡ finish_change t s good (finish_of t s)
   unfolding finish_change
   finish_noted_law d p w = rw (sym e ∙ d, p, w)
 
-  pub finish_refused : {n k : ℕ} {r : Change} → f ≡ NotRunning k → n ≡ length t → r ≡ no_change n 27 k → r ≡ finish_change t s good (finish_of t s)
+  pub finish_refused : {n k : ℕ} {r : Change} → f ≡ Err k → n ≡ length t → r ≡ no_change n 27 k → r ≡ finish_change t s good (finish_of t s)
   unfolding finish_change
   finish_refused d l h = rw (sym e ∙ d, ← l) h
 
 -- ---- start_made
-module _ (t : List Job) {f : StartAnswer} where
-  pub start_none : {n : ℕ} {r : Change} → f ≡ NoneStarts → n ≡ length t → r ≡ no_change n 0 0 → r ≡ start_change t f
+module _ (t : List Job) {f : Option ℕ} where
+  pub start_none : {n : ℕ} {r : Change} → f ≡ None → n ≡ length t → r ≡ no_change n 0 0 → r ≡ start_change t f
   unfolding start_change
   start_none d l h = rw (d, ← l) h
 
-  pub start_some : {p s : ℕ} → f ≡ Starts s → p ≡ job_place s 0 t → record { place = p; state = 1; number = 0; step = s } ≡ start_change t f
+  pub start_some : {p s : ℕ} → f ≡ Some s → p ≡ job_place s 0 t → record { place = p; state = 1; number = 0; step = s } ≡ start_change t f
   unfolding start_change
   start_some d p = rw (d, p)
 
 -- ---- start_in, start_at
 module _ (t : List Job) (gs : List ℕ) (a : StartAsk) {r : Change} where
-  pub start_gated : {f : StartAnswer} {g : Gate} (n : ℕ) (room : List ℕ) → r ≡ start_change t f → f ≡ start_answer (next_start (given_in n gs room a.limit g) a.load t) → g ≡ asked_gate a
+  pub start_gated : {f : Option ℕ} {g : Option Float} (n : ℕ) (room : List ℕ) → r ≡ start_change t f → f ≡ start_answer (next_start (given_in n gs room a.limit g) a.load t) → g ≡ asked_gate a
       → r ≡ start_change t (start_answer (next_start (given_in n gs room a.limit (asked_gate a)) a.load t))
-  start_gated n room e d q = e ∙ ap (start_change t) (d ∙ ap (λ (g : Gate). start_answer (next_start (given_in n gs room a.limit g) a.load t)) q)
+  start_gated n room e d q = e ∙ ap (start_change t) (d ∙ ap (λ (g : Option Float). start_answer (next_start (given_in n gs room a.limit g) a.load t)) q)
 
   pub start_spaced : (ds : List ℕ) {n k : ℕ} {room : List ℕ} → n ≡ start_steps → k ≡ start_pools → room ≡ depths_of ds k → r ≡ start_change t (start_answer (next_start (given_in n gs room a.limit (asked_gate a)) a.load t))
       → r ≡ start_change t (start_answer (next_start (asked_given gs ds a) a.load t))

@@ -1,9 +1,7 @@
 -- What becomes of a table: the record that changes, and the answer.
-use Rattle.std.specs.Prelude.{ℕ, Bool, cond, List, length, set, get_or}
+use Rattle.std.specs.Prelude.{ℕ, Bool, cond, List, length, set, get_or, Result, Ok, Err}
 use Rattle.lists.specs.Tests.{if_b}
 use Rattle.run_rules.specs.declared.Job.{Job}
-use Rattle.run_rules.specs.declared.FinishAnswer.{FinishAnswer}
-use Rattle.run_rules.specs.declared.FinishAnswer.TheVariants.{Noted, NotRunning}
 use Rattle.run_rules.specs.Runner.{turned, finish_of}
 use Rattle.run_rules.specs.Places.{job_place}
 use Rattle.run_core.specs.Numbers.{no_job}
@@ -30,10 +28,10 @@ abbrev pub end_state : Bool → ℕ
 end_state good = cond good 2 3
 
 -- noted of step s, or refused
-unfoldable pub finish_change : List Job → ℕ → Bool → FinishAnswer → Change
+unfoldable pub finish_change : List Job → ℕ → Bool → Result Unit ℕ → Change
 unfolding job_place
-finish_change t s good Noted = record { place = job_place s 1 t; state = end_state good; number = 0; step = s }
-finish_change t s good (NotRunning k) = no_change (length t) 27 k
+finish_change t s good (Ok tt) = record { place = job_place s 1 t; state = end_state good; number = 0; step = s }
+finish_change t s good (Err k) = no_change (length t) 27 k
 
 unfoldable pub finished_in : ℕ → List ℕ → ℕ → Bool → Change
 unfolding enough table_in finish_of finish_change short_change

@@ -1,15 +1,11 @@
 -- What a start makes of a table: which step starts, with what it is asked and lent.
-use Rattle.std.specs.Prelude.{ℕ, List, ◌++◌, length, take}
+use Rattle.std.specs.Prelude.{ℕ, List, ◌++◌, length, take, Option as StdOption, Some, None, Float}
 use Rattle.std.proofs.Math.Option.{Option, none, some}
 use Rattle.lists.specs.Tests.{if_b}
 use Rattle.lists.specs.Fill.{zeros}
 use Rattle.run_rules.specs.declared.Job.{Job}
-use Rattle.run_rules.specs.declared.Gate.{Gate}
-use Rattle.run_rules.specs.declared.Gate.TheVariants.{Off, At}
 use Rattle.run_rules.specs.Runner.{Given, next_start, after_start}
 use Rattle.run_rules.specs.Places.{job_place}
-use Rattle.run_core.specs.declared.StartAnswer.{StartAnswer}
-use Rattle.run_core.specs.declared.StartAnswer.TheVariants.{Starts, NoneStarts}
 use Rattle.run_core.specs.Numbers.{given_in}
 use Rattle.run_core.specs.Passes.{start_answer}
 use Rattle.run_columns.specs.declared.Change.{Change}
@@ -25,8 +21,8 @@ abbrev pub start_pools : ℕ
 start_pools = 66
 
 -- "The load gate is off, or a highest load as a float"
-unfoldable pub asked_gate : StartAsk → Gate
-asked_gate a = if_b a.gated (λ _. At a.highest) (λ _. Off)
+unfoldable pub asked_gate : StartAsk → StdOption Float
+asked_gate a = if_b a.gated (λ _. Some a.highest) (λ _. None)
 
 -- the depths of n pools; a pool without one has 0
 unfoldable pub depths_of : List ℕ → ℕ → List ℕ
@@ -38,10 +34,10 @@ unfolding asked_gate depths_of
 asked_given gs ds a = given_in start_steps gs (depths_of ds start_pools) a.limit (asked_gate a)
 
 -- a step starts, or none: then no record changes
-unfoldable pub start_change : List Job → StartAnswer → Change
+unfoldable pub start_change : List Job → StdOption ℕ → Change
 unfolding job_place
-start_change t NoneStarts = no_change (length t) 0 0
-start_change t (Starts s) = record { place = job_place s 0 t; state = 1; number = 0; step = s }
+start_change t None = no_change (length t) 0 0
+start_change t (Some s) = record { place = job_place s 0 t; state = 1; number = 0; step = s }
 
 unfoldable pub started_table : List Job → Option ℕ → List Job
 unfolding after_start

@@ -11,16 +11,16 @@ ghost use Rattle.run_columns.specs.Changes.{no_change, end_state, finish_change,
 ghost use Rattle.run_columns.specs.Fresh.{fresh_job, fresh_count, fresh_number};
 ghost use Rattle.run_columns.specs.Chosen.{asked_gate, depths_of, asked_given, start_change, started_in};
 
-use run_core::{StartAnswer, finish_of, job_count, place_of, start_of};
-use run_rules::{FinishAnswer, Gate, Job};
+use run_core::{finish_of, job_count, place_of, start_of};
+use run_rules::Job;
 
 // As many steps as a plan can have, and pools: the empty one, `console` and 64.
 const STEPS: usize = 2048;
 
 const POOLS: usize = 66;
 
-// What becomes of the table, for C too: the place of the record that changes and the state it gets, or a place past the end and 0; the refusal's
-// number, 0 for none; the step that is named, or the refusal's place.
+// What becomes of the table, for C too: the place of the record that changes and the state it gets, or a place past
+// the end and 0; the refusal's number, 0 for none; the step that is named, or the refusal's place.
 #[repr(C)]
 #[derive(Clone, Copy)]
 pub struct Change {
@@ -30,7 +30,9 @@ pub struct Change {
     pub step: u32,
 }
 
-// What a start is asked with, for C too: the job limit, the load gate, on or off with its highest load, and the reading.
+// What a start is asked with, for C too: the job limit, the load gate, on or off with its highest load, and the
+// reading.
+// C hands the gate over as a flag and a number, so it is no `Option` here.
 #[repr(C)]
 #[derive(Clone, Copy)]
 pub struct StartAsk {
@@ -56,10 +58,7 @@ pub fn change_state(c: Change) -> u32
 fn number_at(a: &[u32], i: usize) -> u32
     ensures { result ≡ get_or a.now i 0 }
 {
-    if i < a.len() {
-        return a[i];
-    }
-    0
+    a.get(i).copied().unwrap_or(0)
 }
 
 // ---- a fresh table
@@ -148,13 +147,13 @@ fn finish_at(records: &[u32], step: u32, good: bool) -> Change
     ensures { result ≡ finish_change (jobs_in records.now) step good (finish_of (jobs_in records.now) step) }
 {
     match finish_of(records, step) {
-        FinishAnswer::Noted => Change {
+        Ok(()) => Change {
             place: place_of(records, step, 1),
             state: end_state(good),
             number: 0,
             step,
         },
-        FinishAnswer::NotRunning(s) => no_change(job_count(records), 27, s),
+        Err(s) => no_change(job_count(records), 27, s),
     }
 }
 
@@ -169,33 +168,28 @@ pub fn finish_change(columns: &[u32], n: usize, step: u32, good: bool) -> Change
 }
 
 // ---- a start
-fn gate_of(a: StartAsk) -> Gate
+fn gate_of(a: StartAsk) -> Option<f64>
     ensures { result ≡ asked_gate a }
 {
-    if a.gated {
-        return Gate::At(a.highest);
-    }
-    Gate::Off
+    a.gated.then_some(a.highest)
 }
 
 // The depths, as far as there is room for them; 0 for the rest.
 fn copy_depths(room: &mut [u32], depths: &[u32])
     ensures { room.new ≡ depths_of depths.now (length room.old) }
 {
-    let mut i = 0;
-    while i < room.len() {
+    for i in 0..room.len() {
         room[i] = number_at(depths, i);
-        i += 1;
     }
 }
 
 // The record that starts, or none.
-fn start_made(records: &[u32], answer: StartAnswer) -> Change
+fn start_made(records: &[u32], answer: Option<u32>) -> Change
     ensures { result ≡ start_change (jobs_in records.now) answer }
 {
     match answer {
-        StartAnswer::NoneStarts => no_change(job_count(records), 0, 0),
-        StartAnswer::Starts(s) => Change {
+        None => no_change(job_count(records), 0, 0),
+        Some(s) => Change {
             place: place_of(records, s, 0),
             state: 1,
             number: 0,

@@ -1,4 +1,5 @@
 -- What the marks and the room say is what the five conditions say, and the lowest step is found.
+use Rattle.std.specs.Prelude.{Option as StdOption, None}
 use Prim.Native.Nat.{ℕ, suc, ◌≤◌, ◌<◌}
 use mathlib.Core.Bool.{Bool, true, false, not, cond, ◌&&◌, ◌||◌}
 use mathlib.Core.List.{List, [], ◌∷◌}
@@ -14,14 +15,11 @@ use Rattle.lists.specs.Fill.{zeros}
 use Rattle.lists.specs.Members.{◌∈◌, any, any_true, any_false}
 use Rattle.lists.specs.Tests.{split, differ, and_left, and_right}
 use Rattle.run_rules.specs.declared.Job.{Job}
-use Rattle.run_rules.specs.declared.Gate.{Gate}
 use Rattle.run_rules.specs.Runner.{Given, job_done, job_failed, running_jobs, running_in, not_started, upstream_done, pool_has_room, limit_allows}
 use Rattle.run_rules.specs.Runner.{heavy_load, load_forbids, failure_forbids, nothing_forbids, may_start, lower_of, lowest_step, next_start}
 use Rattle.run_rules.specs.Claims.{◌among◌, MayStart}
 use Rattle.run_rules.proofs.Tables.{any_jobs, jobs_any}
 use Rattle.run_rules.proofs.Starts.{heavy_is, upstream_is, is_upstream, no_start}
-use Rattle.run_core.specs.declared.StartAnswer.{StartAnswer}
-use Rattle.run_core.specs.declared.StartAnswer.TheVariants.{NoneStarts}
 use Rattle.run_core.specs.Numbers.{no_job, given_in}
 use Rattle.run_core.specs.Passes.{pending_marks, rows_marks, room_left, room_in, ready_job, start_answer, lower_start, looked_at, held_back, starts_shut}
 use Rattle.run_core.proofs.Rows.{pending_in, marks_test}
@@ -134,34 +132,34 @@ module _ (marks room : List ℕ) where
       (λ (e : ready_job marks room j ≡ false). rw e)
 
   -- The records from place i on were looked at.
-  pub record LookedFrom (t : List Job) (i : ℕ) (best : StartAnswer) : Type 0 where
+  pub record LookedFrom (t : List Job) (i : ℕ) (best : StdOption ℕ) : Type 0 where
     pub within : i ≤ length t
     pub found : best ≡ start_answer (lowest_step (ready_job marks room) (drop i t))
 
-  pub look_begin : (t : List Job) {i : ℕ} → i ≡ length t → LookedFrom t i NoneStarts
+  pub look_begin : (t : List Job) {i : ℕ} → i ≡ length t → LookedFrom t i None
   unfolding start_answer
   look_begin t {i} e = record {
     within = omega arith;
     found = sym (ap start_answer (ap (λ (k : ℕ). lowest_step (ready_job marks room) (drop k t)) e ∙ ap (lowest_step (ready_job marks room)) (drop-length t) ∙ lowest_nil (ready_job marks room)));
   }
 
-  pub look_more : {t : List Job} {i k : ℕ} {best r : StartAnswer} {j : Job} → LookedFrom t i best → suc k ≡ i → j ≡ get_or t k no_job → r ≡ looked_at marks room j best → LookedFrom t k r
+  pub look_more : {t : List Job} {i k : ℕ} {best r : StdOption ℕ} {j : Job} → LookedFrom t i best → suc k ≡ i → j ≡ get_or t k no_job → r ≡ looked_at marks room j best → LookedFrom t k r
   look_more {t} {i} {k} {best} {r} {j} h e q d =
       let w : k < length t = (let z = h.within in omega arith) in
       record {
         within = omega arith;
         found =
-            d ∙ ap (λ (b : StartAnswer). looked_at marks room j b) (h.found ∙ ap (λ (i : ℕ). start_answer (lowest_step (ready_job marks room) (drop i t))) (sym e))
+            d ∙ ap (λ (b : StdOption ℕ). looked_at marks room j b) (h.found ∙ ap (λ (i : ℕ). start_answer (lowest_step (ready_job marks room) (drop i t))) (sym e))
             ∙ ap (λ (j : Job). looked_at marks room j (start_answer (lowest_step (ready_job marks room) (drop (suc k) t)))) q
             ∙ looked (get_or t k no_job) (lowest_step (ready_job marks room) (drop (suc k) t))
             ∙ ap start_answer (sym (ap (lowest_step (ready_job marks room)) (drop-cons t k no_job w) ∙ lowest_cons (ready_job marks room) (get_or t k no_job) (drop (suc k) t)));
       }
 
-  pub look_end : {t : List Job} {i : ℕ} {best : StartAnswer} → LookedFrom t i best → i ≡ 0 → best ≡ start_answer (lowest_step (ready_job marks room) t)
+  pub look_end : {t : List Job} {i : ℕ} {best : StdOption ℕ} → LookedFrom t i best → i ≡ 0 → best ≡ start_answer (lowest_step (ready_job marks room) t)
   look_end {t} h e = h.found ∙ ap (λ (i : ℕ). start_answer (lowest_step (ready_job marks room) (drop i t))) e
 
 -- ---- the start
-module _ (n : ℕ) (graph room : List ℕ) (limit : ℕ) (gate : Gate) (load : Float) (t : List Job) where
+module _ (n : ℕ) (graph room : List ℕ) (limit : ℕ) (gate : StdOption Float) (load : Float) (t : List Job) where
   abbrev given : Given
   given = given_in n graph room limit gate
 

@@ -1,4 +1,5 @@
 -- Each function's outcomes and turns of its loop, one law each.
+use Rattle.std.specs.Prelude.{Option, Some, None, Ok, Err}
 use Prim.Native.Nat.{ℕ, suc, ◌+◌, ◌*◌, ◌-◌, ◌/◌, ◌%◌, ◌≤◌, ◌<◌, min}
 use mathlib.Core.Bool.{Bool, true, false, ◌||◌}
 use mathlib.Core.List.{List, [], ◌∷◌}
@@ -7,21 +8,16 @@ use native.Mathlib.Numerals.{add-one}
 use native.Mathlib.Omega.{arith}
 use borrow.Author.Tests.{eq-eqb, ne_eqb, lt-ltb, le-ltb, ltb-true, ltb-false, le-leb, lt-leb}
 use lib.Dec.{eqb, ltb}
-use lib.Ieee.{Float, nan, inf, fin, is_nan, ne, lt, up, down}
+use lib.Ieee.{Float, is_nan, lt}
 use lib.ListN.{length, get_or, set, drop, get_or-eq_default}
 use lib.Seq.{drop-cons, drop-length, set_out, set-get_or}
 use Rattle.lists.specs.Fill.{zeros, zeroed, zeroed_all}
 use Rattle.lists.specs.Members.{any, any_cons, any_none}
 use Rattle.lists.specs.Tests.{split}
 use Rattle.run_rules.specs.declared.Job.{Job}
-use Rattle.run_rules.specs.declared.Gate.{Gate}
-use Rattle.run_rules.specs.declared.Gate.TheVariants.{Off, At}
-use Rattle.run_rules.specs.declared.FinishAnswer.TheVariants.{Noted, NotRunning}
 use Rattle.run_rules.specs.Runner.{job_runs, job_failed, count_jobs, running_jobs, heavy_load, failure_forbids, lowest_step, next_start, job_is, finish_of}
 use Rattle.run_rules.specs.Places.{job_place}
 use Rattle.run_rules.proofs.Tables.{one, count_cons, count_nil}
-use Rattle.run_core.specs.declared.StartAnswer.{StartAnswer}
-use Rattle.run_core.specs.declared.StartAnswer.TheVariants.{Starts, NoneStarts}
 use Rattle.run_core.specs.Numbers.{no_job, given_in}
 use Rattle.run_core.specs.Passes.{marked_job, pending_marks, turn_flag, turn_marks, rows_marks, taken_room, room_left, room_in, held_back, starts_shut, ready_job, start_answer, lower_start, looked_at}
 use Rattle.run_core.proofs.Table.{PassedTo, pass_more, pass_end}
@@ -203,28 +199,20 @@ module _ {t : List Job} where
       sym (ap (any job_failed) (ap (λ (k : ℕ). drop k t) z ∙ drop-length t) ∙ any_none job_failed) ∙ h.rest
 
 -- ---- is_heavy, held_back, starts_shut
-ne_itself : (x : Float) → ne x x ≡ is_nan x
-unfolding ne is_nan
-ne_itself nan = refl
-ne_itself (inf true) = refl
-ne_itself (inf false) = refl
-ne_itself (fin true m e) = rw (eq-eqb (m * up e * down e) (m * up e * down e) refl)
-ne_itself (fin false m e) = rw (eq-eqb (m * up e * down e) (m * up e * down e) refl)
-
 module _ (highest load : Float) where
-  pub heavy_nan : ne load load ≡ true → true ≡ heavy_load (At highest) load
+  pub heavy_nan : is_nan load ≡ true → true ≡ heavy_load (Some highest) load
   unfolding heavy_load
-  heavy_nan e = let d : is_nan load ≡ true = sym (ne_itself load) ∙ e in rw d
+  heavy_nan d = rw d
 
-  pub heavy_above : ne load load ≡ false → lt highest load ≡ heavy_load (At highest) load
+  pub heavy_above : is_nan load ≡ false → lt highest load ≡ heavy_load (Some highest) load
   unfolding heavy_load
-  heavy_above e = let d : is_nan load ≡ false = sym (ne_itself load) ∙ e in rw d
+  heavy_above d = rw d
 
-pub heavy_off : (load : Float) → false ≡ heavy_load Off load
+pub heavy_off : (load : Float) → false ≡ heavy_load None load
 unfolding heavy_load
 heavy_off load = refl
 
-module _ (gate : Gate) (load : Float) where
+module _ (gate : Option Float) (load : Float) where
   pub held_none : {r : ℕ} → r ≡ 0 → false ≡ held_back r gate load
   unfolding held_back
   held_none {r} e = rw (eq-eqb r 0 e)
@@ -277,34 +265,30 @@ module _ (marks room : List ℕ) (j : Job) where
   unfolding ready_job
   ready_room e d f = rw (eq-eqb j.state 0 e, sym d ∙ f)
 
-  pub look_taken : {b : Bool} (best : StartAnswer) → b ≡ ready_job marks room j → b ≡ true → lower_start j.step best ≡ looked_at marks room j best
+  pub look_taken : {b : Bool} (best : Option ℕ) → b ≡ ready_job marks room j → b ≡ true → lower_start j.step best ≡ looked_at marks room j best
   unfolding looked_at
   look_taken best d f = rw (sym d ∙ f)
 
-  pub look_left : {b : Bool} (best : StartAnswer) → b ≡ ready_job marks room j → b ≡ false → best ≡ looked_at marks room j best
+  pub look_left : {b : Bool} (best : Option ℕ) → b ≡ ready_job marks room j → b ≡ false → best ≡ looked_at marks room j best
   unfolding looked_at
   look_left best d f = rw (sym d ∙ f)
 
 -- ---- lower_start
-pub lower_first : (s : ℕ) → Starts s ≡ lower_start s NoneStarts
+pub lower_first : (s : ℕ) → Some s ≡ lower_start s None
 unfolding lower_start
 lower_first s = refl
 
-pub lower_old : (s r : ℕ) → r < s → Starts r ≡ lower_start s (Starts r)
+pub lower_next : (s r : ℕ) → Some (min s r) ≡ lower_start s (Some r)
 unfolding lower_start
-lower_old s r h = let z : r ≡ min s r = omega arith in ap Starts z
-
-pub lower_new : (s r : ℕ) → s ≤ r → Starts s ≡ lower_start s (Starts r)
-unfolding lower_start
-lower_new s r h = let z : s ≡ min s r = omega arith in ap Starts z
+lower_next s r = refl
 
 -- ---- start_of
-module _ (graph room : List ℕ) (limit : ℕ) (gate : Gate) (load : Float) (t : List Job) {b : Bool} (d : b ≡ starts_shut limit gate load t) where
-  pub start_shut : (n : ℕ) → b ≡ true → NoneStarts ≡ start_answer (next_start (given_in n graph room limit gate) load t)
+module _ (graph room : List ℕ) (limit : ℕ) (gate : Option Float) (load : Float) (t : List Job) {b : Bool} (d : b ≡ starts_shut limit gate load t) where
+  pub start_shut : (n : ℕ) → b ≡ true → None ≡ start_answer (next_start (given_in n graph room limit gate) load t)
   unfolding start_answer
   start_shut n e = ap start_answer (sym (shut_none (given_in n graph room limit gate) load t (sym d ∙ e)))
 
-  pub start_lowest : (m₀ : List ℕ) {m₁ m₂ m₃ left : List ℕ} {r : StartAnswer} → b ≡ false → m₁ ≡ zeroed m₀ 0 (length m₀) → m₂ ≡ pending_marks t m₁ → m₃ ≡ rows_marks graph 0 m₂
+  pub start_lowest : (m₀ : List ℕ) {m₁ m₂ m₃ left : List ℕ} {r : Option ℕ} → b ≡ false → m₁ ≡ zeroed m₀ 0 (length m₀) → m₂ ≡ pending_marks t m₁ → m₃ ≡ rows_marks graph 0 m₂
       → left ≡ room_left t room → r ≡ start_answer (lowest_step (ready_job m₃ left) t) → r ≡ start_answer (next_start (given_in (length m₀) graph room limit gate) load t)
   start_lowest m₀ {m₁} {m₂} {m₃} {left} {r} e a p g l q =
       let m : m₃ ≡ rows_marks graph 0 (pending_marks t (zeros (length m₀))) = g ∙ ap (rows_marks graph 0) (p ∙ ap (pending_marks t) (a ∙ zeroed_all m₀)) in
@@ -376,10 +360,10 @@ place_any s a (j ∷ t) =
         (λ (e : ltb p n ≡ false). e ∙ sym (le-ltb (suc p) (suc n) (let h = ltb-false p n e in omega arith)))
 
 module _ (t : List Job) (s : ℕ) {k n : ℕ} (p : k ≡ job_place s 1 t) (e : n ≡ length t) where
-  pub finish_noted_law : k < n → Noted ≡ finish_of t s
+  pub finish_noted_law : k < n → (Ok tt) ≡ finish_of t s
   unfolding finish_of
   finish_noted_law h = let z : any (job_is s 1) t ≡ true = place_any s 1 t ∙ lt-ltb (job_place s 1 t) (length t) (omega arith) in rw z
 
-  pub finish_refused : n ≤ k → NotRunning s ≡ finish_of t s
+  pub finish_refused : n ≤ k → Err s ≡ finish_of t s
   unfolding finish_of
   finish_refused h = let z : any (job_is s 1) t ≡ false = place_any s 1 t ∙ le-ltb (job_place s 1 t) (length t) (omega arith) in rw z

@@ -1,4 +1,5 @@
 -- The rows of an order say what is upstream in document 01's sense: what a step comes after, directly or through others.
+use Rattle.std.specs.Prelude.{Option, Float}
 use Prim.Native.Nat.{ℕ, ◌+◌, ◌*◌, ◌/◌, ◌<◌}
 use mathlib.Core.List.{List, [], ◌∷◌, ◌++◌, append_assoc}
 use mathlib.Core.Logic.{◌⊎◌, inl, inr, ◌↔◌}
@@ -10,7 +11,6 @@ use lib.ListN.{get_or}
 use Rattle.orders.specs.Order.{IsOrder}
 use Rattle.orders.specs.Reach.{ComesBefore, direct, further}
 use Rattle.run_rules.specs.declared.Job.{Job}
-use Rattle.run_rules.specs.declared.Gate.{Gate}
 use Rattle.run_rules.specs.Claims.{◌among◌, steps_of, FreshTable}
 use Rattle.run_core.specs.Numbers.{given_in, rows_upstream, upstream_in, graph_row, graph_rows}
 use Rattle.run_core.proofs.Rows.{closed_row, up_even_in, up_odd, up_nil}
@@ -113,7 +113,7 @@ module _ (n : ℕ) (before : ℕ → List ℕ) where
   rows_upstream_law l once after low s x h = rows_known l [] (λ y. []) (λ d x m. absurd (not_in_nil m)) once after low s x h
 
   -- With these rows a table of waiting steps, listed in an order by what is upstream, is a fresh one.
-  pub rows_fresh : {Want : ℕ → Type 0} {a : List Job} (l depths : List ℕ) (limit : ℕ) (gate : Gate) → Once l → Each Earlier l → ((s : ℕ) → s ∈ l → s < n)
+  pub rows_fresh : {Want : ℕ → Type 0} {a : List Job} (l depths : List ℕ) (limit : ℕ) (gate : Option Float) → Once l → Each Earlier l → ((s : ℕ) → s ∈ l → s < n)
       → ((j : Job) → j among a → j.state ≡ 0) → steps_of a ⊆ l → IsOrder Want (ComesBefore before) (steps_of a) → FreshTable Want (given_in n (graph_rows before l) depths limit gate) a
   rows_fresh {a = a} l depths limit gate once after low waiting inside o = record {
     waiting = waiting;

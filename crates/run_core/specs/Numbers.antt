@@ -1,8 +1,7 @@
 -- The table and the graph as slices of numbers.
-use Rattle.std.specs.Prelude.{ℕ, ◌+◌, ◌*◌, ◌/◌, ◌%◌, List, [], ◌∷◌, ◌++◌, eqb, ltb, get_or}
+use Rattle.std.specs.Prelude.{ℕ, ◌+◌, ◌*◌, ◌/◌, ◌%◌, List, [], ◌∷◌, ◌++◌, eqb, ltb, get_or, Option, Float}
 use Rattle.lists.specs.Tests.{if_b}
 use Rattle.run_rules.specs.declared.Job.{Job}
-use Rattle.run_rules.specs.declared.Gate.{Gate}
 use Rattle.run_rules.specs.Runner.{Given, waiting_job}
 
 abbrev pub no_job : Job
@@ -33,7 +32,7 @@ unfolding rows_upstream
 upstream_in n g x = rows_upstream n g [] (λ y. []) x
 
 -- what a run is given, as numbers: steps below n, rows, depths by pool
-abbrev pub given_in : ℕ → List ℕ → List ℕ → ℕ → Gate → Given
+abbrev pub given_in : ℕ → List ℕ → List ℕ → ℕ → Option Float → Given
 given_in n g depths limit gate = record { upstream = upstream_in n g; depth = λ p. get_or depths p 0; limit = limit; gate = gate }
 
 -- the rows of an order, by what each of its steps comes after directly

@@ -1,12 +1,9 @@
 -- The passes over table and graph that tell which step may start.
-use Rattle.std.specs.Prelude.{ℕ, ◌+◌, ◌*◌, ◌-◌, ◌/◌, ◌%◌, min, Bool, true, false, ◌&&◌, ◌||◌, List, [], ◌∷◌, eqb, ltb, leb, Float, get_or, set}
+use Rattle.std.specs.Prelude.{ℕ, ◌+◌, ◌*◌, ◌-◌, ◌/◌, ◌%◌, min, Bool, true, false, ◌&&◌, ◌||◌, List, [], ◌∷◌, eqb, ltb, leb, Float, get_or, set, Option as StdOption, Some, None}
 use Rattle.std.proofs.Math.Option.{Option, none, some}
 use Rattle.lists.specs.Tests.{if_b}
 use Rattle.run_rules.specs.declared.Job.{Job}
-use Rattle.run_rules.specs.declared.Gate.{Gate}
 use Rattle.run_rules.specs.Runner.{job_done, job_runs, running_jobs, not_started, heavy_load, failure_forbids}
-use Rattle.run_core.specs.declared.StartAnswer.{StartAnswer}
-use Rattle.run_core.specs.declared.StartAnswer.TheVariants.{Starts, NoneStarts}
 
 -- 1 at each listed step that is not done
 unfoldable pub marked_job : Job → List ℕ → List ℕ
@@ -47,23 +44,23 @@ unfolding not_started room_in
 ready_job marks room j = not_started j && (ltb (get_or marks j.step 0) 2 && room_in room j.pool)
 
 -- the lowest step so far, and one more looked at
-unfoldable pub start_answer : Option ℕ → StartAnswer
-start_answer none = NoneStarts
-start_answer (some s) = Starts s
+unfoldable pub start_answer : Option ℕ → StdOption ℕ
+start_answer none = None
+start_answer (some s) = Some s
 
-unfoldable pub lower_start : ℕ → StartAnswer → StartAnswer
-lower_start s NoneStarts = Starts s
-lower_start s (Starts r) = Starts (min s r)
+unfoldable pub lower_start : ℕ → StdOption ℕ → StdOption ℕ
+lower_start s None = Some s
+lower_start s (Some r) = Some (min s r)
 
-unfoldable pub looked_at : List ℕ → List ℕ → Job → StartAnswer → StartAnswer
+unfoldable pub looked_at : List ℕ → List ℕ → Job → StdOption ℕ → StdOption ℕ
 unfolding ready_job lower_start
 looked_at marks room j best = if_b (ready_job marks room j) (λ _. lower_start j.step best) (λ _. best)
 
 -- "the job limit allows it and neither load nor a failure forbids it": what forbids every start
-unfoldable pub held_back : ℕ → Gate → Float → Bool
+unfoldable pub held_back : ℕ → StdOption Float → Float → Bool
 unfolding heavy_load
 held_back r gate load = if_b (eqb r 0) (λ _. false) (λ _. heavy_load gate load)
 
-unfoldable pub starts_shut : ℕ → Gate → Float → List Job → Bool
+unfoldable pub starts_shut : ℕ → StdOption Float → Float → List Job → Bool
 unfolding running_jobs held_back failure_forbids
 starts_shut limit gate load t = if_b (leb limit (running_jobs t)) (λ _. true) (λ _. if_b (held_back (running_jobs t) gate load) (λ _. true) (λ _. failure_forbids t))

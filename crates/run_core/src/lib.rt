@@ -1,4 +1,5 @@
-// The runner on numbers: the table as three numbers a record, the graph as rows, passes over both, and the lowest step that may start.
+// The runner on numbers: the table as three numbers a record, the graph as rows, passes over both, and the lowest
+// step that may start.
 #![tactic(auto)]
 
 ghost use Rattle.std.specs.Prelude.{◌≡◌, ◌+◌, ◌*◌, ◌<◌, ltb, length, get_or};
@@ -8,15 +9,8 @@ ghost use Rattle.run_rules.specs.Places.{job_place};
 ghost use Rattle.run_core.specs.Numbers.{jobs_in, no_job, given_in};
 ghost use Rattle.run_core.specs.Passes.{marked_job, pending_marks, turn_flag, turn_marks, rows_marks, taken_room, room_left, room_in, held_back, starts_shut, ready_job, start_answer, lower_start, looked_at};
 
-use run_rules::{FinishAnswer, Gate, Job};
-use slices::words::{at, zero_words_from};
-
-// "the runner starts and names the lowest such step, none only if there is none"
-#[derive(Clone, Copy)]
-pub enum StartAnswer {
-    Starts(u32),
-    NoneStarts,
-}
+use run_rules::Job;
+use slices::words::zero_words_from;
 
 // How many records the numbers hold.
 pub fn job_count(c: &[u32]) -> usize
@@ -54,10 +48,8 @@ fn mark_pending(c: &[u32], marks: &mut [u32])
     ensures { marks.new ≡ pending_marks (jobs_in c.now) marks.old }
 {
     let n = job_count(c);
-    let mut i = 0;
-    while i < n {
+    for i in 0..n {
         mark_job(job_at(c, i), marks);
-        i += 1;
     }
 }
 
@@ -97,13 +89,11 @@ fn pass_rows(graph: &[u32], marks: &mut [u32])
     ensures { marks.new ≡ rows_marks graph.now 0 marks.old }
 {
     let mut flag = 0u32;
-    let mut i = 0;
-    while i < graph.len() {
-        let v = at(graph, i);
+    for &link in graph {
+        let v = link as usize;
         let next = turn_flag(v, flag, marks);
         turn_marks(v, flag, marks);
         flag = next;
-        i += 1;
     }
 }
 
@@ -115,10 +105,8 @@ fn take_room(j: Job, room: &mut [u32])
         return;
     }
     let p = j.pool as usize;
-    if p < room.len() {
-        if 0 < room[p] {
-            room[p] = room[p] - 1;
-        }
+    if p < room.len() && 0 < room[p] {
+        room[p] -= 1;
     }
 }
 
@@ -127,10 +115,8 @@ fn leave_room(c: &[u32], room: &mut [u32])
     ensures { room.new ≡ room_left (jobs_in c.now) room.old }
 {
     let n = job_count(c);
-    let mut i = 0;
-    while i < n {
+    for i in 0..n {
         take_room(job_at(c, i), room);
-        i += 1;
     }
 }
 
@@ -140,14 +126,10 @@ fn count_running(c: &[u32]) -> usize
 {
     let n = job_count(c);
     let mut r = 0;
-    let mut i = 0;
-    while i < n {
+    for i in 0..n {
         let j = job_at(c, i);
         if j.state == 1 {
             r += 1;
-            i += 1;
-        } else {
-            i += 1;
         }
     }
     r
@@ -157,34 +139,27 @@ fn any_failed(c: &[u32]) -> bool
     ensures { result ≡ failure_forbids (jobs_in c.now) }
 {
     let n = job_count(c);
-    let mut i = 0;
-    while i < n {
+    for i in 0..n {
         let j = job_at(c, i);
         if j.state == 3 {
             return true;
         }
-        i += 1;
     }
     false
 }
 
 // "a reading is above it or no number"
-pub fn is_heavy(gate: Gate, load: f64) -> bool
+pub fn is_heavy(gate: Option<f64>, load: f64) -> bool
     ensures { result ≡ heavy_load gate load }
 {
     match gate {
-        Gate::Off => false,
-        Gate::At(highest) => {
-            if load != load {
-                return true;
-            }
-            highest < load
-        }
+        None => false,
+        Some(highest) => load.is_nan() || highest < load,
     }
 }
 
 // "a step starts only when none runs": with r running.
-fn held_back(r: usize, gate: Gate, load: f64) -> bool
+fn held_back(r: usize, gate: Option<f64>, load: f64) -> bool
     ensures { result ≡ held_back r gate load }
 {
     if r == 0 {
@@ -194,7 +169,7 @@ fn held_back(r: usize, gate: Gate, load: f64) -> bool
 }
 
 // The job limit, the load or a failure forbids every start.
-fn starts_shut(c: &[u32], limit: usize, gate: Gate, load: f64) -> bool
+fn starts_shut(c: &[u32], limit: usize, gate: Option<f64>, load: f64) -> bool
     ensures { result ≡ starts_shut limit gate load (jobs_in c.now) }
 {
     let r = count_running(c);
@@ -241,21 +216,16 @@ fn is_ready(j: Job, marks: &[u32], room: &[u32]) -> bool
     has_room(room, j.pool as usize)
 }
 
-fn lower_start(step: u32, best: StartAnswer) -> StartAnswer
+fn lower_start(step: u32, best: Option<u32>) -> Option<u32>
     ensures { result ≡ lower_start step best }
 {
     match best {
-        StartAnswer::NoneStarts => StartAnswer::Starts(step),
-        StartAnswer::Starts(s) => {
-            if s < step {
-                return StartAnswer::Starts(s);
-            }
-            StartAnswer::Starts(step)
-        }
+        None => Some(step),
+        Some(s) => Some(step.min(s)),
     }
 }
 
-fn look_at(j: Job, marks: &[u32], room: &[u32], best: StartAnswer) -> StartAnswer
+fn look_at(j: Job, marks: &[u32], room: &[u32], best: Option<u32>) -> Option<u32>
     ensures { result ≡ looked_at marks.now room.now j best }
 {
     if is_ready(j, marks, room) {
@@ -265,32 +235,32 @@ fn look_at(j: Job, marks: &[u32], room: &[u32], best: StartAnswer) -> StartAnswe
 }
 
 // The lowest step that is ready, from the last record to the first.
-fn lowest_ready(c: &[u32], marks: &[u32], room: &[u32]) -> StartAnswer
+fn lowest_ready(c: &[u32], marks: &[u32], room: &[u32]) -> Option<u32>
     ensures { result ≡ start_answer (lowest_step (ready_job marks.now room.now) (jobs_in c.now)) }
 {
-    let mut best = StartAnswer::NoneStarts;
-    let mut i = job_count(c);
-    while 0 < i {
-        i -= 1;
+    let mut best = None;
+    let n = job_count(c);
+    for i in (0..n).rev() {
         best = look_at(job_at(c, i), marks, room, best);
     }
     best
 }
 
-// The step to start next at a load reading. `room` has the depths by pool; it and `marks`, with a place for each step, are working space behind it.
+// The step to start next at a load reading. `room` has the depths by pool; it and `marks`, with a place for each
+// step, are working space behind it.
 pub fn start_of(
     c: &[u32],
     graph: &[u32],
     room: &mut [u32],
     marks: &mut [u32],
     limit: usize,
-    gate: Gate,
+    gate: Option<f64>,
     load: f64,
-) -> StartAnswer
+) -> Option<u32>
     ensures { Leaves (Spare room.old room.new × Spare marks.old marks.new) (result ≡ start_answer (next_start (given_in (length marks.old) graph.now room.old limit gate) load (jobs_in c.now))) }
 {
     if starts_shut(c, limit, gate, load) {
-        return StartAnswer::NoneStarts;
+        return None;
     }
     zero_words_from(marks, 0);
     mark_pending(c, marks);
@@ -310,25 +280,24 @@ fn is_job(j: Job, s: u32, state: u32) -> bool
 }
 
 // Where the record stands that a start or a finish of step s changes, or the number of records.
+// C reads the place as a number (`run_columns::Change`): no `Option`.
 pub fn place_of(c: &[u32], s: u32, state: u32) -> usize
     ensures { result ≡ job_place s state (jobs_in c.now) }
 {
     let n = job_count(c);
-    let mut i = 0;
-    while i < n {
+    for i in 0..n {
         if is_job(job_at(c, i), s, state) {
             return i;
         }
-        i += 1;
     }
-    i
+    n
 }
 
-pub fn finish_of(c: &[u32], s: u32) -> FinishAnswer
+pub fn finish_of(c: &[u32], s: u32) -> Result<(), u32>
     ensures { result ≡ finish_of (jobs_in c.now) s }
 {
     if place_of(c, s, 1) < job_count(c) {
-        return FinishAnswer::Noted;
+        return Ok(());
     }
-    FinishAnswer::NotRunning(s)
+    Err(s)
 }

@@ -1,4 +1,5 @@
 -- What a finish frees, what a failure stops, and what a refused finish leaves.
+use Rattle.std.specs.Prelude.{Ok}
 use Prim.Native.Nat.{ℕ, ◌+◌, ◌≤◌}
 use mathlib.Core.Bool.{Bool, true, false, cond, ◌&&◌}
 use mathlib.Core.List.{List}
@@ -12,7 +13,6 @@ use lib.Ieee.{Float}
 use Rattle.lists.specs.Members.{any}
 use Rattle.lists.specs.Tests.{split, and_left, and_right}
 use Rattle.run_rules.specs.declared.Job.{Job}
-use Rattle.run_rules.specs.declared.FinishAnswer.TheVariants.{Noted}
 use Rattle.run_rules.specs.Runner.{Given, job_runs, running_jobs, running_in, next_start, job_is, after_finish, finish_of, finish_says}
 use Rattle.run_rules.specs.Claims.{◌among◌, RunEvent, Moves, starts, finishes}
 use Rattle.run_rules.proofs.Tables.{any_jobs, jobs_none, one}
@@ -27,15 +27,15 @@ pub failed_stops : (g : Given) (load : Float) (t : List Job) {u : Job} → u amo
 failed_stops g load t {u} h e = no_start g load t (λ j m s. s.good u h e)
 
 -- "running ones may finish", whatever failed
-pub running_may_finish : (t : List Job) (s : ℕ) → (finish_of t s ≡ Noted) ↔ ((j : Job) × (j among t) × (j.step ≡ s) × (j.state ≡ 1))
+pub running_may_finish : (t : List Job) (s : ℕ) → (finish_of t s ≡ (Ok tt)) ↔ ((j : Job) × (j among t) × (j.step ≡ s) × (j.state ≡ 1))
 running_may_finish t s = (to, back)
   where
-    to : finish_of t s ≡ Noted → (j : Job) × (j among t) × (j.step ≡ s) × (j.state ≡ 1)
+    to : finish_of t s ≡ (Ok tt) → (j : Job) × (j among t) × (j.step ≡ s) × (j.state ≡ 1)
     to e =
         let (j, h, q) = any_jobs (job_is s 1) t (noted_runs t s e) in
         (j, h, eqb-true j.step s (and_left (eqb j.step s) (eqb j.state 1) q), eqb-true j.state 1 (and_right (eqb j.step s) (eqb j.state 1) q))
 
-    back : ((j : Job) × (j among t) × (j.step ≡ s) × (j.state ≡ 1)) → finish_of t s ≡ Noted
+    back : ((j : Job) × (j among t) × (j.step ≡ s) × (j.state ≡ 1)) → finish_of t s ≡ (Ok tt)
     back (j, h, e, q) = rw e at (running_finishes t h q)
 
 -- A finish, good or failed, frees the job and its place in its pool.
@@ -52,7 +52,7 @@ turned_frees {b = b} {t = t} {u = u} h lo =
     = rw (h.state, ne_eqb b 1 (λ e. omega arith)) at (count_turned h (λ j. job_runs j && eqb j.pool p)) in
     record { jobs = omega arith; pool = omega (arith, rw (eq-eqb p p refl) at c) }
 
-pub finish_frees : {t : List Job} {s : ℕ} (good : Bool) → finish_of t s ≡ Noted
+pub finish_frees : {t : List Job} {s : ℕ} (good : Bool) → finish_of t s ≡ (Ok tt)
     → (j : Job) × (j among t) × (j.step ≡ s) × (j.state ≡ 1) × Frees t (after_finish t s good) j.pool
 finish_frees true e = let h = finish_turns true e in (h.job, job_among h, h.step, h.state, turned_frees h (omega arith))
 finish_frees false e = let h = finish_turns false e in (h.job, job_among h, h.step, h.state, turned_frees h (omega arith))

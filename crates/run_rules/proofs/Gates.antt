@@ -1,4 +1,5 @@
 -- The load gate, the job limit and the depth of a pool at their edges.
+use Rattle.std.specs.Prelude.{Some, None}
 use Prim.Native.Nat.{◌*◌, ◌<◌}
 use mathlib.Core.Bool.{true, false}
 use mathlib.Core.List.{List}
@@ -9,7 +10,6 @@ use native.Mathlib.Omega.{arith}
 use borrow.Author.Tests.{le-ltb}
 use lib.Ieee.{Float, nan, inf, fin, is_nan, lt, up, down}
 use Rattle.run_rules.specs.declared.Job.{Job}
-use Rattle.run_rules.specs.declared.Gate.TheVariants.{Off, At}
 use Rattle.run_rules.specs.Runner.{Given, running_jobs, heavy_load, next_start}
 use Rattle.run_rules.specs.Claims.{Heavy, MayStart}
 use Rattle.run_rules.proofs.Starts.{no_start}
@@ -19,23 +19,23 @@ pub heavy_stops : (g : Given) (load : Float) (t : List Job) → Heavy g.gate loa
 heavy_stops g load t h r = no_start g load t (λ j m s. let e = s.calm h in omega arith)
 
 -- a reading that is no number lets no second step start
-pub nan_stops : (g : Given) (t : List Job) {highest : Float} → g.gate ≡ At highest → 0 < running_jobs t → next_start g nan t ≡ none
+pub nan_stops : (g : Given) (t : List Job) {highest : Float} → g.gate ≡ Some highest → 0 < running_jobs t → next_start g nan t ≡ none
 nan_stops g t e r = heavy_stops g nan t (rw e (inl refl)) r
 
 -- "with the gate off readings do nothing"
-pub gate_off : (load : Float) → heavy_load Off load ≡ false
+pub gate_off : (load : Float) → heavy_load None load ≡ false
 unfolding heavy_load
 gate_off load = refl
 
 -- "A highest load that is no number holds back only a reading that is no number"
-pub gate_nan : (load : Float) → heavy_load (At nan) load ≡ is_nan load
+pub gate_nan : (load : Float) → heavy_load (Some nan) load ≡ is_nan load
 unfolding heavy_load is_nan lt
 gate_nan nan = refl
 gate_nan (inf s) = refl
 gate_nan (fin s m e) = refl
 
 -- "equal is not above"
-pub gate_equal : (x : Float) → is_nan x ≡ false → heavy_load (At x) x ≡ false
+pub gate_equal : (x : Float) → is_nan x ≡ false → heavy_load (Some x) x ≡ false
 unfolding heavy_load is_nan lt
 gate_equal nan h = h
 gate_equal (inf true) h = refl

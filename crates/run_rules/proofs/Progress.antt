@@ -1,4 +1,5 @@
 -- With a job limit of at least 1 and no failure, starts and finishes go on until all steps are done, each once, and the end is the same table.
+use Rattle.std.specs.Prelude.{Ok}
 use Prim.Native.Nat.{ℕ, zero, suc, ◌+◌, ◌*◌, ◌≤◌}
 use mathlib.Core.Bool.{true, false, ◌&&◌}
 use mathlib.Core.List.{List, [], ◌∷◌, ◌++◌, map}
@@ -14,7 +15,6 @@ use Rattle.lists.specs.Tests.{split, and_true}
 use Rattle.orders.specs.Order.{ComesAfter}
 use Rattle.orders.specs.Greedy.{By}
 use Rattle.run_rules.specs.declared.Job.{Job}
-use Rattle.run_rules.specs.declared.FinishAnswer.TheVariants.{Noted}
 use Rattle.run_rules.specs.Runner.{Given, job_runs, job_done, turned, running_jobs, running_in, job_is, after_start, after_finish, finish_of, all_done}
 use Rattle.run_rules.specs.Claims.{◌among◌, first, later, steps_of, UpstreamDone, NoFailure, MayStart, RunEvent, began, ended, Moves, starts, finishes, TableReached, further_on}
 use Rattle.run_rules.specs.Claims.{starts_in, finishes_in, none_failed, FreshTable, DeepPools, SoundTable, CanGoOn, by_finish, by_start, RunsOut}
@@ -76,7 +76,7 @@ same_pools t a e h = let (k, m, q) = back a (rw e at (forth h)) in (k, m, ap (λ
     back (k ∷ t) (later h) = let (m, a, e) = back t h in (m, later a, e)
 
 -- ---- going on
-pub running_finishes : (t : List Job) {j : Job} → j among t → j.state ≡ 1 → finish_of t j.step ≡ Noted
+pub running_finishes : (t : List Job) {j : Job} → j among t → j.state ≡ 1 → finish_of t j.step ≡ (Ok tt)
 unfolding finish_of
 running_finishes t {j} h e =
     rw (jobs_any (job_is j.step 1) t h (and_true (eqb j.step j.step) (eqb j.state 1) (eq-eqb j.step j.step refl) (eq-eqb j.state 1 e)))

@@ -1,4 +1,5 @@
 -- What holds along any sequence of moves from a fresh table: pools and jobs within their bounds, no step before those upstream, each started and finished once.
+use Rattle.std.specs.Prelude.{Ok, Err}
 use Prim.Native.Nat.{ℕ, ◌+◌, ◌*◌, ◌≤◌, ◌<◌}
 use mathlib.Core.Bool.{Bool, true, false, cond, ◌&&◌}
 use mathlib.Core.List.{List, [], ◌∷◌}
@@ -12,7 +13,6 @@ use lib.ListN.{length}
 use Rattle.lists.specs.Members.{◌∉◌, Once, any, each_nil, once_cons, not_in_nil}
 use Rattle.lists.specs.Tests.{split, differ, and_true}
 use Rattle.run_rules.specs.declared.Job.{Job}
-use Rattle.run_rules.specs.declared.FinishAnswer.TheVariants.{Noted, NotRunning}
 use Rattle.run_rules.specs.Runner.{Given, job_runs, count_jobs, running_jobs, running_in, job_is, after_start, after_finish, finish_of}
 use Rattle.run_rules.specs.Claims.{◌among◌, steps_of, UpstreamDone, MayStart, StartsLowest, RunEvent, began, ended, Moves, starts, finishes, TableReached, fresh_table_law, further_on}
 use Rattle.run_rules.specs.Claims.{NoFailure, starts_in, finishes_in, none_failed, ended_jobs, FreshTable, SoundTable}
@@ -28,13 +28,13 @@ start_turns {t} {s} l =
     moved_turns s 0 1 t
     (jobs_any (job_is s 0) t l.listed (and_true (eqb l.job.step s) (eqb l.job.state 0) (eq-eqb l.job.step s l.named) (eq-eqb l.job.state 0 l.may.new)))
 
-pub noted_runs : (t : List Job) (s : ℕ) → finish_of t s ≡ Noted → any (job_is s 1) t ≡ true
+pub noted_runs : (t : List Job) (s : ℕ) → finish_of t s ≡ (Ok tt) → any (job_is s 1) t ≡ true
 unfolding finish_of
 noted_runs t s e =
     split (any (job_is s 1) t) (λ (a : any (job_is s 1) t ≡ true). a)
-    (λ (b : any (job_is s 1) t ≡ false). let d : NotRunning s ≡ Noted = rw b at e in cc)
+    (λ (b : any (job_is s 1) t ≡ false). let d : Err s ≡ (Ok tt) = rw b at e in cc)
 
-pub finish_turns : {t : List Job} {s : ℕ} (good : Bool) → finish_of t s ≡ Noted → Turns s 1 (cond good 2 3) t (after_finish t s good)
+pub finish_turns : {t : List Job} {s : ℕ} (good : Bool) → finish_of t s ≡ (Ok tt) → Turns s 1 (cond good 2 3) t (after_finish t s good)
 unfolding after_finish
 finish_turns {t} {s} good e = moved_turns s 1 (cond good 2 3) t (noted_runs t s e)
 

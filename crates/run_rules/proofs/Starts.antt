@@ -1,4 +1,5 @@
 -- A step may start exactly when the five conditions hold; the runner starts the lowest such step, and none only if there is none.
+use Rattle.std.specs.Prelude.{Option as StdOption, Some, None}
 use Prim.Native.Nat.{ℕ, ◌≤◌, min}
 use native.Mathlib.Nat.{le_trans}
 use native.Mathlib.Decide.{dec_le}
@@ -14,8 +15,6 @@ use lib.Ieee.{Float, nan, inf, fin, is_nan, lt}
 use Rattle.lists.specs.Members.{has, in_has, not_in_has, dec_in}
 use Rattle.lists.specs.Tests.{split, differ, and_true, and_left, and_right, and_false, or_left, or_right, or_true, or_false}
 use Rattle.run_rules.specs.declared.Job.{Job}
-use Rattle.run_rules.specs.declared.Gate.{Gate}
-use Rattle.run_rules.specs.declared.Gate.TheVariants.{Off, At}
 use Rattle.run_rules.specs.Runner.{Given, job_done, job_failed, running_jobs, running_in, not_started, upstream_done, pool_has_room, limit_allows}
 use Rattle.run_rules.specs.Runner.{heavy_load, load_forbids, failure_forbids, nothing_forbids, may_start, lower_of, lowest_step, next_start}
 use Rattle.run_rules.specs.Claims.{◌among◌, first, later, Heavy, UpstreamDone, NoFailure, MayStart, StartsLowest}
@@ -28,16 +27,16 @@ nan_only nan e = refl
 nan_only (inf s) e = absurd (false≢true e)
 nan_only (fin s m k) e = absurd (false≢true e)
 
-pub heavy_is : (gate : Gate) (load : Float) → heavy_load gate load ≡ true → Heavy gate load
+pub heavy_is : (gate : StdOption Float) (load : Float) → heavy_load gate load ≡ true → Heavy gate load
 unfolding heavy_load
-heavy_is Off load e = absurd (false≢true e)
-heavy_is (At highest) load e = elim (or_true (is_nan load) (lt highest load) e) [ inl a ↦ inl (nan_only load a) | inr b ↦ inr b ]
+heavy_is None load e = absurd (false≢true e)
+heavy_is (Some highest) load e = elim (or_true (is_nan load) (lt highest load) e) [ inl a ↦ inl (nan_only load a) | inr b ↦ inr b ]
 
-pub is_heavy : (gate : Gate) (load : Float) → Heavy gate load → heavy_load gate load ≡ true
+pub is_heavy : (gate : StdOption Float) (load : Float) → Heavy gate load → heavy_load gate load ≡ true
 unfolding heavy_load is_nan
-is_heavy Off load h = absurd h
-is_heavy (At highest) load (inl e) = rw e
-is_heavy (At highest) load (inr e) = split (is_nan load) (λ (a : is_nan load ≡ true). rw a) (λ (a : is_nan load ≡ false). rw (a, e))
+is_heavy None load h = absurd h
+is_heavy (Some highest) load (inl e) = rw e
+is_heavy (Some highest) load (inr e) = split (is_nan load) (λ (a : is_nan load ≡ true). rw a) (λ (a : is_nan load ≡ false). rw (a, e))
 
 -- ---- each condition, both ways
 module _ (g : Given) (load : Float) (t : List Job) where

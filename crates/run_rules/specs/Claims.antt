@@ -1,5 +1,5 @@
 -- What document 02 says of the runner, in words: what may start, what is started, and what holds along any sequence of moves.
-use Rattle.std.specs.Prelude.{ℕ, ◌+◌, ◌*◌, ◌≤◌, ◌<◌, Bool, true, ◌&&◌, List, [], ◌∷◌, map, ◌⊎◌, ◌↔◌, ◌≡◌, ltb, length, Float}
+use Rattle.std.specs.Prelude.{ℕ, ◌+◌, ◌*◌, ◌≤◌, ◌<◌, Bool, true, ◌&&◌, List, [], ◌∷◌, map, ◌⊎◌, ◌↔◌, ◌≡◌, ltb, length, Float, Option, Some, None, Ok}
 use Rattle.std.proofs.Math.Option.{some}
 use Rattle.std.specs.Float.{nan}
 use Rattle.std.specs.Float.Ieee.{lt}
@@ -7,9 +7,6 @@ use Rattle.lists.specs.Members.{◌∈◌, Once}
 use Rattle.orders.specs.Order.{IsOrder}
 use Rattle.orders.specs.Greedy.{By}
 use Rattle.run_rules.specs.declared.Job.{Job}
-use Rattle.run_rules.specs.declared.Gate.{Gate}
-use Rattle.run_rules.specs.declared.Gate.TheVariants.{Off, At}
-use Rattle.run_rules.specs.declared.FinishAnswer.TheVariants.{Noted}
 use Rattle.run_rules.specs.Runner.{Given, count_jobs, running_jobs, running_in, next_start, after_start, after_finish, finish_of, all_done}
 
 -- a record of the table
@@ -22,9 +19,9 @@ abbrev pub steps_of : List Job → List ℕ
 steps_of t = map (λ (j : Job). j.step) t
 
 -- "a reading is above it or no number"
-abbrev pub Heavy : Gate → Float → Type 0
-Heavy Off load = ⊥
-Heavy (At highest) load = (load ≡ nan) ⊎ (lt highest load ≡ true)
+abbrev pub Heavy : Option Float → Float → Type 0
+Heavy None load = ⊥
+Heavy (Some highest) load = (load ≡ nan) ⊎ (lt highest load ≡ true)
 
 -- every listed step upstream of step s is done
 abbrev pub UpstreamDone : Given → List Job → ℕ → Type 0
@@ -61,7 +58,7 @@ pub data RunEvent : Type 0 where
 -- a start at any load reading, or a finish that is not refused
 pub data Moves (g : Given) (t u : List Job) : RunEvent → Type 0 where
   starts : {s : ℕ} (load : Float) → next_start g load t ≡ some s → u ≡ after_start t s → Moves g t u (began s)
-  finishes : {s : ℕ} (good : Bool) → finish_of t s ≡ Noted → u ≡ after_finish t s good → Moves g t u (ended s good)
+  finishes : {s : ℕ} (good : Bool) → finish_of t s ≡ (Ok tt) → u ≡ after_finish t s good → Moves g t u (ended s good)
 
 -- the tables reached from a, with what happened, the newest first
 pub data TableReached (g : Given) (a : List Job) : List RunEvent → List Job → Type 0 where
@@ -114,7 +111,7 @@ pub record SoundTable (g : Given) (a : List Job) (es : List RunEvent) (t : List 
 
 -- Allowed starts and finishes can go on: a step runs, and its finish is allowed; or none runs, and a step starts at every load reading.
 pub data CanGoOn (g : Given) (t : List Job) : Type 0 where
-  by_finish : (s : ℕ) → finish_of t s ≡ Noted → CanGoOn g t
+  by_finish : (s : ℕ) → finish_of t s ≡ (Ok tt) → CanGoOn g t
   by_start : ((load : Float) → (s : ℕ) × (next_start g load t ≡ some s)) → CanGoOn g t
 
 -- "From a fresh table, with a job limit of at least 1 and no failure, whatever the load readings, allowed starts and finishes can always go on until all steps

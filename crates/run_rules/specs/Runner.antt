@@ -1,20 +1,16 @@
 -- The runner: when a listed step may start, which one the runner starts, and what a start and a finish make of the table (document 02, [5]).
-use Rattle.std.specs.Prelude.{ℕ, suc, min, Bool, false, not, cond, ◌&&◌, ◌||◌, List, [], ◌∷◌, map, eqb, ltb, Float}
+use Rattle.std.specs.Prelude.{ℕ, suc, min, Bool, false, not, cond, ◌&&◌, ◌||◌, List, [], ◌∷◌, map, eqb, ltb, Float, Option as StdOption, Some, None, Result, Ok, Err}
 use Rattle.std.proofs.Math.Option.{Option, none, some}
 use Rattle.std.specs.Float.Ieee.{is_nan, lt}
 use Rattle.lists.specs.Members.{has, all, any}
 use Rattle.run_rules.specs.declared.Job.{Job}
-use Rattle.run_rules.specs.declared.Gate.{Gate}
-use Rattle.run_rules.specs.declared.Gate.TheVariants.{Off, At}
-use Rattle.run_rules.specs.declared.FinishAnswer.{FinishAnswer}
-use Rattle.run_rules.specs.declared.FinishAnswer.TheVariants.{Noted, NotRunning}
 
 -- What a run is given: the steps upstream of each step, the depth of each pool by its number, the job limit, the load gate. Pool 0 is the empty one.
 pub record Given : Type 0 where
   pub upstream : ℕ → List ℕ
   pub depth : ℕ → ℕ
   pub limit : ℕ
-  pub gate : Gate
+  pub gate : StdOption Float
 
 -- ---- a record's state
 abbrev pub job_runs : Job → Bool
@@ -62,10 +58,10 @@ unfolding running_jobs
 limit_allows g t = ltb (running_jobs t) g.limit
 
 -- "a reading is above it or no number"
-unfoldable pub heavy_load : Gate → Float → Bool
+unfoldable pub heavy_load : StdOption Float → Float → Bool
 unfolding is_nan lt
-heavy_load Off load = false
-heavy_load (At highest) load = is_nan load || lt highest load
+heavy_load None load = false
+heavy_load (Some highest) load = is_nan load || lt highest load
 
 -- "neither load nor a failure forbids it": "a step starts only when none runs", "After a failed step nothing starts"
 unfoldable pub load_forbids : Given → Float → List Job → Bool
@@ -120,14 +116,14 @@ unfolding moved
 after_finish t s good = moved s 1 (cond good 2 3) t
 
 -- "A finish for a step that isn't running or not in the table is refusal 27 at it and changes nothing."
-unfoldable pub finish_of : List Job → ℕ → FinishAnswer
+unfoldable pub finish_of : List Job → ℕ → Result Unit ℕ
 unfolding any
-finish_of t s = cond (any (job_is s 1) t) Noted (NotRunning s)
+finish_of t s = cond (any (job_is s 1) t) (Ok tt) (Err s)
 
 -- the number and the place of an answer
-unfoldable pub finish_says : FinishAnswer → ℕ × ℕ
-finish_says Noted = (0, 0)
-finish_says (NotRunning s) = (27, s)
+unfoldable pub finish_says : Result Unit ℕ → ℕ × ℕ
+finish_says (Ok tt) = (0, 0)
+finish_says (Err s) = (27, s)
 
 -- ---- the first table, and the last
 abbrev pub waiting_job : ℕ → ℕ → Job

@@ -1,4 +1,5 @@
 -- What the functions promise gives the rules' moves, so that what is proved of the rules holds of every run over a lent table.
+use Rattle.std.specs.Prelude.{Option as StdOption, Ok}
 use Prim.Native.Nat.{ℕ, ◌≤◌}
 use mathlib.Core.Bool.{Bool, true, false, cond}
 use mathlib.Core.List.{List, [], ◌∷◌, ◌++◌}
@@ -14,8 +15,6 @@ use Rattle.lists.specs.Members.{any, ◌⊆◌}
 use Rattle.orders.specs.Order.{IsOrder}
 use Rattle.orders.specs.Reach.{ComesBefore}
 use Rattle.run_rules.specs.declared.Job.{Job}
-use Rattle.run_rules.specs.declared.Gate.{Gate}
-use Rattle.run_rules.specs.declared.FinishAnswer.TheVariants.{Noted}
 use Rattle.run_rules.specs.Runner.{Given, next_start, job_is, finish_of, after_finish}
 use Rattle.run_rules.specs.Claims.{starts, finishes, RunEvent, began, ended, TableReached, fresh_table_law, further_on, FreshTable, SoundTable, DeepPools, RunsOut}
 use Rattle.run_rules.proofs.Moved.{moved_none}
@@ -84,11 +83,11 @@ module _ {g : Given} {a : List Job} {es : List RunEvent} {t t' : List Job} {r : 
   finished_on (finish_lacks_room n d) = rw (n, d) h
 
 -- an ask of the run is given what the run is
-asked_run : (gs ds : List ℕ) {limit : ℕ} {gate : Gate} (x : StartAsk) → x.limit ≡ limit → asked_gate x ≡ gate → asked_given gs ds x ≡ run_given gs ds limit gate
+asked_run : (gs ds : List ℕ) {limit : ℕ} {gate : StdOption Float} (x : StartAsk) → x.limit ≡ limit → asked_gate x ≡ gate → asked_given gs ds x ≡ run_given gs ds limit gate
 unfolding asked_given
-asked_run gs ds x e d = ap₂ (λ (k : ℕ) (w : Gate). run_given gs ds k w) e d
+asked_run gs ds x e d = ap₂ (λ (k : ℕ) (w : StdOption Float). run_given gs ds k w) e d
 
-pub ran_reached : {gs ds : List ℕ} {limit : ℕ} {gate : Gate} {a : List Job} {es : List RunEvent} {t : List Job} → LentRun gs ds limit gate a es t → TableReached (run_given gs ds limit gate) a es t
+pub ran_reached : {gs ds : List ℕ} {limit : ℕ} {gate : StdOption Float} {a : List Job} {es : List RunEvent} {t : List Job} → LentRun gs ds limit gate a es t → TableReached (run_given gs ds limit gate) a es t
 ran_reached (unasked e) = fresh_table_law e
 ran_reached {gs} {ds} (start_asked {t = t} {t' = t'} {x = x} {r = r} h e d s) =
     started_on (ran_reached h) (subst (λ (g : Given). StartOutcome g x.load t r t') (asked_run gs ds x e d) (start_outcome s))
@@ -103,7 +102,7 @@ fresh_front {t} {ss} {ps} h e =
     (λ (d : leb (length ss) (length t) ≡ true). ap (take (length ss)) (rw d at h.table) ∙ take_at (fresh_table ss ps) (drop (length ss) t) (length ss) (fresh_table_length ss ps))
     (λ (d : leb (length ss) (length t) ≡ false). let q = (rw d at h.says) in absurd (omega (arith, q, e)))
 
-module _ {Want : ℕ → Type 0} {before : ℕ → List ℕ} {l ss gs : List ℕ} (k : RowsOf Want before l ss gs) (ps ds : List ℕ) (limit : ℕ) (gate : Gate) where
+module _ {Want : ℕ → Type 0} {before : ℕ → List ℕ} {l ss gs : List ℕ} (k : RowsOf Want before l ss gs) (ps ds : List ℕ) (limit : ℕ) (gate : StdOption Float) where
   pub run_fresh : FreshTable Want (run_given gs ds limit gate) (fresh_table ss ps)
   run_fresh =
       rw k.rows
@@ -130,7 +129,7 @@ start_told h e d =
     rw q
 
 pub finish_told : {t : List Job} {s : ℕ} {good : Bool} {cs : List ℕ} {r : Change} {t' : List Job} {cs' : List ℕ} → Finished t s good cs r t' cs' → enough (length t) cs ≡ true
-    → finish_of t s ≡ Noted → finish_events s good r ≡ ended s good ∷ []
+    → finish_of t s ≡ (Ok tt) → finish_events s good r ≡ ended s good ∷ []
 unfolding finish_events finish_change
 finish_told h e d =
     let q = (rw (e, d) at h.says) in

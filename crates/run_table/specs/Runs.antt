@@ -1,13 +1,11 @@
 -- The answers of a start and of a finish by their cases, and a run: any sequence of answers over one lent table.
-use Rattle.std.specs.Prelude.{ℕ, ◌<◌, Bool, List, [], ◌∷◌, ◌++◌, ◌≡◌, eqb, Float}
+use Rattle.std.specs.Prelude.{ℕ, ◌<◌, Bool, List, [], ◌∷◌, ◌++◌, ◌≡◌, eqb, Float, Option, Ok, Err}
 use Rattle.std.proofs.Math.Option.{none, some}
 use Rattle.lists.specs.Tests.{if_b}
 use Rattle.lists.specs.Members.{◌∈◌, ◌⊆◌, Once, Each}
 use Rattle.orders.specs.Order.{IsOrder}
 use Rattle.orders.specs.Reach.{ComesBefore}
 use Rattle.run_rules.specs.declared.Job.{Job}
-use Rattle.run_rules.specs.declared.Gate.{Gate}
-use Rattle.run_rules.specs.declared.FinishAnswer.TheVariants.{Noted, NotRunning}
 use Rattle.run_rules.specs.Runner.{Given, next_start, after_start, finish_of, after_finish}
 use Rattle.run_rules.specs.Claims.{RunEvent, began, ended}
 use Rattle.run_core.specs.Numbers.{given_in, graph_rows}
@@ -24,8 +22,8 @@ pub data StartOutcome (g : Given) (load : Float) (t : List Job) (r : Change) (t'
 
 -- a finish is noted, or refused with 27 at the step, or the columns are too short
 pub data FinishOutcome (t : List Job) (s : ℕ) (good : Bool) (r : Change) (t' : List Job) : Type 0 where
-  notes : finish_of t s ≡ Noted → r.number ≡ 0 → t' ≡ after_finish t s good → FinishOutcome t s good r t'
-  refuses : finish_of t s ≡ NotRunning s → r.number ≡ 27 → r.step ≡ s → t' ≡ t → FinishOutcome t s good r t'
+  notes : finish_of t s ≡ (Ok tt) → r.number ≡ 0 → t' ≡ after_finish t s good → FinishOutcome t s good r t'
+  refuses : finish_of t s ≡ Err s → r.number ≡ 27 → r.step ≡ s → t' ≡ t → FinishOutcome t s good r t'
   finish_lacks_room : r.number ≡ 1 → t' ≡ t → FinishOutcome t s good r t'
 
 -- what happened, by the answer alone
@@ -36,12 +34,12 @@ unfoldable pub finish_events : ℕ → Bool → Change → List RunEvent
 finish_events s good r = if_b (eqb r.number 0) (λ _. ended s good ∷ []) (λ _. [])
 
 -- what a run is given: rows, depths, job limit and gate
-abbrev pub run_given : List ℕ → List ℕ → ℕ → Gate → Given
+abbrev pub run_given : List ℕ → List ℕ → ℕ → Option Float → Given
 run_given gs ds limit gate = given_in start_steps gs (depths_of ds start_pools) limit gate
 
 -- StartAsk again and again over one table, from a on: the job limit and the gate stay, load readings, columns and what is finished are any. The newest event is
 -- the first.
-pub data LentRun (gs ds : List ℕ) (limit : ℕ) (gate : Gate) (a : List Job) : List RunEvent → List Job → Type 0 where
+pub data LentRun (gs ds : List ℕ) (limit : ℕ) (gate : Option Float) (a : List Job) : List RunEvent → List Job → Type 0 where
   unasked : {t : List Job} → t ≡ a → LentRun gs ds limit gate a [] t
   start_asked : {es : List RunEvent} {t t' : List Job} {cs cs' : List ℕ} {x : StartAsk} {r : Change} → LentRun gs ds limit gate a es t → x.limit ≡ limit → asked_gate x ≡ gate
       → Started t gs ds x cs r t' cs' → LentRun gs ds limit gate a (start_events r ++ es) t'

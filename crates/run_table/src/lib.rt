@@ -1,4 +1,5 @@
-// The runner's table: a lent slice of step records, changed in place. Thin functions over what crate run_columns decides.
+// The runner's table: a lent slice of step records, changed in place. Thin functions over what crate run_columns
+// decides.
 #![tactic(auto)]
 
 ghost use Rattle.std.specs.Prelude.{◌≡◌, ◌<◌};
@@ -12,30 +13,28 @@ use run_columns::{
 };
 use run_rules::Job;
 
-// The fresh table of a list: its steps wait, each in its pool. 1 where the table is too short for the list, and it stays as it is.
+// The fresh table of a list: its steps wait, each in its pool. 1 where the table is too short for the list, and it
+// stays as it is.
 pub fn fresh(jobs: &mut [Job], steps: &[u32], pools: &[u32]) -> u32
     ensures { Fresh jobs.old steps.now pools.now result jobs.new }
 {
     let number = fresh_number(jobs.len(), steps.len());
     let n = fresh_count(jobs.len(), steps.len());
-    let mut i = 0;
-    while i < n {
+    for i in 0..n {
         jobs[i] = fresh_job(steps, pools, i);
-        i += 1;
     }
     number
 }
 
-// The table's numbers in the columns, where they are long enough: in each turn the record is read by value, and the columns are lent again.
+// The table's numbers in the columns, where they are long enough: in each turn the record is read by value, and the
+// columns are lent again.
 pub fn gather(jobs: &[Job], columns: &mut [u32])
     ensures { columns.new ≡ gathered jobs.now columns.old }
 {
     let n = jobs.len();
-    let mut i = 0;
-    while i < n {
+    for i in 0..n {
         let j = jobs[i];
         note(columns, n, i, j);
-        i += 1;
     }
 }
 
@@ -60,7 +59,8 @@ pub fn finish(jobs: &mut [Job], columns: &mut [u32], step: u32, good: bool) -> C
     c
 }
 
-// A start of the lowest step that may start, and its answer. `links` has the rows of the graph, `depths` those of the pools.
+// A start of the lowest step that may start, and its answer. `links` has the rows of the graph, `depths` those of the
+// pools.
 pub fn start(
     jobs: &mut [Job],
     columns: &mut [u32],

@@ -1,18 +1,16 @@
 -- What a caller learns from each answer.
+use Rattle.std.specs.Option.{is_some}
+use Rattle.std.specs.Prelude.{Option, Some, None}
 use Prim.Native.Nat.{ℕ, ◌≤◌}
 use mathlib.Core.Bool.{true, false}
 use mathlib.Core.List.{List}
-use mathlib.Core.Path.{◌≡◌, sym, ◌∙◌, subst}
+use mathlib.Core.Path.{◌≡◌, sym, ◌∙◌, subst, ap}
 use Rattle.lists.specs.Tests.{split}
 use Rattle.spec.specs.Basics.{among}
 use Rattle.spec.specs.Reading.{number_of}
 use Rattle.spec.specs.Card.{number_at}
 use Rattle.spec.specs.Bundle.{sound_bundle}
 use Rattle.hold_names.proofs.Halving.{clash}
-use Rattle.scan_bundle.specs.declared.BundleAnswer.{BundleAnswer}
-use Rattle.scan_bundle.specs.declared.BundleAnswer.TheVariants.{Sound, Malformed}
-use Rattle.scan_bundle.specs.declared.FoundRecord.{FoundRecord}
-use Rattle.scan_bundle.specs.declared.FoundRecord.TheVariants.{At, Missing}
 use Rattle.scan_bundle.specs.Bundles.{LaidBundle, BundleIndexed, Indexes, bundle_answer, found_record}
 use Rattle.scan_bundle.proofs.Lying.{laid_few}
 use Rattle.scan_bundle.proofs.Checking.{sound_laid}
@@ -28,39 +26,45 @@ pub record Opened (s : List ℕ) (least most : ℕ) (order : List ℕ) (n : ℕ)
   pub sound : sound_bundle least most s ≡ true
   pub indexed : BundleIndexed s n order
 
-module _ {s : List ℕ} {least most : ℕ} {order order' : List ℕ} {r : BundleAnswer} (x : Indexes s least most order order' r) where
-  pub opened : {n : ℕ} → r ≡ Sound n → Opened s least most order' n
+module _ {s : List ℕ} {least most : ℕ} {order order' : List ℕ} {r : Option ℕ} (x : Indexes s least most order order' r) where
+  pub opened : {n : ℕ} → r ≡ Some n → Opened s least most order' n
   unfolding bundle_answer
   opened {n} e =
-      let a : bundle_answer least most s ≡ Sound n = sym x.answer ∙ e in
+      let a : bundle_answer least most s ≡ Some n = sym x.answer ∙ e in
       split (sound_bundle least most s)
       (λ (h : sound_bundle least most s ≡ true).
-      let b : Sound (number_at 0 4 s) ≡ Sound n = rw h at a in
+      let b : Some (number_at 0 4 s) ≡ Some n = rw h at a in
       let c : number_at 0 4 s ≡ n = cc in
       record { sound = h; indexed = subst (λ (m : ℕ). BundleIndexed s m order') c (x.sorted h) })
-      (λ (h : sound_bundle least most s ≡ false). let b : Malformed ≡ Sound n = rw h at a in clash (cc))
+      (λ (h : sound_bundle least most s ≡ false). let b : None ≡ Some n = rw h at a in clash (cc))
 
-  pub malformed_is : r ≡ Malformed → sound_bundle least most s ≡ false
+  pub sound_is : is_some r ≡ sound_bundle least most s
+  unfolding bundle_answer
+  sound_is =
+      ap is_some x.answer
+      ∙ split (sound_bundle least most s) (λ (h : sound_bundle least most s ≡ true). rw h) (λ (h : sound_bundle least most s ≡ false). rw h)
+
+  pub malformed_is : r ≡ None → sound_bundle least most s ≡ false
   unfolding bundle_answer
   malformed_is e =
-      let a : bundle_answer least most s ≡ Malformed = sym x.answer ∙ e in
+      let a : bundle_answer least most s ≡ None = sym x.answer ∙ e in
       split (sound_bundle least most s)
-      (λ (h : sound_bundle least most s ≡ true). let b : Sound (number_at 0 4 s) ≡ Malformed = rw h at a in clash (cc))
+      (λ (h : sound_bundle least most s ≡ true). let b : Some (number_at 0 4 s) ≡ None = rw h at a in clash (cc))
       (λ (h : sound_bundle least most s ≡ false). h)
 
-module _ (p : List ℕ) (names : List (List ℕ)) {r : FoundRecord} (x : r ≡ found_record p names) where
-  pub found_at : {k : ℕ} → r ≡ At k → (among p names ≡ true) × (k ≡ number_of p names)
+module _ (p : List ℕ) (names : List (List ℕ)) {r : Option ℕ} (x : r ≡ found_record p names) where
+  pub found_at : {k : ℕ} → r ≡ Some k → (among p names ≡ true) × (k ≡ number_of p names)
   unfolding found_record
   found_at {k} e =
-      let a : found_record p names ≡ At k = sym x ∙ e in
+      let a : found_record p names ≡ Some k = sym x ∙ e in
       split (among p names)
-      (λ (h : among p names ≡ true). let b : At (number_of p names) ≡ At k = rw h at a in let c : k ≡ number_of p names = cc in (h, c))
-      (λ (h : among p names ≡ false). let b : Missing ≡ At k = rw h at a in clash (cc))
+      (λ (h : among p names ≡ true). let b : Some (number_of p names) ≡ Some k = rw h at a in let c : k ≡ number_of p names = cc in (h, c))
+      (λ (h : among p names ≡ false). let b : None ≡ Some k = rw h at a in clash (cc))
 
-  pub found_none : r ≡ Missing → among p names ≡ false
+  pub found_none : r ≡ None → among p names ≡ false
   unfolding found_record
   found_none e =
-      let a : found_record p names ≡ Missing = sym x ∙ e in
+      let a : found_record p names ≡ None = sym x ∙ e in
       split (among p names)
-      (λ (h : among p names ≡ true). let b : At (number_of p names) ≡ Missing = rw h at a in clash (cc))
+      (λ (h : among p names ≡ true). let b : Some (number_of p names) ≡ None = rw h at a in clash (cc))
       (λ (h : among p names ≡ false). h)

@@ -112,10 +112,10 @@ unfolding moved
 spot_begin s place = record { within = omega arith; rest = refl }
 
 module _ {s : List ℕ} {place left k : ℕ} (x : Spotting s place left k) where
-  pub spot_past : number_at 0 4 s ≤ k → {n : ℕ} → n ≡ number_at 0 4 s → record_place_of n (record { text = k; offset = left }) ≡ spot (bundle_texts s) place
+  pub spot_past : number_at 0 4 s ≤ k → {n : ℕ} → n ≡ number_at 0 4 s → record_place_of n (record { text = n; offset = left }) ≡ spot (bundle_texts s) place
   unfolding spot record_place_of
   spot_past h {n} e =
-      rw (le-ltb k n (omega arith))
+      rw (le-ltb n n (omega arith))
       (sym (x.rest ∙ rw (drop_of_length-le (bundle_texts s) {i = k} (omega (arith, length_texts s))) (moved_plain k left)))
 
   module _ (l : LaidBundle s) (h : k < number_at 0 4 s) (size : ℕ) (e : size ≡ number_at (24 + 16 * k + 4) 4 s) where

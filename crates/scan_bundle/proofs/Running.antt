@@ -1,4 +1,5 @@
 -- The walk over extents: a turn of it, and its ends.
+use Rattle.std.specs.Prelude.{Option as StdOption, Some, None}
 use Prim.Native.Nat.{ℕ, suc, ◌+◌, ◌-◌, ◌*◌, ◌≤◌, ◌<◌}
 use mathlib.Core.List.{List, ◌∷◌}
 use mathlib.Core.Option.{Option}
@@ -8,13 +9,11 @@ use lib.ListN.{drop}
 use Rattle.spec.specs.Basics.{or_else}
 use Rattle.spec.specs.Bundle.{Extent, extent_at, extents_of, extents_end}
 use Rattle.scan_card.proofs.Rules.{refuted}
-use Rattle.scan_bundle.specs.declared.Run.{Run}
-use Rattle.scan_bundle.specs.declared.Run.TheVariants.{End, Broken}
 use Rattle.scan_bundle.specs.Bundles.{run_of}
 use Rattle.scan_bundle.proofs.Extents.{extents_cons, Fits, fitting, fits, fit, end_none, end_on, end_off}
 
-abbrev answered : Option ℕ → Run
-answered o = or_else o (λ e. End e) (λ _. Broken)
+abbrev answered : Option ℕ → StdOption ℕ
+answered o = or_else o (λ e. Some e) (λ _. None)
 
 -- what the extents from k on say
 abbrev left : List ℕ → ℕ → ℕ → ℕ → List Extent
@@ -39,7 +38,7 @@ left_cons s n first k h =
     rw (a, extents_cons s (first + 16 * k) (n - (k + 1)), b)
 
 module _ {s : List ℕ} {n first start least most end k : ℕ} (r : Running s n first start least most end k) where
-  pub run_end : n ≤ k → End end ≡ run_of least most start n first s
+  pub run_end : n ≤ k → Some end ≡ run_of least most start n first s
   unfolding extents_of
   run_end h =
       let a : n - k ≡ 0 = omega arith in
@@ -55,7 +54,7 @@ module _ {s : List ℕ} {n first start least most end k : ℕ} (r : Running s n 
     opened : run_of least most start n first s ≡ answered (extents_end least most end (here ∷ on))
     opened = r.rest ∙ ap (λ (es : List Extent). answered (extents_end least most end es)) (left_cons s n first k l)
 
-    pub run_broken : (Fits least most end here → ⊥) → Broken ≡ run_of least most start n first s
+    pub run_broken : (Fits least most end here → ⊥) → None ≡ run_of least most start n first s
     run_broken f =
         sym
         (opened

@@ -1,4 +1,6 @@
 -- The records sorted by name: halving, one more put in, and what the whole order says of the names.
+use Rattle.std.specs.Prelude.{Some, None, Result, Ok, Err}
+use Rattle.std.specs.Result.{result_ok}
 use Prim.Native.Nat.{ℕ, zero, suc, ◌+◌, ◌-◌, ◌/◌, ◌≤◌, ◌<◌}
 use mathlib.Core.Bool.{Bool, true, false, not, ◌||◌}
 use mathlib.Core.List.{List, [], ◌∷◌, map}
@@ -11,8 +13,8 @@ use lib.Seq.{length-take-le}
 use Rattle.lists.specs.Tests.{split, differ, or_false}
 use Rattle.lists.specs.Bytes.{less_ne}
 use Rattle.lists.specs.Order.{order_bytes, order_less, order_greater, order_equal}
-use Rattle.lists.specs.declared.Order.{Order}
-use Rattle.lists.specs.declared.Order.TheVariants.{Less, Equal, Greater}
+use Rattle.std.specs.declared.cmp.Ordering.{Ordering}
+use Rattle.std.specs.declared.cmp.Ordering.TheVariants.{Less, Equal, Greater}
 use Rattle.arena.specs.Inserted.{inserted, Shifted}
 use Rattle.arena.specs.Rising.{PathBetween}
 use Rattle.arena.proofs.Inserting.{length_inserted, each_inserted, has_inserted, keeps_inserted, map_inserted}
@@ -23,21 +25,18 @@ use Rattle.spec.specs.Bundle.{bundle_names}
 use Rattle.spec.specs.Statements.{twice}
 use Rattle.hold_names.proofs.Buckets.{first_stands, among_nowhere, nowhere}
 use Rattle.hold_names.proofs.Halving.{clash}
-use Rattle.scan_bundle.specs.declared.FoundRecord.TheVariants.{At, Missing}
-use Rattle.scan_bundle.specs.declared.RecordPlace.{RecordPlace}
-use Rattle.scan_bundle.specs.declared.RecordPlace.TheVariants.{Taken, Free}
 use Rattle.scan_bundle.specs.Bundles.{NamesSorted, PlacesRecord, SortsNames, found_record}
 use Rattle.scan_bundle.proofs.Lying.{get_d_map, length_names}
 
 -- ---- the cases of a place
 
-free_taken : {A : Type 0} (p k : ℕ) → Free p ≡ Taken k → A
+free_taken : {A : Type 0} (p k : ℕ) → ◌≡◌ {A = Result ℕ ℕ} (Err p) (Ok k) → A
 free_taken p k e = clash (cc)
 
-free_same : (p q : ℕ) → Free p ≡ Free q → p ≡ q
+free_same : (p q : ℕ) → ◌≡◌ {A = Result ℕ ℕ} (Err p) (Err q) → p ≡ q
 free_same p q e = cc
 
-taken_same : (k j : ℕ) → Taken k ≡ Taken j → k ≡ j
+taken_same : (k j : ℕ) → ◌≡◌ {A = Result ℕ ℕ} (Ok k) (Ok j) → k ≡ j
 taken_same k j e = cc
 
 -- ---- names that are there twice
@@ -102,7 +101,7 @@ module _ (names : List (List ℕ)) where
       record { sorted = s; within = omega arith; ordered = omega arith; between = rw (← length_by order) (between_all (names_by order) name) }
 
   module _ {n : ℕ} {order name : List ℕ} {low high : ℕ} (x : Halving n order name low high) where
-    pub half_end : high ≤ low → PlacesRecord names n order name (Free low)
+    pub half_end : high ≤ low → PlacesRecord names n order name (Err low)
     half_end h =
         let z : high ≡ low = omega (arith, x.ordered) in
         record {
@@ -120,7 +119,7 @@ module _ (names : List (List ℕ)) where
       named : get_or (names_by order) mid [] ≡ name_of k
       named = by_at order mid mid_in ∙ ap (λ (j : ℕ). name_of j) (sym e)
 
-      module _ {o : Order} {other : List ℕ} (q : other ≡ name_of k) (r : o ≡ order_bytes name other) where
+      module _ {o : Ordering} {other : List ℕ} (q : other ≡ name_of k) (r : o ≡ order_bytes name other) where
         told : order_bytes name (get_or (names_by order) mid []) ≡ o
         told = rw (named, ← q) (sym r)
 
@@ -142,7 +141,7 @@ module _ (names : List (List ℕ)) where
               between = between_higher x.between x.sorted.rising (omega arith) (order_greater name (get_or (names_by order) mid []) (told ∙ f));
             }
 
-        pub half_found : o ≡ Equal → PlacesRecord names n order name (Taken k)
+        pub half_found : o ≡ Equal → PlacesRecord names n order name (Ok k)
         half_found f =
             record {
               taken = λ {k = j} z. let w : k ≡ j = taken_same k j z in rw (← w) (mid_below, order_equal name (get_or (names_by order) mid []) (told ∙ f) ∙ named);
@@ -188,18 +187,22 @@ module _ (names : List (List ℕ)) where
     sorted_once h = once_only names (λ i j a b e. sorted_differ i j a (omega arith) e)
 
     module _ (h : n ≡ length names) {p : List ℕ} where
-      pub find_at : {k : ℕ} → (k < n) × (p ≡ name_of k) → At k ≡ found_record p names
+      find_at : {k : ℕ} → (k < n) × (p ≡ name_of k) → Some k ≡ found_record p names
       unfolding found_record
       find_at {k} (l, e) =
           let (a, b) = first_stands p names k (omega arith) (sym e) (λ i d q. sorted_differ i k d l (q ∙ e)) in
           rw (a, b)
 
-      pub find_none : {q : ℕ} → PathBetween (names_by order) p q q → Missing ≡ found_record p names
+      find_none : {q : ℕ} → PathBetween (names_by order) p q q → None ≡ found_record p names
       unfolding found_record
       find_none b =
           rw (among_nowhere p names (λ k l e.
           let (i, a, f) = s.all k (omega arith) in
           between_none b i (omega (arith, length_by order)) (sym e ∙ sym (ap (λ (j : ℕ). name_of j) f) ∙ sym (by_at order i a))))
+
+      pub find_ok : (r : Result ℕ ℕ) → PlacesRecord names n order p r → result_ok r ≡ found_record p names
+      find_ok (Ok k) x = find_at (x.taken refl)
+      find_ok (Err q) x = find_none (x.free refl)
 
 -- ---- the walk over the records
 
@@ -222,8 +225,8 @@ module _ {s : List ℕ} {n : ℕ} {before order : List ℕ} {k : ℕ} (x : Sorti
         sorted = λ _. y;
       }
 
-  module _ (l : k < n) {name : List ℕ} (e : name ≡ get_or (bundle_names s) k []) {r : RecordPlace} (p : PlacesRecord (bundle_names s) k (take k order) name r) where
-    pub sort_twice : {j : ℕ} → r ≡ Taken j → SortsNames s n before order false
+  module _ (l : k < n) {name : List ℕ} (e : name ≡ get_or (bundle_names s) k []) {r : Result ℕ ℕ} (p : PlacesRecord (bundle_names s) k (take k order) name r) where
+    pub sort_twice : {j : ℕ} → r ≡ Ok j → SortsNames s n before order false
     sort_twice {j} t =
         let (a, b) = p.taken t in
         record {
@@ -232,10 +235,10 @@ module _ {s : List ℕ} {n : ℕ} {before order : List ℕ} {k : ℕ} (x : Sorti
           sorted = λ q. differ q refl;
         }
 
-    pub free_within : n ≤ length before → {q : ℕ} → r ≡ Free q → q ≤ k
+    pub free_within : n ≤ length before → {q : ℕ} → r ≡ Err q → q ≤ k
     free_within m t = omega (arith, (p.free t).within, length-map (take k order) (λ (k : ℕ). get_or (bundle_names s) k []), length-take-le k order (omega (arith, x.long)))
 
-    pub sort_more : {q : ℕ} → r ≡ Free q → {order' : List ℕ} → Shifted order k q k order' → Sorting s n before order' (k + 1)
+    pub sort_more : {q : ℕ} → r ≡ Err q → {order' : List ℕ} → Shifted order k q k order' → Sorting s n before order' (k + 1)
     sort_more {q} t {order'} i =
         record {
           within = omega arith;

@@ -1,22 +1,13 @@
 -- Bytes written one part behind another from the front of a buffer, and the bundle of one record.
-use Prim.Native.Nat.{ℕ, suc, ◌+◌, ◌/◌, ◌%◌, ◌≤◌}
+use Prim.Native.Nat.{ℕ, ◌+◌, ◌≤◌}
 use mathlib.Core.List.{List, [], ◌++◌, append-nil}
 use mathlib.Core.Path.{◌≡◌, refl, sym, ◌∙◌, ap, ap₂}
 use native.Mathlib.Omega.{arith}
-use lib.ListN.{length, take, drop, set, length-append, length-drop}
-use lib.Seq.{take-length, take_at, drop_at, drop-drop, paste, sets-eq}
+use lib.ListN.{length, take, drop, length-append, length-drop}
+use lib.Seq.{take-length, take_at, drop_at, drop-drop, paste}
 use Rattle.spec.specs.Card.{in_bytes}
 use Rattle.spec.specs.Bundle.{bundled}
 use Rattle.scan_bundle.specs.Bundles.{one_record, head_bytes, WrapsHead, Wraps}
-
--- four stores one behind another
-pub word_put : (l : List ℕ) (p v : ℕ) {a b c d : ℕ} → p + 4 ≤ length l → a ≡ v % 256 → b ≡ v / 256 % 256 → c ≡ v / 256 / 256 % 256 → d ≡ v / 256 / 256 / 256 % 256
-    → set (set (set (set l p a) (p + 1) b) (p + 2) c) (p + 3) d ≡ paste l p (in_bytes 4 v) 4
-word_put l p v h ea eb ec ed =
-    let one : p + 1 ≡ suc p = omega arith in
-    let two : p + 2 ≡ suc (suc p) = omega arith in
-    let three : p + 3 ≡ suc (suc (suc p)) = omega arith in
-    rw (ea, eb, ec, ed, one, two, three) (sets-eq (in_bytes 4 v) l p h)
 
 -- the buffer begins with what was written, and what lies behind it stays
 pub record Begins (out done now : List ℕ) : Type 0 where

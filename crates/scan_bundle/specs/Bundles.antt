@@ -1,5 +1,5 @@
 -- What the functions on a bundle's bytes ask for and promise.
-use Rattle.std.specs.Prelude.{ℕ, ◌+◌, ◌*◌, ◌≤◌, ◌<◌, Bool, true, not, List, [], ◌∷◌, ◌++◌, map, ◌≡◌, ltb, length, take, drop, get_or}
+use Rattle.std.specs.Prelude.{ℕ, ◌+◌, ◌*◌, ◌≤◌, ◌<◌, Bool, true, not, List, [], ◌∷◌, ◌++◌, map, ◌≡◌, ltb, length, take, drop, get_or, Option, Some, None, Result, Ok, Err}
 use Rattle.lists.specs.Tests.{if_b}
 use Rattle.lists.specs.Lent.{Spare}
 use Rattle.arena.specs.Rising.{RisingPaths, PathBetween}
@@ -9,15 +9,7 @@ use Rattle.spec.specs.Bundle.{extents_of, extents_end, bundle_names, laid_bundle
 use Rattle.spec.specs.Card.{in_bytes, number_at}
 use Rattle.spec.specs.Reading.{number_of}
 use Rattle.spec.specs.Statements.{twice}
-use Rattle.scan_bundle.specs.declared.BundleAnswer.{BundleAnswer}
-use Rattle.scan_bundle.specs.declared.BundleAnswer.TheVariants.{Sound, Malformed}
-use Rattle.scan_bundle.specs.declared.FoundRecord.{FoundRecord}
-use Rattle.scan_bundle.specs.declared.FoundRecord.TheVariants.{At, Missing}
 use Rattle.scan_bundle.specs.declared.Spot.{Spot}
-use Rattle.scan_bundle.specs.declared.Run.{Run}
-use Rattle.scan_bundle.specs.declared.Run.TheVariants.{End, Broken}
-use Rattle.scan_bundle.specs.declared.RecordPlace.{RecordPlace}
-use Rattle.scan_bundle.specs.declared.RecordPlace.TheVariants.{Taken, Free}
 
 -- ---- header and extents
 
@@ -34,9 +26,9 @@ pub record RunAsks (s : List ℕ) (n : ℕ) : Type 0 where
   pub short : length s < 4294967296
 
 -- where the extents end, of which the first is at `first`
-unfoldable pub run_of : ℕ → ℕ → ℕ → ℕ → ℕ → List ℕ → Run
+unfoldable pub run_of : ℕ → ℕ → ℕ → ℕ → ℕ → List ℕ → Option ℕ
 unfolding extents_end extents_of
-run_of least most start n first s = or_else (extents_end least most start (extents_of n (drop first s))) (λ e. End e) (λ _. Broken)
+run_of least most start n first s = or_else (extents_end least most start (extents_of n (drop first s))) (λ e. Some e) (λ _. None)
 
 -- an extent at p, and its bytes, lie within the bundle
 pub record LiesAt (s : List ℕ) (p : ℕ) : Type 0 where
@@ -54,9 +46,9 @@ pub record NamesSorted (names : List (List ℕ)) (n : ℕ) (order : List ℕ) : 
   pub all : (k : ℕ) → k < n → (i : ℕ) × (i < length order) × (get_or order i 0 ≡ k)
 
 -- a name among them is that of a record, or belongs at a place
-pub record PlacesRecord (names : List (List ℕ)) (n : ℕ) (order name : List ℕ) (r : RecordPlace) : Type 0 where
-  pub taken : {k : ℕ} → r ≡ Taken k → (k < n) × (name ≡ get_or names k [])
-  pub free : {p : ℕ} → r ≡ Free p → PathBetween (map (λ (k : ℕ). get_or names k []) order) name p p
+pub record PlacesRecord (names : List (List ℕ)) (n : ℕ) (order name : List ℕ) (r : Result ℕ ℕ) : Type 0 where
+  pub taken : {k : ℕ} → r ≡ Ok k → (k < n) × (name ≡ get_or names k [])
+  pub free : {p : ℕ} → r ≡ Err p → PathBetween (map (λ (k : ℕ). get_or names k []) order) name p p
 
 pub record SortsNames (s : List ℕ) (n : ℕ) (order order' : List ℕ) (r : Bool) : Type 0 where
   pub space : Spare order order'
@@ -70,20 +62,20 @@ pub record BundleIndexed (s : List ℕ) (n : ℕ) (order : List ℕ) : Type 0 wh
   pub room : n ≤ length order
   pub sorted : NamesSorted (bundle_names s) n (take n order)
 
-unfoldable pub bundle_answer : ℕ → ℕ → List ℕ → BundleAnswer
+unfoldable pub bundle_answer : ℕ → ℕ → List ℕ → Option ℕ
 unfolding sound_bundle number_at
-bundle_answer least most s = if_b (sound_bundle least most s) (λ _. Sound (number_at 0 4 s)) (λ _. Malformed)
+bundle_answer least most s = if_b (sound_bundle least most s) (λ _. Some (number_at 0 4 s)) (λ _. None)
 
 -- The answer, and the order of a sound bundle; otherwise that is working space.
-pub record Indexes (s : List ℕ) (least most : ℕ) (order order' : List ℕ) (r : BundleAnswer) : Type 0 where
+pub record Indexes (s : List ℕ) (least most : ℕ) (order order' : List ℕ) (r : Option ℕ) : Type 0 where
   pub space : Spare order order'
   pub answer : r ≡ bundle_answer least most s
   pub sorted : sound_bundle least most s ≡ true → BundleIndexed s (number_at 0 4 s) order'
 
 -- the record of a name
-unfoldable pub found_record : List ℕ → List (List ℕ) → FoundRecord
+unfoldable pub found_record : List ℕ → List (List ℕ) → Option ℕ
 unfolding among number_of
-found_record p names = if_b (among p names) (λ _. At (number_of p names)) (λ _. Missing)
+found_record p names = if_b (among p names) (λ _. Some (number_of p names)) (λ _. None)
 
 -- ---- places
 

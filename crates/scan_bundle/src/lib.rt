@@ -1,8 +1,8 @@
-// A lent bundle: whether its bytes are a sound one, its names and texts as parts of it, the record of a name by halving, places in its texts, and the
-// bundle of one record written.
+// A lent bundle: whether its bytes are a sound one, its names and texts as parts of it, the record of a name by
+// halving, places in its texts, and the bundle of one record written.
 #![tactic(auto)]
 
-ghost use Rattle.std.specs.Prelude.{◌≡◌, [], ◌+◌, ◌%◌, ◌≤◌, ◌<◌, length, get_or};
+ghost use Rattle.std.specs.Prelude.{◌≡◌, [], ◌+◌, ◌≤◌, ◌<◌, length, get_or};
 ghost use Rattle.std.proofs.Math.Seq.{paste};
 ghost use Rattle.spec.specs.Answers.{base_of, spot};
 ghost use Rattle.spec.specs.Bundle.{extent_at, lying_at, bundle_names, bundle_texts, sound_extents, laid_bundle};
@@ -11,25 +11,12 @@ ghost use Rattle.scan_bundle.specs.Bundles.{LaidBundle, LiesAt, RunAsks, run_of,
 
 use arena::insert;
 use byte_order::compare;
-use lists::Order;
 use scan_card::sound_layout;
 use scan_numbers::word;
 use slices::bytes::copy_at;
 use slices::words::at;
 use spec::limits::PATH;
-
-#[derive(Clone, Copy)]
-pub enum BundleAnswer {
-    // It is sound and has so many records.
-    Sound(usize),
-    Malformed,
-}
-
-#[derive(Clone, Copy)]
-pub enum FoundRecord {
-    At(usize),
-    Missing,
-}
+use std::cmp::Ordering;
 
 // A place in the texts: the number of a text and an offset in it. A place past them all has the number of texts.
 #[derive(Clone, Copy)]
@@ -38,33 +25,20 @@ pub struct Spot {
     pub offset: usize,
 }
 
-// Where extents end that lie end to end.
-#[derive(Clone, Copy)]
-enum Run {
-    End(usize),
-    Broken,
-}
-
-// Where a name stands among sorted ones: it is that of a record, or it belongs at a place.
-#[derive(Clone, Copy)]
-enum RecordPlace {
-    Taken(usize),
-    Free(usize),
-}
-
-// Whether a bundle of so many records at least and at most is sound. If it is, `order` begins with the numbers of its records sorted by name.
-pub fn index(b: &[u8], least: usize, most: usize, order: &mut [u32]) -> BundleAnswer
+// Whether a bundle of so many records at least and at most is sound. If it is, `order` begins with the numbers of its
+// records sorted by name, and the answer is how many there are.
+pub fn index(b: &[u8], least: usize, most: usize, order: &mut [u32]) -> Option<usize>
     requires { most ≤ length order.old }
     ensures { Indexes b.now least most order.old order.new result }
 {
     if !is_laid(b, least, most) {
-        return BundleAnswer::Malformed;
+        return None;
     }
     let n = word(b, 0);
     if !sort_names(b, n, order) {
-        return BundleAnswer::Malformed;
+        return None;
     }
-    BundleAnswer::Sound(n)
+    Some(n)
 }
 
 // Whether header and extents break no rule.
@@ -84,44 +58,51 @@ fn is_laid(b: &[u8], least: usize, most: usize) -> bool
     has_sound_extents(b, n, word(b, 12))
 }
 
-// Whether the names of n records lie end to end, the texts behind them likewise, and the last ends where the bundle does.
+// Whether the names of n records lie end to end, the texts behind them likewise, and the last ends where the bundle
+// does.
 fn has_sound_extents(b: &[u8], n: usize, total: usize) -> bool
     requires { RunAsks b.now n × (total ≡ length b.now) }
     ensures { result ≡ sound_extents b.now }
 {
-    match end_of(b, n, 16, 0, 1, PATH) {
-        Run::Broken => false,
-        Run::End(t) => match end_of(b, n, 24, t, 0, total) {
-            Run::Broken => false,
-            Run::End(e) => e == total - (16 + 16 * n),
-        },
-    }
+    let Some(t) = end_of(b, n, 16, 0, 1, PATH) else {
+        return false;
+    };
+    let Some(e) = end_of(b, n, 24, t, 0, total) else {
+        return false;
+    };
+    e == total - (16 + 16 * n)
 }
 
-// Where n extents end that lie end to end from `start` on, each of a size within bounds. The first is at `first`, each next one 16 bytes on.
-fn end_of(b: &[u8], n: usize, first: usize, start: usize, least: usize, most: usize) -> Run
+// Where n extents end that lie end to end from `start` on, each of a size within bounds; None if they do not. The
+// first is at `first`, each next one 16 bytes on.
+fn end_of(
+    b: &[u8],
+    n: usize,
+    first: usize,
+    start: usize,
+    least: usize,
+    most: usize,
+) -> Option<usize>
     requires run_asks { RunAsks b.now n }
     requires first_bound { (first ≤ 24) × (start < 2305843009213693952) }
     ensures { result ≡ run_of least most start n first b.now }
 {
     let mut end = start;
-    let mut k = 0;
-    while k < n {
+    for k in 0..n {
         let p = first + 16 * k;
         if word(b, p) != end {
-            return Run::Broken;
+            return None;
         }
         let size = word(b, p + 4);
         if size < least {
-            return Run::Broken;
+            return None;
         }
         if most < size {
-            return Run::Broken;
+            return None;
         }
         end += size;
-        k += 1;
     }
-    Run::End(end)
+    Some(end)
 }
 
 // The bytes at the extent that stands at a place.
@@ -158,23 +139,18 @@ fn sort_names(b: &[u8], n: usize, order: &mut [u32]) -> bool
     requires n_value { (n ≡ number_at 0 4 b.now) × (n ≤ length order.old) × (n < 4294967296) }
     ensures { SortsNames b.now n order.old order.new result }
 {
-    let mut k = 0;
-    while k < n {
-        match place_of(b, k, &order[..k], record_name(b, k)) {
-            RecordPlace::Taken(_) => {
-                return false;
-            }
-            RecordPlace::Free(p) => {
-                insert(order, k, p, k);
-            }
-        }
-        k += 1;
+    for k in 0..n {
+        let Err(p) = place_of(b, k, &order[..k], record_name(b, k)) else {
+            return false;
+        };
+        insert(order, k, p, k);
     }
     true
 }
 
-// Where a name stands among those of the first n records, which `order` has sorted, by halving.
-fn place_of(b: &[u8], n: usize, order: &[u32], name: &[u8]) -> RecordPlace
+// Where a name stands among those of the first n records, which `order` has sorted, by halving: Ok with the number of
+// the record of that name, Err with the place in the order where one would be put in.
+fn place_of(b: &[u8], n: usize, order: &[u32], name: &[u8]) -> Result<usize, usize>
     requires laid_bundle { LaidBundle b.now }
     requires n_bound { (n ≤ number_at 0 4 b.now) × NamesSorted (bundle_names b.now) n order.now }
     ensures { PlacesRecord (bundle_names b.now) n order.now name.now result }
@@ -185,29 +161,26 @@ fn place_of(b: &[u8], n: usize, order: &[u32], name: &[u8]) -> RecordPlace
         let mid = low + (high - low) / 2;
         let k = at(order, mid);
         match compare(name, record_name(b, k)) {
-            Order::Less => {
+            Ordering::Less => {
                 high = mid;
             }
-            Order::Greater => {
+            Ordering::Greater => {
                 low = mid + 1;
             }
-            Order::Equal => {
-                return RecordPlace::Taken(k);
+            Ordering::Equal => {
+                return Ok(k);
             }
         }
     }
-    RecordPlace::Free(low)
+    Err(low)
 }
 
 // The number of the record of that name.
-pub fn find_record(b: &[u8], n: usize, order: &[u32], path: &[u8]) -> FoundRecord
+pub fn find_record(b: &[u8], n: usize, order: &[u32], path: &[u8]) -> Option<usize>
     requires { BundleIndexed b.now n order.now }
     ensures { result ≡ found_record path.now (bundle_names b.now) }
 {
-    match place_of(b, n, &order[..n], path) {
-        RecordPlace::Taken(k) => FoundRecord::At(k),
-        RecordPlace::Free(_) => FoundRecord::Missing,
-    }
+    place_of(b, n, &order[..n], path).ok()
 }
 
 // Where text k begins among all texts laid end to end with one place between two.
@@ -226,8 +199,7 @@ pub fn spot_of(b: &[u8], n: usize, place: usize) -> Spot
     ensures { record_place_of n result ≡ spot (bundle_texts b.now) place }
 {
     let mut left = place;
-    let mut k = 0;
-    while k < n {
+    for k in 0..n {
         let size = word(b, 24 + 16 * k + 4);
         if left <= size {
             return Spot {
@@ -236,18 +208,11 @@ pub fn spot_of(b: &[u8], n: usize, place: usize) -> Spot
             };
         }
         left -= size + 1;
-        k += 1;
     }
     Spot {
-        text: k,
+        text: n,
         offset: left,
     }
-}
-
-fn low_byte(v: usize) -> u8
-    ensures { result ≡ v % 256 }
-{
-    (v % 256) as u8
 }
 
 // Writes a number as four bytes, the lowest first.
@@ -255,10 +220,7 @@ fn put_word(out: &mut [u8], p: usize, v: usize)
     requires { p + 4 ≤ length out.old }
     ensures { out.new ≡ paste out.old p (in_bytes 4 v) 4 }
 {
-    out[p] = low_byte(v);
-    out[p + 1] = low_byte(v / 256);
-    out[p + 2] = low_byte(v / 256 / 256);
-    out[p + 3] = low_byte(v / 256 / 256 / 256);
+    out[p..p + 4].copy_from_slice(&v.to_le_bytes()[..4]);
 }
 
 // Writes the header and the record of a bundle of one name and one text.

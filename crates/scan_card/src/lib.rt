@@ -58,7 +58,8 @@ pub fn sound_layout(s: &[u8]) -> bool
     true
 }
 
-// Whether the n records and the names break no rule. The name before the one at hand lies from `from` to `to`; before the first there is an empty one.
+// Whether the n records and the names break no rule. The name before the one at hand lies from `from` to `to`; before
+// the first there is an empty one.
 fn sound_names(card: &[u8], n: usize) -> bool
     requires { Headed card.now n }
     ensures { result ≡ sound_names card.now }
@@ -66,8 +67,7 @@ fn sound_names(card: &[u8], n: usize) -> bool
     let names = 16 + 16 * n;
     let mut from = names;
     let mut to = names;
-    let mut k = 0;
-    while k < n {
+    for k in 0..n {
         let at = 16 + 16 * k;
         if !sound_record(card, at, to - names) {
             return false;
@@ -81,7 +81,6 @@ fn sound_names(card: &[u8], n: usize) -> bool
         }
         from = to;
         to = end;
-        k += 1;
     }
     to == card.len()
 }

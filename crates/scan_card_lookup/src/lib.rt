@@ -7,10 +7,11 @@ ghost use Rattle.spec.specs.Card.{sound_card, card_entries, time_in};
 ghost use Rattle.scan_card.specs.Fields.{EntryListed, card_entry_at};
 
 use byte_order::compare;
-use lists::Order;
 use scan_numbers::{long, word};
+use std::cmp::Ordering;
 
 // The time of the file of this name, 0 where the card does not list it.
+// A time is at least 1, and the columns of times are fixed memory with a 0 where there is none: no `Option`.
 pub fn time_of(card: &[u8], name: &[u8]) -> u64
     requires { sound_card card.now ≡ true }
     ensures { result ≡ time_in (card_entries card.now) name.now }
@@ -20,13 +21,13 @@ pub fn time_of(card: &[u8], name: &[u8]) -> u64
     while low < high {
         let mid = low + (high - low) / 2;
         match order_at(card, mid, name) {
-            Order::Less => {
+            Ordering::Less => {
                 high = mid;
             }
-            Order::Greater => {
+            Ordering::Greater => {
                 low = mid + 1;
             }
-            Order::Equal => {
+            Ordering::Equal => {
                 return time_at(card, mid);
             }
         }
@@ -35,7 +36,7 @@ pub fn time_of(card: &[u8], name: &[u8]) -> u64
 }
 
 // How a name compares with that of entry k.
-fn order_at(card: &[u8], k: usize, name: &[u8]) -> Order
+fn order_at(card: &[u8], k: usize, name: &[u8]) -> Ordering
     requires { EntryListed card.now k }
     ensures { result ≡ order_bytes name.now (card_entry_at card.now k).name }
 {

@@ -5,7 +5,8 @@ ghost use Rattle.std.specs.Prelude.{◌≡◌};
 ghost use Rattle.spec.specs.Bytes.{class_of};
 ghost use Rattle.scan_classes.specs.Table.{classes};
 
-// The numbers of the classes that are asked for by name. Up to SHORT lie the short-name bytes, up to DOT the name bytes.
+// The numbers of the classes that are asked for by name. Up to SHORT lie the short-name bytes, up to DOT the name
+// bytes.
 pub const SHORT: u8 = 1;
 
 pub const DOT: u8 = 2;

@@ -1,5 +1,5 @@
-// A reader over the manifest keeps the lent bytes and the place reached. Its functions leave the work to `line_at` and `put_line`,
-// which take plain slices and values.
+// A reader over the manifest keeps the lent bytes and the place reached. Its functions leave the work to `line_at` and
+// `put_line`, which take plain slices and values.
 #![tactic(auto)]
 
 ghost use Rattle.std.specs.Prelude.{◌≤◌, length, ◌≡◌};
@@ -15,8 +15,8 @@ pub struct Reader<'a> {
     pub cursor: usize,
 }
 
-// Where a line starts and its bytes end, whether it is a comment, and where the next line starts. At the manifest's end it starts and
-// ends there, and so does the next.
+// Where a line starts and its bytes end, whether it is a comment, and where the next line starts. At the manifest's
+// end it starts and ends there, and so does the next.
 #[derive(Clone, Copy)]
 pub struct LineBounds {
     pub start: usize,
@@ -25,7 +25,8 @@ pub struct LineBounds {
     pub next: usize,
 }
 
-// How many numbers the lines that were found take, where the line behind them starts, and whether there may be one, and room for it.
+// How many numbers the lines that were found take, where the line behind them starts, and whether there may be one,
+// and room for it.
 #[derive(Clone, Copy)]
 pub struct Found {
     pub filled: usize,
@@ -96,7 +97,8 @@ fn line_at(t: &[u8; 256], m: &[u8], place: usize) -> LineBounds
     }
 }
 
-// A line behind those that were found. A comment is passed over; it is asked for first, since comments are the shortest turns of the loop.
+// A line behind those that were found. A comment is passed over; it is asked for first, since comments are the
+// shortest turns of the loop.
 fn put_line(out: &mut [u32], filled: usize, s: LineBounds) -> Found
     requires { LinePutAsk out.old filled s }
     ensures { LinePut out.old filled s out.new result }
@@ -124,8 +126,8 @@ fn put_line(out: &mut [u32], filled: usize, s: LineBounds) -> Found
     }
 }
 
-// The lines from a place on that are no comments, as many as the lent numbers have room for: each is its start and its end. The reader
-// goes from line to line.
+// The lines from a place on that are no comments, as many as the lent numbers have room for: each is its start and its
+// end. The reader goes from line to line.
 pub fn lines_from(t: &[u8; 256], m: &[u8], from: usize, out: &mut [u32]) -> Found
     requires { FoundAsk t.now m.now from out.old }
     ensures { LinesFound m.now from out.old out.new result }

@@ -1,4 +1,5 @@
 -- What a text lists: its first target up to the colon, then one name after another up to the rule's end.
+use Rattle.std.specs.Prelude.{Option as StdOption, Some, None}
 use Prim.Native.Nat.{ℕ, ◌+◌, ◌≤◌}
 use mathlib.Core.Bool.{Bool, true, false}
 use mathlib.Core.List.{List, [], ◌∷◌, ◌++◌, append-nil, append_assoc}
@@ -15,8 +16,6 @@ use Rattle.depfile.proofs.Names.{ends, ends_target, prerequisites_gap, prerequis
 use Rattle.scan_depfile.specs.Walk.{behind_gaps, name_here, behind_name, behind_colon, rule_ends, written_over}
 use Rattle.scan_depfile.specs.Answers.{NextMark, ReadsMarks, PassesName, ColonAt, TargetHere, listed_at, StartsList, NameListed, ListOver}
 use Rattle.scan_depfile.specs.declared.NameEnd.{NameEnd}
-use Rattle.scan_depfile.specs.declared.DepfileStart.{DepfileStart}
-use Rattle.scan_depfile.specs.declared.DepfileStart.TheVariants.{Names, Refused}
 use Rattle.scan_depfile.proofs.Places.{no_marks, some_mark}
 use Rattle.scan_depfile.proofs.Naming.{behind_none, take_written}
 
@@ -132,10 +131,10 @@ module _ {s : List ℕ} {i : ℕ} (out : List ℕ) (a : ReadsMarks behind_blank 
       ∙ listed_by out out true (eq_eq_bytes refl) (λ (z : out ≡ []). n (ap length z)) (rule_from [] (marks_of (drop j s)))
       ∙ rule_colon [] (marks_of (drop j s))
 
-  pub start_on : {j : ℕ} (r : DepfileStart) → TargetHere s i out j → (length out ≡ 0 → ⊥) → ColonAt s j r → StartsList s out r
+  pub start_on : {j : ℕ} (r : StdOption ℕ) → TargetHere s i out j → (length out ≡ 0 → ⊥) → ColonAt s j r → StartsList s out r
   unfolding ColonAt StartsList after_colon
-  start_on (Names r) h n k = record { within = k.within; names = start_found h n ∙ ap after_colon k.behind }
-  start_on Refused h n k = start_found h n ∙ ap after_colon k
+  start_on (Some r) h n k = record { within = k.within; names = start_found h n ∙ ap after_colon k.behind }
+  start_on None h n k = start_found h n ∙ ap after_colon k
 
 -- ---- names behind the colon
 

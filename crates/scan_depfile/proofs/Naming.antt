@@ -84,12 +84,6 @@ written_more [] (x ∷ word) b = refl
 written_more (a ∷ n) [] b = refl
 written_more (a ∷ n) (x ∷ word) b = ap (λ (r : List ℕ). a ∷ r) (written_more n word b)
 
-pub length_written : (n word : List ℕ) → length (written_over n word) ≡ length word
-unfolding written_over
-length_written [] word = refl
-length_written (a ∷ n) [] = refl
-length_written (a ∷ n) (x ∷ word) = ap suc (length_written n word)
-
 pub take_written : (n word : List ℕ) → length n ≤ length word → take (length n) (written_over n word) ≡ n
 unfolding written_over
 take_written [] word h = refl
@@ -125,9 +119,6 @@ module _ {s before word : List ℕ} {from i n : ℕ} (a : Naming s from before w
         name = a.name ∙ rw (name_cons h, append_assoc a.read (b ∷ []) (name_here false (marks_of (drop next s))));
         rest = a.rest ∙ behind_cons h;
       }
-
-  pub naming_long : length word ≡ length before
-  naming_long = ap length a.holds ∙ length_written a.read before
 
   pub naming_end : {r : NameEnd} → name_here false (marks_of (drop i s)) ≡ [] → r.next ≡ i → r.length ≡ n → PassesName s from before word r
   naming_end {r} h p q =

@@ -1,4 +1,5 @@
 -- What an answer says, once its case is known.
+use Rattle.std.specs.Prelude.{Option, Some, None}
 use Prim.Native.Nat.{ℕ, suc}
 use mathlib.Core.Bool.{Bool, true}
 use mathlib.Core.List.{List, []}
@@ -9,10 +10,6 @@ use Rattle.scan_depfile.specs.Walk.{name_here}
 use Rattle.scan_depfile.specs.Answers.{NextMark, MarkAt, InName, NameByteAt, TargetHere, TargetIs}
 use Rattle.scan_depfile.specs.declared.FoundMark.{FoundMark}
 use Rattle.scan_depfile.specs.declared.FoundMark.TheVariants.{Byte, Gap, Line, Lone}
-use Rattle.scan_depfile.specs.declared.NameByte.{NameByte}
-use Rattle.scan_depfile.specs.declared.NameByte.TheVariants.{In, End as NameOver}
-use Rattle.scan_depfile.specs.declared.DepfileStart.{DepfileStart}
-use Rattle.scan_depfile.specs.declared.DepfileStart.TheVariants.{Names, Refused}
 
 module _ {s : List ℕ} {i : ℕ} (r : FoundMark) (m : MarkAt s i r) where
   pub mark_byte : {b n : ℕ} → r ≡ Byte b n → NextMark s i (byte b) n
@@ -31,20 +28,20 @@ module _ {s : List ℕ} {i : ℕ} (r : FoundMark) (m : MarkAt s i r) where
   unfolding MarkAt
   mark_lone e = rw e at m
 
-module _ (t : Bool) (s : List ℕ) (i : ℕ) (r : NameByte) (m : NameByteAt t s i r) where
-  pub name_in : {b n : ℕ} → r ≡ In b n → InName t s i b n
+module _ (t : Bool) (s : List ℕ) (i : ℕ) (r : Option (ℕ × ℕ)) (m : NameByteAt t s i r) where
+  pub name_in : {b n : ℕ} → r ≡ Some (b, n) → InName t s i b n
   unfolding NameByteAt
   name_in e = rw e at m
 
-  pub name_over : r ≡ NameOver → name_here t (marks_of (drop i s)) ≡ []
+  pub name_over : r ≡ None → name_here t (marks_of (drop i s)) ≡ []
   unfolding NameByteAt
   name_over e = rw e at m
 
-module _ (s : List ℕ) (i : ℕ) (out : List ℕ) (r : DepfileStart) (m : TargetIs s i out r) where
-  pub target_here : {n : ℕ} → r ≡ Names n → TargetHere s i out n
+module _ (s : List ℕ) (i : ℕ) (out : List ℕ) (r : Option ℕ) (m : TargetIs s i out r) where
+  pub target_here : {n : ℕ} → r ≡ Some n → TargetHere s i out n
   unfolding TargetIs
   target_here e = rw e at m
 
-  pub target_other : r ≡ Refused → name_here true (marks_of (drop i s)) ≡ out → ⊥
+  pub target_other : r ≡ None → name_here true (marks_of (drop i s)) ≡ out → ⊥
   unfolding TargetIs
   target_other e = rw e at m

@@ -1,5 +1,5 @@
 -- Loops over the marks of a text: gaps, blank lines, targets up to the colon.
-use Prim.Native.Nat.{ℕ, ◌≤◌}
+use Prim.Native.Nat.{ℕ, ◌-◌, ◌≤◌, ◌<◌}
 use mathlib.Core.List.{List, [], ◌∷◌}
 use mathlib.Core.Option.{none}
 use mathlib.Core.Path.{◌≡◌, refl, sym, ◌∙◌, ap}
@@ -23,6 +23,9 @@ walk_begin h = record { forward = le_refl _; within = h; same = refl }
 
 pub walk_on : {A : Type 0} {f : List Mark → A} {s : List ℕ} {i k n : ℕ} {m : Mark} → Walking f s i k → NextMark s k m n → ((t : List Mark) → f (m ∷ t) ≡ f t) → Walking f s i n
 walk_on {f = f} a h e = record { forward = omega (arith, a.forward, h.forward); within = h.within; same = a.same ∙ ap f h.marks ∙ e _ }
+
+pub smaller : {s : List ℕ} {k n : ℕ} {m : Mark} → NextMark s k m n → length s - n < length s - k
+smaller h = omega (arith, h.forward, h.within)
 
 -- where f leaves the marks as they are, the reader stops
 module _ {f : List Mark → List Mark} {s : List ℕ} {i k : ℕ} (a : Walking f s i k) where

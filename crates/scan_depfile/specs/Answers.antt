@@ -1,15 +1,11 @@
 -- What the answers about a make-style text say.
-use Rattle.std.specs.Prelude.{ℕ, suc, ◌≤◌, ◌<◌, Bool, true, false, List, [], ◌∷◌, ◌≡◌, length, take, drop}
+use Rattle.std.specs.Prelude.{ℕ, suc, ◌≤◌, ◌<◌, Bool, true, false, List, [], ◌∷◌, ◌≡◌, length, take, drop, Option as StdOption, Some, None}
 use Rattle.std.proofs.Math.Option.{Option, none, some, map}
 use Rattle.depfile.specs.Depfile.{Mark, byte, gap, line, lone, marks_of, prerequisites_from, depfile_rule, listed_for}
 use Rattle.scan_depfile.specs.Walk.{in_name, name_here, behind_name, behind_colon, written_over}
 use Rattle.scan_depfile.specs.declared.FoundMark.{FoundMark}
 use Rattle.scan_depfile.specs.declared.FoundMark.TheVariants.{Byte, Gap, Line, Lone}
-use Rattle.scan_depfile.specs.declared.NameByte.{NameByte}
-use Rattle.scan_depfile.specs.declared.NameByte.TheVariants.{In, End as NameOver}
 use Rattle.scan_depfile.specs.declared.NameEnd.{NameEnd}
-use Rattle.scan_depfile.specs.declared.DepfileStart.{DepfileStart}
-use Rattle.scan_depfile.specs.declared.DepfileStart.TheVariants.{Names, Refused}
 use Rattle.scan_depfile.specs.declared.DepfileName.{DepfileName}
 use Rattle.scan_depfile.specs.declared.DepfileName.TheVariants.{Name, End, Malformed}
 
@@ -32,9 +28,9 @@ pub record InName (t : Bool) (s : List ℕ) (i b next : ℕ) : Type 0 where
   pub mark : NextMark s i (byte b) next
   pub is_in : in_name t b ≡ true
 
-unfoldable pub NameByteAt : Bool → List ℕ → ℕ → NameByte → Type 0
-NameByteAt t s i (In b next) = InName t s i b next
-NameByteAt t s i NameOver = name_here t (marks_of (drop i s)) ≡ []
+unfoldable pub NameByteAt : Bool → List ℕ → ℕ → StdOption (ℕ × ℕ) → Type 0
+NameByteAt t s i (Some (b, next)) = InName t s i b next
+NameByteAt t s i None = name_here t (marks_of (drop i s)) ≡ []
 
 -- A reader goes from place i to place r, where the marks that are left are f of those that were.
 pub record ReadsMarks (f : List Mark → List Mark) (s : List ℕ) (i r : ℕ) : Type 0 where
@@ -53,18 +49,18 @@ pub record ColonBefore (s : List ℕ) (i r : ℕ) : Type 0 where
   pub within : r ≤ length s
   pub behind : behind_colon (marks_of (drop i s)) ≡ some (marks_of (drop r s))
 
-unfoldable pub ColonAt : List ℕ → ℕ → DepfileStart → Type 0
-ColonAt s i (Names r) = ColonBefore s i r
-ColonAt s i Refused = behind_colon (marks_of (drop i s)) ≡ none
+unfoldable pub ColonAt : List ℕ → ℕ → StdOption ℕ → Type 0
+ColonAt s i (Some r) = ColonBefore s i r
+ColonAt s i None = behind_colon (marks_of (drop i s)) ≡ none
 
 -- the target at place i is this one
 pub record TargetHere (s : List ℕ) (i : ℕ) (out : List ℕ) (r : ℕ) : Type 0 where
   pub target : name_here true (marks_of (drop i s)) ≡ out
   pub reads : ReadsMarks (behind_name true) s i r
 
-unfoldable pub TargetIs : List ℕ → ℕ → List ℕ → DepfileStart → Type 0
-TargetIs s i out (Names r) = TargetHere s i out r
-TargetIs s i out Refused = name_here true (marks_of (drop i s)) ≡ out → ⊥
+unfoldable pub TargetIs : List ℕ → ℕ → List ℕ → StdOption ℕ → Type 0
+TargetIs s i out (Some r) = TargetHere s i out r
+TargetIs s i out None = name_here true (marks_of (drop i s)) ≡ out → ⊥
 
 -- ------------------------------------------------------------------ for callers
 
@@ -77,9 +73,9 @@ pub record ListedFrom (s out : List ℕ) (r : ℕ) : Type 0 where
   pub within : r ≤ length s
   pub names : listed_for out (depfile_rule s) ≡ listed_at s r
 
-unfoldable pub StartsList : List ℕ → List ℕ → DepfileStart → Type 0
-StartsList s out (Names r) = ListedFrom s out r
-StartsList s out Refused = listed_for out (depfile_rule s) ≡ none
+unfoldable pub StartsList : List ℕ → List ℕ → StdOption ℕ → Type 0
+StartsList s out (Some r) = ListedFrom s out r
+StartsList s out None = listed_for out (depfile_rule s) ≡ none
 
 -- From place i on the next name is listed, of so many bytes, and then those from place `next` on. As much of it as there is room for is in the buffer: all of it,
 -- if it is no longer than the buffer.

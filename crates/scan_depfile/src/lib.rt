@@ -15,25 +15,11 @@ pub enum FoundMark {
     Lone,
 }
 
-// A byte of a name and where the next one starts, or that the name is over.
-#[derive(Clone, Copy)]
-pub enum NameByte {
-    In(u8, usize),
-    End,
-}
-
 // Where a name ends, and of how many bytes it is.
 #[derive(Clone, Copy)]
 pub struct NameEnd {
     pub next: usize,
     pub length: usize,
-}
-
-// Where the names start that a text lists for a step; or its 20.
-#[derive(Clone, Copy)]
-pub enum DepfileStart {
-    Names(usize),
-    Refused,
 }
 
 // The next name that is listed: where the next one starts, and of how many bytes this one is.
@@ -58,10 +44,7 @@ fn backslash_at(s: &[u8], i: usize) -> FoundMark
     if c == b'\n' {
         return FoundMark::Gap(end);
     }
-    if c == b' ' {
-        return FoundMark::Byte(c, end);
-    }
-    if c == b'#' {
+    if c == b' ' || c == b'#' {
         return FoundMark::Byte(c, end);
     }
     FoundMark::Byte(b'\\', next)
@@ -116,20 +99,10 @@ fn skip_gaps(s: &[u8], from: usize) -> usize
 {
     let mut i = from;
     while i < s.len() {
-        match mark_at(s, i) {
-            FoundMark::Gap(next) => {
-                i = next;
-            }
-            FoundMark::Byte(_, _) => {
-                return i;
-            }
-            FoundMark::Line(_) => {
-                return i;
-            }
-            FoundMark::Lone => {
-                return i;
-            }
-        }
+        let FoundMark::Gap(next) = mark_at(s, i) else {
+            return i;
+        };
+        i = next;
     }
     i
 }
@@ -142,43 +115,27 @@ fn skip_blank(s: &[u8], from: usize) -> usize
     let mut i = from;
     while i < s.len() {
         match mark_at(s, i) {
-            FoundMark::Gap(next) => {
-                i = next;
-            }
-            FoundMark::Line(next) => {
-                i = next;
-            }
-            FoundMark::Byte(_, _) => {
-                return i;
-            }
-            FoundMark::Lone => {
-                return i;
-            }
+            FoundMark::Gap(next) | FoundMark::Line(next) => i = next,
+            FoundMark::Byte(_, _) | FoundMark::Lone => return i,
         }
     }
     i
 }
 
-// The byte of a name at a place; a target has no colon.
-fn name_byte(s: &[u8], i: usize, target: bool) -> NameByte
+// The byte of a name at a place, and where the next one starts; None where the name is over. A target has no colon.
+fn name_byte(s: &[u8], i: usize, target: bool) -> Option<(u8, usize)>
     ensures { NameByteAt target s.now i result }
 {
     if s.len() <= i {
-        return NameByte::End;
+        return None;
     }
-    match mark_at(s, i) {
-        FoundMark::Byte(b, next) => {
-            if target {
-                if b == b':' {
-                    return NameByte::End;
-                }
-            }
-            NameByte::In(b, next)
-        }
-        FoundMark::Gap(_) => NameByte::End,
-        FoundMark::Line(_) => NameByte::End,
-        FoundMark::Lone => NameByte::End,
+    let FoundMark::Byte(b, next) = mark_at(s, i) else {
+        return None;
+    };
+    if target && b == b':' {
+        return None;
     }
+    Some((b, next))
 }
 
 // Stores a byte where there is room for it.
@@ -197,49 +154,35 @@ fn pass_name(s: &[u8], from: usize, word: &mut [u8]) -> NameEnd
 {
     let mut i = from;
     let mut n = 0;
-    loop {
-        match name_byte(s, i, false) {
-            NameByte::In(b, next) => {
-                keep_byte(word, n, b);
-                n += 1;
-                i = next;
-            }
-            NameByte::End => {
-                return NameEnd { next: i, length: n };
-            }
-        }
+    while let Some((b, next)) = name_byte(s, i, false) {
+        keep_byte(word, n, b);
+        n += 1;
+        i = next;
     }
+    NameEnd { next: i, length: n }
 }
 
-// Whether the target at a place is `out`, and where it ends.
-fn target_is(s: &[u8], from: usize, out: &[u8]) -> DepfileStart
+// Where the target at a place ends, if it is `out`.
+fn target_is(s: &[u8], from: usize, out: &[u8]) -> Option<usize>
     requires { from ≤ length s.now }
     ensures { TargetIs s.now from out.now result }
 {
     let mut i = from;
-    let mut k = 0;
-    while k < out.len() {
-        match name_byte(s, i, true) {
-            NameByte::In(b, next) => {
-                if b != out[k] {
-                    return DepfileStart::Refused;
-                }
-                k += 1;
-                i = next;
-            }
-            NameByte::End => {
-                return DepfileStart::Refused;
-            }
+    for k in 0..out.len() {
+        let (b, next) = name_byte(s, i, true)?;
+        if b != out[k] {
+            return None;
         }
+        i = next;
     }
     match name_byte(s, i, true) {
-        NameByte::In(_, _) => DepfileStart::Refused,
-        NameByte::End => DepfileStart::Names(i),
+        Some((_, _)) => None,
+        None => Some(i),
     }
 }
 
-// The place behind the line's first colon.
-fn behind_colon(s: &[u8], from: usize) -> DepfileStart
+// The place behind the line's first colon, None if it has none.
+fn behind_colon(s: &[u8], from: usize) -> Option<usize>
     requires { from ≤ length s.now }
     ensures { ColonAt s.now from result }
 {
@@ -248,35 +191,27 @@ fn behind_colon(s: &[u8], from: usize) -> DepfileStart
         match mark_at(s, i) {
             FoundMark::Byte(b, next) => {
                 if b == b':' {
-                    return DepfileStart::Names(next);
+                    return Some(next);
                 }
                 i = next;
             }
-            FoundMark::Gap(next) => {
-                i = next;
-            }
-            FoundMark::Line(_) => {
-                return DepfileStart::Refused;
-            }
-            FoundMark::Lone => {
-                return DepfileStart::Refused;
-            }
+            FoundMark::Gap(next) => i = next,
+            FoundMark::Line(_) | FoundMark::Lone => return None,
         }
     }
-    DepfileStart::Refused
+    None
 }
 
-// "A malformed text, one whose first target isn't the step's first output": up to the colon. The names behind it are `next_prerequisite`'s.
-pub fn depfile_start(s: &[u8], out: &[u8]) -> DepfileStart
+// "A malformed text, one whose first target isn't the step's first output": None for those. Else the place behind the
+// colon; the names from there on are `next_prerequisite`'s.
+pub fn depfile_start(s: &[u8], out: &[u8]) -> Option<usize>
     ensures { StartsList s.now out.now result }
 {
     if out.len() == 0 {
-        return DepfileStart::Refused;
+        return None;
     }
-    match target_is(s, skip_blank(s, 0), out) {
-        DepfileStart::Names(i) => behind_colon(s, i),
-        DepfileStart::Refused => DepfileStart::Refused,
-    }
+    let i = target_is(s, skip_blank(s, 0), out)?;
+    behind_colon(s, i)
 }
 
 fn only_blank(s: &[u8], from: usize) -> bool
@@ -295,9 +230,7 @@ fn rule_ends(s: &[u8], i: usize) -> bool
     }
     match mark_at(s, i) {
         FoundMark::Line(next) => only_blank(s, next),
-        FoundMark::Byte(_, _) => false,
-        FoundMark::Gap(_) => false,
-        FoundMark::Lone => false,
+        _ => false,
     }
 }
 

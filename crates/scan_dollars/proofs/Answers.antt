@@ -1,4 +1,5 @@
 -- What an answer says, once its case is known.
+use Rattle.std.specs.Prelude.{Option, Some, None}
 use Prim.Native.Nat.{ℕ}
 use mathlib.Core.List.{List}
 use mathlib.Core.Option.{none}
@@ -6,8 +7,6 @@ use mathlib.Core.Path.{◌≡◌}
 use lib.ListN.{drop}
 use Rattle.scan_dollars.specs.declared.Escape.{Escape}
 use Rattle.scan_dollars.specs.declared.Escape.TheVariants.{Byte, Join, Name, Bad}
-use Rattle.scan_dollars.specs.declared.After.{After}
-use Rattle.scan_dollars.specs.declared.After.TheVariants.{To, Bad as Unsound}
 use Rattle.spec.specs.Dollars.{Element, literal, joins, wrong, element}
 use Rattle.scan_dollars.specs.Element.{rest_of, FoundElement, DollarName, TellsElement, DollarPassed, PastAt}
 
@@ -32,11 +31,11 @@ module _ (s : List ℕ) (at : ℕ) (x : Element) (r : Escape) (t : TellsElement 
 
 -- ---- `past`
 
-module _ (s : List ℕ) (at : ℕ) (r : After) (p : PastAt s at r) where
-  pub past_to : {n : ℕ} → r ≡ To n → DollarPassed s at n
+module _ (s : List ℕ) (at : ℕ) (r : Option ℕ) (p : PastAt s at r) where
+  pub past_to : {n : ℕ} → r ≡ Some n → DollarPassed s at n
   unfolding PastAt
   past_to e = rw e at p
 
-  pub past_bad : r ≡ Unsound → rest_of (element (drop at s)) ≡ none
+  pub past_bad : r ≡ None → rest_of (element (drop at s)) ≡ none
   unfolding PastAt
   past_bad e = rw e at p

@@ -1,15 +1,16 @@
 -- What a `$` begins, at places of a slice.
 use Prim.Native.Nat.{ℕ, ◌+◌, ◌≤◌, ◌<◌}
-use mathlib.Core.Bool.{true, ◌||◌}
+use mathlib.Core.Bool.{true, false, ◌||◌}
 use mathlib.Core.List.{List, ◌∷◌}
+use mathlib.Core.Logic.{◌⊎◌, inl, inr}
 use mathlib.Core.Option.{none}
 use mathlib.Core.Path.{◌≡◌, sym, ◌∙◌, ap}
 use native.Mathlib.Omega.{arith}
 use native.Mathlib.Nat.{le_refl, le_trans}
-use borrow.Author.Tests.{ne_eqb}
+use borrow.Author.Tests.{ne_eqb, eqb-false}
 use lib.Dec.{eqb}
 use lib.ListN.{length, drop, get_or}
-use Rattle.lists.specs.Tests.{if_b}
+use Rattle.lists.specs.Tests.{if_b, split}
 use Rattle.lists.specs.Parts.{part, part_none, length_part}
 use Rattle.lists.specs.Runs.{Reads, run, after_run, part_run}
 use Rattle.spec.specs.Bytes.{close_brace, short_byte, class_of}
@@ -86,6 +87,10 @@ pub nothing_begins : (s : List ℕ) (at : ℕ) → length s ≤ at → element (
 unfolding element
 nothing_begins s at h = rw (at_end s at h)
 
+pub dollar_or_colon : {k : ℕ} → 5 ≤ k → k ≤ 6 → eqb k 5 || eqb k 3 || eqb k 6 ≡ true
+dollar_or_colon {k} a b =
+    split (eqb k 5) (λ (e : eqb k 5 ≡ true). rw e) (λ (e : eqb k 5 ≡ false). let z : k ≡ 6 = omega (arith, eqb-false k 5 e) in rw z)
+
 module _ (s : List ℕ) {at k : ℕ} (h : at < length s) (c : k ≡ class_of (get_or s at 0)) where
   here : element (drop at s) ≡ by_class k (get_or s at 0) (drop (at + 1) s)
   here = rw (at_cons s at h, c) (element_class (get_or s at 0) (drop (at + 1) s))
@@ -123,17 +128,18 @@ module _ (s : List ℕ) {at k : ℕ} (h : at < length s) (c : k ≡ class_of (ge
 
 -- ---- what follows, whatever it is
 
-pub passed_byte : {s : List ℕ} {at b n : ℕ} → FoundElement s at n (element (drop at s)) (literal b (drop n s)) → DollarPassed s at n
-unfolding rest_of
-passed_byte f = record { forward = f.forward; within = f.within; rest = ap rest_of f.is }
-
-pub passed_join : {s : List ℕ} {at n : ℕ} → FoundElement s at n (element (drop at s)) (joins (drop n s)) → DollarPassed s at n
-unfolding rest_of
-passed_join f = record { forward = f.forward; within = f.within; rest = ap rest_of f.is }
-
-pub passed_name : {s : List ℕ} {at a b n : ℕ} → DollarName s at a b n (element (drop at s)) → DollarPassed s at n
-unfolding rest_of
-passed_name f = record { forward = f.found.forward; within = f.found.within; rest = ap rest_of f.found.is }
+pub passed : (s : List ℕ) (at n : ℕ) (r : Escape) → TellsElement s at (element (drop at s)) r
+    → ((b : ℕ) × (r ≡ Byte b n)) ⊎ ((r ≡ Join n) ⊎ ((a : ℕ) × (b : ℕ) × (r ≡ Name a b n))) → DollarPassed s at n
+unfolding rest_of TellsElement
+passed s at n r t (inl (b, e)) =
+    let f : FoundElement s at n (element (drop at s)) (literal b (drop n s)) = rw e at t in
+    record { forward = f.forward; within = f.within; rest = ap rest_of f.is }
+passed s at n r t (inr (inl e)) =
+    let f : FoundElement s at n (element (drop at s)) (joins (drop n s)) = rw e at t in
+    record { forward = f.forward; within = f.within; rest = ap rest_of f.is }
+passed s at n r t (inr (inr (a, b, e))) =
+    let f : DollarName s at a b n (element (drop at s)) = rw e at t in
+    record { forward = f.found.forward; within = f.found.within; rest = ap rest_of f.found.is }
 
 pub passed_bad : {x : Element} → x ≡ wrong → rest_of x ≡ none
 unfolding rest_of

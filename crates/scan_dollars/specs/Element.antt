@@ -1,12 +1,10 @@
 -- What the answers about a `$` say of what it begins.
-use Rattle.std.specs.Prelude.{ℕ, ◌≤◌, List, ◌≡◌, length, drop}
+use Rattle.std.specs.Prelude.{ℕ, ◌≤◌, List, ◌≡◌, length, drop, Option as StdOption, Some, None}
 use Rattle.std.proofs.Math.Option.{Option, none, some}
 use Rattle.lists.specs.Parts.{part}
 use Rattle.spec.specs.Dollars.{Element, literal, joins, names, wrong, element}
 use Rattle.scan_dollars.specs.declared.Escape.{Escape}
 use Rattle.scan_dollars.specs.declared.Escape.TheVariants.{Byte, Join, Name, Bad}
-use Rattle.scan_dollars.specs.declared.After.{After}
-use Rattle.scan_dollars.specs.declared.After.TheVariants.{To, Bad as Unsound}
 
 -- what follows it, if it is sound
 unfoldable pub rest_of : Element → Option (List ℕ)
@@ -38,6 +36,6 @@ pub record DollarPassed (s : List ℕ) (at next : ℕ) : Type 0 where
   pub within : next ≤ length s
   pub rest : rest_of (element (drop at s)) ≡ some (drop next s)
 
-unfoldable pub PastAt : List ℕ → ℕ → After → Type 0
-PastAt s at (To next) = DollarPassed s at next
-PastAt s at Unsound = rest_of (element (drop at s)) ≡ none
+unfoldable pub PastAt : List ℕ → ℕ → StdOption ℕ → Type 0
+PastAt s at (Some next) = DollarPassed s at next
+PastAt s at None = rest_of (element (drop at s)) ≡ none

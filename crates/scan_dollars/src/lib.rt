@@ -19,21 +19,14 @@ pub enum Escape {
     Bad,
 }
 
-// Where the bytes after a sound `$` start.
-#[derive(Clone, Copy)]
-pub enum After {
-    To(usize),
-    Bad,
-}
-
-// The name and the closing brace that follow `${`. Each byte's class is asked for once, and the class that ends the name tells whether it is closed.
-// `dollar` is inlined into all that read dollars as long as it is this short: paths of dollars take 1.7 times as long where it is not.
+// The name and the closing brace that follow `${`. Each byte's class is asked for once, and the class that ends the
+// name tells whether it is closed. `dollar` is inlined into all that read dollars as long as it is this short: paths
+// of dollars take 1.7 times as long where it is not.
 fn braced(t: &[u8; 256], s: &[u8], from: usize) -> Escape
     requires { (t.now ≡ classes) × (from ≤ length s.now) }
     ensures { TellsElement s.now from (braced (name_of (drop from s.now)) (after_name (drop from s.now))) result }
 {
-    let mut i = from;
-    while i < s.len() {
+    for i in from..s.len() {
         let k = scan_classes::class_in(t, s[i]);
         if k == scan_classes::CLOSE_BRACE {
             if i <= from {
@@ -42,13 +35,9 @@ fn braced(t: &[u8; 256], s: &[u8], from: usize) -> Escape
             let next = i + 1;
             return Escape::Name(from, i, next);
         }
-        if k < scan_classes::SHORT {
+        if k < scan_classes::SHORT || scan_classes::DOT < k {
             return Escape::Bad;
         }
-        if scan_classes::DOT < k {
-            return Escape::Bad;
-        }
-        i += 1;
     }
     Escape::Bad
 }
@@ -63,39 +52,25 @@ pub fn dollar(t: &[u8; 256], s: &[u8], at: usize) -> Escape
     }
     let b = s[at];
     let next = at + 1;
-    let k = scan_classes::class_in(t, b);
-    if k == scan_classes::SHORT {
-        let end = scan_tokens::short_name(t, s, at);
-        return Escape::Name(at, end, end);
+    match scan_classes::class_in(t, b) {
+        scan_classes::SHORT => {
+            let end = scan_tokens::short_name(t, s, at);
+            Escape::Name(at, end, end)
+        }
+        scan_classes::OPEN_BRACE => braced(t, s, next),
+        scan_classes::NEWLINE => Escape::Join(scan_tokens::spaces(s, next)),
+        scan_classes::DOLLAR | scan_classes::SPACE | scan_classes::COLON => Escape::Byte(b, next),
+        _ => Escape::Bad,
     }
-    if k == scan_classes::OPEN_BRACE {
-        return braced(t, s, next);
-    }
-    if k == scan_classes::NEWLINE {
-        let end = scan_tokens::spaces(s, next);
-        return Escape::Join(end);
-    }
-    if k == scan_classes::DOLLAR {
-        return Escape::Byte(b, next);
-    }
-    if k == scan_classes::SPACE {
-        return Escape::Byte(b, next);
-    }
-    if k == scan_classes::COLON {
-        return Escape::Byte(b, next);
-    }
-    Escape::Bad
 }
 
-// Where the bytes after what the `$` before `at` begins start.
-pub fn past(t: &[u8; 256], s: &[u8], at: usize) -> After
+// Where the bytes after what the `$` before `at` begins start, None if nothing sound does.
+pub fn past(t: &[u8; 256], s: &[u8], at: usize) -> Option<usize>
     requires { (t.now ≡ classes) × (at ≤ length s.now) }
     ensures { PastAt s.now at result }
 {
     match dollar(t, s, at) {
-        Escape::Byte(_, next) => After::To(next),
-        Escape::Join(next) => After::To(next),
-        Escape::Name(_, _, next) => After::To(next),
-        Escape::Bad => After::Bad,
+        Escape::Byte(_, next) | Escape::Join(next) | Escape::Name(_, _, next) => Some(next),
+        Escape::Bad => None,
     }
 }

@@ -18,19 +18,11 @@ pub enum Word {
 pub fn keyword(w: &[u8]) -> bool
     ensures { result ≡ keyword w.now }
 {
-    if equal(w, b"rule") {
-        return true;
-    }
-    if equal(w, b"build") {
-        return true;
-    }
-    if equal(w, b"default") {
-        return true;
-    }
-    if equal(w, b"include") {
-        return true;
-    }
-    equal(w, b"subninja")
+    equal(w, b"rule")
+        || equal(w, b"build")
+        || equal(w, b"default")
+        || equal(w, b"include")
+        || equal(w, b"subninja")
 }
 
 pub fn later_keyword(w: &[u8]) -> bool
@@ -42,34 +34,19 @@ pub fn later_keyword(w: &[u8]) -> bool
 pub fn later_key(w: &[u8]) -> bool
     ensures { result ≡ later_key w.now }
 {
-    if equal(w, b"deps") {
-        return true;
-    }
-    if equal(w, b"dyndep") {
-        return true;
-    }
-    if equal(w, b"msvc_deps_prefix") {
-        return true;
-    }
-    if equal(w, b"pool") {
-        return true;
-    }
-    if equal(w, b"restat") {
-        return true;
-    }
-    if equal(w, b"rspfile") {
-        return true;
-    }
-    equal(w, b"rspfile_content")
+    equal(w, b"deps")
+        || equal(w, b"dyndep")
+        || equal(w, b"msvc_deps_prefix")
+        || equal(w, b"pool")
+        || equal(w, b"restat")
+        || equal(w, b"rspfile")
+        || equal(w, b"rspfile_content")
 }
 
 pub fn rule_word(w: &[u8]) -> Word
     ensures { word_cut w.now result ≡ rule_word w.now }
 {
-    if w.len() == 0 {
-        return Word::NoForm;
-    }
-    if keyword(w) {
+    if w.is_empty() || keyword(w) {
         return Word::NoForm;
     }
     if later_keyword(w) {
@@ -81,16 +58,10 @@ pub fn rule_word(w: &[u8]) -> Word
 pub fn key_word(w: &[u8]) -> Word
     ensures { word_cut w.now result ≡ key_word w.now }
 {
-    if w.len() == 0 {
+    if w.is_empty() || keyword(w) {
         return Word::NoForm;
     }
-    if keyword(w) {
-        return Word::NoForm;
-    }
-    if later_keyword(w) {
-        return Word::NotYet;
-    }
-    if later_key(w) {
+    if later_keyword(w) || later_key(w) {
         return Word::NotYet;
     }
     Word::Name

@@ -30,12 +30,10 @@ fn comment_end(m: &[u8], from: usize) -> LineEnd
     requires { from ≤ length m.now }
     ensures { EndAt comment m.now from result }
 {
-    let mut i = from;
-    while i < m.len() {
+    for i in from..m.len() {
         if m[i] == b'\n' {
             return LineEnd::Comment(i);
         }
-        i += 1;
     }
     LineEnd::Open
 }
@@ -46,6 +44,7 @@ fn body_end(m: &[u8], from: usize) -> LineEnd
     ensures { EndAt body m.now from result }
 {
     let mut i = from;
+    // A turn goes on by one byte or by two, so that no `for` counts it.
     while i < m.len() {
         let b = m[i];
         if b == b'\n' {

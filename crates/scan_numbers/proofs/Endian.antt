@@ -5,9 +5,10 @@ use mathlib.Core.Path.{◌≡◌, refl}
 use native.Mathlib.Numerals.{add-one}
 use native.Mathlib.Omega.{arith}
 use lib.ListN.{length, get_or}
+use mir.Syntax.{w8}
+use mir.Val.{Fits}
 use lib.Seq.{drop-cons}
 use Rattle.spec.specs.Card.{little_endian, number_at}
-use Rattle.windows.specs.Windows.{Byte}
 use Rattle.scan_numbers.specs.Numbers.{NumberIs}
 
 pub number_cons : (s : List ℕ) (at size : ℕ) → at < length s → number_at at (suc size) s ≡ get_or s at 0 + 256 * number_at (at + 1) size s
@@ -30,11 +31,14 @@ module _ (s : List ℕ) (at : ℕ) (h : at + 4 ≤ length s) where
       let e3 = rw d at (number_cons s (at + 3) size (omega arith)) in
       omega arith
 
-  -- four bytes as the code adds them up
-  pub word_is : {b0 b1 b2 b3 : ℕ} → Byte (get_or s at 0) b0 → Byte (get_or s (at + 1) 0) b1 → Byte (get_or s (at + 2) 0) b2 → Byte (get_or s (at + 3) 0) b3 →
-      NumberIs s at 4 (b0 + b1 * 256 + b2 * 65536 + b3 * 16777216)
-  word_is p0 p1 p2 p3 =
-      record { is = omega (arith, four_bytes 0, number_none s (at + 4), p0.same, p1.same, p2.same, p3.same); small = omega (arith, p0.small, p1.small, p2.small, p3.small) }
+  -- four bytes as the library adds them up
+  pub word_is : ((i : ℕ) → Fits w8 (get_or s i 0)) →
+      NumberIs s at 4 (get_or s at 0 + get_or s (at + 1) 0 * 256 + get_or s (at + 2) 0 * 65536 + get_or s (at + 3) 0 * 16777216)
+  word_is f =
+      record {
+        is = omega (arith, four_bytes 0, number_none s (at + 4));
+        small = omega (arith, (f at).fits, (f (at + 1)).fits, (f (at + 2)).fits, (f (at + 3)).fits);
+      }
 
 pub long_is : (s : List ℕ) (at : ℕ) {l h : ℕ} → at + 8 ≤ length s → NumberIs s at 4 l → NumberIs s (at + 4) 4 h → NumberIs s at 8 (l + h * 4294967296)
 long_is s at {l} {h} b p q =

@@ -2,7 +2,6 @@
 #![tactic(auto)]
 
 ghost use Rattle.std.specs.Prelude.{◌+◌, ◌≤◌, length};
-ghost use Rattle.windows.specs.Windows.{Byte};
 ghost use Rattle.scan_numbers.specs.Numbers.{NumberIs};
 
 // The number in the four bytes at `at`.
@@ -10,7 +9,7 @@ pub fn word(s: &[u8], at: usize) -> usize
     requires { at + 4 ≤ length s.now }
     ensures { NumberIs s.now at 4 result }
 {
-    wide(s[at]) + wide(s[at + 1]) * 256 + wide(s[at + 2]) * 65536 + wide(s[at + 3]) * 16777216
+    u32::from_le_bytes([s[at], s[at + 1], s[at + 2], s[at + 3]]) as usize
 }
 
 // The number in the eight bytes at `at`.
@@ -21,10 +20,4 @@ pub fn long(s: &[u8], at: usize) -> u64
     let low = word(s, at);
     let high = word(s, at + 4);
     low as u64 + high as u64 * 4294967296
-}
-
-fn wide(b: u8) -> usize
-    ensures { Byte b result }
-{
-    b as usize
 }

@@ -1,25 +1,22 @@
 -- What an answer says, once its case is known.
+use Rattle.std.specs.Prelude.{Option, Some, None, Result, Ok, Err}
 use Prim.Native.Nat.{ℕ}
 use mathlib.Core.List.{List}
 use mathlib.Core.Option.{none}
 use mathlib.Core.Path.{◌≡◌}
 use Rattle.spec.specs.Dollars.{bad_dollar}
-use Rattle.scan_raw.specs.declared.PathEnd.{PathEnd}
-use Rattle.scan_raw.specs.declared.PathEnd.TheVariants.{Ends, BadDollar}
 use Rattle.scan_raw.specs.declared.NextPath.{NextPath}
 use Rattle.scan_raw.specs.declared.NextPath.TheVariants.{Stop, Path, BadDollar as WrongDollar}
-use Rattle.scan_raw.specs.declared.FirstBad.{FirstBad}
-use Rattle.scan_raw.specs.declared.FirstBad.TheVariants.{Nowhere, At}
 use Rattle.scan_raw.specs.Texts.{PathEnds, PathBad, PathAt, PathsStop, PathNext, PathsBad, NextPathAt, ValueBad, ValueScanned}
 
 -- ---- `path`
 
-module _ (s : List ℕ) (i : ℕ) (r : PathEnd) (p : PathAt s i r) where
-  pub path_to : {e : ℕ} → r ≡ Ends e → PathEnds s i e
+module _ (s : List ℕ) (i : ℕ) (r : Result ℕ ℕ) (p : PathAt s i r) where
+  pub path_to : {e : ℕ} → r ≡ Ok e → PathEnds s i e
   unfolding PathAt
   path_to e = rw e at p
 
-  pub path_wrong : {at : ℕ} → r ≡ BadDollar at → PathBad s i at
+  pub path_wrong : {at : ℕ} → r ≡ Err at → PathBad s i at
   unfolding PathAt
   path_wrong e = rw e at p
 
@@ -40,11 +37,11 @@ module _ (s : List ℕ) (i : ℕ) (r : NextPath) (p : NextPathAt s i r) where
 
 -- ---- `bad_dollar`
 
-module _ (raw : List ℕ) (r : FirstBad) (p : ValueScanned raw r) where
-  pub value_sound : r ≡ Nowhere → bad_dollar raw ≡ none
+module _ (raw : List ℕ) (r : Option ℕ) (p : ValueScanned raw r) where
+  pub value_sound : r ≡ None → bad_dollar raw ≡ none
   unfolding ValueScanned
   value_sound e = rw e at p
 
-  pub value_bad : {at : ℕ} → r ≡ At at → ValueBad raw at
+  pub value_bad : {at : ℕ} → r ≡ Some at → ValueBad raw at
   unfolding ValueScanned
   value_bad e = rw e at p

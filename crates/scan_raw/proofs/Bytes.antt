@@ -1,8 +1,9 @@
 -- The loop that checks a manifest's bytes.
 use Prim.Native.Nat.{ℕ, ◌+◌, ◌≤◌, ◌<◌}
 use mathlib.Core.List.{List}
-use mathlib.Core.Option.{none, some}
-use mathlib.Core.Path.{◌≡◌, refl, sym, ◌∙◌}
+use mathlib.Core.Option.{Option, none, some}
+use mathlib.Core.Path.{◌≡◌, refl, sym, ap, ◌∙◌}
+use native.Mathlib.Nat.{le_antisymm}
 use native.Mathlib.Numerals.{add-one}
 use native.Mathlib.Omega.{arith}
 use borrow.Author.Tests.{ne_eqb}
@@ -38,6 +39,6 @@ module _ {m : List ℕ} {last i : ℕ} (a : Checking m last i) where
   unfolding bad_byte
   check_ended h e = sym (a.same ∙ rw (at_end m i h, e))
 
-  pub check_open : length m ≤ i → (last ≡ newline → ⊥) → some i ≡ bad_byte newline 0 m
+  pub check_open : length m ≤ i → (last ≡ newline → ⊥) → some (length m) ≡ bad_byte newline 0 m
   unfolding bad_byte
-  check_open h e = sym (a.same ∙ rw (at_end m i h, ne_eqb _ _ e))
+  check_open h e = sym (a.same ∙ rw (at_end m i h, ne_eqb _ _ e) (ap {B = Option ℕ} some (le_antisymm a.within h)))

@@ -1,5 +1,5 @@
 -- What the answers about raw texts say.
-use Rattle.std.specs.Prelude.{ℕ, ◌-◌, ◌≤◌, ◌<◌, List, [], ◌≡◌, length, drop}
+use Rattle.std.specs.Prelude.{ℕ, ◌-◌, ◌≤◌, ◌<◌, List, [], ◌≡◌, length, drop, Option as StdOption, Some, None, Result, Ok, Err}
 use Rattle.std.proofs.Math.Option.{Option, none, some}
 use Rattle.lists.specs.Tests.{if_b}
 use Rattle.lists.specs.Parts.{part}
@@ -7,12 +7,8 @@ use Rattle.lists.specs.Runs.{Reads}
 use Rattle.spec.specs.Basics.{or_else}
 use Rattle.spec.specs.Dollars.{bad_in, bad_dollar}
 use Rattle.spec.specs.Forms.{fits, fails, left_at_dollar, then, gap, path_stop, after_path, raw_path, with_path, path_begins, paths}
-use Rattle.scan_raw.specs.declared.PathEnd.{PathEnd}
-use Rattle.scan_raw.specs.declared.PathEnd.TheVariants.{Ends, BadDollar}
 use Rattle.scan_raw.specs.declared.NextPath.{NextPath}
 use Rattle.scan_raw.specs.declared.NextPath.TheVariants.{Stop, Path, BadDollar as WrongDollar}
-use Rattle.scan_raw.specs.declared.FirstBad.{FirstBad}
-use Rattle.scan_raw.specs.declared.FirstBad.TheVariants.{Nowhere, At}
 
 -- The path that starts at place i ends at place r, and its dollars are sound.
 pub record PathEnds (s : List ℕ) (i r : ℕ) : Type 0 where
@@ -25,18 +21,18 @@ pub record PathBad (s : List ℕ) (i p : ℕ) : Type 0 where
   pub within : p < length s
   pub bad : bad_in path_stop (drop i s) ≡ some (p - i)
 
-unfoldable pub PathAt : List ℕ → ℕ → PathEnd → Type 0
-PathAt s i (Ends r) = PathEnds s i r
-PathAt s i (BadDollar p) = PathBad s i p
+unfoldable pub PathAt : List ℕ → ℕ → Result ℕ ℕ → Type 0
+PathAt s i (Ok r) = PathEnds s i r
+PathAt s i (Err p) = PathBad s i p
 
 -- The first bad `$` of a raw value stands at place p.
 pub record ValueBad (raw : List ℕ) (p : ℕ) : Type 0 where
   pub within : p < length raw
   pub bad : bad_dollar raw ≡ some p
 
-unfoldable pub ValueScanned : List ℕ → FirstBad → Type 0
-ValueScanned raw Nowhere = bad_dollar raw ≡ none
-ValueScanned raw (At p) = ValueBad raw p
+unfoldable pub ValueScanned : List ℕ → StdOption ℕ → Type 0
+ValueScanned raw None = bad_dollar raw ≡ none
+ValueScanned raw (Some p) = ValueBad raw p
 
 -- ---- the first path of a list, which is all that some lines have
 
@@ -88,6 +84,6 @@ NextPathAt s i (WrongDollar p) = PathsBad s i p
 
 -- ---- the check of a manifest
 
-unfoldable pub place_of : FirstBad → Option ℕ
-place_of Nowhere = none
-place_of (At p) = some p
+unfoldable pub place_of : StdOption ℕ → Option ℕ
+place_of None = none
+place_of (Some p) = some p

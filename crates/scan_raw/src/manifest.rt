@@ -5,29 +5,22 @@ ghost use Rattle.spec.specs.Manifest.{bad_byte};
 ghost use Rattle.scan_classes.specs.Table.{classes};
 ghost use Rattle.scan_raw.specs.Texts.{place_of};
 
-use crate::FirstBad;
-
-fn bad_byte_in(t: &[u8; 256], m: &[u8]) -> FirstBad
+fn bad_byte_in(t: &[u8; 256], m: &[u8]) -> Option<usize>
     requires { t.now ≡ classes }
     ensures { place_of result ≡ bad_byte newline 0 m.now }
 {
     let mut last = b'\n';
-    let mut i = 0;
-    while i < m.len() {
+    for i in 0..m.len() {
         last = m[i];
         if scan_classes::class_in(t, last) == scan_classes::FORBIDDEN {
-            return FirstBad::At(i);
+            return Some(i);
         }
-        i += 1;
     }
-    if last == b'\n' {
-        return FirstBad::Nowhere;
-    }
-    FirstBad::At(i)
+    if last == b'\n' { None } else { Some(m.len()) }
 }
 
-// The first forbidden byte, or the length where the last byte is no newline.
-pub fn bad_byte(m: &[u8]) -> FirstBad
+// The first forbidden byte, or the length where the last byte is no newline; None if there is neither.
+pub fn bad_byte(m: &[u8]) -> Option<usize>
     ensures { place_of result ≡ bad_byte newline 0 m.now }
 {
     let t = scan_classes::table();

@@ -32,7 +32,8 @@ pub fn bad_form(t: &[u8]) -> bool
     t[t.len() - 1] != b'\n'
 }
 
-// The name that starts at `from`: it is the part from there to the place that is returned, and the next one starts after that.
+// The name that starts at `from`: it is the part from there to the place that is returned, and the next one starts
+// after that.
 pub fn name_at(t: &[u8], from: usize) -> NextTarget
     ensures { result ≡ next_in (targets_from from from [] (drop from t.now)) }
 {
@@ -57,12 +58,10 @@ fn line_end(t: &[u8], from: usize) -> usize
     requires { from ≤ length t.now }
     ensures { Reads (after_run other) t.now from result }
 {
-    let mut i = from;
-    while i < t.len() {
+    for i in from..t.len() {
         if t[i] == b'\n' {
             return i;
         }
-        i += 1;
     }
-    i
+    t.len()
 }

@@ -1,4 +1,5 @@
 -- The texts of a bundle: their bytes together, and the first bad byte of them all.
+use Rattle.std.specs.Prelude.{Option as StdOption, Some, None}
 use Prim.Native.Nat.{ℕ, zero, suc, ◌+◌, ◌*◌, ◌-◌, ◌≤◌, ◌<◌}
 use mathlib.Core.Bool.{true, false}
 use mathlib.Core.List.{List, [], ◌∷◌, map}
@@ -18,8 +19,6 @@ use Rattle.spec.specs.Answers.{base_of}
 use Rattle.spec.specs.Card.{number_at}
 use Rattle.spec.specs.Bundle.{sound_bundle, bundle_texts}
 use Rattle.spec.specs.Manifest.{bad_byte, bad_byte_in}
-use Rattle.scan_raw.specs.declared.FirstBad.{FirstBad}
-use Rattle.scan_raw.specs.declared.FirstBad.TheVariants.{Nowhere, At as BadAt}
 use Rattle.scan_raw.specs.Texts.{place_of}
 use Rattle.scan_bundle.specs.Bundles.{LaidBundle}
 use Rattle.scan_bundle.proofs.Laws.{sound_is_laid, sound_few}
@@ -111,12 +110,12 @@ pub bad_begin : (ts : List (List ℕ)) → BadLeft ts 0
 bad_begin ts = record { at = 0; rest = refl; base = λ h. sym (base_none ts) }
 
 module _ {ts : List (List ℕ)} {k : ℕ} (g : BadLeft ts k) where
-  pub bad_end : length ts ≤ k → place_of Nowhere ≡ bad_byte_in 0 ts
+  pub bad_end : length ts ≤ k → place_of None ≡ bad_byte_in 0 ts
   unfolding bad_byte_in place_of
   bad_end h = sym (g.rest ∙ rw (drop_of_length-le ts {i = k} h))
 
   -- t is text k, and f its first bad byte
-  module _ (h : k < length ts) {t : List ℕ} (e : t ≡ get_or ts k []) (f : FirstBad) (q : place_of f ≡ bad_byte newline 0 t) where
+  module _ (h : k < length ts) {t : List ℕ} (e : t ≡ get_or ts k []) (f : StdOption ℕ) (q : place_of f ≡ bad_byte newline 0 t) where
     here : bad_byte_in 0 ts ≡ or_else (bad_byte newline g.at t) some λ _. bad_byte_in (suc (g.at + length t)) (drop (suc k) ts)
     unfolding bad_byte_in
     here = g.rest ∙ rw (drop-cons ts k [] h, e)
@@ -126,13 +125,13 @@ module _ {ts : List (List ℕ)} {k : ℕ} (g : BadLeft ts k) where
         let z : g.at ≡ g.at + 0 = omega arith in
         ap (λ (j : ℕ). bad_byte newline j t) z ∙ bad_shifted g.at newline 0 t ∙ ap (shifted g.at) (sym q)
 
-    pub bad_here : {p base : ℕ} → f ≡ BadAt p → base ≡ base_of ts k → place_of (BadAt (base + p)) ≡ bad_byte_in 0 ts
+    pub bad_here : {p base : ℕ} → f ≡ Some p → base ≡ base_of ts k → place_of (Some (base + p)) ≡ bad_byte_in 0 ts
     unfolding place_of shifted
     bad_here {p} {base} m n =
         let z : g.at ≡ base = g.base h ∙ sym n in
         sym (here ∙ rw (moved, m, z))
 
-    pub bad_on : f ≡ Nowhere → BadLeft ts (k + 1)
+    pub bad_on : f ≡ None → BadLeft ts (k + 1)
     unfolding place_of shifted
     bad_on m =
         record {
@@ -147,8 +146,8 @@ module _ {ts : List (List ℕ)} {k : ℕ} (g : BadLeft ts k) where
         }
 
 -- its place among all texts
-pub bad_near : (s : List ℕ) (a : ShortBundle s) (k : ℕ) → k < number_at 0 4 s → {t : List ℕ} → t ≡ get_or (bundle_texts s) k [] → (f : FirstBad) → place_of f ≡ bad_byte newline 0 t
-    → {p base : ℕ} → f ≡ BadAt p → base ≡ base_of (bundle_texts s) k → base + p ≤ max_place
+pub bad_near : (s : List ℕ) (a : ShortBundle s) (k : ℕ) → k < number_at 0 4 s → {t : List ℕ} → t ≡ get_or (bundle_texts s) k [] → (f : StdOption ℕ) → place_of f ≡ bad_byte newline 0 t
+    → {p base : ℕ} → f ≡ Some p → base ≡ base_of (bundle_texts s) k → base + p ≤ max_place
 unfolding place_of
 bad_near s a k h {t} e f q {p} m b =
     let x = bad_low newline 0 t p (sym q ∙ ap place_of m) in

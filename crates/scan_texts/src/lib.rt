@@ -9,9 +9,8 @@ ghost use Rattle.spec.specs.Manifest.{bad_byte_in};
 ghost use Rattle.scan_raw.specs.Texts.{place_of};
 ghost use Rattle.scan_texts.specs.Checks.{ShortBundle};
 
-use scan_bundle::{BundleAnswer, index, record_text, text_base};
+use scan_bundle::{index, record_text, text_base};
 use scan_numbers::word;
-use scan_raw::FirstBad;
 use scan_raw::manifest::bad_byte;
 use spec::limits::BUNDLE;
 
@@ -20,10 +19,7 @@ pub fn is_sound_bundle(b: &[u8]) -> bool
     ensures { result ≡ sound_bundle 1 max_bundle b.now }
 {
     let mut order = [0u32; BUNDLE];
-    match index(b, 1, BUNDLE, &mut order) {
-        BundleAnswer::Sound(_) => true,
-        BundleAnswer::Malformed => false,
-    }
+    index(b, 1, BUNDLE, &mut order).is_some()
 }
 
 // The bytes of all texts of a sound bundle together: they lie behind the records and the names, up to its end.
@@ -37,21 +33,15 @@ pub fn bytes_together(b: &[u8]) -> usize
 }
 
 // "3 takes them in order": the first bad byte of a sound bundle's texts, by its place among all texts.
-pub fn first_bad(b: &[u8]) -> FirstBad
+pub fn first_bad(b: &[u8]) -> Option<usize>
     requires { ShortBundle b.now }
     ensures { place_of result ≡ bad_byte_in 0 (bundle_texts b.now) }
 {
     let n = word(b, 0);
-    let mut k = 0;
-    while k < n {
-        match bad_byte(record_text(b, k)) {
-            FirstBad::At(p) => {
-                return FirstBad::At(text_base(b, k) + p);
-            }
-            FirstBad::Nowhere => {
-                k += 1;
-            }
+    for k in 0..n {
+        if let Some(p) = bad_byte(record_text(b, k)) {
+            return Some(text_base(b, k) + p);
         }
     }
-    FirstBad::Nowhere
+    None
 }

@@ -12,14 +12,12 @@ pub fn spaces(s: &[u8], from: usize) -> usize
     requires { from ≤ length s.now }
     ensures { Reads (after_run is_space) s.now from result }
 {
-    let mut i = from;
-    while i < s.len() {
+    for i in from..s.len() {
         if s[i] != b' ' {
             return i;
         }
-        i += 1;
     }
-    i
+    s.len()
 }
 
 // Spaces and joins, up to the next token.
@@ -28,19 +26,14 @@ pub fn gap(s: &[u8], from: usize) -> usize
     ensures { Reads gap s.now from result }
 {
     let mut i = from;
+    // A turn goes on by one byte or by two, so that no `for` counts it.
     while i < s.len() {
         let b = s[i];
         if b == b' ' {
             i += 1;
         } else {
-            if b != b'$' {
-                return i;
-            }
             let next = i + 1;
-            if s.len() <= next {
-                return i;
-            }
-            if s[next] != b'\n' {
+            if b != b'$' || s.len() <= next || s[next] != b'\n' {
                 return i;
             }
             i += 2;
@@ -54,18 +47,13 @@ fn class_run(t: &[u8; 256], s: &[u8], from: usize, last: u8) -> usize
     requires { (t.now ≡ classes) × (from ≤ length s.now) }
     ensures { Reads (after_run (λ b. class_up_to last (class_of b))) s.now from result }
 {
-    let mut i = from;
-    while i < s.len() {
+    for i in from..s.len() {
         let k = scan_classes::class_in(t, s[i]);
-        if k < scan_classes::SHORT {
+        if k < scan_classes::SHORT || last < k {
             return i;
         }
-        if last < k {
-            return i;
-        }
-        i += 1;
     }
-    i
+    s.len()
 }
 
 // A name, which may be empty.
@@ -77,6 +65,7 @@ pub fn name_end(t: &[u8; 256], s: &[u8], from: usize) -> usize
 }
 
 // The name behind a `$`, which takes no dot.
+// It and `name_end` are one function, `class_run`, by two names of the manual.
 pub fn short_name(t: &[u8; 256], s: &[u8], from: usize) -> usize
     requires { (t.now ≡ classes) × (from ≤ length s.now) }
     ensures { Reads (after_run short_byte) s.now from result }

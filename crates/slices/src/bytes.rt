@@ -9,14 +9,12 @@ pub fn find(s: &[u8], from: usize, b: u8) -> usize
     requires { from ≤ length s.now }
     ensures { Reads (after_run (is_not b)) s.now from result }
 {
-    let mut i = from;
-    while i < s.len() {
+    for i in from..s.len() {
         if s[i] == b {
             return i;
         }
-        i += 1;
     }
-    i
+    s.len()
 }
 
 // Copies src into dst from place `at` on.
@@ -24,11 +22,7 @@ pub fn copy_at(dst: &mut [u8], at: usize, src: &[u8])
     requires { at + length src.now ≤ length dst.old }
     ensures { dst.new ≡ paste dst.old at src.now (length src.now) }
 {
-    let mut i = 0;
-    while i < src.len() {
-        dst[at + i] = src[i];
-        i += 1;
-    }
+    dst[at..at + src.len()].copy_from_slice(src);
 }
 
 // Zeroes the places from `from` up to, not including, `to`.
@@ -36,11 +30,7 @@ pub fn zero_bytes_in(buf: &mut [u8], from: usize, to: usize)
     requires { (from ≤ to) × (to ≤ length buf.old) }
     ensures { buf.new ≡ zeroed buf.old from to }
 {
-    let mut i = from;
-    while i < to {
-        buf[i] = 0;
-        i += 1;
-    }
+    buf[from..to].fill(0);
 }
 
 // Zeroes the places from `from` to the end.

@@ -15,16 +15,13 @@ pub fn at(a: &[u32], i: usize) -> usize
     wide(a[i])
 }
 
-// Zeroes the places from `from` up to, not including, `to`.
+// Zeroes the places from `from` up to, not including, `to`. One function for bytes too would be no plainer: its
+// contract would have to carry the zero of its type, and that a copy of it is the same.
 pub fn zero_words_in(buf: &mut [u32], from: usize, to: usize)
     requires { (from ≤ to) × (to ≤ length buf.old) }
     ensures { buf.new ≡ zeroed buf.old from to }
 {
-    let mut i = from;
-    while i < to {
-        buf[i] = 0;
-        i += 1;
-    }
+    buf[from..to].fill(0);
 }
 
 // Zeroes the places from `from` to the end.

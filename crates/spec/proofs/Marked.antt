@@ -1,4 +1,5 @@
 -- The marked table holds: each case by computing the definitions, and M7's circle by the promise.
+use Rattle.std.specs.Prelude.{Result}
 use Prim.Native.Nat.{ℕ, ◌<◌}
 use native.Mathlib.Omega.{arith}
 use mathlib.Core.Path.{◌≡◌, refl, sym, ap, ◌∙◌}
@@ -6,7 +7,6 @@ use mathlib.Core.List.{List, [], ◌∷◌}
 use lib.ListN.{length}
 use Rattle.lists.specs.Text.{bytes}
 use Rattle.lists.specs.Members.{◌∈◌, here, there, Once, once_head}
-use Rattle.spec.specs.declared.PlanAnswer.{PlanAnswer}
 use Rattle.spec.specs.Answers.{Said, plan_says, says}
 use Rattle.spec.specs.Card.{sound_card, card_entries, time_in}
 use Rattle.spec.specs.Bundle.{alone, no_lists}
@@ -16,6 +16,7 @@ use Rattle.spec.specs.Words.{Needed}
 use Rattle.spec.specs.Promises.{filled, AnswerIs, Shows, PlanMeets, PlanPromise}
 use Rattle.spec.specs.Marked.{card_of, phony_step_of, Marked}
 use Rattle.spec.proofs.Graph.{needed_low}
+use Rattle.spec.specs.declared.Refusal.{Refusal}
 
 only_zero : (c : List ℕ) → 0 < length c → Once c → ((s : ℕ) → s ∈ c → s ≡ 0) → c ≡ 0 ∷ []
 only_zero [] b o f = absurd (omega arith)
@@ -34,7 +35,7 @@ m7_circular : plan_ask (inputs_of (alone (bytes "build a: phony a\n")) (card_of 
 unfolding plan_ask alone
 m7_circular = refl
 
-m7_right : (lent : List ℕ) (answer : PlanAnswer) (exit : List ℕ) → length lent ≡ 512
+m7_right : (lent : List ℕ) (answer : Result ℕ Refusal) (exit : List ℕ) → length lent ≡ 512
     → PlanPromise (inputs_of (alone (bytes "build a: phony a\n")) (card_of []) (bytes "a\n") no_lists) lent answer exit → AnswerIs (plan_says answer) exit (says 14 1) (filled (0 ∷ []) lent)
 unfolding PlanMeets
 m7_right lent answer exit room p =

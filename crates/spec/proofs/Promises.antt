@@ -1,4 +1,5 @@
 -- The promises can be kept on every input, and they fix every outcome but the circle.
+use Rattle.std.specs.Prelude.{Result, Ok, Err}
 use Prim.Native.Nat.{ℕ, ◌-◌}
 use native.Mathlib.Omega.{arith}
 use mathlib.Core.Path.{◌≡◌, refl, sym, ◌∙◌}
@@ -13,10 +14,6 @@ use Rattle.lists.specs.Fill.{zeroed, zeroed_all}
 use Rattle.orders.specs.Circle.{circle_of}
 use Rattle.spec.specs.declared.Refusal.{Refusal}
 use Rattle.spec.specs.declared.Refusal.TheVariants.{BadCard, BadTarget, NoRoot, Circle, MissingSource, BadHeaders}
-use Rattle.spec.specs.declared.PlanAnswer.{PlanAnswer}
-use Rattle.spec.specs.declared.PlanAnswer.TheVariants.{Listed, Refused as PlanRefused}
-use Rattle.spec.specs.declared.TextAnswer.{TextAnswer}
-use Rattle.spec.specs.declared.TextAnswer.TheVariants.{Written, Refused as TextRefused}
 use Rattle.spec.specs.declared.Wanted.{Wanted}
 use Rattle.spec.specs.Limits.{least_list}
 use Rattle.spec.specs.Reading.{Step, Reading}
@@ -85,24 +82,24 @@ ask_sound i room =
     split (ltb room least_list) (λ (e : ltb room least_list ≡ true). rw e tt)
     (λ (e : ltb room least_list ≡ false). rw e (after_test (bad_headers i) (BadHeaders 0) (λ _. plan_manifest i (read_manifest i.manifest)) (manifest_sound i (read_manifest i.manifest))))
 
-plan_kept : (o : PlanOutcome) (lent : List ℕ) → Sound o → (answer : PlanAnswer) × (exit : List ℕ) × PlanMeets o lent (plan_says answer) exit
+plan_kept : (o : PlanOutcome) (lent : List ℕ) → Sound o → (answer : Result ℕ Refusal) × (exit : List ℕ) × PlanMeets o lent (plan_says answer) exit
 unfolding PlanMeets plan_says
-plan_kept (listed l) lent s = (Listed (length l), filled l lent, record { says = refl; leaves = refl })
+plan_kept (listed l) lent s = (Ok (length l), filled l lent, record { says = refl; leaves = refl })
 plan_kept (circular steps roots) lent s =
     let c = circle_of (needed steps roots) (before steps) in
-    (PlanRefused (Circle (length c)), filled c lent, record { circle = c; real = some_circle steps roots s; shown = record { says = refl; leaves = refl } })
-plan_kept (no_plan r) lent s = (PlanRefused r, left_by r lent, record { says = refl; leaves = refl })
+    (Err (Circle (length c)), filled c lent, record { circle = c; real = some_circle steps roots s; shown = record { says = refl; leaves = refl } })
+plan_kept (no_plan r) lent s = (Err r, left_by r lent, record { says = refl; leaves = refl })
 
-text_kept : (o : TextOutcome) (lent : List ℕ) → (answer : TextAnswer) × (exit : List ℕ) × TextMeets o lent (text_says answer) exit
+text_kept : (o : TextOutcome) (lent : List ℕ) → (answer : Result ℕ Refusal) × (exit : List ℕ) × TextMeets o lent (text_says answer) exit
 unfolding TextMeets text_says
-text_kept (text t) lent = (Written (length t), filled t lent, record { says = refl; leaves = refl })
-text_kept (no_text r) lent = (TextRefused r, left_by r lent, record { says = refl; leaves = refl })
+text_kept (text t) lent = (Ok (length t), filled t lent, record { says = refl; leaves = refl })
+text_kept (no_text r) lent = (Err r, left_by r lent, record { says = refl; leaves = refl })
 
 -- on every input some answer meets the promise
-pub plan_possible : (i : Inputs) (lent : List ℕ) → (answer : PlanAnswer) × (exit : List ℕ) × PlanPromise i lent answer exit
+pub plan_possible : (i : Inputs) (lent : List ℕ) → (answer : Result ℕ Refusal) × (exit : List ℕ) × PlanPromise i lent answer exit
 plan_possible i lent = plan_kept (plan_ask i (length lent)) lent (ask_sound i (length lent))
 
-pub text_possible : (manifest : List ℕ) (step : ℕ) (wanted : Wanted) (lent : List ℕ) → (answer : TextAnswer) × (exit : List ℕ) × TextPromise manifest step wanted lent answer exit
+pub text_possible : (manifest : List ℕ) (step : ℕ) (wanted : Wanted) (lent : List ℕ) → (answer : Result ℕ Refusal) × (exit : List ℕ) × TextPromise manifest step wanted lent answer exit
 text_possible manifest step wanted lent = text_kept (text_ask manifest step wanted (length lent)) lent
 
 -- what is said is the same, and the buffer is
@@ -121,7 +118,7 @@ plan_fixed (listed l) lent a b x y n p q = is_same p q
 plan_fixed (circular steps roots) lent a b x y n p q = absurd (n steps roots refl)
 plan_fixed (no_plan r) lent a b x y n p q = is_same p q
 
-pub plan_unique : (i : Inputs) (lent : List ℕ) (a b : PlanAnswer) (x y : List ℕ)
+pub plan_unique : (i : Inputs) (lent : List ℕ) (a b : Result ℕ Refusal) (x y : List ℕ)
     → ((steps : List Step) (roots : List ℕ) → ¬ (plan_ask i (length lent) ≡ circular steps roots))
     → PlanPromise i lent a x → PlanPromise i lent b y → Same (plan_says a) (plan_says b) x y
 plan_unique i lent a b x y n p q = plan_fixed (plan_ask i (length lent)) lent (plan_says a) (plan_says b) x y n p q
@@ -132,6 +129,6 @@ unfolding TextMeets
 text_fixed (text t) lent a b x y p q = is_same p q
 text_fixed (no_text r) lent a b x y p q = is_same p q
 
-pub text_unique : (manifest : List ℕ) (step : ℕ) (wanted : Wanted) (lent : List ℕ) (a b : TextAnswer) (x y : List ℕ)
+pub text_unique : (manifest : List ℕ) (step : ℕ) (wanted : Wanted) (lent : List ℕ) (a b : Result ℕ Refusal) (x y : List ℕ)
     → TextPromise manifest step wanted lent a x → TextPromise manifest step wanted lent b y → Same (text_says a) (text_says b) x y
 text_unique manifest step wanted lent a b x y p q = text_fixed (text_ask manifest step wanted (length lent)) lent (text_says a) (text_says b) x y p q

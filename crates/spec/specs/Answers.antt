@@ -1,10 +1,6 @@
 -- The answers of the two asks as document 01's numbers and values.
-use Rattle.std.specs.Prelude.{ℕ, zero, suc, ◌+◌, ◌-◌, Bool, true, false, List, [], ◌∷◌, leb, length}
+use Rattle.std.specs.Prelude.{ℕ, zero, suc, ◌+◌, ◌-◌, Bool, true, false, List, [], ◌∷◌, leb, length, Result, Ok, Err}
 use Rattle.lists.specs.Tests.{if_b}
-use Rattle.spec.specs.declared.PlanAnswer.{PlanAnswer}
-use Rattle.spec.specs.declared.PlanAnswer.TheVariants.{Listed, Refused as PlanRefused}
-use Rattle.spec.specs.declared.TextAnswer.{TextAnswer}
-use Rattle.spec.specs.declared.TextAnswer.TheVariants.{Written, Refused as TextRefused}
 use Rattle.spec.specs.declared.Refusal.{Refusal}
 use Rattle.spec.specs.declared.Refusal.TheVariants.{ShortBuffer, LongManifest, BadByte, BadLine, BadDollar, NotYet, BadRule, BadPath, OverLimit, BadVersion, BadCard, BadTarget, NoRoot, Circle, MissingSource, EndlessText, LongText, NoCommand, BadBundle, BadOpen, BadHeaders}
 
@@ -57,15 +53,15 @@ unfoldable pub place_of_refusal : Refusal → ℕ
 unfolding refusal_says
 place_of_refusal r = (refusal_says r).value
 
-unfoldable pub plan_says : PlanAnswer → Said
+unfoldable pub plan_says : Result ℕ Refusal → Said
 unfolding refusal_says
-plan_says (Listed n) = says 0 n
-plan_says (PlanRefused r) = refusal_says r
+plan_says (Ok n) = says 0 n
+plan_says (Err r) = refusal_says r
 
-unfoldable pub text_says : TextAnswer → Said
+unfoldable pub text_says : Result ℕ Refusal → Said
 unfolding refusal_says
-text_says (Written n) = says 0 n
-text_says (TextRefused r) = refusal_says r
+text_says (Ok n) = says 0 n
+text_says (Err r) = refusal_says r
 
 -- ------------------------------------------------------------------ places in texts
 

@@ -1,16 +1,16 @@
 -- The marked cases of document 01, M1 to M10, as one table, from the bytes of manifests, cards and target lists. `proofs/Marked.antt` proves it.
-use Rattle.std.specs.Prelude.{ℕ, ◌+◌, ◌*◌, List, [], ◌∷◌, ◌++◌, ◌≡◌, true, length}
+use Rattle.std.specs.Prelude.{ℕ, ◌+◌, ◌*◌, List, [], ◌∷◌, ◌++◌, ◌≡◌, true, length, Result}
 use Prim.Native.String.{String}
 use Rattle.lists.specs.Text.{bytes}
 use Rattle.spec.specs.declared.Wanted.TheVariants.{Command}
 use Rattle.spec.specs.Reading.{Step}
 use Rattle.spec.specs.Card.{in_bytes, Entry, sound_card, card_entries, time_in}
 use Rattle.spec.specs.Bundle.{alone, no_lists}
-use Rattle.spec.specs.declared.PlanAnswer.{PlanAnswer}
 use Rattle.spec.specs.Answers.{plan_says, says}
 use Rattle.spec.specs.Promises.{AnswerIs, filled, PlanPromise}
 use Rattle.spec.specs.PlanAsk.{PlanOutcome, inputs_of, plan_ask, listed}
 use Rattle.spec.specs.TextAsk.{TextOutcome, text_ask, text}
+use Rattle.spec.specs.declared.Refusal.{Refusal}
 
 abbrev pub on : String → ℕ → Entry
 on n t = record { name = bytes n; time = t }
@@ -67,7 +67,7 @@ pub record Marked : Type 0 where
   -- (M6) `v = 1`, a rule with `x $v`, a step, `v = 2`: text `x 2`
   pub m6 : command (bytes "v = 1\nrule r\n  command = x $v\nbuild a: r\nv = 2\n") 0 ≡ text (bytes "x 2")
   -- (M7) `build a: phony a`, target a: 14, circle 0: whatever answers must say so, and write that circle
-  pub m7 : (lent : List ℕ) (answer : PlanAnswer) (exit : List ℕ) → length lent ≡ 512
+  pub m7 : (lent : List ℕ) (answer : Result ℕ Refusal) (exit : List ℕ) → length lent ≡ 512
       → PlanPromise (inputs_of (alone (bytes "build a: phony a\n")) (card_of []) (bytes "a\n") no_lists) lent answer exit → AnswerIs (plan_says answer) exit (says 14 1) (filled (0 ∷ []) lent)
   -- (M8) a circle no target reaches: no 14
   pub m8 : plan (bytes "build a: phony a\nbuild b: phony\n") [] "b\n" ≡ listed []

@@ -1,9 +1,7 @@
 -- What the two asks promise, for every input: the answer, and every number of the lent buffer.
-use Rattle.std.specs.Prelude.{ℕ, ◌-◌, List, [], ◌++◌, ◌≡◌, eqb, length, replicate}
+use Rattle.std.specs.Prelude.{ℕ, ◌-◌, List, [], ◌++◌, ◌≡◌, eqb, length, replicate, Result}
 use Rattle.lists.specs.Tests.{if_b}
 use Rattle.spec.specs.declared.Refusal.{Refusal}
-use Rattle.spec.specs.declared.PlanAnswer.{PlanAnswer}
-use Rattle.spec.specs.declared.TextAnswer.{TextAnswer}
 use Rattle.spec.specs.declared.Wanted.{Wanted}
 use Rattle.spec.specs.Answers.{Said, says, refusal_says, number_of_refusal, plan_says, text_says}
 use Rattle.spec.specs.Reading.{Step}
@@ -38,7 +36,7 @@ PlanMeets (circular steps roots) lent said exit = Shows steps roots lent said ex
 PlanMeets (no_plan r) lent said exit = AnswerIs said exit (refusal_says r) (left_by r lent)
 
 -- the plan ask: its inputs, list buffer at entry, answer, list buffer at exit
-abbrev pub PlanPromise : Inputs → List ℕ → PlanAnswer → List ℕ → Type 0
+abbrev pub PlanPromise : Inputs → List ℕ → Result ℕ Refusal → List ℕ → Type 0
 PlanPromise i lent answer exit = PlanMeets (plan_ask i (length lent)) lent (plan_says answer) exit
 
 unfoldable pub TextMeets : TextOutcome → List ℕ → Said → List ℕ → Type 0
@@ -46,6 +44,6 @@ TextMeets (text t) lent said exit = AnswerIs said exit (says 0 (length t)) (fill
 TextMeets (no_text r) lent said exit = AnswerIs said exit (refusal_says r) (left_by r lent)
 
 -- the text ask: manifest, step, what is wanted, text buffer at entry, answer, text buffer at exit
-abbrev pub TextPromise : List ℕ → ℕ → Wanted → List ℕ → TextAnswer → List ℕ → Type 0
+abbrev pub TextPromise : List ℕ → ℕ → Wanted → List ℕ → Result ℕ Refusal → List ℕ → Type 0
 TextPromise manifest step wanted lent answer exit =
     TextMeets (text_ask manifest step wanted (length lent)) lent (text_says answer) exit

@@ -3,7 +3,8 @@
 
 pub mod limits;
 
-// What the planner says no with: a case for each row of document 01's table, in its order, with its place where that is not always 0.
+// What the planner says no with: a case for each row of document 01's table, in its order, with its place where that
+// is not always 0.
 #[derive(Clone, Copy)]
 pub enum Refusal {
     // 1: a lent buffer is too short
@@ -50,13 +51,6 @@ pub enum Refusal {
     BadHeaders(usize),
 }
 
-// What the plan ask answers: the number of steps listed, or a refusal.
-#[derive(Clone, Copy)]
-pub enum PlanAnswer {
-    Listed(usize),
-    Refused(Refusal),
-}
-
 // What the text ask is asked for.
 #[derive(Clone, Copy)]
 pub enum Wanted {
@@ -72,11 +66,4 @@ pub enum Key {
     Generator,
     Depfile,
     Pool,
-}
-
-// What the text ask answers: the number of bytes written, or a refusal.
-#[derive(Clone, Copy)]
-pub enum TextAnswer {
-    Written(usize),
-    Refused(Refusal),
 }

@@ -1,4 +1,5 @@
-// Every limit of document 01, once for all code. `specs/Limits.antt` has them for the definitions; the proofs hold each use to those.
+// Every limit of document 01, once for all code. `specs/Limits.antt` has them for the definitions; the proofs hold
+// each use to those.
 
 pub const STEPS: usize = 512;
 

@@ -1,10 +1,10 @@
 -- Lines that the definitions compute.
+use Rattle.std.specs.Prelude.{Some, None}
 use mathlib.Core.Bool.{false}
 use mathlib.Core.List.{[], ◌∷◌}
 use mathlib.Core.Path.{◌≡◌, refl}
 use Rattle.lists.specs.Text.{bytes}
 use Rattle.status_record.specs.Events.{starts, finishes, prints, status_after}
-use Rattle.status_line.specs.declared.WrongPlace.TheVariants.{At, Nowhere}
 use Rattle.status_line.specs.Line.{wrong_from, line_from}
 
 -- reading 22: 7 finished at 35 ms is `199.9`
@@ -18,10 +18,10 @@ unfolding status_after line_from
 all_ten = refl
 
 -- reading 24: a `%` that ends the format is 21 at it
-pub percent_at_the_end : wrong_from 0 false (bytes "ab%") ≡ At 2
+pub percent_at_the_end : wrong_from 0 false (bytes "ab%") ≡ Some 2
 unfolding wrong_from
 percent_at_the_end = refl
 
-pub no_percent_wrong : wrong_from 0 false (bytes "%%%s") ≡ Nowhere
+pub no_percent_wrong : wrong_from 0 false (bytes "%%%s") ≡ None
 unfolding wrong_from
 no_percent_wrong = refl

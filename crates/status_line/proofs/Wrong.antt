@@ -1,4 +1,5 @@
 -- The walk that looks for a `%` which begins no placeholder.
+use Rattle.std.specs.Prelude.{Some, None}
 use Prim.Native.Nat.{ℕ, suc, ◌+◌, ◌-◌, ◌≤◌, ◌<◌}
 use native.Mathlib.Nat.{le_antisymm}
 use native.Mathlib.Numerals.{add-one}
@@ -8,7 +9,6 @@ use mathlib.Core.List.{List, [], ◌∷◌}
 use mathlib.Core.Path.{◌≡◌, refl, sym, ap, ◌∙◌}
 use lib.ListN.{length, drop, get_or}
 use lib.Seq.{drop-cons, drop-length}
-use Rattle.status_line.specs.declared.WrongPlace.TheVariants.{At, Nowhere}
 use Rattle.status_line.specs.Line.{wrong_key, next_state, wrong_end, wrong_from}
 
 -- the first i bytes are sound, and `after` says whether the last of them begins a placeholder
@@ -29,7 +29,7 @@ step : (i : ℕ) (a : Bool) (b : ℕ) (l : List ℕ) → wrong_key a b ≡ false
 unfolding wrong_from
 step i a b l e = rw e
 
-stop : (i : ℕ) (a : Bool) (b : ℕ) (l : List ℕ) → wrong_key a b ≡ true → wrong_from i a (b ∷ l) ≡ At (i - 1)
+stop : (i : ℕ) (a : Bool) (b : ℕ) (l : List ℕ) → wrong_key a b ≡ true → wrong_from i a (b ∷ l) ≡ Some (i - 1)
 unfolding wrong_from
 stop i a b l e = rw e
 
@@ -38,7 +38,7 @@ unfolding wrong_from
 ended i a = refl
 
 module _ {format : List ℕ} {i : ℕ} {a : Bool} (h : Looking format i a) where
-  pub look_bad : i < length format → wrong_key a (get_or format i 0) ≡ true → At (i - 1) ≡ wrong_from 0 false format
+  pub look_bad : i < length format → wrong_key a (get_or format i 0) ≡ true → Some (i - 1) ≡ wrong_from 0 false format
   look_bad l e = sym (h.rest ∙ ap (wrong_from i a) (drop-cons format i 0 l) ∙ stop i a (get_or format i 0) (drop (suc i) format) e)
 
   pub look_on : {b : Bool} → i < length format → wrong_key a (get_or format i 0) ≡ false → b ≡ next_state a (get_or format i 0) → Looking format (i + 1) b
@@ -54,10 +54,10 @@ module _ {format : List ℕ} {i : ℕ} {a : Bool} (h : Looking format i a) where
   finished : length format ≤ i → wrong_from 0 false format ≡ wrong_end i a
   finished l = h.rest ∙ ap (wrong_from i a) (ap (λ (k : ℕ). drop k format) (le_antisymm h.within l) ∙ drop-length format) ∙ ended i a
 
-  pub look_open : length format ≤ i → a ≡ true → At (i - 1) ≡ wrong_from 0 false format
+  pub look_open : length format ≤ i → a ≡ true → Some (i - 1) ≡ wrong_from 0 false format
   unfolding wrong_end
   look_open l e = sym (finished l ∙ ap (wrong_end i) e)
 
-  pub look_end : length format ≤ i → a ≡ false → Nowhere ≡ wrong_from 0 false format
+  pub look_end : length format ≤ i → a ≡ false → None ≡ wrong_from 0 false format
   unfolding wrong_end
   look_end l e = sym (finished l ∙ ap (wrong_end i) e)

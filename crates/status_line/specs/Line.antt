@@ -1,9 +1,7 @@
 -- The line that a format and a status give, and where a format is wrong. Each goes over the format once; what it remembers is whether the byte before begins a placeholder.
-use Rattle.std.specs.Prelude.{ℕ, suc, ◌-◌, Bool, true, false, not, List, [], ◌∷◌, ◌++◌, eqb}
+use Rattle.std.specs.Prelude.{ℕ, suc, ◌-◌, Bool, true, false, not, List, [], ◌∷◌, ◌++◌, eqb, Option, Some, None}
 use Rattle.lists.specs.Tests.{if_b}
 use Rattle.status_record.specs.declared.Status.{Status}
-use Rattle.status_line.specs.declared.WrongPlace.{WrongPlace}
-use Rattle.status_line.specs.declared.WrongPlace.TheVariants.{At, Nowhere}
 use Rattle.status_line.specs.Pieces.{piece_of, piece_text}
 
 -- "`%s %t %p %r %u %f %o %c %e %%`"
@@ -32,15 +30,15 @@ next_state true b = false
 next_state false b = eqb b 37
 
 -- a `%` that ends the format begins no placeholder
-unfoldable pub wrong_end : ℕ → Bool → WrongPlace
-wrong_end i true = At (i - 1)
-wrong_end i false = Nowhere
+unfoldable pub wrong_end : ℕ → Bool → Option ℕ
+wrong_end i true = Some (i - 1)
+wrong_end i false = None
 
 -- "Another `%` is refusal 21 there": the first one's place, where i is the place of the next byte
-unfoldable pub wrong_from : ℕ → Bool → List ℕ → WrongPlace
+unfoldable pub wrong_from : ℕ → Bool → List ℕ → Option ℕ
 unfolding wrong_key next_state wrong_end
 wrong_from i a [] = wrong_end i a
-wrong_from i a (b ∷ l) = if_b (wrong_key a b) (λ _. At (i - 1)) (λ _. wrong_from (suc i) (next_state a b) l)
+wrong_from i a (b ∷ l) = if_b (wrong_key a b) (λ _. Some (i - 1)) (λ _. wrong_from (suc i) (next_state a b) l)
 
 -- what one byte of the format adds to the line
 unfoldable pub element_text : Status → Bool → ℕ → List ℕ

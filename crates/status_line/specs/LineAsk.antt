@@ -1,16 +1,12 @@
 -- What is answered for a status, a format and a lent buffer: "1 and 17 hold as for a text, at 0, 17 last".
-use Rattle.std.specs.Prelude.{ℕ, false, List, [], ltb, length}
+use Rattle.std.specs.Prelude.{ℕ, false, List, [], ltb, length, Option, Some, None, Result, Ok, Err}
 use Rattle.lists.specs.Tests.{if_b}
 use Rattle.spec.specs.Limits.{max_text}
 use Rattle.spec.specs.Answers.{Said, says}
 use Rattle.spec.specs.Promises.{AnswerIs, filled}
 use Rattle.status_record.specs.declared.Status.{Status}
-use Rattle.status_line.specs.declared.WrongPlace.{WrongPlace}
-use Rattle.status_line.specs.declared.WrongPlace.TheVariants.{At, Nowhere}
 use Rattle.status_line.specs.declared.LineRefusal.{LineRefusal}
 use Rattle.status_line.specs.declared.LineRefusal.TheVariants.{ShortBuffer, BadPlaceholder, LongLine}
-use Rattle.status_line.specs.declared.StatusLineAnswer.{StatusLineAnswer}
-use Rattle.status_line.specs.declared.StatusLineAnswer.TheVariants.{Written, Refused}
 use Rattle.status_line.specs.Line.{wrong_from, line_from}
 
 -- each refusal's number and place
@@ -19,10 +15,10 @@ line_refusal_says ShortBuffer = says 1 0
 line_refusal_says (BadPlaceholder p) = says 21 p
 line_refusal_says LongLine = says 17 0
 
-unfoldable pub line_says : StatusLineAnswer → Said
+unfoldable pub line_says : Result ℕ LineRefusal → Said
 unfolding line_refusal_says
-line_says (Written n) = says 0 n
-line_says (Refused r) = line_refusal_says r
+line_says (Ok n) = says 0 n
+line_says (Err r) = line_refusal_says r
 
 -- the line, or why there is none
 pub data LineOutcome : Type 0 where
@@ -33,10 +29,10 @@ pub data LineOutcome : Type 0 where
 unfoldable pub fitting_line : List ℕ → LineOutcome
 fitting_line l = if_b (ltb max_text (length l)) (λ _. no_line LongLine) (λ _. printed l)
 
-unfoldable pub sound_format : WrongPlace → List ℕ → LineOutcome
+unfoldable pub sound_format : Option ℕ → List ℕ → LineOutcome
 unfolding fitting_line
-sound_format (At p) l = no_line (BadPlaceholder p)
-sound_format Nowhere l = fitting_line l
+sound_format (Some p) l = no_line (BadPlaceholder p)
+sound_format None l = fitting_line l
 
 -- the status, the format, and the lent buffer's length
 unfoldable pub line_outcome : Status → List ℕ → ℕ → LineOutcome

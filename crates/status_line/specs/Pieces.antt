@@ -1,9 +1,7 @@
 -- What each placeholder of the manual is written as.
-use Rattle.std.specs.Prelude.{ℕ, zero, suc, ◌+◌, ◌-◌, ◌*◌, ◌/◌, ◌%◌, List, [], ◌∷◌, ◌++◌, eqb, ltb}
+use Rattle.std.specs.Prelude.{ℕ, zero, suc, ◌+◌, ◌-◌, ◌*◌, ◌/◌, ◌%◌, List, [], ◌∷◌, ◌++◌, eqb, ltb, Option, Some, None, Float}
 use Rattle.lists.specs.Tests.{if_b}
 use Rattle.status_rates.specs.Rates.{tenths_of}
-use Rattle.status_rates.specs.declared.Rate.{Rate}
-use Rattle.status_rates.specs.declared.Rate.TheVariants.{Unknown, Known}
 use Rattle.status_record.specs.declared.Status.{Status}
 use Rattle.status_line.specs.declared.StatusPiece.{StatusPiece}
 use Rattle.status_line.specs.declared.StatusPiece.TheVariants.{Number, Tenths, Seconds, Byte}
@@ -13,10 +11,10 @@ unfoldable pub percent_of : ℕ → ℕ → ℕ
 percent_of started total = if_b (eqb total 0) (λ _. 100) (λ _. started * 100 / total)
 
 -- "unknown, printed `?`"; else "in tenths"
-unfoldable pub rate_piece : Rate → StatusPiece
+unfoldable pub rate_piece : Option Float → StatusPiece
 unfolding tenths_of
-rate_piece Unknown = Byte 63
-rate_piece (Known r) = Tenths (tenths_of r)
+rate_piece None = Byte 63
+rate_piece (Some r) = Tenths (tenths_of r)
 
 -- "the manual's status placeholders `%s %t %p %r %u %f %o %c %e %%`": started, total, percent started, running, not started, finished, the overall and the current rate, the elapsed
 -- seconds, and a `%`

@@ -1,4 +1,5 @@
-// "Print the manual's status placeholders": a format and the status record give a line in the lent buffer, or a refusal.
+// "Print the manual's status placeholders": a format and the status record give a line in the lent buffer, or a
+// refusal.
 #![tactic(auto)]
 
 ghost use Rattle.std.specs.Prelude.{◌≡◌, false, ◌-◌, length};
@@ -9,7 +10,7 @@ ghost use Rattle.status_line.specs.LineAsk.{fitting_line, line_outcome, line_say
 
 use slices::bytes::zero_bytes_from;
 use spec::limits::TEXT;
-use status_rates::{Rate, tenths};
+use status_rates::tenths;
 use status_record::Status;
 use text_buffer::{put_byte, put_bytes};
 
@@ -22,30 +23,11 @@ pub enum StatusPiece {
     Byte(u8),
 }
 
-// Where the first `%` stands that begins no placeholder.
-#[derive(Clone, Copy)]
-pub enum WrongPlace {
-    At(usize),
-    Nowhere,
-}
-
 #[derive(Clone, Copy)]
 pub enum LineRefusal {
     ShortBuffer,
     BadPlaceholder(usize),
     LongLine,
-}
-
-#[derive(Clone, Copy)]
-pub enum StatusLineAnswer {
-    Written(usize),
-    Refused(LineRefusal),
-}
-
-fn wide(n: u32) -> u64
-    ensures { result ≡ n }
-{
-    n as u64
 }
 
 // "`%p` is 100 times started over total, cut downwards, without a sign, 100 for a total of 0"
@@ -55,75 +37,43 @@ fn percent(started: u32, total: u32) -> u64
     if total == 0 {
         return 100;
     }
-    wide(started) * 100 / wide(total)
+    u64::from(started) * 100 / u64::from(total)
 }
 
 // Steps that have not started.
 fn waiting(started: u32, total: u32) -> u64
     ensures { result ≡ total - started }
 {
-    if total < started {
-        return 0;
-    }
-    wide(total - started)
+    u64::from(total.saturating_sub(started))
 }
 
 // "unknown, printed `?`"
-fn rate_piece(r: Rate) -> StatusPiece
+fn rate_piece(r: Option<f64>) -> StatusPiece
     ensures { result ≡ rate_piece r }
 {
     match r {
-        Rate::Known(x) => StatusPiece::Tenths(wide(tenths(x))),
-        Rate::Unknown => StatusPiece::Byte(b'?'),
+        Some(x) => StatusPiece::Tenths(u64::from(tenths(x))),
+        None => StatusPiece::Byte(b'?'),
     }
-}
-
-fn overall_piece(s: Status) -> StatusPiece
-    ensures { result ≡ rate_piece s.overall }
-{
-    let r = s.overall;
-    rate_piece(r)
-}
-
-fn current_piece(s: Status) -> StatusPiece
-    ensures { result ≡ rate_piece s.current }
-{
-    let r = s.current;
-    rate_piece(r)
 }
 
 // What a placeholder stands for, by the byte behind its `%`.
+#[tactic(auto, unfolding(crate::specs::Pieces::piece_of))]
 fn piece_at(s: Status, key: u8) -> StatusPiece
     ensures { result ≡ piece_of s key }
 {
-    if key == b's' {
-        return StatusPiece::Number(wide(s.started));
+    match key {
+        b's' => StatusPiece::Number(u64::from(s.started)),
+        b't' => StatusPiece::Number(u64::from(s.total)),
+        b'p' => StatusPiece::Number(percent(s.started, s.total)),
+        b'r' => StatusPiece::Number(u64::from(s.running)),
+        b'u' => StatusPiece::Number(waiting(s.started, s.total)),
+        b'f' => StatusPiece::Number(u64::from(s.finished)),
+        b'o' => rate_piece(s.overall),
+        b'c' => rate_piece(s.current),
+        b'e' => StatusPiece::Seconds(u64::from(s.last)),
+        _ => StatusPiece::Byte(b'%'),
     }
-    if key == b't' {
-        return StatusPiece::Number(wide(s.total));
-    }
-    if key == b'p' {
-        return StatusPiece::Number(percent(s.started, s.total));
-    }
-    if key == b'r' {
-        return StatusPiece::Number(wide(s.running));
-    }
-    if key == b'u' {
-        return StatusPiece::Number(waiting(s.started, s.total));
-    }
-    if key == b'f' {
-        return StatusPiece::Number(wide(s.finished));
-    }
-    if key == b'o' {
-        return overall_piece(s);
-    }
-    if key == b'c' {
-        return current_piece(s);
-    }
-    if key == b'e' {
-        return StatusPiece::Seconds(wide(s.last));
-    }
-    StatusPiece::Byte(b'%')
 }
 
 fn digit(n: u64) -> u8
@@ -186,79 +136,47 @@ fn put_piece(p: StatusPiece, buffer: &mut [u8], place: usize) -> usize
 }
 
 // Whether a byte behind a `%` names a placeholder.
+#[tactic(auto, unfolding(crate::specs::Line::known_key))]
 fn known_key(b: u8) -> bool
     ensures { result ≡ known_key b }
 {
-    if b == b's' {
-        return true;
-    }
-    if b == b't' {
-        return true;
-    }
-    if b == b'p' {
-        return true;
-    }
-    if b == b'r' {
-        return true;
-    }
-    if b == b'u' {
-        return true;
-    }
-    if b == b'f' {
-        return true;
-    }
-    if b == b'o' {
-        return true;
-    }
-    if b == b'c' {
-        return true;
-    }
-    if b == b'e' {
-        return true;
-    }
-    b == b'%'
+    matches!(
+        b,
+        b's' | b't' | b'p' | b'r' | b'u' | b'f' | b'o' | b'c' | b'e' | b'%'
+    )
 }
 
 // Whether this byte stands behind a `%` and names no placeholder.
+#[tactic(auto, unfolding(crate::specs::Line::wrong_key))]
 fn wrong_key(after: bool, b: u8) -> bool
     ensures { result ≡ wrong_key after b }
 {
-    if after {
-        if known_key(b) {
-            return false;
-        }
-        return true;
-    }
-    false
+    after && !known_key(b)
 }
 
 // Whether the byte behind this one stands behind a `%` that begins a placeholder.
+#[tactic(auto, unfolding(crate::specs::Line::next_state))]
 fn next_state(after: bool, b: u8) -> bool
     ensures { result ≡ next_state after b }
 {
-    if after {
-        return false;
-    }
-    b == b'%'
+    !after && b == b'%'
 }
 
 // "Another `%` is refusal 21 there"
-fn first_wrong(format: &[u8]) -> WrongPlace
+fn first_wrong(format: &[u8]) -> Option<usize>
     ensures { result ≡ wrong_from 0 false format.now }
 {
     let mut after = false;
-    let mut i = 0;
-    while i < format.len() {
+    for i in 0..format.len() {
         if wrong_key(after, format[i]) {
-            return WrongPlace::At(i - 1);
+            return Some(i - 1);
         }
         after = next_state(after, format[i]);
-        i += 1;
     }
     if after {
-        return WrongPlace::At(i - 1);
+        return Some(format.len() - 1);
     }
-    WrongPlace::Nowhere
+    None
 }
 
 // What one byte of the format adds to the line.
@@ -281,45 +199,40 @@ fn put_line(s: Status, format: &[u8], buffer: &mut [u8]) -> usize
 {
     let mut after = false;
     let mut n = 0;
-    let mut i = 0;
-    while i < format.len() {
-        n = put_element(s, after, format[i], buffer, n);
+    for &b in format {
+        n = put_element(s, after, b, buffer, n);
         if TEXT < n {
             return n;
         }
-        after = next_state(after, format[i]);
-        i += 1;
+        after = next_state(after, b);
     }
     n
 }
 
 // The line of a sound format, or 17.
-fn fill_line(s: Status, format: &[u8], buffer: &mut [u8]) -> StatusLineAnswer
+fn fill_line(s: Status, format: &[u8], buffer: &mut [u8]) -> Result<usize, LineRefusal>
     requires { OpenText buffer.old 0 }
     ensures { StatusLineMeets (fitting_line (line_from s false format.now)) buffer.old (line_says result) buffer.new }
 {
     let n = put_line(s, format, buffer);
     if TEXT < n {
         zero_bytes_from(buffer, 0);
-        return StatusLineAnswer::Refused(LineRefusal::LongLine);
+        return Err(LineRefusal::LongLine);
     }
     zero_bytes_from(buffer, n);
-    StatusLineAnswer::Written(n)
+    Ok(n)
 }
 
 // The line of a status as it stands: 1, 21, 17, or the bytes written.
-pub fn line(s: Status, format: &[u8], buffer: &mut [u8]) -> StatusLineAnswer
+pub fn line(s: Status, format: &[u8], buffer: &mut [u8]) -> Result<usize, LineRefusal>
     ensures { StatusLineMeets (line_outcome s format.now (length buffer.old)) buffer.old (line_says result) buffer.new }
 {
     if buffer.len() < TEXT {
-        return StatusLineAnswer::Refused(LineRefusal::ShortBuffer);
+        return Err(LineRefusal::ShortBuffer);
     }
-    let w = first_wrong(format);
-    match w {
-        WrongPlace::At(p) => {
-            zero_bytes_from(buffer, 0);
-            StatusLineAnswer::Refused(LineRefusal::BadPlaceholder(p))
-        }
-        WrongPlace::Nowhere => fill_line(s, format, buffer),
+    if let Some(p) = first_wrong(format) {
+        zero_bytes_from(buffer, 0);
+        return Err(LineRefusal::BadPlaceholder(p));
     }
+    fill_line(s, format, buffer)
 }

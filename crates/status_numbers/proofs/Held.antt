@@ -1,10 +1,9 @@
 -- A record stands for a sound status, and that of a sound status for it.
+use Rattle.std.specs.Prelude.{Option, Some, None, Float}
 use mathlib.Core.Path.{◌≡◌, refl}
 use Prim.Native.Nat.{◌-◌, min}
 use native.Mathlib.Omega.{arith}
 use Rattle.status_rates.specs.Within.{day}
-use Rattle.status_rates.specs.declared.Rate.{Rate}
-use Rattle.status_rates.specs.declared.Rate.TheVariants.{Unknown, Known}
 use Rattle.status_record.specs.declared.Status.{Status}
 use Rattle.status_record.specs.Record.{SoundStatus}
 use Rattle.status_numbers.specs.declared.StatusRecord.{StatusRecord}
@@ -14,10 +13,10 @@ pub held_sound : (r : StatusRecord) → SoundStatus (status_held r)
 unfolding status_held
 held_sound r = record { runs = omega arith; within = omega arith; today = omega arith }
 
-rate_back : (r : Rate) → rate_held (rate_flag r) (rate_number r) ≡ r
+rate_back : (r : Option Float) → rate_held (rate_flag r) (rate_number r) ≡ r
 unfolding rate_held rate_flag rate_number
-rate_back Unknown = refl
-rate_back (Known x) = refl
+rate_back None = refl
+rate_back (Some x) = refl
 
 started_back : (s : Status) → SoundStatus s → min s.started s.total ≡ s.started
 started_back s h = omega (arith, h.within)

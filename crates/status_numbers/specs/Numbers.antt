@@ -1,25 +1,23 @@
 -- The status record as numbers. Numbers that no sequence of events gives count as the nearest that one can give: no more started than there are, no more finished than started, no time past
 -- the day. Rates, elapsed seconds and window are taken as they are.
-use Rattle.std.specs.Prelude.{ℕ, ◌-◌, min, eqb, Float}
+use Rattle.std.specs.Prelude.{ℕ, ◌-◌, min, eqb, Float, Option, Some, None}
 use Rattle.lists.specs.Tests.{if_b}
 use Rattle.status_rates.specs.Rates.{whole_float}
 use Rattle.status_rates.specs.Within.{day}
-use Rattle.status_rates.specs.declared.Rate.{Rate}
-use Rattle.status_rates.specs.declared.Rate.TheVariants.{Unknown, Known}
 use Rattle.status_record.specs.declared.Status.{Status}
 use Rattle.status_numbers.specs.declared.StatusRecord.{StatusRecord}
 
 -- "A rate is a float or unknown": a flag that is 0 where it is unknown, and a number, then 0.0
-unfoldable pub rate_held : ℕ → Float → Rate
-rate_held known r = if_b (eqb known 0) (λ _. Unknown) (λ _. Known r)
+unfoldable pub rate_held : ℕ → Float → Option Float
+rate_held known r = if_b (eqb known 0) (λ _. None) (λ _. Some r)
 
-unfoldable pub rate_flag : Rate → ℕ
-rate_flag Unknown = 0
-rate_flag (Known r) = 1
+unfoldable pub rate_flag : Option Float → ℕ
+rate_flag None = 0
+rate_flag (Some r) = 1
 
-unfoldable pub rate_number : Rate → Float
-rate_number Unknown = whole_float 0
-rate_number (Known r) = r
+unfoldable pub rate_number : Option Float → Float
+rate_number None = whole_float 0
+rate_number (Some r) = r
 
 -- the status that a record stands for
 unfoldable pub status_held : StatusRecord → Status

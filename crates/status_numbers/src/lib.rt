@@ -1,16 +1,15 @@
-// The status record as numbers, for callers in C and Rust, and each event and the line on it. Any numbers are taken: those that no sequence of events gives count as the nearest
-// that one can give.
+// The status record as numbers, for callers in C and Rust, and each event and the line on it. Any numbers are taken:
+// those that no sequence of events gives count as the nearest that one can give.
 #![tactic(auto)]
 
-ghost use Rattle.std.specs.Prelude.{◌≡◌, min, length};
+ghost use Rattle.std.specs.Prelude.{◌≡◌, length};
 ghost use Rattle.answers.specs.Numbers.{said};
 ghost use Rattle.status_record.specs.Record.{first_status, moved_to, start_at, finish_at};
 ghost use Rattle.status_line.specs.LineAsk.{line_outcome, line_says, line_refusal_says, StatusLineMeets};
 ghost use Rattle.status_numbers.specs.Numbers.{rate_held, rate_flag, rate_number, status_held, record_of};
 
 use answers::Numbers;
-use status_line::{LineRefusal, StatusLineAnswer, line};
-use status_rates::Rate;
+use status_line::{LineRefusal, line};
 use status_record::{DAY, Status, finish_at, first_status, moved_to, start_at};
 
 // A rate is known where its flag is not 0.
@@ -31,52 +30,35 @@ pub struct StatusRecord {
     pub window: [f64; 16],
 }
 
-fn at_most(a: u32, b: u32) -> u32
-    ensures { result ≡ min a b }
-{
-    if b < a {
-        return b;
-    }
-    a
-}
-
-fn rate_held(known: u32, rate: f64) -> Rate
+fn rate_held(known: u32, rate: f64) -> Option<f64>
     ensures { result ≡ rate_held known rate }
 {
-    if known == 0 {
-        return Rate::Unknown;
-    }
-    Rate::Known(rate)
+    (known != 0).then_some(rate)
 }
 
-fn rate_flag(r: Rate) -> u32
+fn rate_flag(r: Option<f64>) -> u32
     ensures { result ≡ rate_flag r }
 {
     match r {
-        Rate::Unknown => 0,
-        Rate::Known(_) => 1,
+        None => 0,
+        Some(_) => 1,
     }
 }
 
-fn rate_number(r: Rate) -> f64
+fn rate_number(r: Option<f64>) -> f64
     ensures { result ≡ rate_number r }
 {
-    match r {
-        Rate::Unknown => 0.0,
-        Rate::Known(x) => x,
-    }
+    r.unwrap_or(0.0)
 }
 
 // The status that a record stands for.
 fn status_held(r: StatusRecord) -> Status
     ensures { result ≡ status_held r }
 {
-    let started = at_most(r.started, r.total);
-    let finished = at_most(r.finished, started);
+    let started = r.started.min(r.total);
+    let finished = r.finished.min(started);
     let running = started - finished;
-    let last = at_most(r.last, DAY);
-    let overall = rate_held(r.timed, r.overall);
-    let current = rate_held(r.paced, r.current);
+    // by a variable: the prover does not follow an array from field to field
     let window = r.window;
     Status {
         total: r.total,
@@ -84,49 +66,18 @@ fn status_held(r: StatusRecord) -> Status
         started,
         running,
         finished,
-        last,
+        last: r.last.min(DAY),
         elapsed: r.elapsed,
-        overall,
-        current,
+        overall: rate_held(r.timed, r.overall),
+        current: rate_held(r.paced, r.current),
         window,
     }
-}
-
-fn overall_flag(s: Status) -> u32
-    ensures { result ≡ rate_flag s.overall }
-{
-    let r = s.overall;
-    rate_flag(r)
-}
-
-fn current_flag(s: Status) -> u32
-    ensures { result ≡ rate_flag s.current }
-{
-    let r = s.current;
-    rate_flag(r)
-}
-
-fn overall_number(s: Status) -> f64
-    ensures { result ≡ rate_number s.overall }
-{
-    let r = s.overall;
-    rate_number(r)
-}
-
-fn current_number(s: Status) -> f64
-    ensures { result ≡ rate_number s.current }
-{
-    let r = s.current;
-    rate_number(r)
 }
 
 fn record_of(s: Status) -> StatusRecord
     ensures { result ≡ record_of s }
 {
-    let timed = overall_flag(s);
-    let paced = current_flag(s);
-    let overall = overall_number(s);
-    let current = current_number(s);
+    // by a variable: the prover does not follow an array from field to field
     let window = s.window;
     StatusRecord {
         total: s.total,
@@ -134,11 +85,11 @@ fn record_of(s: Status) -> StatusRecord
         started: s.started,
         finished: s.finished,
         last: s.last,
-        timed,
-        paced,
+        timed: rate_flag(s.overall),
+        paced: rate_flag(s.current),
         elapsed: s.elapsed,
-        overall,
-        current,
+        overall: rate_number(s.overall),
+        current: rate_number(s.current),
         window,
     }
 }
@@ -189,16 +140,16 @@ fn of_line_refusal(r: LineRefusal) -> Numbers
     }
 }
 
-fn of_line(a: StatusLineAnswer) -> Numbers
+fn of_line(a: Result<usize, LineRefusal>) -> Numbers
     ensures { said result ≡ line_says a }
 {
     match a {
-        StatusLineAnswer::Written(n) => Numbers {
+        Ok(n) => Numbers {
             number: 0,
             text: false,
             value: n,
         },
-        StatusLineAnswer::Refused(r) => of_line_refusal(r),
+        Err(r) => of_line_refusal(r),
     }
 }
 

@@ -1,4 +1,5 @@
 -- "for at most 2,048 steps the number of tenths is within 1 of 10,000 times the steps divided by the milliseconds, cut downwards", and when a rate is known.
+use Rattle.std.specs.Prelude.{Some, None}
 use mathlib.Core.Path.{◌≡◌, refl, sym, ap, ◌∙◌, subst}
 use mathlib.Core.Bool.{Bool, true, false, true≢false}
 use Prim.Native.Nat.{ℕ, zero, suc, ◌+◌, ◌-◌, ◌*◌, ◌/◌, ◌^◌, ◌≤◌, ◌<◌, min}
@@ -13,7 +14,6 @@ use lib.Ieee.Fits.{down_pos, up_pos}
 use lib.Ieee.Nearest.{div_same}
 use lib.Ieee.Scale.{grid, overflow, round_val, normal_of_fraction}
 use lib.Ieee.Positive.{positive, positive_of_value}
-use Rattle.status_rates.specs.declared.Rate.TheVariants.{Unknown, Known}
 use Rattle.status_rates.specs.Rates.{whole_float, seconds_of, rate_of, tenths_of}
 use Rattle.status_rates.specs.Within.{WithinOne, TenthsNear, day}
 use Rattle.status_rates.proofs.Cut.{whole_value}
@@ -177,11 +177,11 @@ time_passed m from to =
     ap (λ (x : Float). lt x (seconds_of (whole_float m))) zero_is
     ∙ above_zero (seconds_of (whole_float m)) (positive_of_value (seconds_of (whole_float m)) (grid binary64 m 1000) one (seconds_value m from to) (seconds_pos m from to))
 
-pub rate_known : (n m : ℕ) → 0 < m → m ≤ day → rate_of n (seconds_of (whole_float m)) ≡ Known (div binary64 (whole_float n) (seconds_of (whole_float m)))
+pub rate_known : (n m : ℕ) → 0 < m → m ≤ day → rate_of n (seconds_of (whole_float m)) ≡ Some (div binary64 (whole_float n) (seconds_of (whole_float m)))
 unfolding rate_of
 rate_known n m from to = rw (time_passed m from to)
 
-pub rate_none : (n : ℕ) → rate_of n (seconds_of (whole_float 0)) ≡ Unknown
+pub rate_none : (n : ℕ) → rate_of n (seconds_of (whole_float 0)) ≡ None
 unfolding rate_of seconds_of
 rate_none n = refl
 

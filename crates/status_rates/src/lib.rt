@@ -1,15 +1,9 @@
-// Seconds, rates and their tenths. Each operation on floats rounds once; the definitions name it, and the laws say how far from the fraction it ends.
+// Seconds, rates and their tenths. Each operation on floats rounds once; the definitions name it, and the laws say
+// how far from the fraction it ends.
 #![tactic(auto)]
 
 ghost use Rattle.std.specs.Prelude.{◌≡◌};
 ghost use Rattle.status_rates.specs.Rates.{whole_float, seconds_of, rate_of, tenths_of};
-
-// "A rate is a float or unknown"
-#[derive(Clone, Copy)]
-pub enum Rate {
-    Unknown,
-    Known(f64),
-}
 
 pub fn as_float(n: u32) -> f64
     ensures { result ≡ whole_float n }
@@ -25,16 +19,17 @@ pub fn seconds(ms: f64) -> f64
 }
 
 // So many in so many seconds; unknown where no time has passed.
-pub fn rate_over(count: u32, elapsed: f64) -> Rate
+pub fn rate_over(count: u32, elapsed: f64) -> Option<f64>
     ensures { result ≡ rate_of count elapsed }
 {
     if 0.0 < elapsed {
-        return Rate::Known(as_float(count) / elapsed);
+        return Some(as_float(count) / elapsed);
     }
-    Rate::Unknown
+    None
 }
 
-// Ten times a rate, cut downwards: the greatest number below 2 ^ 25 that as a float is not above it, by halving. No float is cast to a number.
+// Ten times a rate, cut downwards: the greatest number below 2 ^ 25 that as a float is not above it, by halving. No
+// float is cast to a number.
 pub fn tenths(r: f64) -> u32
     ensures { result ≡ tenths_of r }
 {

@@ -1,4 +1,5 @@
 -- What holds of the status along any sequence of events.
+use Rattle.std.specs.Prelude.{None}
 use mathlib.Core.Path.{◌≡◌, refl, sym, ap, ◌∙◌, subst}
 use mathlib.Core.Bool.{true, false}
 use mathlib.Core.List.{List, [], ◌∷◌}
@@ -12,7 +13,6 @@ use lib.Ieee.{Float, nan, binary64, sub, div}
 use Rattle.lists.specs.Tests.{if_b, split}
 use Rattle.status_rates.specs.Rates.{whole_float, seconds_of, rate_of}
 use Rattle.status_rates.specs.Within.{day}
-use Rattle.status_rates.specs.declared.Rate.TheVariants.{Unknown}
 use Rattle.status_rates.proofs.Bound.{tenths_near, rate_known, rate_none, sub_whole}
 use Rattle.status_record.specs.declared.Status.{Status}
 use Rattle.status_record.specs.Record.{taken_time, first_status, clock_at, moved_to, counting, start_at, held_times, current_of, finish_noted, finish_at, SoundStatus}
@@ -90,7 +90,7 @@ none_held : (j : ℕ) → held_times j 0 ≡ 0
 unfolding held_times
 none_held j = omega arith
 
-none_current : (w : List Float) → current_of w 0 ≡ Unknown
+none_current : (w : List Float) → current_of w 0 ≡ None
 unfolding current_of
 none_current w = refl
 
@@ -205,7 +205,7 @@ overall_near {r} h few from =
       near = tenths_near s.finished s.last few from h.sound.today;
     }
 
-pub overall_unknown : {r : Ran} → SoundRun r → r.status.last ≡ 0 → r.status.overall ≡ Unknown
+pub overall_unknown : {r : Ran} → SoundRun r → r.status.last ≡ 0 → r.status.overall ≡ None
 overall_unknown {r} h z = h.overall ∙ ap (λ (m : ℕ). rate_of r.status.finished (seconds_of (whole_float m))) z ∙ rate_none r.status.finished
 
 -- ---- `%c`: n times count, from the newest at place 0 to the oldest at place n - 1
@@ -218,7 +218,7 @@ module _ {r : Ran} (h : SoundRun r) (n : ℕ) (held : held_times r.status.jobs r
   unfolding held_times
   few_held = (omega arith, omega (arith, h.many))
 
-  pub current_none : n ≡ 0 → r.status.current ≡ Unknown
+  pub current_none : n ≡ 0 → r.status.current ≡ None
   unfolding current_of
   current_none z = h.current ∙ ap (λ (k : ℕ). current_of r.status.window k) (held ∙ z)
 
@@ -241,7 +241,7 @@ module _ {r : Ran} (h : SoundRun r) (n : ℕ) (held : held_times r.status.jobs r
     spanned = h.current ∙ ap (λ (k : ℕ). current_of r.status.window k) held ∙ current_over r.status.window n some ∙ ap (λ (x : Float). rate_of n (seconds_of x)) ends
 
     -- "unknown where equal"
-    pub current_equal : first ≡ last → r.status.current ≡ Unknown
+    pub current_equal : first ≡ last → r.status.current ≡ None
     current_equal e = spanned ∙ ap (λ (m : ℕ). rate_of n (seconds_of (whole_float m))) (apart e) ∙ rate_none n
       where
         apart : first ≡ last → last - first ≡ 0

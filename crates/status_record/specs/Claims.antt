@@ -1,9 +1,7 @@
 -- What holds of the status after any sequence of events.
-use Rattle.std.specs.Prelude.{ℕ, ◌≤◌, List, [], ◌∷◌, ◌++◌, map, ◌≡◌, length, take, replicate, Float}
+use Rattle.std.specs.Prelude.{ℕ, ◌≤◌, List, [], ◌∷◌, ◌++◌, map, ◌≡◌, length, take, replicate, Float, Option, Some}
 use Rattle.status_rates.specs.Rates.{whole_float, seconds_of, rate_of, tenths_of}
 use Rattle.status_rates.specs.Within.{TenthsNear}
-use Rattle.status_rates.specs.declared.Rate.{Rate}
-use Rattle.status_rates.specs.declared.Rate.TheVariants.{Known}
 use Rattle.status_record.specs.Record.{SoundStatus, held_times, current_of}
 use Rattle.status_record.specs.Events.{Ran}
 
@@ -24,7 +22,7 @@ pub record SoundRun (r : Ran) : Type 0 where
   pub current : r.status.current ≡ current_of r.status.window (held_times r.status.jobs r.status.finished)
 
 -- the rate is known, and its tenths are within 1 of those of n steps in m milliseconds
-pub record KnownNear (r : Rate) (n m : ℕ) : Type 0 where
+pub record KnownNear (r : Option Float) (n m : ℕ) : Type 0 where
   pub rate : Float
-  pub known : r ≡ Known rate
+  pub known : r ≡ Some rate
   pub near : TenthsNear n m (tenths_of rate)

@@ -1,12 +1,10 @@
 -- The status record, the window of finish times, and what each event makes of them.
-use Rattle.std.specs.Prelude.{ℕ, ◌+◌, ◌-◌, ◌≤◌, min, max, List, ◌∷◌, ◌≡◌, eqb, leb, take, get_or, replicate, Float}
+use Rattle.std.specs.Prelude.{ℕ, ◌+◌, ◌-◌, ◌≤◌, min, max, List, ◌∷◌, ◌≡◌, eqb, leb, take, get_or, replicate, Float, Option, None}
 use Rattle.std.specs.Float.{nan, binary64}
 use Rattle.std.specs.Float.Ieee.{sub}
 use Rattle.lists.specs.Tests.{if_b}
 use Rattle.status_rates.specs.Rates.{whole_float, seconds_of, rate_of}
 use Rattle.status_rates.specs.Within.{day}
-use Rattle.status_rates.specs.declared.Rate.{Rate}
-use Rattle.status_rates.specs.declared.Rate.TheVariants.{Unknown}
 use Rattle.status_record.specs.declared.Status.{Status}
 
 -- "Times are milliseconds from the start; one above 86,400,000 counts as that, one earlier than the last as the last."
@@ -24,8 +22,8 @@ first_status total jobs =
       finished = 0;
       last = 0;
       elapsed = whole_float 0;
-      overall = Unknown;
-      current = Unknown;
+      overall = None;
+      current = None;
       window = replicate 16 (whole_float 0);
     }
 
@@ -81,9 +79,9 @@ unfoldable pub held_times : ℕ → ℕ → ℕ
 held_times jobs finished = min finished (min jobs 16)
 
 -- "count over last minus first as seconds, unknown where equal or none"
-unfoldable pub current_of : List Float → ℕ → Rate
+unfoldable pub current_of : List Float → ℕ → Option Float
 unfolding seconds_of rate_of sub
-current_of w n = if_b (eqb n 0) (λ _. Unknown) (λ _. rate_of n (seconds_of (sub binary64 (get_or w 0 nan) (get_or w (n - 1) nan))))
+current_of w n = if_b (eqb n 0) (λ _. None) (λ _. rate_of n (seconds_of (sub binary64 (get_or w 0 nan) (get_or w (n - 1) nan))))
 
 -- another window, and its rate
 unfoldable pub windowed : Status → List Float → Status

@@ -1,10 +1,11 @@
-// The status record by value: started, finished, and the clock moved to the time of printing. Nothing is kept anywhere else.
+// The status record by value: started, finished, and the clock moved to the time of printing. Nothing is kept
+// anywhere else.
 #![tactic(auto)]
 
-ghost use Rattle.std.specs.Prelude.{◌≡◌, ◌≤◌, min, max};
+ghost use Rattle.std.specs.Prelude.{◌≡◌, ◌≤◌};
 ghost use Rattle.status_record.specs.Record.{taken_time, first_status, moved_to, counting, start_at, slid, held_times, current_of, finish_at, finish_noted, SoundStatus};
 
-use status_rates::{Rate, as_float, rate_over, seconds};
+use status_rates::{as_float, rate_over, seconds};
 
 // "one above 86,400,000 counts as that"
 pub const DAY: u32 = 86400000;
@@ -20,8 +21,8 @@ pub struct Status {
     pub last: u32,
     // the same in seconds
     pub elapsed: f64,
-    pub overall: Rate,
-    pub current: Rate,
+    pub overall: Option<f64>,
+    pub current: Option<f64>,
     // the last finish times, in milliseconds, the newest first
     pub window: [f64; 16],
 }
@@ -38,8 +39,8 @@ pub fn first_status(total: u32, jobs: u32) -> Status
         finished: 0,
         last: 0,
         elapsed: 0.0,
-        overall: Rate::Unknown,
-        current: Rate::Unknown,
+        overall: None,
+        current: None,
         window: [0.0; 16],
     }
 }
@@ -48,19 +49,7 @@ pub fn first_status(total: u32, jobs: u32) -> Status
 fn taken(last: u32, t: u64) -> u32
     ensures { result ≡ taken_time last t }
 {
-    if 86400000 < t {
-        return later(last, DAY);
-    }
-    later(last, t as u32)
-}
-
-fn later(a: u32, b: u32) -> u32
-    ensures { result ≡ max a b }
-{
-    if b < a {
-        return a;
-    }
-    b
+    last.max(t.min(u64::from(DAY)) as u32)
 }
 
 // The clock moved to a time.
@@ -114,28 +103,16 @@ fn slid(w: [f64; 16], t: f64) -> [f64; 16]
 fn held_times(jobs: u32, finished: u32) -> u32
     ensures { result ≡ held_times jobs finished }
 {
-    if 16 < jobs {
-        return sooner(finished, 16);
-    }
-    sooner(finished, jobs)
-}
-
-fn sooner(a: u32, b: u32) -> u32
-    ensures { result ≡ min a b }
-{
-    if b < a {
-        return b;
-    }
-    a
+    finished.min(jobs.min(16))
 }
 
 // The rate over the first n times of the window.
-fn current_rate(w: [f64; 16], n: u32) -> Rate
+fn current_rate(w: [f64; 16], n: u32) -> Option<f64>
     requires { n ≤ 16 }
     ensures { result ≡ current_of w n }
 {
     if n == 0 {
-        return Rate::Unknown;
+        return None;
     }
     let oldest = w[(n - 1) as usize];
     rate_over(n, seconds(w[0] - oldest))
@@ -145,8 +122,7 @@ fn current_rate(w: [f64; 16], n: u32) -> Rate
 fn finish_noted(s: Status) -> Status
     ensures { result ≡ finish_noted s }
 {
-    let old = s.window;
-    let window = slid(old, as_float(s.last));
+    let window = slid(s.window, as_float(s.last));
     let current = current_rate(window, held_times(s.jobs, s.finished));
     Status {
         current,

@@ -1,4 +1,5 @@
 -- Room in the buffers, and the answer.
+use Rattle.std.specs.Prelude.{Result, Err}
 use Prim.Native.Nat.{ℕ, zero, suc, ◌+◌, ◌≤◌, ◌<◌}
 use mathlib.Core.Bool.{Bool, true, false}
 use mathlib.Core.List.{List}
@@ -6,8 +7,6 @@ use mathlib.Core.Path.{◌≡◌, refl, sym, ap, ◌∙◌, subst}
 use native.Mathlib.Omega.{arith}
 use lib.ListN.{length}
 use Rattle.lists.specs.Tests.{differ}
-use Rattle.apply_manifest.specs.declared.ReadAnswer.{ReadAnswer}
-use Rattle.apply_manifest.specs.declared.ReadAnswer.TheVariants.{Refused}
 use Rattle.spec.specs.declared.Refusal.{Refusal}
 use Rattle.spec.specs.Limits.{max_manifest, max_written, max_value}
 use Rattle.hold_names.specs.Table.{max_numbers}
@@ -23,6 +22,7 @@ use Rattle.apply_manifest.specs.Manifests.{Roomy}
 use Rattle.test_manifest.specs.declared.ReadNumbers.{ReadNumbers}
 use Rattle.test_manifest.specs.Numbers.{place_record, place_value, bare_numbers, in_numbers, JudgesRoom, ReadsManifest, ReadWhole}
 use Rattle.hold_reading.specs.Buffers.{Buffers}
+use Rattle.hold_reading.specs.declared.Counts.{Counts}
 
 module _ {bs : Buffers} {word : List ℕ} where
   lacks : (Roomy classes bs word → ⊥) → JudgesRoom bs word false
@@ -70,7 +70,7 @@ module _ {m : List ℕ} {bs : Buffers} {word : List ℕ} {b : Bool} (j : JudgesR
     small = λ n. (q, record { names_stay = refl; index_stay = refl; texts_stay = refl; bind_stay = refl; graph_stay = refl; word_stay = refl });
   }
 
-  pub has_read : (a : ReadAnswer) {r : ReadNumbers} {bs' : Buffers} {word' : List ℕ} → b ≡ true → ReadWhole m bs word a bs' word' → r ≡ in_numbers m a
+  pub has_read : (a : Result Counts Refusal) {r : ReadNumbers} {bs' : Buffers} {word' : List ℕ} → b ≡ true → ReadWhole m bs word a bs' word' → r ≡ in_numbers m a
       → ReadsManifest m bs word r bs' word'
   has_read a e i q = record { roomy = λ p. record { answer = a; read = i; says = q }; small = λ n. absurd (n (j.enough e)) }
 
@@ -79,7 +79,7 @@ pub lent : {t : List ℕ} {bs : Buffers} {word : List ℕ} → t ≡ classes →
 lent e r = record { table = e; room = r.room; names_small = r.names_small; numbers_room = r.numbers_room; texts_room = r.texts_room; bind_room = r.bind_room }
 
 -- the numbers of an answer
-pub counted : (m : List ℕ) {a b : ReadAnswer} → a ≡ b → in_numbers m b ≡ in_numbers m a
+pub counted : (m : List ℕ) {a b : Result Counts Refusal} → a ≡ b → in_numbers m b ≡ in_numbers m a
 counted m e = ap (in_numbers m) (sym e)
 
 text_told : (t v : ℕ) → place_record (place_by t v) ≡ t
@@ -90,11 +90,11 @@ value_told : (t v : ℕ) → place_value (place_by t v) ≡ v
 value_told zero v = refl
 value_told (suc k) v = refl
 
-placed_so : (m : List ℕ) (r : Refusal) (p : Placed) → PlacedIn m (refusal_says r) p → bare_numbers p.number p.text p.value ≡ in_numbers m (Refused r)
+placed_so : (m : List ℕ) (r : Refusal) (p : Placed) → PlacedIn m (refusal_says r) p → bare_numbers p.number p.text p.value ≡ in_numbers m (Err r)
 unfolding in_numbers
 placed_so m r p h =
     rw (← h.place_is, ← h.number_is) (rw (text_told p.text p.value, value_told p.text p.value) refl)
 
-pub refused_so : (m : List ℕ) (r : Refusal) {a : ReadAnswer} {three : Three} (p : Placed) {x : ReadNumbers} → a ≡ Refused r → said three ≡ refusal_says r → PlacedIn m (said three) p
+pub refused_so : (m : List ℕ) (r : Refusal) {a : Result Counts Refusal} {three : Three} (p : Placed) {x : ReadNumbers} → a ≡ Err r → said three ≡ refusal_says r → PlacedIn m (said three) p
     → x ≡ bare_numbers p.number p.text p.value → x ≡ in_numbers m a
 refused_so m r p e s h q = q ∙ placed_so m r p (subst (λ (z : Said). PlacedIn m z p) s h) ∙ counted m e

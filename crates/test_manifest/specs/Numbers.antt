@@ -1,14 +1,14 @@
 -- The reader's answer in numbers, and what is answered for buffers of any length.
-use Rattle.std.specs.Prelude.{ℕ, suc, Bool, true, false, List, ◌≡◌, length}
+use Rattle.std.specs.Prelude.{ℕ, suc, Bool, true, false, List, ◌≡◌, length, Result, Ok, Err}
 use Rattle.lists.specs.Fill.{zeros}
 use Rattle.spec.specs.Answers.{refusal_says, Place, plain, in_text}
 use Rattle.answer_places.specs.Places.{placed_in}
 use Rattle.scan_classes.specs.Table.{classes}
-use Rattle.apply_manifest.specs.declared.ReadAnswer.{ReadAnswer}
-use Rattle.apply_manifest.specs.declared.ReadAnswer.TheVariants.{Accepted, Refused}
 use Rattle.apply_manifest.specs.Manifests.{Roomy, IsRead}
 use Rattle.test_manifest.specs.declared.ReadNumbers.{ReadNumbers}
 use Rattle.hold_reading.specs.Buffers.{Buffers, SameRoom}
+use Rattle.hold_reading.specs.declared.Counts.{Counts}
+use Rattle.spec.specs.declared.Refusal.{Refusal}
 
 -- a place in two numbers: 0 and itself, or the record of its text and one more, and the offset there
 abbrev pub place_record : Place → ℕ
@@ -24,9 +24,9 @@ abbrev pub bare_numbers : ℕ → ℕ → ℕ → ReadNumbers
 bare_numbers n t p =
     record { number = n; text = t; place = p; files = 0; steps = 0; paths = 0; defaults = 0; entries = 0; rules = 0; bindings = 0; mentions = 0; written = 0 }
 
-unfoldable pub in_numbers : List ℕ → ReadAnswer → ReadNumbers
+unfoldable pub in_numbers : List ℕ → Result Counts Refusal → ReadNumbers
 unfolding placed_in
-in_numbers bundle (Accepted c) =
+in_numbers bundle (Ok c) =
     record {
       number = 0;
       text = 0;
@@ -41,7 +41,7 @@ in_numbers bundle (Accepted c) =
       mentions = c.mentions;
       written = c.written;
     }
-in_numbers bundle (Refused r) =
+in_numbers bundle (Err r) =
     let p = placed_in bundle (refusal_says r) in
     bare_numbers (refusal_says r).number (place_record p) (place_value p)
 
@@ -59,19 +59,19 @@ pub record Cleared (bs bs' : Buffers) : Type 0 where
   pub graph : bs'.graph ≡ zeros (length bs.graph)
 
 -- what is left of the buffers: they hold what was read, and a refusal leaves them all zero
-unfoldable pub Left : ReadAnswer → Buffers → Buffers → Type 0
-Left (Accepted c) bs bs' = SameRoom bs bs'
-Left (Refused r) bs bs' = Cleared bs bs'
+unfoldable pub Left : Result Counts Refusal → Buffers → Buffers → Type 0
+Left (Ok c) bs bs' = SameRoom bs bs'
+Left (Err r) bs bs' = Cleared bs bs'
 
 -- The manifest has been read into the buffers, or refused. The word buffer is left zero.
-pub record ReadWhole (m : List ℕ) (bs : Buffers) (word : List ℕ) (a : ReadAnswer) (bs' : Buffers) (word' : List ℕ) : Type 0 where
+pub record ReadWhole (m : List ℕ) (bs : Buffers) (word : List ℕ) (a : Result Counts Refusal) (bs' : Buffers) (word' : List ℕ) : Type 0 where
   pub read : IsRead m bs' a
   pub left : Left a bs bs'
   pub word_zero : word' ≡ zeros (length word)
 
 -- the same, and the numbers say which
 pub record ReadAs (m : List ℕ) (bs : Buffers) (word : List ℕ) (r : ReadNumbers) (bs' : Buffers) (word' : List ℕ) : Type 0 where
-  pub answer : ReadAnswer
+  pub answer : Result Counts Refusal
   pub read : ReadWhole m bs word answer bs' word'
   pub says : r ≡ in_numbers m answer
 

@@ -8,14 +8,17 @@ ghost use Rattle.hold_reading.specs.Buffers.{buffers};
 
 use answer_places::locate;
 use answers::{Placed, of_refusal};
-use apply_manifest::{ReadAnswer, read_manifest};
+use apply_manifest::read_manifest;
 use hold_bindings::{ROWS, TEXTS};
 use hold_names::NUMBERS;
+use hold_reading::Counts;
 use hold_reading::columns::COLUMNS_ROOM;
 use scan_classes::table;
+use spec::Refusal;
 use spec::limits::{VALUE, WRITTEN};
 
-// What is answered: three times 0 and how much the buffers hold; or a refusal's number and its place in two numbers; or 255 for buffers without room.
+// What is answered: three times 0 and how much the buffers hold; or a refusal's number and its place in two numbers;
+// or 255 for buffers without room.
 #[repr(C)]
 #[derive(Clone, Copy)]
 pub struct ReadNumbers {
@@ -89,11 +92,11 @@ fn uncounted(p: Placed) -> ReadNumbers
     }
 }
 
-fn in_numbers(bundle: &[u8], a: ReadAnswer) -> ReadNumbers
+fn in_numbers(bundle: &[u8], a: Result<Counts, Refusal>) -> ReadNumbers
     ensures { result ≡ in_numbers bundle.now a }
 {
     match a {
-        ReadAnswer::Accepted(c) => ReadNumbers {
+        Ok(c) => ReadNumbers {
             number: 0,
             text: 0,
             place: 0,
@@ -107,7 +110,7 @@ fn in_numbers(bundle: &[u8], a: ReadAnswer) -> ReadNumbers
             mentions: c.mentions,
             written: c.written,
         },
-        ReadAnswer::Refused(r) => uncounted(locate(of_refusal(r), bundle)),
+        Err(r) => uncounted(locate(of_refusal(r), bundle)),
     }
 }
 
@@ -128,7 +131,8 @@ fn clear_all(
     slices::words::zero_words_from(graph, 0);
 }
 
-// The reader with what a total entry promises of its buffers: a refusal leaves them all zero, and the word buffer is zero in any case.
+// The reader with what a total entry promises of its buffers: a refusal leaves them all zero, and the word buffer is
+// zero in any case.
 fn read_or_clear(
     t: &[u8; 256],
     m: &[u8],
@@ -138,23 +142,21 @@ fn read_or_clear(
     bind: &mut [u32],
     graph: &mut [u32],
     word: &mut [u8],
-) -> ReadAnswer
+) -> Result<Counts, Refusal>
     requires { Roomy t.now (buffers names.old index.old texts.old bind.old graph.old) word.old }
     ensures { ReadWhole m.now (buffers names.old index.old texts.old bind.old graph.old) word.old result (buffers names.new index.new texts.new bind.new graph.new) word.new }
 {
     let a = read_manifest(t, m, names, index, texts, bind, graph, word);
     slices::bytes::zero_bytes_from(word, 0);
-    match a {
-        ReadAnswer::Accepted(c) => ReadAnswer::Accepted(c),
-        ReadAnswer::Refused(r) => {
-            clear_all(names, index, texts, bind, graph);
-            ReadAnswer::Refused(r)
-        }
+    if a.is_ok() {
+        return a;
     }
+    clear_all(names, index, texts, bind, graph);
+    a
 }
 
-// Reads the manifest of a bundle into buffers of any length. The word buffer is left zero, and all are after a refusal. Buffers without room are answered with 255
-// and not touched.
+// Reads the manifest of a bundle into buffers of any length. The word buffer is left zero, and all are after a
+// refusal. Buffers without room are answered with 255 and not touched.
 #[unsafe(no_mangle)]
 pub extern "C" fn kestrenyo_read(
     bundle: &[u8],

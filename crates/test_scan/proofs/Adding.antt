@@ -123,14 +123,19 @@ module _ {list : List ℕ} {room : ℕ} {start : List ℕ} {from count n : ℕ} 
   adding_full l = let z : length start - n ≡ 0 = omega (arith, w.same) in finish (rw z)
 
   module _ {r : NextTarget} (a : r ≡ next_in (names_from list from)) where
-    pub adding_end : r ≡ End → AddsAll list room start n names index numbers
+    adding_end : r ≡ End → AddsAll list room start n names index numbers
     adding_end e = finish (rw (good_end list from a e) (take-nil {A = List ℕ} (length start - n)))
 
-    pub adding_bad : r ≡ Bad → AddsAll list room start n names index numbers
+    adding_bad : r ≡ Bad → AddsAll list room start n names index numbers
     adding_bad e = finish (rw (good_bad list from a e) (take-nil {A = List ℕ} (length start - n)))
 
     pub adding_turn : {end : ℕ} → r ≡ Name end → Turn list from end
     adding_turn {end} e = turn list from end (sym e ∙ a)
+
+  pub adding_done : (r : NextTarget) → r ≡ next_in (names_from list from) → ((end : ℕ) → r ≡ Name end → ⊥) → AddsAll list room start n names index numbers
+  adding_done End a h = adding_end a refl
+  adding_done Bad a h = adding_bad a refl
+  adding_done (Name end) a h = absurd (h end refl)
 
   module _ (l : n < length numbers) {end : ℕ} (t : Turn list from end) {names' index' : List ℕ} {number count' : ℕ} (a : AddsNumber names index count (part list from end) names' index' number count') where
     pub adding_more : Adding list room start (end + 1) count' (n + 1) names' index' (set numbers n number)

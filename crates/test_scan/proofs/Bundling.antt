@@ -1,4 +1,5 @@
 -- A bundle's answers as numbers: what each answer of the crate below gives.
+use Rattle.std.specs.Prelude.{Option, Some, None, unwrap_or}
 use Prim.Native.Nat.{ℕ, ◌+◌, ◌≤◌, ◌<◌}
 use mathlib.Core.Bool.{true, false}
 use mathlib.Core.List.{List, []}
@@ -16,10 +17,6 @@ use Rattle.scan_bundle.proofs.Lying.{length_names}
 use Rattle.spec.specs.Bundle.{bundle_names, bundle_texts, sound_bundle}
 use Rattle.spec.specs.Card.{number_at}
 use Rattle.spec.specs.Limits.{max_bundle}
-use Rattle.scan_bundle.specs.declared.BundleAnswer.{BundleAnswer}
-use Rattle.scan_bundle.specs.declared.BundleAnswer.TheVariants.{Sound, Malformed}
-use Rattle.scan_bundle.specs.declared.FoundRecord.{FoundRecord}
-use Rattle.scan_bundle.specs.declared.FoundRecord.TheVariants.{At, Missing}
 use Rattle.scan_bundle.specs.declared.Spot.{Spot}
 use Rattle.scan_bundle.specs.Bundles.{LaidBundle, Indexes, found_record, record_place_of, Wraps}
 use Rattle.scan_bundle.proofs.Laws.{opened, malformed_is, sound_is_laid, sound_few, found_at, found_none}
@@ -31,50 +28,54 @@ pub count_over : (b : List ℕ) (least most : ℕ) → 512 < most → 0 ≡ bund
 unfolding bundle_count
 count_over b least most h = rw (lt-leb most 512 h)
 
-module _ {b : List ℕ} {least most : ℕ} {order order' : List ℕ} {r : BundleAnswer} (x : Indexes b least most order order' r) (h : most ≤ 512) where
-  pub sound_small : {n : ℕ} → r ≡ Sound n → n ≤ 512
+module _ {b : List ℕ} {least most : ℕ} {order order' : List ℕ} {r : Option ℕ} (x : Indexes b least most order order' r) (h : most ≤ 512) where
+  pub sound_small : {n : ℕ} → r ≡ Some n → n ≤ 512
   sound_small e = let o = opened x e in omega (arith, o.indexed.count, sound_few least most b o.sound)
 
-  pub count_sound : {n : ℕ} → r ≡ Sound n → n + 1 ≡ bundle_count b least most
+  pub count_sound : {n : ℕ} → r ≡ Some n → n + 1 ≡ bundle_count b least most
   unfolding bundle_count
   count_sound e = let o = opened x e in rw (le-leb most 512 h, o.sound, o.indexed.count)
 
-  pub count_malformed : r ≡ Malformed → 0 ≡ bundle_count b least most
+  pub count_malformed : r ≡ None → 0 ≡ bundle_count b least most
   unfolding bundle_count
   count_malformed e = rw (le-leb most 512 h, malformed_is x e)
 
 at_below : (b path : List ℕ) → among path (bundle_names b) ≡ true → number_of path (bundle_names b) < number_at 0 4 b
 at_below b path a = omega (arith, number_below path (bundle_names b) a, length_names b)
 
-module _ {b : List ℕ} {order order' : List ℕ} {r : BundleAnswer} (x : Indexes b 0 512 order order' r) (path : List ℕ) where
-  pub find_malformed : r ≡ Malformed → 0 ≡ record_number b path
+module _ {b : List ℕ} {order order' : List ℕ} {r : Option ℕ} (x : Indexes b 0 512 order order' r) (path : List ℕ) where
+  pub find_malformed : r ≡ None → 0 ≡ record_number b path
   unfolding record_number
   find_malformed e = rw (malformed_is x e)
 
-  module _ {n : ℕ} (e : r ≡ Sound n) {f : FoundRecord} (g : f ≡ found_record path (bundle_names b)) where
-    pub find_missing : f ≡ Missing → 1 ≡ record_number b path
+  module _ {n : ℕ} (e : r ≡ Some n) {f : Option ℕ} (g : f ≡ found_record path (bundle_names b)) where
+    pub find_missing : f ≡ None → 1 ≡ record_number b path
     unfolding record_number
     find_missing q = rw ((opened x e).sound, found_none path (bundle_names b) g q)
 
-    pub find_at : {k : ℕ} → f ≡ At k → k + 2 ≡ record_number b path
+    pub find_at : {k : ℕ} → f ≡ Some k → k + 2 ≡ record_number b path
     unfolding record_number
     find_at q = let (a, c) = found_at path (bundle_names b) g q in rw ((opened x e).sound, a, c)
 
-    pub find_small : {k : ℕ} → f ≡ At k → k < 512
+    pub find_small : {k : ℕ} → f ≡ Some k → k < 512
     find_small q =
         let (a, c) = found_at path (bundle_names b) g q in
         omega (arith, c, at_below b path a, sound_few 0 512 b (opened x e).sound)
 
 -- ---- a manifest's bundle
 
-module _ {b order order' : List ℕ} {r : BundleAnswer} (x : Indexes b 1 max_bundle order order' r) where
-  pub records_sound : {n : ℕ} → r ≡ Sound n → n ≡ records_in b
+module _ {b order order' : List ℕ} {r : Option ℕ} (x : Indexes b 1 max_bundle order order' r) where
+  records_sound : {n : ℕ} → r ≡ Some n → n ≡ records_in b
   unfolding records_in
   records_sound e = let o = opened x e in rw o.sound o.indexed.count
 
-  pub records_none : r ≡ Malformed → 0 ≡ records_in b
+  records_none : r ≡ None → 0 ≡ records_in b
   unfolding records_in
   records_none e = rw (malformed_is x e)
+
+pub records_told : {b order order' : List ℕ} (r : Option ℕ) → Indexes b 1 max_bundle order order' r → unwrap_or r 0 ≡ records_in b
+records_told (Some n) x = records_sound x refl
+records_told None x = records_none x refl
 
 -- a bundle with a record is sound
 pub record Sounds (b : List ℕ) (n : ℕ) : Type 0 where

@@ -2,7 +2,7 @@
 use Prim.Native.Nat.{ℕ, ◌+◌, ◌≤◌}
 use mathlib.Core.Bool.{true, false}
 use mathlib.Core.List.{List}
-use mathlib.Core.Path.{◌≡◌, sym, ◌∙◌}
+use mathlib.Core.Path.{◌≡◌, refl, sym, ◌∙◌}
 use native.Mathlib.Nat.{zero-add}
 use native.Mathlib.Omega.{arith}
 use borrow.Author.Tests.{eq-eqb, ne_eqb}
@@ -52,13 +52,18 @@ module _ {card list : List ℕ} where
   counting_begin = record { few = omega arith; within = omega arith; all = rw zero-add }
 
   module _ {from n : ℕ} (w : Counting card list from n) where
-    pub counting_end : {r : NextTarget} → r ≡ next_in (names_from list from) → r ≡ End → n ≡ card_listed card (good_names (targets_of list))
+    counting_end : {r : NextTarget} → r ≡ next_in (names_from list from) → r ≡ End → n ≡ card_listed card (good_names (targets_of list))
     unfolding card_listed
     counting_end a e = let z : card_listed card (good_names (names_from list from)) ≡ 0 = rw (good_end list from a e) in omega (arith, w.all, z)
 
-    pub counting_bad : {r : NextTarget} → r ≡ next_in (names_from list from) → r ≡ Bad → n ≡ card_listed card (good_names (targets_of list))
+    counting_bad : {r : NextTarget} → r ≡ next_in (names_from list from) → r ≡ Bad → n ≡ card_listed card (good_names (targets_of list))
     unfolding card_listed
     counting_bad a e = let z : card_listed card (good_names (names_from list from)) ≡ 0 = rw (good_bad list from a e) in omega (arith, w.all, z)
+
+    pub counting_done : (r : NextTarget) → r ≡ next_in (names_from list from) → ((end : ℕ) → r ≡ Name end → ⊥) → n ≡ card_listed card (good_names (targets_of list))
+    counting_done End a h = counting_end a refl
+    counting_done Bad a h = counting_bad a refl
+    counting_done (Name end) a h = absurd (h end refl)
 
     pub counting_turn : {r : NextTarget} → r ≡ next_in (names_from list from) → {end : ℕ} → r ≡ Name end → Turn list from end
     counting_turn a {end} e = turn list from end (sym e ∙ a)

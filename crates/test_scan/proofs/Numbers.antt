@@ -1,4 +1,5 @@
 -- The numbers of specs/ by what the scanners and the target list promise: a law for each answer.
+use Rattle.std.specs.Prelude.{Option, Some, None}
 use Prim.Native.Nat.{ℕ, suc, ◌+◌, ◌-◌, ◌*◌, ◌≤◌, min}
 use mathlib.Core.Bool.{true, false}
 use mathlib.Core.List.{List, [], ◌∷◌}
@@ -16,8 +17,6 @@ use Rattle.spec.specs.Lines.{is_comment, is_blank, is_indented}
 use Rattle.spec.specs.Forms.{no_form, left_at_dollar, not_yet, Cut, fits, fails, then, Paths, with_path, paths}
 use Rattle.spec.specs.Manifest.{bad_byte}
 use Rattle.spec.specs.Targets.{Target, bad_length}
-use Rattle.scan_raw.specs.declared.FirstBad.{FirstBad}
-use Rattle.scan_raw.specs.declared.FirstBad.TheVariants.{Nowhere, At}
 use Rattle.scan_lines.specs.declared.LineKind.{LineKind}
 use Rattle.scan_lines.specs.declared.LineKind.TheVariants.{Comment, Blank, Indented, Statement}
 use Rattle.spec.specs.Dollars.{element}
@@ -154,12 +153,12 @@ bad_within last at (b ∷ s) p h =
     omega arith)
     (λ (e : forbidden b ≡ false). omega (arith, bad_within b (suc at) s p (rw e at h)))
 
-module _ (m : List ℕ) {r : FirstBad} (a : place_of r ≡ bad_byte newline 0 m) where
-  pub no_bad_byte : r ≡ Nowhere → 0 ≡ or_none (bad_byte newline 0 m)
+module _ (m : List ℕ) {r : Option ℕ} (a : place_of r ≡ bad_byte newline 0 m) where
+  pub no_bad_byte : r ≡ None → 0 ≡ or_none (bad_byte newline 0 m)
   unfolding place_of or_none
   no_bad_byte e = rw (← a, e)
 
-  module _ {p : ℕ} (e : r ≡ At p) where
+  module _ {p : ℕ} (e : r ≡ Some p) where
     found_bad : bad_byte newline 0 m ≡ some p
     unfolding place_of
     found_bad = sym a ∙ ap place_of e

@@ -3,12 +3,11 @@ ghost use Rattle.std.specs.Prelude.{◌≡◌};
 ghost use Rattle.test_scan.specs.Bundles.{bundle_count, record_number, records_in, text_number, base_number, spot_number, WrapsInto};
 
 use byte_order::equal;
-use scan_bundle::{
-    BundleAnswer, FoundRecord, find_record, index, record_text, spot_of, text_base, wrap,
-};
+use scan_bundle::{find_record, index, record_text, spot_of, text_base, wrap};
 use spec::limits::BUNDLE;
 
-// One more than the records of a bundle of so many at least and at most; 0 where it is malformed, or may have more than 512.
+// One more than the records of a bundle of so many at least and at most; 0 where it is malformed, or may have more
+// than 512.
 #[unsafe(no_mangle)]
 pub extern "C" fn kestrenyo_bundle_count(b: &[u8], least: usize, most: usize) -> usize
     ensures { result ≡ bundle_count b.now least most }
@@ -18,23 +17,24 @@ pub extern "C" fn kestrenyo_bundle_count(b: &[u8], least: usize, most: usize) ->
     }
     let mut order = [0u32; 512];
     match index(b, least, most, &mut order) {
-        BundleAnswer::Malformed => 0,
-        BundleAnswer::Sound(n) => n + 1,
+        None => 0,
+        Some(n) => n + 1,
     }
 }
 
-// Two more than the number of the record of that name in a bundle of 512 records at most; 1 where there is none, 0 where it is malformed.
+// Two more than the number of the record of that name in a bundle of 512 records at most; 1 where there is none, 0
+// where it is malformed.
 #[unsafe(no_mangle)]
 pub extern "C" fn kestrenyo_bundle_find(b: &[u8], path: &[u8]) -> usize
     ensures { result ≡ record_number b.now path.now }
 {
     let mut order = [0u32; 512];
-    match index(b, 0, 512, &mut order) {
-        BundleAnswer::Malformed => 0,
-        BundleAnswer::Sound(n) => match find_record(b, n, &order, path) {
-            FoundRecord::Missing => 1,
-            FoundRecord::At(k) => k + 2,
-        },
+    let Some(n) = index(b, 0, 512, &mut order) else {
+        return 0;
+    };
+    match find_record(b, n, &order, path) {
+        None => 1,
+        Some(k) => k + 2,
     }
 }
 
@@ -43,21 +43,16 @@ fn records_in(b: &[u8]) -> usize
     ensures { result ≡ records_in b.now }
 {
     let mut order = [0u32; BUNDLE];
-    match index(b, 1, BUNDLE, &mut order) {
-        BundleAnswer::Malformed => 0,
-        BundleAnswer::Sound(n) => n,
-    }
+    index(b, 1, BUNDLE, &mut order).unwrap_or(0)
 }
 
-// One more than the length of text k of a manifest's bundle, where it is this text; 0 where it is another, there is none, or the bundle is malformed.
+// One more than the length of text k of a manifest's bundle, where it is this text; 0 where it is another, there is
+// none, or the bundle is malformed.
 #[unsafe(no_mangle)]
 pub extern "C" fn kestrenyo_bundle_text(b: &[u8], k: usize, text: &[u8]) -> usize
     ensures { result ≡ text_number b.now k text.now }
 {
-    if records_in(b) <= k {
-        return 0;
-    }
-    if !equal(record_text(b, k), text) {
+    if records_in(b) <= k || !equal(record_text(b, k), text) {
         return 0;
     }
     text.len() + 1
@@ -74,7 +69,8 @@ pub extern "C" fn kestrenyo_bundle_base(b: &[u8], k: usize) -> usize
     text_base(b, k)
 }
 
-// Two more than the number of the text that a place among all texts of a manifest's bundle is in; 1 where it is past them, 0 where the bundle is malformed.
+// Two more than the number of the text that a place among all texts of a manifest's bundle is in; 1 where it is past
+// them, 0 where the bundle is malformed.
 #[unsafe(no_mangle)]
 pub extern "C" fn kestrenyo_bundle_spot(b: &[u8], place: usize) -> usize
     ensures { result ≡ spot_number b.now place }
@@ -90,16 +86,14 @@ pub extern "C" fn kestrenyo_bundle_spot(b: &[u8], place: usize) -> usize
     s.text + 2
 }
 
-// Writes the bundle of one record. Its length; 0, and nothing written, where it has no room or more bytes than 4 bytes say.
+// Writes the bundle of one record. Its length; 0, and nothing written, where it has no room or more bytes than 4 bytes
+// say.
 #[unsafe(no_mangle)]
 pub extern "C" fn kestrenyo_bundle_wrap(name: &[u8], text: &[u8], out: &mut [u8]) -> usize
     ensures { WrapsInto name.now text.now out.old out.new result }
 {
     let size = name.len() + text.len();
-    if 4294967263 < size {
-        return 0;
-    }
-    if out.len() < 32 + size {
+    if 4294967263 < size || out.len() < 32 + size {
         return 0;
     }
     wrap(name, text, out)

@@ -32,10 +32,7 @@ fn is_listed(card: &[u8], name: &[u8]) -> usize
     requires { sound_card card.now ≡ true }
     ensures { result ≡ is_listed card.now name.now }
 {
-    if time_of(card, name) == 0 {
-        return 0;
-    }
-    1
+    if time_of(card, name) == 0 { 0 } else { 1 }
 }
 
 fn count_listed(card: &[u8], list: &[u8]) -> usize
@@ -44,20 +41,11 @@ fn count_listed(card: &[u8], list: &[u8]) -> usize
 {
     let mut from = 0;
     let mut n: usize = 0;
-    loop {
-        match name_at(list, from) {
-            NextTarget::End => {
-                return n;
-            }
-            NextTarget::Bad => {
-                return n;
-            }
-            NextTarget::Name(end) => {
-                n += is_listed(card, &list[from..end]);
-                from = end + 1;
-            }
-        }
+    while let NextTarget::Name(end) = name_at(list, from) {
+        n += is_listed(card, &list[from..end]);
+        from = end + 1;
     }
+    n
 }
 
 // How many of a list's names the card lists, with its soundness tested once; 0 where it is not sound.

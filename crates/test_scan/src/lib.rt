@@ -1,5 +1,5 @@
-// Scanners, card, bundle, target list and table of names for Rust: what tests and benchmarks outside call, on numbers and slices alone. Each is total and answers a number that specs/ defines for every
-// input, and requires nothing.
+// Scanners, card, bundle, target list and table of names for Rust: what tests and benchmarks outside call, on numbers
+// and slices alone. Each is total and answers a number that specs/ defines for every input, and requires nothing.
 #![tactic(auto)]
 
 pub mod bundles;

@@ -20,16 +20,13 @@ fn add_name(names: &mut [u8], index: &mut [u32], count: usize, path: &[u8]) -> N
     match add(names, index, count, path) {
         Added::Old(k) => Numbered {
             number: 2 * k + 1,
-            count: count,
+            count,
         },
         Added::New(k) => Numbered {
             number: 2 * k + 2,
             count: count + 1,
         },
-        Added::Full => Numbered {
-            number: 0,
-            count: count,
-        },
+        Added::Full => Numbered { number: 0, count },
     }
 }
 
@@ -41,27 +38,22 @@ fn add_all(list: &[u8], names: &mut [u8], index: &mut [u32], numbers: &mut [u32]
     let mut from = 0;
     let mut count = 0;
     let mut n = 0;
+    // Each name says where the next one starts, so that no `for` counts them.
     while n < numbers.len() {
-        match name_at(list, from) {
-            NextTarget::End => {
-                return n;
-            }
-            NextTarget::Bad => {
-                return n;
-            }
-            NextTarget::Name(end) => {
-                let a = add_name(names, index, count, &list[from..end]);
-                numbers[n] = a.number as u32;
-                count = a.count;
-                n += 1;
-                from = end + 1;
-            }
-        }
+        let NextTarget::Name(end) = name_at(list, from) else {
+            return n;
+        };
+        let a = add_name(names, index, count, &list[from..end]);
+        numbers[n] = a.number as u32;
+        count = a.count;
+        n += 1;
+        from = end + 1;
     }
     n
 }
 
-// The numbers that the names of a list get in a new table: 0 where the buffers have no room for a table, else one more than the names that were added.
+// The numbers that the names of a list get in a new table: 0 where the buffers have no room for a table, else one more
+// than the names that were added.
 #[unsafe(no_mangle)]
 pub extern "C" fn kestrenyo_names_number(
     list: &[u8],
@@ -71,10 +63,7 @@ pub extern "C" fn kestrenyo_names_number(
 ) -> usize
     ensures { NumbersNames list.now names.old index.old numbers.old result names.new index.new numbers.new }
 {
-    if 4294967295 < names.len() {
-        return 0;
-    }
-    if index.len() < NUMBERS {
+    if 4294967295 < names.len() || index.len() < NUMBERS {
         return 0;
     }
     clear(index);

@@ -9,10 +9,9 @@ ghost use Rattle.spec.specs.Manifest.{bad_byte};
 ghost use Rattle.scan_classes.specs.Table.{classes};
 ghost use Rattle.test_scan.specs.Scanners.{or_none, place_after, dollar_number, path_number, paths_number, word_number, end_number, kind_number};
 
-use scan_dollars::After;
 use scan_keywords::Word;
 use scan_lines::{LineEnd, LineKind};
-use scan_raw::{FirstBad, NextPath, PathEnd};
+use scan_raw::NextPath;
 
 // The class of a byte.
 #[unsafe(no_mangle)]
@@ -26,10 +25,7 @@ pub extern "C" fn kestrenyo_class(b: u8) -> u8
 fn start_in(s: &[u8], from: usize) -> usize
     ensures { result ≡ min from (length s.now) }
 {
-    if from < s.len() {
-        return from;
-    }
-    s.len()
+    from.min(s.len())
 }
 
 // Where a run of spaces ends.
@@ -68,8 +64,8 @@ pub extern "C" fn kestrenyo_dollar(s: &[u8], from: usize) -> usize
     let t = scan_classes::table();
     let i = start_in(s, from);
     match scan_dollars::past(&t, s, i) {
-        After::To(next) => next + 1,
-        After::Bad => 0,
+        Some(next) => next + 1,
+        None => 0,
     }
 }
 
@@ -81,8 +77,8 @@ pub extern "C" fn kestrenyo_path(s: &[u8], from: usize) -> usize
     let t = scan_classes::table();
     let i = start_in(s, from);
     match scan_raw::texts::path(&t, s, i) {
-        PathEnd::Ends(end) => 2 * end,
-        PathEnd::BadDollar(at) => 2 * at + 1,
+        Ok(end) => 2 * end,
+        Err(at) => 2 * at + 1,
     }
 }
 
@@ -91,6 +87,7 @@ fn paths_from(t: &[u8; 256], s: &[u8], from: usize) -> usize
     ensures { result ≡ paths_number s.now (paths (drop from s.now)) }
 {
     let mut i = from;
+    // no `while let`: the two answers that end the list say different things
     loop {
         match scan_raw::texts::next_path(t, s, i) {
             NextPath::Path(_, end) => {
@@ -123,8 +120,8 @@ pub extern "C" fn kestrenyo_bad_dollar(raw: &[u8]) -> usize
 {
     let t = scan_classes::table();
     match scan_raw::texts::bad_dollar(&t, raw) {
-        FirstBad::Nowhere => 0,
-        FirstBad::At(p) => p + 1,
+        None => 0,
+        Some(p) => p + 1,
     }
 }
 
@@ -160,8 +157,7 @@ pub extern "C" fn kestrenyo_line_end(m: &[u8], from: usize) -> usize
     let t = scan_classes::table();
     let i = start_in(m, from);
     match scan_lines::line_end(&t, m, i) {
-        LineEnd::Ended(end) => end + 1,
-        LineEnd::Comment(end) => end + 1,
+        LineEnd::Ended(end) | LineEnd::Comment(end) => end + 1,
         LineEnd::Open => 0,
     }
 }
@@ -186,7 +182,7 @@ pub extern "C" fn kestrenyo_bad_byte(m: &[u8]) -> usize
     ensures { result ≡ or_none (bad_byte newline 0 m.now) }
 {
     match scan_raw::manifest::bad_byte(m) {
-        FirstBad::Nowhere => 0,
-        FirstBad::At(p) => p + 1,
+        None => 0,
+        Some(p) => p + 1,
     }
 }

@@ -1,4 +1,5 @@
 -- What the walk leaves, with zeros beyond.
+use Rattle.std.specs.Prelude.{Ok, Err}
 use Prim.Native.Nat.{ℕ, suc, ◌+◌, ◌-◌, ◌≤◌}
 use native.Mathlib.Omega.{arith}
 use mathlib.Core.Path.{◌≡◌, refl, sym, ◌∙◌, ap}
@@ -18,8 +19,6 @@ use Rattle.spec.specs.Promises.{filled, left_by}
 use Rattle.hold_reading.specs.declared.Counts.{Counts}
 use Rattle.hold_reading.specs.Buffers.{Buffers}
 use Rattle.text_step.specs.Asks.{TextAsk}
-use Rattle.text_batch.specs.declared.Walked.TheVariants.{Stopped, Refused as WalkRefused}
-use Rattle.text_batch.specs.declared.TextsAnswer.TheVariants.{Written, Refused}
 use Rattle.text_batch.specs.TextsAsk.{TextsOutcome, max_end, endable, ends_from}
 use Rattle.text_batch.specs.TextsPromise.{texts_says, TextsMeets}
 use Rattle.text_batch.specs.Batch.{WalkAsk, AreWritten, AreRefused, WalkIs, Walks, TextsOf}
@@ -45,7 +44,7 @@ ends_long at (t ∷ ts) = ap suc (ends_long (at + length t) ts)
 
 module _ {o : TextsOutcome} (bytes ends bytes_now ends_now : List ℕ) {bytes_exit ends_exit : List ℕ} (kb : length bytes_now ≡ length bytes) (ke : length ends_now ≡ length ends) where
   meets_written : {n end : ℕ} → AreWritten o bytes_now ends_now n end → bytes_exit ≡ zeroed bytes_now end (length bytes_now) → ends_exit ≡ zeroed ends_now n (length ends_now)
-      → TextsMeets o bytes ends (texts_says (Written n)) bytes_exit ends_exit
+      → TextsMeets o bytes ends (texts_says (Ok n)) bytes_exit ends_exit
   unfolding TextsMeets texts_says
   meets_written {n} {end} w x y =
       rw w.is
@@ -56,7 +55,7 @@ module _ {o : TextsOutcome} (bytes ends bytes_now ends_now : List ℕ) {bytes_ex
       })
 
   meets_refused : {r : Refusal} → AreRefused o r → bytes_exit ≡ zeroed bytes_now 0 (length bytes_now) → ends_exit ≡ zeroed ends_now 0 (length ends_now)
-      → TextsMeets o bytes ends (texts_says (Refused r)) bytes_exit ends_exit
+      → TextsMeets o bytes ends (texts_says (Err r)) bytes_exit ends_exit
   unfolding TextsMeets texts_says
   meets_refused w x y =
       rw w.is
@@ -67,17 +66,17 @@ module _ {o : TextsOutcome} (bytes ends bytes_now ends_now : List ℕ) {bytes_ex
       })
 
 module _ {bs : Buffers} {c : Counts} {steps : List ℕ} {wanted : Wanted} {room : ℕ} {bytes ends bytes_now ends_now bytes_exit ends_exit : List ℕ} where
-  pub texts_written : {n end : ℕ} → Walks bs c steps wanted room (length ends) bytes_now ends_now (Stopped n end)
+  pub texts_written : {n end : ℕ} → Walks bs c steps wanted room (length ends) bytes_now ends_now (Ok (n, end))
       → room ≡ endable (length bytes) → length bytes_now ≡ length bytes → length ends_now ≡ length ends
       → bytes_exit ≡ zeroed bytes_now end (length bytes_now) → ends_exit ≡ zeroed ends_now n (length ends_now)
-      → TextsOf bs c steps wanted bytes ends bytes_exit ends_exit (Written n)
+      → TextsOf bs c steps wanted bytes ends bytes_exit ends_exit (Ok n)
   unfolding WalkIs
   texts_written w q kb ke x y = record { meets = λ log rd h. rw (← q) (meets_written bytes ends bytes_now ends_now kb ke (w.meets log rd h) x y) }
 
-  pub texts_refused : {r : Refusal} → Walks bs c steps wanted room (length ends) bytes_now ends_now (WalkRefused r)
+  pub texts_refused : {r : Refusal} → Walks bs c steps wanted room (length ends) bytes_now ends_now (Err r)
       → room ≡ endable (length bytes) → length bytes_now ≡ length bytes → length ends_now ≡ length ends
       → bytes_exit ≡ zeroed bytes_now 0 (length bytes_now) → ends_exit ≡ zeroed ends_now 0 (length ends_now)
-      → TextsOf bs c steps wanted bytes ends bytes_exit ends_exit (Refused r)
+      → TextsOf bs c steps wanted bytes ends bytes_exit ends_exit (Err r)
   unfolding WalkIs
   texts_refused w q kb ke x y = record { meets = λ log rd h. rw (← q) (meets_refused bytes ends bytes_now ends_now kb ke (w.meets log rd h) x y) }
 

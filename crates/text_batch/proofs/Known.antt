@@ -1,4 +1,5 @@
 -- What the text ask gives for one step: 8,192 bytes at most, or a refusal that is not 1; and what its answer tells of it.
+use Rattle.std.specs.Prelude.{Ok, Err}
 use Prim.Native.Nat.{ℕ, ◌-◌, ◌≤◌}
 use native.Mathlib.Omega.{arith}
 use mathlib.Core.Path.{◌≡◌, refl, sym, ap}
@@ -13,7 +14,6 @@ use Rattle.lists.specs.Tests.{if_b}
 use Rattle.lists.specs.Fill.{zeros}
 use Rattle.spec.specs.declared.Refusal.{Refusal}
 use Rattle.spec.specs.declared.Refusal.TheVariants.{EndlessText, LongText, NoCommand}
-use Rattle.spec.specs.declared.TextAnswer.TheVariants.{Written, Refused}
 use Rattle.spec.specs.Basics.{or_else}
 use Rattle.spec.specs.Limits.{max_text}
 use Rattle.spec.specs.Answers.{Said, number_of_refusal, refusal_says, text_says}
@@ -74,7 +74,7 @@ pub record IsWritten (o : TextOutcome) (exit : List ℕ) (n : ℕ) : Type 0 wher
   pub short : n ≤ max_text
   pub front : take n exit ≡ written
 
-pub is_written : (o : TextOutcome) (lent : List ℕ) {exit : List ℕ} {n : ℕ} → OfStep o → TextMeets o lent (text_says (Written n)) exit → IsWritten o exit n
+pub is_written : (o : TextOutcome) (lent : List ℕ) {exit : List ℕ} {n : ℕ} → OfStep o → TextMeets o lent (text_says (Ok n)) exit → IsWritten o exit n
 unfolding TextMeets text_says refusal_says filled number_of_refusal
 is_written (text t) lent {exit} {n} k p =
     let c : n ≡ length t = ap (λ (s : Said). s.value) p.says in
@@ -87,7 +87,7 @@ is_written (text t) lent {exit} {n} k p =
     }
 is_written (no_text r) lent k p = absurd (refusal_not_0 r (sym (ap (λ (s : Said). s.number) p.says)))
 
-pub is_refused : (o : TextOutcome) (lent exit : List ℕ) {r : Refusal} → OfStep o → TextMeets o lent (text_says (Refused r)) exit → IsRefused o r
+pub is_refused : (o : TextOutcome) (lent exit : List ℕ) {r : Refusal} → OfStep o → TextMeets o lent (text_says (Err r)) exit → IsRefused o r
 unfolding TextMeets text_says refusal_says number_of_refusal
 is_refused (text t) lent exit {r = r} k p = absurd (refusal_not_0 r (ap (λ (s : Said). s.number) p.says))
 is_refused (no_text q) lent exit k p = record { refusal = q; is = refl; says = p.says; known = k }

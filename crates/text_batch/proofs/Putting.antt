@@ -1,4 +1,5 @@
 -- One text behind others.
+use Rattle.std.specs.Prelude.{Some, None, Result, Ok, Err}
 use Prim.Native.Nat.{ℕ, ◌+◌, ◌-◌, ◌≤◌, ◌<◌}
 use native.Mathlib.Omega.{arith}
 use mathlib.Core.Path.{◌≡◌, refl, ◌∙◌, ap}
@@ -6,8 +7,6 @@ use mathlib.Core.List.{List, ◌++◌}
 use lib.ListN.{length, take}
 use lib.Seq.{length-take-le, take_all, paste, take-paste}
 use Rattle.spec.specs.declared.Refusal.{Refusal}
-use Rattle.spec.specs.declared.TextAnswer.{TextAnswer}
-use Rattle.spec.specs.declared.TextAnswer.TheVariants.{Written, Refused}
 use Rattle.spec.specs.declared.Wanted.{Wanted}
 use Rattle.spec.specs.Limits.{max_text}
 use Rattle.spec.specs.TextAsk.{wanted_name, text_of_step}
@@ -17,12 +16,11 @@ use Rattle.hold_reading.specs.declared.Counts.{Counts}
 use Rattle.hold_reading.specs.Held.{HoldsReading}
 use Rattle.hold_reading.specs.Buffers.{Buffers}
 use Rattle.text_step.specs.Asks.{TextAsk, TextOf}
-use Rattle.text_batch.specs.declared.Put.TheVariants.{Ends, NoRoom, Refused as PutRefused}
 use Rattle.text_batch.specs.Batch.{PutIs, Puts}
 use Rattle.text_batch.proofs.Known.{of_step_law, IsWritten, is_written, is_refused}
 
-module _ {bs : Buffers} {c : Counts} {step : ℕ} {wanted : Wanted} {one exit : List ℕ} {a : TextAnswer} (p : TextOf bs c step wanted one exit a) where
-  module _ {n : ℕ} (e : a ≡ Written n) where
+module _ {bs : Buffers} {c : Counts} {step : ℕ} {wanted : Wanted} {one exit : List ℕ} {a : Result ℕ Refusal} (p : TextOf bs c step wanted one exit a) where
+  module _ {n : ℕ} (e : a ≡ Ok n) where
     text_is : (log : List Logged) (rd : Reading) → HoldsReading log bs c rd → IsWritten (text_of_step step (wanted_name wanted) rd) exit n
     text_is log rd h =
         is_written (text_of_step step (wanted_name wanted) rd) one (of_step_law step (wanted_name wanted) rd) (rw e at (p.meets log rd h))
@@ -36,7 +34,7 @@ module _ {bs : Buffers} {c : Counts} {step : ℕ} {wanted : Wanted} {one exit : 
     text_part w l = length-take-le n exit (omega (arith, text_short w, l))
 
     module _ {at room : ℕ} {before : List ℕ} where
-      pub put_long : room - at < n → Puts bs c step wanted at room before before NoRoom
+      pub put_long : room - at < n → Puts bs c step wanted at room before before (Ok None)
       unfolding PutIs
       put_long l =
           record {
@@ -46,7 +44,7 @@ module _ {bs : Buffers} {c : Counts} {step : ℕ} {wanted : Wanted} {one exit : 
           }
 
       pub put_ends : {after : List ℕ} → at ≤ room → room ≤ length before → n ≤ room - at → length (take n exit) ≡ n
-          → after ≡ paste before at (take n exit) (length (take n exit)) → Puts bs c step wanted at room before after (Ends (at + n))
+          → after ≡ paste before at (take n exit) (length (take n exit)) → Puts bs c step wanted at room before after (Ok (Some (at + n)))
       unfolding PutIs
       put_ends {after} b w l k z =
           let y : after ≡ paste before at (take n exit) n = z ∙ ap (λ (j : ℕ). paste before at (take n exit) j) k in
@@ -65,7 +63,7 @@ module _ {bs : Buffers} {c : Counts} {step : ℕ} {wanted : Wanted} {one exit : 
                 };
           }
 
-  pub put_refused : {at room : ℕ} {before : List ℕ} {r : Refusal} → a ≡ Refused r → Puts bs c step wanted at room before before (PutRefused r)
+  pub put_refused : {at room : ℕ} {before : List ℕ} {r : Refusal} → a ≡ Err r → Puts bs c step wanted at room before before (Err r)
   unfolding PutIs
   put_refused e =
       record {

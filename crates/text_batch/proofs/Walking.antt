@@ -1,4 +1,5 @@
 -- The walk over the steps: the texts so far, and that what is left of the steps ends as all of them do.
+use Rattle.std.specs.Prelude.{Some, None, Ok, Err}
 use Prim.Native.Nat.{ℕ, suc, ◌+◌, ◌-◌, ◌≤◌, ◌<◌}
 use native.Mathlib.Numerals.{add-one}
 use native.Mathlib.Omega.{arith}
@@ -18,8 +19,6 @@ use Rattle.hold_bindings.specs.Log.{Logged}
 use Rattle.hold_reading.specs.declared.Counts.{Counts}
 use Rattle.hold_reading.specs.Held.{HoldsReading}
 use Rattle.hold_reading.specs.Buffers.{Buffers}
-use Rattle.text_batch.specs.declared.Put.TheVariants.{Ends, NoRoom, Refused as PutRefused}
-use Rattle.text_batch.specs.declared.Walked.TheVariants.{Stopped, Refused as WalkRefused}
 use Rattle.text_batch.specs.TextsAsk.{TextsOutcome, texts, no_texts, in_front, has_room, texts_from, ends_from}
 use Rattle.text_batch.specs.Batch.{PutAsk, IsPut, IsLong, IsRefused, PutIs, Puts, WalkAsk, AreWritten, AreRefused, WalkIs, Walks, ask_of}
 
@@ -189,12 +188,14 @@ walk_begin {room = room} {ends = ends} =
 
 module _ {bs : Buffers} {c : Counts} {steps : List ℕ} {wanted : Wanted} {room places : ℕ} {bytes ends : List ℕ} {i end : ℕ}
     (w : Walking bs c steps wanted room places bytes ends i end) where
-  pub walk_end : length steps ≤ i → Walks bs c steps wanted room places bytes ends (Stopped i end)
+  pub walk_end : length steps ≤ i → i ≤ length steps → Walks bs c steps wanted room places bytes ends (Ok (length steps, end))
   unfolding WalkIs
-  walk_end b = record { meets = λ log rd h. done_end (w.done log rd h) b }
+  walk_end b l =
+      let q : length steps ≡ i = omega arith in
+      rw q (record { meets = λ log rd h. done_end (w.done log rd h) b })
 
   module _ (b : i < length steps) {s : ℕ} (q : s ≡ get_or steps i 0) {after : List ℕ} where
-    pub walk_on : {e : ℕ} → Puts bs c s wanted end room bytes after (Ends e) → e ≤ room → i < length ends
+    pub walk_on : {e : ℕ} → Puts bs c s wanted end room bytes after (Ok (Some e)) → e ≤ room → i < length ends
         → Walking bs c steps wanted room places after (set ends i e) (i + 1) e
     unfolding PutIs
     walk_on p u k =
@@ -205,15 +206,15 @@ module _ {bs : Buffers} {c : Counts} {steps : List ℕ} {wanted : Wanted} {room 
           done = λ log rd h. done_more (w.done log rd h) b (rw q at (p.meets log rd h)) (omega (arith, k, w.long)) k;
         }
 
-    pub walk_full : {e : ℕ} → Puts bs c s wanted end room bytes after (Ends e) → length ends ≤ i → Walks bs c steps wanted room places after ends (Stopped i end)
+    pub walk_full : {e : ℕ} → Puts bs c s wanted end room bytes after (Ok (Some e)) → length ends ≤ i → Walks bs c steps wanted room places after ends (Ok (i, end))
     unfolding PutIs WalkIs
     walk_full p k = record { meets = λ log rd h. done_full (w.done log rd h) b (rw q at (p.meets log rd h)) (omega (arith, k, w.long)) }
 
-    pub walk_long : Puts bs c s wanted end room bytes after NoRoom → Walks bs c steps wanted room places after ends (Stopped i end)
+    pub walk_long : Puts bs c s wanted end room bytes after (Ok None) → Walks bs c steps wanted room places after ends (Ok (i, end))
     unfolding PutIs WalkIs
     walk_long p = record { meets = λ log rd h. done_long (w.done log rd h) b (rw q at (p.meets log rd h)) }
 
-    pub walk_refused : {r : Refusal} → Puts bs c s wanted end room bytes after (PutRefused r) → Walks bs c steps wanted room places after ends (WalkRefused r)
+    pub walk_refused : {r : Refusal} → Puts bs c s wanted end room bytes after (Err r) → Walks bs c steps wanted room places after ends (Err r)
     unfolding PutIs WalkIs
     walk_refused p = record { meets = λ log rd h. done_refused (w.done log rd h) b (rw q at (p.meets log rd h)) }
 
@@ -231,6 +232,6 @@ module _ {t : List ℕ} {bs : Buffers} {c : Counts} {one₀ bytes₀ : List ℕ}
       }
 
   -- an end fits a number of 32 bits
-  pub end_within : {step : ℕ} {wanted : Wanted} {at : ℕ} {before after : List ℕ} {e : ℕ} → Puts bs c step wanted at room before after (Ends e) → e ≤ room
+  pub end_within : {step : ℕ} {wanted : Wanted} {at : ℕ} {before after : List ℕ} {e : ℕ} → Puts bs c step wanted at room before after (Ok (Some e)) → e ≤ room
   unfolding PutIs
   end_within p = (p.meets a.asked.log a.asked.reading a.asked.holds).within

@@ -1,5 +1,5 @@
 -- What the functions that write many texts ask of what was read, and what they promise.
-use Rattle.std.specs.Prelude.{ℕ, ◌+◌, ◌-◌, ◌≤◌, ◌<◌, List, ◌++◌, ◌≡◌, length, take}
+use Rattle.std.specs.Prelude.{ℕ, ◌+◌, ◌-◌, ◌≤◌, ◌<◌, List, ◌++◌, ◌≡◌, length, take, Option, Some, None, Result, Ok, Err}
 use Rattle.spec.specs.declared.Refusal.{Refusal}
 use Rattle.spec.specs.declared.Wanted.{Wanted}
 use Rattle.spec.specs.Basics.{concat}
@@ -13,11 +13,6 @@ use Rattle.hold_reading.specs.declared.Counts.{Counts}
 use Rattle.hold_reading.specs.Held.{HoldsReading}
 use Rattle.hold_reading.specs.Buffers.{Buffers}
 use Rattle.text_step.specs.Asks.{TextAsk}
-use Rattle.text_batch.specs.declared.Put.{Put}
-use Rattle.text_batch.specs.declared.Put.TheVariants.{Ends, NoRoom, Refused as PutRefused}
-use Rattle.text_batch.specs.declared.Walked.{Walked}
-use Rattle.text_batch.specs.declared.Walked.TheVariants.{Stopped, Refused as WalkRefused}
-use Rattle.text_batch.specs.declared.TextsAnswer.{TextsAnswer}
 use Rattle.text_batch.specs.TextsAsk.{TextsOutcome, texts, no_texts, texts_from, max_end, endable, ends_from}
 use Rattle.text_batch.specs.TextsPromise.{texts_says, TextsMeets}
 
@@ -51,13 +46,13 @@ pub record IsPut (o : TextOutcome) (at room : ℕ) (before after : List ℕ) (e 
   pub within : e ≤ room
   pub front : take e after ≡ take at before ++ written
 
-unfoldable pub PutIs : TextOutcome → ℕ → ℕ → List ℕ → List ℕ → Put → Type 0
-PutIs o at room before after (Ends e) = IsPut o at room before after e
-PutIs o at room before after NoRoom = IsLong o (room - at) before after
-PutIs o at room before after (PutRefused r) = IsRefused o r
+unfoldable pub PutIs : TextOutcome → ℕ → ℕ → List ℕ → List ℕ → Result (Option ℕ) Refusal → Type 0
+PutIs o at room before after (Ok (Some e)) = IsPut o at room before after e
+PutIs o at room before after (Ok None) = IsLong o (room - at) before after
+PutIs o at room before after (Err r) = IsRefused o r
 
 -- ... whatever reading is held
-pub record Puts (bs : Buffers) (c : Counts) (step : ℕ) (wanted : Wanted) (at room : ℕ) (before after : List ℕ) (r : Put) : Type 0 where
+pub record Puts (bs : Buffers) (c : Counts) (step : ℕ) (wanted : Wanted) (at room : ℕ) (before after : List ℕ) (r : Result (Option ℕ) Refusal) : Type 0 where
   pub meets : (log : List Logged) (rd : Reading) → HoldsReading log bs c rd → PutIs (text_of_step step (wanted_name wanted) rd) at room before after r
 
 -- ------------------------------------------------------------------ the walk
@@ -82,15 +77,15 @@ pub record AreRefused (o : TextsOutcome) (r : Refusal) : Type 0 where
   pub says : refusal_says r ≡ refusal_says refusal
   pub known : 2 ≤ number_of_refusal refusal
 
-unfoldable pub WalkIs : TextsOutcome → List ℕ → List ℕ → Walked → Type 0
-WalkIs o bytes ends (Stopped n end) = AreWritten o bytes ends n end
-WalkIs o bytes ends (WalkRefused r) = AreRefused o r
+unfoldable pub WalkIs : TextsOutcome → List ℕ → List ℕ → Result (ℕ × ℕ) Refusal → Type 0
+WalkIs o bytes ends (Ok (n, end)) = AreWritten o bytes ends n end
+WalkIs o bytes ends (Err r) = AreRefused o r
 
 -- the text ask of a reading, for one name
 abbrev pub ask_of : Wanted → Reading → ℕ → TextOutcome
 ask_of wanted rd s = text_of_step s (wanted_name wanted) rd
 
-pub record Walks (bs : Buffers) (c : Counts) (steps : List ℕ) (wanted : Wanted) (room places : ℕ) (bytes ends : List ℕ) (r : Walked) : Type 0 where
+pub record Walks (bs : Buffers) (c : Counts) (steps : List ℕ) (wanted : Wanted) (room places : ℕ) (bytes ends : List ℕ) (r : Result (ℕ × ℕ) Refusal) : Type 0 where
   pub meets : (log : List Logged) (rd : Reading) → HoldsReading log bs c rd → WalkIs (texts_from (ask_of wanted rd) steps room places) bytes ends r
 
 -- ------------------------------------------------------------------ all of it
@@ -104,6 +99,6 @@ pub record BatchAsk (t : List ℕ) (bs : Buffers) (c : Counts) : Type 0 where
   pub sound : SoundRules reading
 
 -- The answer and both buffers are what the texts ask says, whatever reading is held.
-pub record TextsOf (bs : Buffers) (c : Counts) (steps : List ℕ) (wanted : Wanted) (bytes ends bytes_exit ends_exit : List ℕ) (r : TextsAnswer) : Type 0 where
+pub record TextsOf (bs : Buffers) (c : Counts) (steps : List ℕ) (wanted : Wanted) (bytes ends bytes_exit ends_exit : List ℕ) (r : Result ℕ Refusal) : Type 0 where
   pub meets : (log : List Logged) (rd : Reading) → HoldsReading log bs c rd
       → TextsMeets (texts_from (ask_of wanted rd) steps (endable (length bytes)) (length ends)) bytes ends (texts_says r) bytes_exit ends_exit

@@ -1,17 +1,16 @@
 -- What the texts ask promises, for every input: the answer, and every byte and number of the lent buffers.
-use Rattle.std.specs.Prelude.{ℕ, List, false, ◌≡◌, length}
+use Rattle.std.specs.Prelude.{ℕ, List, false, ◌≡◌, length, Result, Ok, Err}
 use Rattle.spec.specs.declared.Wanted.{Wanted}
 use Rattle.spec.specs.Basics.{concat}
 use Rattle.spec.specs.Answers.{Said, refusal_says, says}
 use Rattle.spec.specs.Promises.{filled, left_by}
-use Rattle.text_batch.specs.declared.TextsAnswer.{TextsAnswer}
-use Rattle.text_batch.specs.declared.TextsAnswer.TheVariants.{Written, Refused}
 use Rattle.text_batch.specs.TextsAsk.{TextsOutcome, texts_ask, texts, no_texts, ends_from}
+use Rattle.spec.specs.declared.Refusal.{Refusal}
 
-unfoldable pub texts_says : TextsAnswer → Said
+unfoldable pub texts_says : Result ℕ Refusal → Said
 unfolding refusal_says
-texts_says (Written n) = record { number = 0; text = false; value = n }
-texts_says (Refused r) = refusal_says r
+texts_says (Ok n) = record { number = 0; text = false; value = n }
+texts_says (Err r) = refusal_says r
 
 -- the answer says this, and the lent buffers of bytes and of numbers hold that at exit
 pub record Are (said : Said) (bytes ends : List ℕ) (right : Said) (bytes_left ends_left : List ℕ) : Type 0 where
@@ -27,6 +26,6 @@ TextsMeets (texts ts) bytes ends said bytes_exit ends_exit =
 TextsMeets (no_texts r) bytes ends said bytes_exit ends_exit = Are said bytes_exit ends_exit (refusal_says r) (left_by r bytes) (left_by r ends)
 
 -- the texts ask: manifest, steps, what is wanted, buffers of bytes and of ends at entry, answer, both buffers at exit
-abbrev pub TextsPromise : List ℕ → List ℕ → Wanted → List ℕ → List ℕ → TextsAnswer → List ℕ → List ℕ → Type 0
+abbrev pub TextsPromise : List ℕ → List ℕ → Wanted → List ℕ → List ℕ → Result ℕ Refusal → List ℕ → List ℕ → Type 0
 TextsPromise manifest steps wanted bytes ends answer bytes_exit ends_exit =
     TextsMeets (texts_ask manifest steps wanted (length bytes) (length ends)) bytes ends (texts_says answer) bytes_exit ends_exit

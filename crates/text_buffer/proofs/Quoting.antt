@@ -185,9 +185,10 @@ module _ {name before now : List ℕ} {place i : ℕ} (x : Copying name before p
         let u : all safe_byte name ≡ false = safe_here ∙ rw s in
         rw u (puts_again o x.done.puts x.low p)
 
-  pub copy_end : length name ≤ i → PutsText before place (quoted name) now (place + i)
+  pub copy_end : length name ≤ i → i ≤ length name → PutsText before place (quoted name) now (place + length name)
   unfolding quoted all
-  copy_end h =
+  copy_end h l =
+      let q : place + length name ≡ place + i = omega arith in
       let z : drop i name ≡ [] = drop_of_length-le name {i = i} h in
       let u : all safe_byte name ≡ true = x.safe ∙ ap (all safe_byte) z in
-      rw u (done_end (subst (λ (l : List ℕ). Done name l before place now (place + i)) z x.done))
+      rw (q, u) (done_end (subst (λ (l : List ℕ). Done name l before place now (place + i)) z x.done))

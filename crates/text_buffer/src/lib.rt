@@ -1,5 +1,6 @@
-// A text written into the lent buffer, one part after another. "expanded text over 8,192 bytes" (17): a place past that says that it is too long, and
-// nothing more is written then.
+// A text written into the lent buffer, one part after another. "expanded text over 8,192 bytes" (17): a place past
+// that says that it is too long, and nothing more is written then.
+// It is a number and no Option: PutsText, WritesDraft and WritesText speak of it, and a draft holds it as its place.
 #![tactic(auto)]
 
 ghost use Rattle.std.specs.Prelude.{List, [], ◌∷◌, ℕ, ◌<◌, ◌≡◌, length, get_or};
@@ -54,7 +55,8 @@ fn is_safe(b: u8) -> bool
     b == 43
 }
 
-// Writes one byte of a name that stands in quotes, "each single quote inside written as quote, backslash, quote, quote".
+// Writes one byte of a name that stands in quotes, "each single quote inside written as quote, backslash, quote,
+// quote".
 fn put_inside(buffer: &mut [u8], place: usize, b: u8) -> usize
     requires { OpenText buffer.old place }
     ensures { PutsText buffer.old place (inside_quotes (b ∷ [])) buffer.new result }
@@ -71,13 +73,11 @@ fn put_to_close(buffer: &mut [u8], place: usize, name: &[u8]) -> usize
     ensures { PutsText buffer.old place (to_close name.now) buffer.new result }
 {
     let mut n = place;
-    let mut i = 0;
-    while i < name.len() {
-        n = put_inside(buffer, n, name[i]);
+    for &b in name {
+        n = put_inside(buffer, n, b);
         if TEXT < n {
             return n;
         }
-        i += 1;
     }
     put_byte(buffer, n, b'\'')
 }
@@ -94,8 +94,8 @@ fn put_in_quotes(buffer: &mut [u8], place: usize, name: &[u8]) -> usize
     put_to_close(buffer, n, name)
 }
 
-// Writes a name: "a name of only letters, digits and `_ + - . /` stays; any other stands in single quotes". The bytes are told while they are copied,
-// so that a name that stays is gone over once.
+// Writes a name: "a name of only letters, digits and `_ + - . /` stays; any other stands in single quotes". The bytes
+// are told while they are copied, so that a name that stays is gone over once.
 fn put_quoted(buffer: &mut [u8], place: usize, name: &[u8]) -> usize
     requires { OpenText buffer.old place }
     ensures { PutsText buffer.old place (quoted name.now) buffer.new result }
@@ -103,16 +103,14 @@ fn put_quoted(buffer: &mut [u8], place: usize, name: &[u8]) -> usize
     if TEXT - place < name.len() {
         return 8193;
     }
-    let mut i = 0;
-    while i < name.len() {
+    for i in 0..name.len() {
         let b = name[i];
         if !is_safe(b) {
             return put_in_quotes(buffer, place, name);
         }
         buffer[place + i] = b;
-        i += 1;
     }
-    place + i
+    place + name.len()
 }
 
 // Writes a file's name: as it is in a text that no shell reads, else quoted.
@@ -176,13 +174,11 @@ pub fn put_files(
     ensures { (files : List (List ℕ)) → HoldsNames names.now index.now count files → PutsText buffer.old place (joined_by separator (names_in (spelled_by plain) files fs.now)) buffer.new result }
 {
     let mut n = place;
-    let mut i = 0;
-    while i < fs.len() {
+    for i in 0..fs.len() {
         n = put_next(names, index, count, fs, i, separator, plain, buffer, n);
         if TEXT < n {
             return n;
         }
-        i += 1;
     }
     n
 }

@@ -1,4 +1,5 @@
 -- The text of a name: as it is, once more where it stands already, or a rule's text expanded.
+use Rattle.std.specs.Prelude.{Some}
 use Prim.Native.Nat.{ℕ, ◌-◌, ◌≤◌}
 use mathlib.Core.Bool.{Bool}
 use mathlib.Core.List.{List}
@@ -108,17 +109,18 @@ module _ {t : List ℕ} {bs : Buffers} {name before : List ℕ} {a : Asked} {d :
 module _ {t : List ℕ} {bs : Buffers} {name before : List ℕ} {a : Asked} {k : ℕ} {d : Draft} (w : KeyAsk t bs a name k before d) where
   -- where it stands already
 
-  module _ {span : Span} (e : span ≡ span_for d name) (b : span.from ≤ span.to) where
-    pub again_behind : WrittenPart before span.from span.to d.at
+  module _ {x : Span} (e : span_for d name ≡ Some x) where
+    pub again_behind : WrittenPart before x.from x.to d.at
     again_behind =
         let q = w.ask.asking.remembers in
-        record { ordered = b; written = rw e (q.kept name (rw e at b)).written; free = q.free }
+        let o = q.kept name x e in
+        record { ordered = o.ordered; written = o.written; free = q.free }
 
-    pub again_written : {after : List ℕ} {r : Draft} → WritesDraft before d (part before span.from span.to) after r → WritesName bs a name before d after r
+    pub again_written : {after : List ℕ} {r : Draft} → WritesDraft before d (part before x.from x.to) after r → WritesName bs a name before d after r
     again_written {after} {r} p =
         record {
           writes = λ log rd s h c q.
-              let z : part before span.from span.to ≡ text_in a rd s name = rw e (q.kept name (rw e at b)).is in
+              let z : part before x.from x.to ≡ text_in a rd s name = (q.kept name x e).is in
               rw (← z) (p.drafts (text_in a rd s) q);
         }
 

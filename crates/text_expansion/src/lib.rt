@@ -1,10 +1,12 @@
-// A step's text written into the lent buffer: a name's text as it is, or a rule's text expanded by the same lookup. Each rule key is expanded once.
+// A step's text written into the lent buffer: a name's text as it is, or a rule's text expanded by the same lookup.
+// Each rule key is expanded once.
 #![tactic(auto)]
 
 ghost use Rattle.text_expansion.specs.Asks.{RawTextAsk, NameTextAsk, WritesText, WritesName};
-ghost use Rattle.hold_reading.specs.Buffers.{buffers};
+ghost use Rattle.hold_reading.specs.ReadBuffers.{buffers_of};
 
 use hold_bindings::value;
+use hold_reading::ReadBuffers;
 use plain::write_plain;
 use spec::limits::TEXT;
 use text_lookup::{Asked, Source, lookup};
@@ -17,18 +19,14 @@ pub mod plain;
 #[cycle(write_name_write_text)]
 fn write_text(
     t: &[u8; 256],
-    names: &[u8],
-    index: &[u32],
-    texts: &[u8],
-    bind: &[u32],
-    graph: &[u32],
+    read: &ReadBuffers,
     a: Asked,
     raw: &[u8],
     buffer: &mut [u8],
     d: Draft,
 ) -> Draft
-    requires { RawTextAsk t.now (buffers names.now index.now texts.now bind.now graph.now) a raw.now buffer.old d }
-    ensures { WritesText (buffers names.now index.now texts.now bind.now graph.now) a raw.now buffer.old d buffer.new result }
+    requires { RawTextAsk t.now (buffers_of read.now) a raw.now buffer.old d }
+    ensures { WritesText (buffers_of read.now) a raw.now buffer.old d buffer.new result }
 {
     let mut x = d;
     let mut i = 0;
@@ -42,18 +40,7 @@ fn write_text(
                 i = next;
             }
             Piece::Name(from, to, next) => {
-                x = write_name(
-                    t,
-                    names,
-                    index,
-                    texts,
-                    bind,
-                    graph,
-                    a,
-                    &raw[from..to],
-                    buffer,
-                    x,
-                );
+                x = write_name(t, read, a, &raw[from..to], buffer, x);
                 if TEXT < x.at {
                     return x;
                 }
@@ -64,38 +51,32 @@ fn write_text(
     x
 }
 
-// The text of a name, which goes less than `a.depth` rule texts deep. That of a rule's key is copied where it stands already, else expanded.
+// The text of a name, which goes less than `a.depth` rule texts deep. That of a rule's key is copied where it stands
+// already, else expanded.
 #[cycle(write_name_write_text)]
 pub fn write_name(
     t: &[u8; 256],
-    names: &[u8],
-    index: &[u32],
-    texts: &[u8],
-    bind: &[u32],
-    graph: &[u32],
+    read: &ReadBuffers,
     a: Asked,
     name: &[u8],
     buffer: &mut [u8],
     d: Draft,
 ) -> Draft
-    requires { NameTextAsk t.now (buffers names.now index.now texts.now bind.now graph.now) a name.now buffer.old d }
-    ensures { WritesName (buffers names.now index.now texts.now bind.now graph.now) a name.now buffer.old d buffer.new result }
+    requires { NameTextAsk t.now (buffers_of read.now) a name.now buffer.old d }
+    ensures { WritesName (buffers_of read.now) a name.now buffer.old d buffer.new result }
 {
-    let source = lookup(texts, bind, a, name);
+    let source = lookup(read.texts, read.bind, a, name);
     if let Source::Text(k) = source {
-        let span = span_of(d, name);
-        let from = span.from;
-        let to = span.to;
-        if from <= to {
-            return write_again(buffer, d, from, to);
+        if let Some(span) = span_of(d, name) {
+            return write_again(buffer, d, span.from, span.to);
         }
-        let raw = value(texts, bind, k);
+        let raw = value(read.texts, read.bind, k);
         let deeper = Asked {
             depth: a.depth - 1,
             ..a
         };
-        let x = write_text(t, names, index, texts, bind, graph, deeper, raw, buffer, d);
+        let x = write_text(t, read, deeper, raw, buffer, d);
         return remember(x, name, d.at);
     }
-    write_plain(names, index, texts, bind, graph, a, source, buffer, d)
+    write_plain(read, a, source, buffer, d)
 }

@@ -6,9 +6,10 @@ ghost use Rattle.hold_names.specs.Table.{HoldsNames};
 ghost use Rattle.text_buffer.specs.Puts.{names_in};
 ghost use Rattle.text_memo.specs.Draft.{WritesDraft};
 ghost use Rattle.text_expansion.specs.Asks.{spelling, StepFilesAsk, PlainAsk, WritesPlain};
-ghost use Rattle.hold_reading.specs.Buffers.{buffers};
+ghost use Rattle.hold_reading.specs.ReadBuffers.{buffers_of};
 
 use hold_bindings::value;
+use hold_reading::ReadBuffers;
 use text_buffer::put_files;
 use text_lookup::{Asked, Source};
 use text_memo::{Draft, draft_at, write};
@@ -43,27 +44,29 @@ fn write_files(
 
 // Whatever a name stands for, but for a rule's text: "`$in` is the explicit inputs", "`$out` the outputs".
 pub fn write_plain(
-    names: &[u8],
-    index: &[u32],
-    texts: &[u8],
-    bind: &[u32],
-    graph: &[u32],
+    read: &ReadBuffers,
     a: Asked,
     source: Source,
     buffer: &mut [u8],
     d: Draft,
 ) -> Draft
-    requires { PlainAsk (buffers names.now index.now texts.now bind.now graph.now) a source buffer.old d }
-    ensures { WritesPlain (buffers names.now index.now texts.now bind.now graph.now) a source buffer.old d buffer.new result }
+    requires { PlainAsk (buffers_of read.now) a source buffer.old d }
+    ensures { WritesPlain (buffers_of read.now) a source buffer.old d buffer.new result }
 {
     let outs = a.outs;
     let ins = a.ins;
     let rest = a.rest;
     match source {
-        Source::Inputs => write_files(names, index, graph, a, ins, rest, b' ', buffer, d),
-        Source::InputLines => write_files(names, index, graph, a, ins, rest, b'\n', buffer, d),
-        Source::Outputs => write_files(names, index, graph, a, outs, ins, b' ', buffer, d),
-        Source::Value(k) => write(buffer, d, value(texts, bind, k)),
+        Source::Inputs => write_files(
+            read.names, read.index, read.graph, a, ins, rest, b' ', buffer, d,
+        ),
+        Source::InputLines => write_files(
+            read.names, read.index, read.graph, a, ins, rest, b'\n', buffer, d,
+        ),
+        Source::Outputs => write_files(
+            read.names, read.index, read.graph, a, outs, ins, b' ', buffer, d,
+        ),
+        Source::Value(k) => write(buffer, d, value(read.texts, read.bind, k)),
         Source::Text(_) => d,
         Source::Unset => d,
     }

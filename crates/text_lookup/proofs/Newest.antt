@@ -1,4 +1,5 @@
 -- The newest entry of a name in each part of the scope is what the lookup finds there.
+use Rattle.std.specs.Prelude.{Option as StdOption, Some, None}
 use Prim.Native.Nat.{ℕ, ◌<◌}
 use mathlib.Core.List.{List}
 use mathlib.Core.Bool.{true, false}
@@ -11,8 +12,6 @@ use Rattle.lists.specs.Bytes.{eq_bytes}
 use Rattle.spec.specs.Basics.{or_else}
 use Rattle.spec.specs.Reading.{Step, Reading, Variables, bound_to, var_from}
 use Rattle.spec.specs.Text.{as_is, of_rule, of_step, lookup_by}
-use Rattle.hold_bindings.specs.declared.FoundEntry.{FoundEntry}
-use Rattle.hold_bindings.specs.declared.FoundEntry.TheVariants.{At, Missing}
 use Rattle.hold_bindings.specs.Log.{Logged, of_keys, of_block, entry_at, newest, newest_from, value_of, bound_by, variables_of}
 use Rattle.hold_bindings.specs.Held.{HoldsBindings}
 use Rattle.hold_bindings.proofs.Lookups.{newest_below, find_newest, or_empty}
@@ -23,25 +22,25 @@ use Rattle.text_lookup.specs.declared.Source.TheVariants.{Inputs, InputLines, Ou
 use Rattle.text_lookup.specs.Scope.{StepScope, InScope, meaning, from_file, from_rule, from_block, There, LooksUp}
 
 -- f is the newest entry of a name for an owner
-module _ (o : ℕ) (n : List ℕ) (a : Asked) {texts bind : List ℕ} {f : FoundEntry} (q : (log : List Logged) → HoldsBindings log texts bind a.entries → f ≡ newest o n log) where
-  pub entry_there : {k : ℕ} → InScope texts bind a → f ≡ At k → There texts bind a k
+module _ (o : ℕ) (n : List ℕ) (a : Asked) {texts bind : List ℕ} {f : StdOption ℕ} (q : (log : List Logged) → HoldsBindings log texts bind a.entries → f ≡ newest o n log) where
+  pub entry_there : {k : ℕ} → InScope texts bind a → f ≡ Some k → There texts bind a k
   entry_there {k} w e =
       let b : k < length w.log = newest_below o n w.log k (sym (q w.log w.scope.bound) ∙ e) in
       let m : k < a.entries = omega (arith, w.scope.bound.rows.counted) in
       record { entry = record { log = w.log; count = a.entries; held = w.scope.bound; below = m }; low = m }
 
-  entry_found : {k : ℕ} (log : List Logged) → HoldsBindings log texts bind a.entries → f ≡ At k → bound_to n (bound_by o log) ≡ some (entry_at k log).value
+  entry_found : {k : ℕ} (log : List Logged) → HoldsBindings log texts bind a.entries → f ≡ Some k → bound_to n (bound_by o log) ≡ some (entry_at k log).value
   unfolding value_of
   entry_found {k} log h e = find_newest o n log ∙ rw (sym (q log h) ∙ e)
 
-  entry_missing : (log : List Logged) → HoldsBindings log texts bind a.entries → f ≡ Missing → bound_to n (bound_by o log) ≡ none
+  entry_missing : (log : List Logged) → HoldsBindings log texts bind a.entries → f ≡ None → bound_to n (bound_by o log) ≡ none
   unfolding value_of
   entry_missing log h e = find_newest o n log ∙ rw (sym (q log h) ∙ e)
 
-module _ (n : List ℕ) {texts bind : List ℕ} {a : Asked} {f : FoundEntry} where
+module _ (n : List ℕ) {texts bind : List ℕ} {a : Asked} {f : StdOption ℕ} where
   -- f is the newest entry that is seen from the step's scope
   module _ (q : (log : List Logged) → HoldsBindings log texts bind a.entries → f ≡ newest_from a.scope n log) where
-    seen_there : {k : ℕ} → InScope texts bind a → f ≡ At k → There texts bind a k
+    seen_there : {k : ℕ} → InScope texts bind a → f ≡ Some k → There texts bind a k
     seen_there {k} w e =
         let b : k < length w.log = newest_from_below a.scope n w.log k (sym (q w.log w.scope.bound) ∙ e) in
         let m : k < a.entries = omega (arith, w.scope.bound.rows.counted) in
@@ -53,28 +52,28 @@ module _ (n : List ℕ) {texts bind : List ℕ} {a : Asked} {f : FoundEntry} whe
         ap (λ (v : Variables). var_from v.scopes s.scope n) c.vars
         ∙ ap (λ (k : ℕ). var_from (variables_of log).scopes k n) c.stands
         ∙ var_newest log c.bound.scopes a.scope c.scope_low n
-        ∙ ap (λ (g : FoundEntry). or_empty (value_of g log)) (sym (q log c.bound))
+        ∙ ap (λ (g : StdOption ℕ). or_empty (value_of g log)) (sym (q log c.bound))
 
-    pub file_found : {k : ℕ} → InScope texts bind a → f ≡ At k → LooksUp texts bind a (λ spell. from_file n) (Value k)
+    pub file_found : {k : ℕ} → InScope texts bind a → f ≡ Some k → LooksUp texts bind a (λ spell. from_file n) (Value k)
     unfolding meaning value_of
     file_found {k} w e =
         record {
-          means = λ spell log rd s c. ap as_is (seen_value c ∙ ap (λ (g : FoundEntry). or_empty (value_of g log)) e);
+          means = λ spell log rd s c. ap as_is (seen_value c ∙ ap (λ (g : StdOption ℕ). or_empty (value_of g log)) e);
           value = λ j d. let z : k ≡ j = cc in rw (← z) (seen_there w e);
           text = λ j d. let z : ◌≡◌ {A = ℕ} 0 1 = cc in absurd (omega arith);
         }
 
-    pub file_unset : f ≡ Missing → LooksUp texts bind a (λ spell. from_file n) Unset
+    pub file_unset : f ≡ None → LooksUp texts bind a (λ spell. from_file n) Unset
     unfolding meaning value_of
     file_unset e =
         record {
-          means = λ spell log rd s c. ap as_is (seen_value c ∙ ap (λ (g : FoundEntry). or_empty (value_of g log)) e);
+          means = λ spell log rd s c. ap as_is (seen_value c ∙ ap (λ (g : StdOption ℕ). or_empty (value_of g log)) e);
           value = λ j d. let z : ◌≡◌ {A = ℕ} 0 1 = cc in absurd (omega arith);
           text = λ j d. let z : ◌≡◌ {A = ℕ} 0 1 = cc in absurd (omega arith);
         }
 
   module _ (q : (log : List Logged) → HoldsBindings log texts bind a.entries → f ≡ newest (of_keys a.rule) n log) where
-    pub rule_found : {k : ℕ} → InScope texts bind a → f ≡ At k → LooksUp texts bind a (λ spell. from_rule n) (Text k)
+    pub rule_found : {k : ℕ} → InScope texts bind a → f ≡ Some k → LooksUp texts bind a (λ spell. from_rule n) (Text k)
     unfolding meaning
     rule_found {k} w e =
         record {
@@ -83,7 +82,7 @@ module _ (n : List ℕ) {texts bind : List ℕ} {a : Asked} {f : FoundEntry} whe
           text = λ j d. let z : k ≡ j = cc in rw (← z) (entry_there (of_keys a.rule) n a q w e);
         }
 
-    pub rule_missing : {r : Source} → f ≡ Missing → LooksUp texts bind a (λ spell. from_file n) r → LooksUp texts bind a (λ spell. from_rule n) r
+    pub rule_missing : {r : Source} → f ≡ None → LooksUp texts bind a (λ spell. from_file n) r → LooksUp texts bind a (λ spell. from_rule n) r
     rule_missing {r} e l =
         record {
           means = λ spell log rd s c.
@@ -93,7 +92,7 @@ module _ (n : List ℕ) {texts bind : List ℕ} {a : Asked} {f : FoundEntry} whe
         }
 
   module _ (q : (log : List Logged) → HoldsBindings log texts bind a.entries → f ≡ newest (of_block a.step) n log) where
-    pub block_found : {k : ℕ} → InScope texts bind a → f ≡ At k → LooksUp texts bind a (λ spell. from_block n) (Value k)
+    pub block_found : {k : ℕ} → InScope texts bind a → f ≡ Some k → LooksUp texts bind a (λ spell. from_block n) (Value k)
     unfolding meaning
     block_found {k} w e =
         record {
@@ -102,7 +101,7 @@ module _ (n : List ℕ) {texts bind : List ℕ} {a : Asked} {f : FoundEntry} whe
           text = λ j d. let z : ◌≡◌ {A = ℕ} 0 1 = cc in absurd (omega arith);
         }
 
-    pub block_missing : {r : Source} → f ≡ Missing → LooksUp texts bind a (λ spell. from_rule n) r → LooksUp texts bind a (λ spell. from_block n) r
+    pub block_missing : {r : Source} → f ≡ None → LooksUp texts bind a (λ spell. from_rule n) r → LooksUp texts bind a (λ spell. from_block n) r
     block_missing {r} e l =
         record {
           means = λ spell log rd s c.

@@ -5,11 +5,12 @@ ghost use Rattle.spec.specs.Text.{lookup_by};
 ghost use Rattle.text_lookup.specs.Scope.{InScope, LooksUp, from_file, from_rule, from_block};
 
 use byte_order::equal;
-use hold_bindings::{FoundEntry, newest, newest_from};
+use hold_bindings::{newest, newest_from};
 
-// The step that is asked for: its number, the entry of its rule's declaration in the table of bindings, the scope that its line stands in, how many
-// entries and files there are, where its outputs and its explicit inputs start and end among the mentions, how many rule texts deep its text may
-// still go, and whether names of files stand in it as they are, as in a text that no shell reads.
+// The step that is asked for: its number, the entry of its rule's declaration in the table of bindings, the scope that
+// its line stands in, how many entries and files there are, where its outputs and its explicit inputs start and end
+// among the mentions, how many rule texts deep its text may still go, and whether names of files stand in it as they
+// are, as in a text that no shell reads.
 #[derive(Clone, Copy)]
 pub struct Asked {
     pub step: usize,
@@ -44,8 +45,8 @@ fn of_file(texts: &[u8], bind: &[u32], a: Asked, name: &[u8]) -> Source
     ensures { LooksUp texts.now bind.now a (λ spell. from_file name.now) result }
 {
     match newest_from(texts, bind, a.entries, a.scope, name) {
-        FoundEntry::At(k) => Source::Value(k),
-        FoundEntry::Missing => Source::Unset,
+        Some(k) => Source::Value(k),
+        None => Source::Unset,
     }
 }
 
@@ -55,8 +56,8 @@ fn of_rule(texts: &[u8], bind: &[u32], a: Asked, name: &[u8]) -> Source
     ensures { LooksUp texts.now bind.now a (λ spell. from_rule name.now) result }
 {
     match newest(texts, bind, a.entries, 4 + 3 * a.rule, name) {
-        FoundEntry::At(k) => Source::Text(k),
-        FoundEntry::Missing => of_file(texts, bind, a, name),
+        Some(k) => Source::Text(k),
+        None => of_file(texts, bind, a, name),
     }
 }
 
@@ -66,8 +67,8 @@ fn of_block(texts: &[u8], bind: &[u32], a: Asked, name: &[u8]) -> Source
     ensures { LooksUp texts.now bind.now a (λ spell. from_block name.now) result }
 {
     match newest(texts, bind, a.entries, 5 + 3 * a.step, name) {
-        FoundEntry::At(k) => Source::Value(k),
-        FoundEntry::Missing => of_rule(texts, bind, a, name),
+        Some(k) => Source::Value(k),
+        None => of_rule(texts, bind, a, name),
     }
 }
 

@@ -1,4 +1,5 @@
 -- What a draft remembers stays, and what is remembered more.
+use Rattle.std.specs.Prelude.{Option, Some, None}
 use Prim.Native.Nat.{ℕ, zero, suc, ◌-◌, ◌≤◌, ◌<◌}
 use mathlib.Core.List.{List, [], ◌∷◌, ◌++◌}
 use mathlib.Core.Bool.{true, false}
@@ -23,31 +24,33 @@ use Rattle.text_memo.specs.Draft.{span, nothing, span_for, Remembered, Remembers
 
 -- ---- no span, and one more
 
-pub nothing_spans : (n : List ℕ) → span_for nothing n ≡ span 1 0
+pub nothing_spans : (n : List ℕ) → span_for nothing n ≡ None
 unfolding span_for
 nothing_spans n =
     split (ltb (key_number n) rule_keys)
-    (λ (e : ltb (key_number n) rule_keys ≡ true). rw e (get_or-replicate rule_keys (key_number n) (span 1 0) (span 0 0) (ltb-true (key_number n) rule_keys e)))
+    (λ (e : ltb (key_number n) rule_keys ≡ true). rw e (get_or-replicate rule_keys (key_number n) None None (ltb-true (key_number n) rule_keys e)))
     (λ (e : ltb (key_number n) rule_keys ≡ false). rw e)
 
 pub nothing_remembers : (text : List ℕ → List ℕ) (buffer : List ℕ) → max_text ≤ length buffer → Remembers text buffer nothing
 nothing_remembers text buffer h =
     record {
       free = record { room = h; low = omega arith };
-      kept = λ n b. absurd (omega (arith, rw (nothing_spans n) at b));
+      kept = λ n x b.
+          let z : ◌≡◌ {A = Option Span} None (Some x) = sym (nothing_spans n) ∙ b in
+          absurd (let y : ◌≡◌ {A = ℕ} 0 1 = cc in omega arith);
     }
 
 module _ (d : Draft) (n : List ℕ) {k : ℕ} (e : k ≡ key_number n) where
-  pub span_key : k < rule_keys → get_or d.spans k (span 0 0) ≡ span_for d n
+  pub span_key : k < rule_keys → get_or d.spans k None ≡ span_for d n
   unfolding span_for
   span_key h = rw (← e, lt-ltb k rule_keys h)
 
-  pub span_none : rule_keys ≤ k → span 1 0 ≡ span_for d n
+  pub span_none : rule_keys ≤ k → None ≡ span_for d n
   unfolding span_for
   span_none h = rw (← e, le-ltb k rule_keys h)
 
 -- a list that was set somewhere
-set_there : (l : List Span) (i : ℕ) (a d : Span) → (get_or (set l i a) i d ≡ a) ⊎ (get_or (set l i a) i d ≡ get_or l i d)
+set_there : (l : List (Option Span)) (i : ℕ) (a d : Option Span) → (get_or (set l i a) i d ≡ a) ⊎ (get_or (set l i a) i d ≡ get_or l i d)
 set_there [] i a d = inr refl
 set_there (x ∷ l) zero a d = inl refl
 set_there (x ∷ l) (suc i) a d = set_there l i a d
@@ -59,21 +62,21 @@ module _ (d : Draft) (name : List ℕ) (from : ℕ) where
   module _ {k : ℕ} (e : k ≡ key_number name) (h : k < rule_keys) where
     -- the draft that remembers it
     abbrev with_span : Draft
-    with_span = record { at = d.at; spans = set d.spans k (span from d.at) }
+    with_span = record { at = d.at; spans = set d.spans k (Some (span from d.at)) }
 
-    with_key_law : (n : List ℕ) → ltb (key_number n) rule_keys ≡ true → ((n ≡ name) × (span_for with_span n ≡ span from d.at)) ⊎ (span_for with_span n ≡ span_for d n)
+    with_key_law : (n : List ℕ) → ltb (key_number n) rule_keys ≡ true → ((n ≡ name) × (span_for with_span n ≡ Some (span from d.at))) ⊎ (span_for with_span n ≡ span_for d n)
     unfolding span_for
     with_key_law n b =
         split (eqb (key_number n) k)
         (λ (q : eqb (key_number n) k ≡ true).
         let z : key_number n ≡ k = eqb-true (key_number n) k q in
         ⊎_elim
-        (λ (x : get_or (set d.spans k (span from d.at)) k (span 0 0) ≡ span from d.at).
+        (λ (x : get_or (set d.spans k (Some (span from d.at))) k None ≡ Some (span from d.at)).
         inl (one_key n name (ltb-true (key_number n) rule_keys b) (z ∙ e), rw (b, z) x))
-        (λ (x : get_or (set d.spans k (span from d.at)) k (span 0 0) ≡ get_or d.spans k (span 0 0)). inr (rw (b, z) x))
-        (set_there d.spans k (span from d.at) (span 0 0)))
+        (λ (x : get_or (set d.spans k (Some (span from d.at))) k None ≡ get_or d.spans k None). inr (rw (b, z) x))
+        (set_there d.spans k (Some (span from d.at)) None))
         (λ (q : eqb (key_number n) k ≡ false).
-        inr (rw b (get_or-set_other d.spans k (key_number n) (span from d.at) (span 0 0) (eqb-false (key_number n) k q))))
+        inr (rw b (get_or-set_other d.spans k (key_number n) (Some (span from d.at)) None (eqb-false (key_number n) k q))))
 
     no_key : (n : List ℕ) → ltb (key_number n) rule_keys ≡ false → span_for with_span n ≡ span_for d n
     unfolding span_for
@@ -119,13 +122,10 @@ module _ {text : List ℕ → List ℕ} {before : List ℕ} {d : Draft} (k : Rem
         remembers = λ h.
             record {
               free = open_on p h k.free;
-              kept = λ n b.
-                  let o = k.kept n (rw (e n) at b) in
+              kept = λ n x b.
+                  let o = k.kept n x (rw (e n) at b) in
                   let f = p.fits h in
-                  record {
-                    written = rw (e n) (omega (arith, o.written, f.count));
-                    is = rw (e n) (part_kept k.free f (span_for d n).from (span_for d n).to o.written ∙ o.is);
-                  };
+                  record { ordered = o.ordered; written = omega (arith, o.written, f.count); is = part_kept k.free f x.from x.to o.written ∙ o.is };
             };
       }
 
@@ -150,16 +150,15 @@ module _ {text : List ℕ → List ℕ} {before : List ℕ} {d : Draft} (k : Rem
             let f = a.puts.fits q in
             record {
               free = rw e.at w.free;
-              kept = λ n b.
+              kept = λ n x b.
                   ⊎_elim
-                  (λ (x : (n ≡ name) × (span_for r n ≡ span d.at m.at)).
-                  record {
-                    written = rw (x.1, e.at) (le_refl m.at);
-                    is = rw (x.1, x.0) (part_new k.free f);
-                  })
-                  (λ (x : span_for r n ≡ span_for m n).
-                  let o = w.kept n (rw x at b) in
-                  record { written = rw (x, e.at) o.written; is = rw x o.is })
+                  (λ (y : (n ≡ name) × (span_for r n ≡ Some (span d.at m.at))).
+                  let q : ◌≡◌ {A = Option Span} (Some x) (Some (span d.at m.at)) = sym b ∙ y.1 in
+                  let z : x ≡ span d.at m.at = cc in
+                  rw z (record { ordered = omega (arith, f.count); written = rw e.at (le_refl m.at); is = rw y.0 (part_new k.free f) }))
+                  (λ (y : span_for r n ≡ span_for m n).
+                  let o = w.kept n x (sym y ∙ b) in
+                  record { ordered = o.ordered; written = rw e.at o.written; is = o.is })
                   (e.spans n);
             };
       }

@@ -1,4 +1,5 @@
-// A text being written, with where in it the texts of the rule's keys already stand: each of them is expanded once, and copied where it comes again.
+// A text being written, with where in it the texts of the rule's keys already stand: each of them is expanded once,
+// and copied where it comes again.
 #![tactic(auto)]
 
 ghost use Rattle.std.specs.Prelude.{◌≡◌};
@@ -10,40 +11,39 @@ use hold_keys::{RULE_KEYS, key_number};
 use spec::limits::TEXT;
 use text_buffer::{put_byte, put_bytes};
 
-// A part of the text from place to place. One that ends before it starts is none.
+// A part of the text from place to place.
 #[derive(Clone, Copy)]
 pub struct Span {
     pub from: usize,
     pub to: usize,
 }
 
-// The place that is reached, and the text of each rule's key by the key's number.
+// The place that is reached, and where the text of each rule's key stands, by the key's number, if it does.
 #[derive(Clone, Copy)]
 pub struct Draft {
     pub at: usize,
-    pub spans: [Span; RULE_KEYS],
+    pub spans: [Option<Span>; RULE_KEYS],
 }
 
 // Nothing is written and nothing remembered.
 pub fn blank() -> Draft
     ensures { result ≡ nothing }
 {
-    let none = Span { from: 1, to: 0 };
     Draft {
         at: 0,
-        spans: [none; RULE_KEYS],
+        spans: [None; RULE_KEYS],
     }
 }
 
-// Where the text of a name stands.
-pub fn span_of(d: Draft, name: &[u8]) -> Span
+// Where the text of a name stands, if it does.
+pub fn span_of(d: Draft, name: &[u8]) -> Option<Span>
     ensures { result ≡ span_for d name.now }
 {
     let k = key_number(name);
     if k < RULE_KEYS {
         return d.spans[k];
     }
-    Span { from: 1, to: 0 }
+    None
 }
 
 // The text of a name stands from a place up to the end.
@@ -56,7 +56,7 @@ pub fn remember(d: Draft, name: &[u8], from: usize) -> Draft
     }
     let to = d.at;
     let mut r = d;
-    r.spans[k] = Span { from, to };
+    r.spans[k] = Some(Span { from, to });
     r
 }
 
@@ -65,15 +65,13 @@ fn put_again(buffer: &mut [u8], from: usize, to: usize, place: usize) -> usize
     requires { WrittenPart buffer.old from to place }
     ensures { PutsText buffer.old place (part buffer.old from to) buffer.new result }
 {
-    let mut i = from;
     let mut n = place;
-    while i < to {
+    for i in from..to {
         let b = buffer[i];
         n = put_byte(buffer, n, b);
         if TEXT < n {
             return n;
         }
-        i += 1;
     }
     n
 }
@@ -82,9 +80,7 @@ fn put_again(buffer: &mut [u8], from: usize, to: usize, place: usize) -> usize
 pub fn draft_at(d: Draft, at: usize) -> Draft
     ensures { Moved d at result }
 {
-    let mut r = d;
-    r.at = at;
-    r
+    Draft { at, ..d }
 }
 
 // Writes bytes.

@@ -1,4 +1,5 @@
-// Whether a step's text has no end: "a rule's text leads back, by the lookup, to a rule key already under expansion" (16).
+// Whether a step's text has no end: "a rule's text leads back, by the lookup, to a rule key already under expansion"
+// (16).
 #![tactic(auto)]
 
 ghost use Rattle.std.specs.Prelude.{◌≡◌, List, []};
@@ -57,6 +58,7 @@ fn leads(t: &[u8; 256], texts: &[u8], bind: &[u32], a: Asked, name: &[u8], d: [b
     requires { RecursionAsks t.now texts.now bind.now a }
     ensures { (log : List Logged) (rd : Reading) (s : Step) → StepScope texts.now bind.now a log rd s → result ≡ leads_to rd s (marks d) name.now }
 {
+    // each kind of source is named, so that a new one is decided on here
     match lookup(texts, bind, a, name) {
         Source::Text(k) => refers(t, value(texts, bind, k), d),
         Source::Inputs => false,
@@ -74,10 +76,8 @@ fn deeper(t: &[u8; 256], texts: &[u8], bind: &[u32], a: Asked, d: [bool; MARKS])
 {
     let names = key_names();
     let mut r = [false; MARKS];
-    let mut k: usize = 0;
-    while k < RULE_KEYS {
+    for k in 0..RULE_KEYS {
         r[k] = leads(t, texts, bind, a, key_name(&names, k), d);
-        k += 1;
     }
     r
 }
@@ -88,14 +88,13 @@ pub fn leads_back(t: &[u8; 256], texts: &[u8], bind: &[u32], a: Asked, key: Key)
 {
     let n = number_of(key);
     let mut d = [true; MARKS];
-    let mut k: usize = 0;
-    while k < DEEP {
+    // only the invariant counts by k
+    for k in 0..DEEP {
         d = deeper(t, texts, bind, a, d);
         // what does not go so deep goes no deeper
         if !d[n] {
             return false;
         }
-        k += 1;
     }
     d[n]
 }

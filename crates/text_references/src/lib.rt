@@ -8,6 +8,7 @@ use scan_dollars::{Escape, dollar};
 use slices::bytes::find;
 
 // A piece from place to place of the raw text, and where the text goes on behind it.
+// No `Result`: a name is a piece like the bytes.
 #[derive(Clone, Copy)]
 pub enum Piece {
     Bytes(usize, usize, usize),

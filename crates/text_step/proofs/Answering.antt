@@ -1,4 +1,5 @@
 -- What each answer leaves in the buffer.
+use Rattle.std.specs.Prelude.{Result, Ok, Err}
 use Prim.Native.Nat.{ℕ, ◌-◌, ◌≤◌, ◌<◌}
 use mathlib.Core.List.{List, [], ◌++◌, append-nil}
 use mathlib.Core.Bool.{Bool, true, false, ◌||◌}
@@ -10,8 +11,6 @@ use lib.ListN.{length, take, length-append}
 use lib.Seq.{drop-length, take-append_seam}
 use Rattle.lists.specs.Fill.{zeros, zeroed, zeroed_all}
 use Rattle.spec.specs.declared.Refusal.TheVariants.{EndlessText, LongText, NoCommand}
-use Rattle.spec.specs.declared.TextAnswer.{TextAnswer}
-use Rattle.spec.specs.declared.TextAnswer.TheVariants.{Written, Refused}
 use Rattle.spec.specs.declared.Wanted.{Wanted}
 use Rattle.spec.specs.declared.Wanted.TheVariants.{Command, Description}
 use Rattle.spec.specs.declared.Key.{Key}
@@ -34,6 +33,7 @@ use Rattle.text_step.specs.Steps.{Picks, ReadingHeld}
 use Rattle.text_step.proofs.One.{sound_any}
 use Rattle.text_step.specs.Asks.{StepAsk, WholeAsk, WritesWhole, TextStands, AnswersText, TextAt, TextAsk, TextOf}
 use Rattle.hold_reading.specs.Buffers.{Buffers}
+use Rattle.spec.specs.declared.Refusal.{Refusal}
 
 -- ---- the buffer
 
@@ -51,19 +51,19 @@ zero_beyond before after exit s n k c t e =
     e ∙ rw (t, drop-length after, k, c) (append-nil (s ++ zeros (length before - length s)))
 
 module _ (k : ℕ) (before after : List ℕ) {exit : List ℕ} (l : length after ≡ length before) (e : exit ≡ zeroed after 0 (length after)) where
-  meets_endless : TextMeets (no_text (EndlessText k)) before (text_says (Refused (EndlessText k))) exit
+  meets_endless : TextMeets (no_text (EndlessText k)) before (text_says (Err (EndlessText k))) exit
   unfolding TextMeets text_says refusal_says left_by number_of_refusal place_of_refusal
   meets_endless = record { says = refl; leaves = all_zero before after exit l e }
 
-  meets_long : TextMeets (no_text (LongText k)) before (text_says (Refused (LongText k))) exit
+  meets_long : TextMeets (no_text (LongText k)) before (text_says (Err (LongText k))) exit
   unfolding TextMeets text_says refusal_says left_by number_of_refusal place_of_refusal
   meets_long = record { says = refl; leaves = all_zero before after exit l e }
 
-  meets_none : TextMeets (no_text (NoCommand k)) before (text_says (Refused (NoCommand k))) exit
+  meets_none : TextMeets (no_text (NoCommand k)) before (text_says (Err (NoCommand k))) exit
   unfolding TextMeets text_says refusal_says left_by number_of_refusal place_of_refusal
   meets_none = record { says = refl; leaves = all_zero before after exit l e }
 
-meets_text : {before after exit s : List ℕ} {n : ℕ} → PutsText before 0 s after n → n ≤ max_text → exit ≡ zeroed after n (length after) → TextMeets (text s) before (text_says (Written n)) exit
+meets_text : {before after exit s : List ℕ} {n : ℕ} → PutsText before 0 s after n → n ≤ max_text → exit ≡ zeroed after n (length after) → TextMeets (text s) before (text_says (Ok n)) exit
 unfolding TextMeets text_says
 meets_text {before} {after} {exit} {s} {n} p h e =
     let f = p.fits h in
@@ -86,7 +86,7 @@ stands {before} {after} {exit} {s} {n} p h e =
 
 module _ {t : List ℕ} {bs : Buffers} {before : List ℕ} {a : Asked} (key : Key) (w : StepAsk t bs a before) {b : Bool}
     (q : (log : List Logged) (rd : Reading) (s : Step) → StepScope bs.texts bs.bind a log rd s → b ≡ leads_back rd s deep [] (key_name key)) where
-  pub in_endless : {exit : List ℕ} → b ≡ true → exit ≡ zeroed before 0 (length before) → TextAt bs a key before exit (Refused (EndlessText a.step))
+  pub in_endless : {exit : List ℕ} → b ≡ true → exit ≡ zeroed before 0 (length before) → TextAt bs a key before exit (Err (EndlessText a.step))
   unfolding name_outcome name_refusal AnswersText
   in_endless {exit} e z =
       record {
@@ -112,7 +112,7 @@ module _ {t : List ℕ} {bs : Buffers} {before : List ℕ} {a : Asked} (key : Ke
       is_short : {log : List Logged} {rd : Reading} → n ≤ max_text → Here bs a log rd (step_at rd.steps a.step) → ltb max_text (length (name_text rd a.step (key_name key))) ≡ false
       is_short {rd = rd} h y = let c = ((writes_key y).fits h).count in le-ltb max_text (length (name_text rd a.step (key_name key))) (omega arith)
 
-      pub in_long : {exit : List ℕ} → max_text < n → exit ≡ zeroed after 0 (length after) → TextAt bs a key before exit (Refused (LongText a.step))
+      pub in_long : {exit : List ℕ} → max_text < n → exit ≡ zeroed after 0 (length after) → TextAt bs a key before exit (Err (LongText a.step))
       unfolding name_outcome name_refusal AnswersText
       in_long h z =
           record {
@@ -120,7 +120,7 @@ module _ {t : List ℕ} {bs : Buffers} {before : List ℕ} {a : Asked} (key : Ke
             answers = λ log rd y. rw (ends y, is_long h y);
           }
 
-      pub in_text_law : {exit : List ℕ} → n ≤ max_text → exit ≡ zeroed after n (length after) → TextAt bs a key before exit (Written n)
+      pub in_text_law : {exit : List ℕ} → n ≤ max_text → exit ≡ zeroed after n (length after) → TextAt bs a key before exit (Ok n)
       unfolding name_outcome name_refusal AnswersText
       in_text_law h z =
           record {
@@ -136,7 +136,7 @@ module _ {t : List ℕ} {bs : Buffers} {before : List ℕ} {c : Counts} (w : Tex
 
   pub no_command : {step : ℕ} (wanted : Wanted) {exit : List ℕ}
       → ((log : List Logged) (rd : Reading) → HoldsBound log bs.texts bs.bind c rd → Graphed log bs.graph c rd → leb (length rd.steps) step || is_phony (step_at rd.steps step).rule ≡ true)
-      → exit ≡ zeroed before 0 (length before) → TextOf bs c step wanted before exit (Refused (NoCommand step))
+      → exit ≡ zeroed before 0 (length before) → TextOf bs c step wanted before exit (Err (NoCommand step))
   unfolding text_of_step
   no_command {step} wanted q z =
       record { meets = λ log rd h. rw (q log rd h.bound h.graphed) (meets_none step before before refl z) }
@@ -189,7 +189,7 @@ module _ {bs : Buffers} {c : Counts} {step : ℕ} {a : Asked} (p : Picks bs.text
         whole = (p.picked w.log w.reading w.holds.bound w.holds.graphed).whole;
       }
 
-  pub step_text : {t before exit : List ℕ} {wanted : Wanted} {key : Key} {r : TextAnswer} → TextAsk t bs c before → key ≡ wanted_key wanted
+  pub step_text : {t before exit : List ℕ} {wanted : Wanted} {key : Key} {r : Result ℕ Refusal} → TextAsk t bs c before → key ≡ wanted_key wanted
       → TextAt bs a key before exit r → TextOf bs c step wanted before exit r
   unfolding text_of_step
   step_text {before = before} {exit = exit} {wanted = wanted} {key = key} {r = r} w z q =

@@ -1,4 +1,6 @@
 -- A step by its number: its rule's declaration, and its files among the mentions.
+use Rattle.std.specs.Prelude.{Option, Some, None}
+use Rattle.std.specs.Option.{unwrap_or}
 use Prim.Native.Nat.{ℕ, suc, ◌+◌, ◌-◌, ◌/◌, ◌%◌, ◌≤◌, ◌<◌}
 use mathlib.Core.List.{List, [], ◌∷◌}
 use mathlib.Core.Bool.{Bool, true, false, ◌||◌}
@@ -20,8 +22,6 @@ use Rattle.arena.proofs.Laws.{lies_column, lies_read}
 use Rattle.hold_columns.specs.Columns.{outs_end, ins_end, implicit_end, last_end, end_place, end_at, step_start, outs_in, ins_in}
 use Rattle.hold_columns.proofs.Places.{start_zero, start_suc, read_ins, read_ins_placed}
 use Rattle.hold_columns.proofs.Held.{held_outs, held_sound}
-use Rattle.hold_bindings.specs.declared.FoundEntry.{FoundEntry}
-use Rattle.hold_bindings.specs.declared.FoundEntry.TheVariants.{At, Missing}
 use Rattle.hold_bindings.specs.Log.{Logged, of_rules, of_keys, entry_at, is_named, newest, keys_at, bound_by}
 use Rattle.hold_bindings.specs.Held.{HoldsBindings, HasEntry, SoundBindings}
 use Rattle.hold_bindings.proofs.Lookups.{newest_below, entry_kept, entry_newest, keys_newest}
@@ -29,19 +29,17 @@ use Rattle.hold_reading.specs.declared.Counts.{Counts}
 use Rattle.hold_reading.specs.Held.{capacities, end_in, rule_start, defaults_start, Ruled, phony, declared, scope_unit, rule_with_scope, RuledIn, HoldsBound, Graphed}
 use Rattle.text_lookup.specs.declared.Asked.{Asked}
 use Rattle.text_memo.proofs.Spans.{part_front}
-use Rattle.text_step.specs.declared.StepAsked.{StepAsked}
-use Rattle.text_step.specs.declared.StepAsked.TheVariants.{NoCommand, Step}
 use Rattle.text_step.specs.Steps.{HasRule, Declares, InGraph, outputs_from, Picked, Picks, PickAsk, ReadingHeld, AsksStep}
 
 -- ---- the rule
 
 -- a name that an entry declares is found
-newest_some : (o : ℕ) (n : List ℕ) (log : List Logged) (k : ℕ) → k < length log → (entry_at k log).owner ≡ o → (entry_at k log).name ≡ n → newest o n log ≡ Missing → ⊥
+newest_some : (o : ℕ) (n : List ℕ) (log : List Logged) (k : ℕ) → k < length log → (entry_at k log).owner ≡ o → (entry_at k log).name ≡ n → newest o n log ≡ None → ⊥
 unfolding newest is_named
 newest_some o n [] k b p q e = omega arith
 newest_some o n (x ∷ l) k b p q e =
     split (is_named o n x)
-    (λ (t : is_named o n x ≡ true). let d : At (length l) ≡ Missing = rw t at e in let z : ◌≡◌ {A = ℕ} 0 1 = cc in omega arith)
+    (λ (t : is_named o n x ≡ true). let d : Some (length l) ≡ None = rw t at e in let z : ◌≡◌ {A = ℕ} 0 1 = cc in omega arith)
     (λ (t : is_named o n x ≡ false).
     elim (ℕ_discrete k (length l)) [
       | yes z ↦
@@ -62,20 +60,25 @@ module _ {texts bind : List ℕ} {count k : ℕ} where
   pub rule_table : HasRule texts bind count k → SoundBindings texts bind count
   rule_table w = record { log = w.log; held = w.held }
 
-  module _ (w : HasRule texts bind count k) {name : List ℕ} (v : (log : List Logged) (n : ℕ) → HoldsBindings log texts bind n → k < n → name ≡ (entry_at k log).name) {f : FoundEntry}
+  module _ (w : HasRule texts bind count k) {name : List ℕ} (v : (log : List Logged) (n : ℕ) → HoldsBindings log texts bind n → k < n → name ≡ (entry_at k log).name) {f : Option ℕ}
       (q : (log : List Logged) → HoldsBindings log texts bind count → f ≡ newest of_rules name log) where
     found : (log : List Logged) → HoldsBindings log texts bind count → newest of_rules (entry_at k log).name log ≡ f
     found log h = sym (q log h ∙ rw (v log count h w.below))
 
-    pub declares_at : {j : ℕ} → f ≡ At j → Declares texts bind count k j
+    declares_at : {j : ℕ} → f ≡ Some j → Declares texts bind count k j
     declares_at e = record { newest = λ log h o. found log h ∙ e }
 
-    pub declares_missing : {r : ℕ} → f ≡ Missing → Declares texts bind count k r
+    declares_missing : {r : ℕ} → f ≡ None → Declares texts bind count k r
     declares_missing e =
         record {
           newest = λ log h o.
               absurd (newest_some of_rules (entry_at k log).name log k (omega (arith, w.below, h.rows.counted)) o refl (found log h ∙ e));
         }
+
+  pub declares_or : HasRule texts bind count k → {name : List ℕ} → ((log : List Logged) (n : ℕ) → HoldsBindings log texts bind n → k < n → name ≡ (entry_at k log).name)
+      → (f : Option ℕ) → ((log : List Logged) → HoldsBindings log texts bind count → f ≡ newest of_rules name log) → Declares texts bind count k (unwrap_or f k)
+  declares_or w v (Some j) q = declares_at w v q refl
+  declares_or w v None q = declares_missing w v q refl
 
 -- the rule of a step that is not phony
 record Rules (log : List Logged) (rule : List ℕ) (k : ℕ) : Type 0 where
@@ -195,7 +198,7 @@ module _ {texts bind graph : List ℕ} {c : Counts} {step k scope : ℕ} (w : Pi
   module _ {rule outs ins rest : ℕ} (d : Declares texts bind c.entries k rule) (o : outs ≡ outputs_from graph step) (i : ins ≡ end_in graph step outs_end)
       (e : rest ≡ end_in graph step ins_end) where
     module _ {log : List Logged} {rd : Reading} (b : HoldsBound log texts bind c rd) (g : Graphed log graph c rd) where
-      rule_found : newest of_rules (step_at rd.steps step).rule log ≡ At rule
+      rule_found : newest of_rules (step_at rd.steps step).rule log ≡ Some rule
       rule_found = let r = rules_of_law b g in rw (← r.name) (d.newest log b.held r.owner)
 
       keys_found : keys_of (step_at rd.steps step).rule rd.rules ≡ bound_by (of_keys rule) log
@@ -239,21 +242,21 @@ or_right_true true = refl
 or_right_true false = refl
 
 module _ (texts bind graph : List ℕ) (c : Counts) (step : ℕ) where
-  pub step_missing : c.steps ≤ step → AsksStep texts bind graph c step NoCommand
+  pub step_missing : c.steps ≤ step → AsksStep texts bind graph c step None
   unfolding AsksStep
   step_missing h log rd b g = rw (le-leb (length rd.steps) step (omega (arith, b.steps_counted)))
 
-  pub step_picked : {a : Asked} → Picks texts bind graph c step a → AsksStep texts bind graph c step (Step a)
+  pub step_picked : {a : Asked} → Picks texts bind graph c step a → AsksStep texts bind graph c step (Some a)
   unfolding AsksStep
   step_picked p = p
 
   -- what the answer says
-  pub asked_none : {r : StepAsked} → AsksStep texts bind graph c step r → r ≡ NoCommand
+  pub asked_none : {r : Option Asked} → AsksStep texts bind graph c step r → r ≡ None
       → (log : List Logged) (rd : Reading) → HoldsBound log texts bind c rd → Graphed log graph c rd → leb (length rd.steps) step || is_phony (step_at rd.steps step).rule ≡ true
   unfolding AsksStep
   asked_none p e = rw e at p
 
-  pub asked_step : {r : StepAsked} {a : Asked} → AsksStep texts bind graph c step r → r ≡ Step a → Picks texts bind graph c step a
+  pub asked_step : {r : Option Asked} {a : Asked} → AsksStep texts bind graph c step r → r ≡ Some a → Picks texts bind graph c step a
   unfolding AsksStep
   asked_step p e = rw e at p
 
@@ -262,7 +265,7 @@ module _ {texts bind graph : List ℕ} {c : Counts} {step : ℕ} where
     pub rule_place : rule_start + step < length graph
     rule_place = let k = in_graph w.bound w.graphed h in omega (arith, k.low, k.long)
 
-    pub step_phony : {m : ℕ} → m ≡ get_or graph (rule_start + step) 0 → m % scope_unit ≡ 0 → AsksStep texts bind graph c step NoCommand
+    pub step_phony : {m : ℕ} → m ≡ get_or graph (rule_start + step) 0 → m % scope_unit ≡ 0 → AsksStep texts bind graph c step None
     unfolding AsksStep
     step_phony e z log rd b g = rw (is_phony_law b g h (rw e at z)) (or_right_true (leb (length rd.steps) step))
 

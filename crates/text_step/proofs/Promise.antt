@@ -1,4 +1,5 @@
 -- For the text ask: from the manifest to the promise, once the manifest was read.
+use Rattle.std.specs.Prelude.{Result, Err}
 use Prim.Native.Nat.{ℕ, ◌≤◌}
 use mathlib.Core.List.{List, []}
 use mathlib.Core.Bool.{false}
@@ -8,8 +9,6 @@ use borrow.Author.Tests.{le-ltb, ne_eqb}
 use lib.Dec.{ltb}
 use lib.ListN.{length}
 use Rattle.spec.specs.declared.Refusal.{Refusal}
-use Rattle.spec.specs.declared.TextAnswer.{TextAnswer}
-use Rattle.spec.specs.declared.TextAnswer.TheVariants.{Refused}
 use Rattle.spec.specs.declared.Wanted.{Wanted}
 use Rattle.spec.specs.Limits.{max_text}
 use Rattle.spec.specs.Answers.{number_of_refusal, text_says}
@@ -35,14 +34,14 @@ module _ (manifest before : List ℕ) (h : max_text ≤ length before) where
     pub text_asked : {t : List ℕ} → t ≡ classes → TextAsk t bs c before
     text_asked q = record { table = q; room = h; log = log; reading = rd; holds = k; sound = accepted_sound manifest rd e }
 
-    pub text_promised : {step : ℕ} {wanted : Wanted} {r : TextAnswer} {after : List ℕ} → TextOf bs c step wanted before after r
+    pub text_promised : {step : ℕ} {wanted : Wanted} {r : Result ℕ Refusal} {after : List ℕ} → TextOf bs c step wanted before after r
         → TextPromise manifest step wanted before r after
     unfolding text_ask text_read
     text_promised p = rw (enough, e) (p.meets log rd k)
 
   -- 19, 2 to 10, and a cleared buffer
   pub refusal_promised : (step : ℕ) (wanted : Wanted) {r : Refusal} {after : List ℕ} → read_manifest manifest ≡ refused_with r → after ≡ filled [] before
-      → TextPromise manifest step wanted before (Refused r) after
+      → TextPromise manifest step wanted before (Err r) after
   unfolding text_ask text_read TextMeets text_says left_by
   refusal_promised step wanted {r} e z =
       let b = past_1 (of_reading manifest e) in

@@ -1,8 +1,6 @@
 -- What the text of a step asks of what was read, and what it promises.
-use Rattle.std.specs.Prelude.{ℕ, ◌≤◌, List, [], false, ◌≡◌, length, take}
+use Rattle.std.specs.Prelude.{ℕ, ◌≤◌, List, [], false, ◌≡◌, length, take, Result, Ok, Err}
 use Rattle.spec.specs.declared.Key.{Key}
-use Rattle.spec.specs.declared.TextAnswer.{TextAnswer}
-use Rattle.spec.specs.declared.TextAnswer.TheVariants.{Written, Refused}
 use Rattle.spec.specs.declared.Wanted.{Wanted}
 use Rattle.spec.specs.Limits.{max_text}
 use Rattle.spec.specs.Answers.{text_says}
@@ -20,6 +18,7 @@ use Rattle.text_lookup.specs.declared.Asked.{Asked}
 use Rattle.text_buffer.specs.Puts.{PutsText}
 use Rattle.text_expansion.specs.Here.{Here}
 use Rattle.hold_reading.specs.Buffers.{Buffers}
+use Rattle.spec.specs.declared.Refusal.{Refusal}
 
 -- ------------------------------------------------------------------ one step
 
@@ -47,12 +46,12 @@ pub record TextStands (o : TextOutcome) (n : ℕ) (after : List ℕ) : Type 0 wh
   pub is : o ≡ text (take n after)
   pub within : n ≤ length after
 
-unfoldable pub AnswersText : TextOutcome → List ℕ → TextAnswer → Type 0
-AnswersText o after (Written n) = TextStands o n after
-AnswersText o after (Refused r) = o ≡ no_text r
+unfoldable pub AnswersText : TextOutcome → List ℕ → Result ℕ Refusal → Type 0
+AnswersText o after (Ok n) = TextStands o n after
+AnswersText o after (Err r) = o ≡ no_text r
 
 -- 16, 17 or the text of a key, and the whole buffer, for the step of the number asked for in any reading that has it there
-pub record TextAt (bs : Buffers) (a : Asked) (key : Key) (before after : List ℕ) (r : TextAnswer) : Type 0 where
+pub record TextAt (bs : Buffers) (a : Asked) (key : Key) (before after : List ℕ) (r : Result ℕ Refusal) : Type 0 where
   pub meets : (log : List Logged) (rd : Reading) → Here bs a log rd (step_at rd.steps a.step)
       → TextMeets (name_outcome a.step (key_name key) rd) before (text_says r) after
   pub answers : (log : List Logged) (rd : Reading) → Here bs a log rd (step_at rd.steps a.step) → AnswersText (name_outcome a.step (key_name key) rd) after r
@@ -69,6 +68,6 @@ pub record TextAsk (t : List ℕ) (bs : Buffers) (c : Counts) (buffer : List ℕ
   pub sound : SoundRules reading
 
 -- The answer and the whole buffer are what document 01 says, whatever reading is held.
-pub record TextOf (bs : Buffers) (c : Counts) (step : ℕ) (wanted : Wanted) (before after : List ℕ) (r : TextAnswer) : Type 0 where
+pub record TextOf (bs : Buffers) (c : Counts) (step : ℕ) (wanted : Wanted) (before after : List ℕ) (r : Result ℕ Refusal) : Type 0 where
   pub meets : (log : List Logged) (rd : Reading) → HoldsReading log bs c rd
       → TextMeets (text_of_step step (wanted_name wanted) rd) before (text_says r) after

@@ -1,5 +1,5 @@
 -- The step that a text is asked of, in the table of bindings and the columns of the graph.
-use Rattle.std.specs.Prelude.{ℕ, ◌+◌, ◌-◌, ◌/◌, ◌%◌, ◌≤◌, ◌<◌, List, true, false, ◌||◌, ◌≡◌, leb, eqb, length, get_or}
+use Rattle.std.specs.Prelude.{ℕ, ◌+◌, ◌-◌, ◌/◌, ◌%◌, ◌≤◌, ◌<◌, List, true, false, ◌||◌, ◌≡◌, leb, eqb, length, get_or, Option, Some, None}
 use Rattle.lists.specs.Tests.{if_b}
 use Rattle.lists.specs.Parts.{part}
 use Rattle.spec.specs.Limits.{max_steps}
@@ -7,14 +7,11 @@ use Rattle.spec.specs.Reading.{Reading, is_phony, keys_of}
 use Rattle.spec.specs.Graph.{step_at}
 use Rattle.spec.specs.Text.{deep}
 use Rattle.hold_columns.specs.Columns.{last_end}
-use Rattle.hold_bindings.specs.declared.FoundEntry.TheVariants.{At}
 use Rattle.hold_bindings.specs.Log.{Logged, of_rules, of_keys, entry_at, newest, bound_by}
 use Rattle.hold_bindings.specs.Held.{max_entries, HoldsBindings}
 use Rattle.hold_reading.specs.declared.Counts.{Counts}
 use Rattle.hold_reading.specs.Held.{HoldsBound, end_in, rule_start, defaults_start, scope_unit, Graphed}
 use Rattle.text_lookup.specs.declared.Asked.{Asked}
-use Rattle.text_step.specs.declared.StepAsked.{StepAsked}
-use Rattle.text_step.specs.declared.StepAsked.TheVariants.{NoCommand, Step}
 
 -- ------------------------------------------------------------------ its rule
 
@@ -26,7 +23,7 @@ pub record HasRule (texts bind : List ℕ) (count k : ℕ) : Type 0 where
 
 -- Entry r is the newest declaration of the name that entry k declares.
 pub record Declares (texts bind : List ℕ) (count k r : ℕ) : Type 0 where
-  pub newest : (log : List Logged) → HoldsBindings log texts bind count → (entry_at k log).owner ≡ of_rules → newest of_rules (entry_at k log).name log ≡ At r
+  pub newest : (log : List Logged) → HoldsBindings log texts bind count → (entry_at k log).owner ≡ of_rules → newest of_rules (entry_at k log).name log ≡ Some r
 
 -- ------------------------------------------------------------------ its files
 
@@ -81,7 +78,7 @@ pub record ReadingHeld (texts bind graph : List ℕ) (c : Counts) : Type 0 where
   pub graphed : Graphed log graph c reading
 
 -- "no such step, or it is phony" (18), or the step
-unfoldable pub AsksStep : List ℕ → List ℕ → List ℕ → Counts → ℕ → StepAsked → Type 0
-AsksStep texts bind graph c step NoCommand =
+unfoldable pub AsksStep : List ℕ → List ℕ → List ℕ → Counts → ℕ → Option Asked → Type 0
+AsksStep texts bind graph c step None =
     (log : List Logged) (rd : Reading) → HoldsBound log texts bind c rd → Graphed log graph c rd → leb (length rd.steps) step || is_phony (step_at rd.steps step).rule ≡ true
-AsksStep texts bind graph c step (Step a) = Picks texts bind graph c step a
+AsksStep texts bind graph c step (Some a) = Picks texts bind graph c step a

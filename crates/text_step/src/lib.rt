@@ -6,13 +6,13 @@ ghost use Rattle.spec.specs.Text.{key_name, spelled_by, spelling_for};
 ghost use Rattle.spec.specs.TextAsk.{wanted_key};
 ghost use Rattle.text_expansion.specs.Asks.{spelling};
 ghost use Rattle.text_step.specs.Asks.{StepAsk, WholeAsk, WritesWhole, TextAt, TextAsk, TextOf};
-ghost use Rattle.hold_reading.specs.Buffers.{buffers};
+ghost use Rattle.hold_reading.specs.ReadBuffers.{buffers_of};
 
 use hold_keys::{key_name, key_names, number_of};
-use hold_reading::Counts;
+use hold_reading::{Counts, ReadBuffers};
 use slices::bytes::zero_bytes_from;
 use spec::limits::TEXT;
-use spec::{Key, Refusal, TextAnswer, Wanted};
+use spec::{Key, Refusal, Wanted};
 use steps::asked;
 use text_expansion::write_name;
 use text_lookup::Asked;
@@ -20,13 +20,6 @@ use text_memo::blank;
 use text_recursion::leads_back;
 
 pub mod steps;
-
-// "no such step, or it is phony" (18), or the step.
-#[derive(Clone, Copy)]
-pub enum StepAsked {
-    NoCommand,
-    Step(Asked),
-}
 
 // The text that is asked for: of which step, and which of its two.
 #[derive(Clone, Copy)]
@@ -36,22 +29,12 @@ pub struct StepText {
 }
 
 // Writes the text of a name into an empty buffer, and gives where it ends.
-fn write_whole(
-    t: &[u8; 256],
-    names: &[u8],
-    index: &[u32],
-    texts: &[u8],
-    bind: &[u32],
-    graph: &[u32],
-    a: Asked,
-    name: &[u8],
-    buffer: &mut [u8],
-) -> usize
-    requires { WholeAsk t.now (buffers names.now index.now texts.now bind.now graph.now) a name.now buffer.old }
-    ensures { WritesWhole (buffers names.now index.now texts.now bind.now graph.now) a (spelling a) name.now buffer.old buffer.new result }
+fn write_whole(t: &[u8; 256], read: &ReadBuffers, a: Asked, name: &[u8], buffer: &mut [u8]) -> usize
+    requires { WholeAsk t.now (buffers_of read.now) a name.now buffer.old }
+    ensures { WritesWhole (buffers_of read.now) a (spelling a) name.now buffer.old buffer.new result }
 {
     let d = blank();
-    let x = write_name(t, names, index, texts, bind, graph, a, name, buffer, d);
+    let x = write_name(t, read, a, name, buffer, d);
     x.at
 }
 
@@ -69,63 +52,39 @@ fn is_plain(key: Key) -> bool
 }
 
 // Writes the text of a key.
-fn write_key(
-    t: &[u8; 256],
-    names: &[u8],
-    index: &[u32],
-    texts: &[u8],
-    bind: &[u32],
-    graph: &[u32],
-    a: Asked,
-    key: Key,
-    buffer: &mut [u8],
-) -> usize
-    requires { WholeAsk t.now (buffers names.now index.now texts.now bind.now graph.now) a (key_name key) buffer.old }
-    ensures { WritesWhole (buffers names.now index.now texts.now bind.now graph.now) a (spelling_for (key_name key)) (key_name key) buffer.old buffer.new result }
+fn write_key(t: &[u8; 256], read: &ReadBuffers, a: Asked, key: Key, buffer: &mut [u8]) -> usize
+    requires { WholeAsk t.now (buffers_of read.now) a (key_name key) buffer.old }
+    ensures { WritesWhole (buffers_of read.now) a (spelling_for (key_name key)) (key_name key) buffer.old buffer.new result }
 {
     let keys = key_names();
     let k = number_of(key);
     let plain = is_plain(key);
     let spelt = Asked { plain, ..a };
-    write_whole(
-        t,
-        names,
-        index,
-        texts,
-        bind,
-        graph,
-        spelt,
-        key_name(&keys, k),
-        buffer,
-    )
+    write_whole(t, read, spelt, key_name(&keys, k), buffer)
 }
 
 // 16, 17, or the text of a key with zeros beyond, for a step that is there and no phony.
 pub fn text_at(
     t: &[u8; 256],
-    names: &[u8],
-    index: &[u32],
-    texts: &[u8],
-    bind: &[u32],
-    graph: &[u32],
+    read: &ReadBuffers,
     a: Asked,
     key: Key,
     buffer: &mut [u8],
-) -> TextAnswer
-    requires { StepAsk t.now (buffers names.now index.now texts.now bind.now graph.now) a buffer.old }
-    ensures { TextAt (buffers names.now index.now texts.now bind.now graph.now) a key buffer.old buffer.new result }
+) -> Result<usize, Refusal>
+    requires { StepAsk t.now (buffers_of read.now) a buffer.old }
+    ensures { TextAt (buffers_of read.now) a key buffer.old buffer.new result }
 {
-    if leads_back(t, texts, bind, a, key) {
+    if leads_back(t, read.texts, read.bind, a, key) {
         zero_bytes_from(buffer, 0);
-        return TextAnswer::Refused(Refusal::EndlessText(a.step));
+        return Err(Refusal::EndlessText(a.step));
     }
-    let n = write_key(t, names, index, texts, bind, graph, a, key, buffer);
+    let n = write_key(t, read, a, key, buffer);
     if TEXT < n {
         zero_bytes_from(buffer, 0);
-        return TextAnswer::Refused(Refusal::LongText(a.step));
+        return Err(Refusal::LongText(a.step));
     }
     zero_bytes_from(buffer, n);
-    TextAnswer::Written(n)
+    Ok(n)
 }
 
 fn wanted_key(wanted: Wanted) -> Key
@@ -140,28 +99,19 @@ fn wanted_key(wanted: Wanted) -> Key
 // The text of a step: "18, 16, 17 for a text", or the text with zeros beyond.
 pub fn text_of(
     t: &[u8; 256],
-    names: &[u8],
-    index: &[u32],
-    texts: &[u8],
-    bind: &[u32],
-    graph: &[u32],
+    read: &ReadBuffers,
     c: Counts,
     x: StepText,
     buffer: &mut [u8],
-) -> TextAnswer
-    requires { TextAsk t.now (buffers names.now index.now texts.now bind.now graph.now) c buffer.old }
-    ensures { TextOf (buffers names.now index.now texts.now bind.now graph.now) c x.step x.wanted buffer.old buffer.new result }
+) -> Result<usize, Refusal>
+    requires { TextAsk t.now (buffers_of read.now) c buffer.old }
+    ensures { TextOf (buffers_of read.now) c x.step x.wanted buffer.old buffer.new result }
 {
-    let step = x.step;
-    match asked(texts, bind, graph, c, step) {
-        StepAsked::NoCommand => {
-            zero_bytes_from(buffer, 0);
-            TextAnswer::Refused(Refusal::NoCommand(step))
-        }
-        StepAsked::Step(a) => {
-            let wanted = x.wanted;
-            let key = wanted_key(wanted);
-            text_at(t, names, index, texts, bind, graph, a, key, buffer)
-        }
-    }
+    let StepText { step, wanted } = x;
+    let Some(a) = asked(read.texts, read.bind, read.graph, c, step) else {
+        zero_bytes_from(buffer, 0);
+        return Err(Refusal::NoCommand(step));
+    };
+    let key = wanted_key(wanted);
+    text_at(t, read, a, key, buffer)
 }

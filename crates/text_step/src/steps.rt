@@ -2,8 +2,7 @@
 ghost use Rattle.std.specs.Prelude.{◌≡◌};
 ghost use Rattle.text_step.specs.Steps.{HasRule, Declares, outputs_from, InGraph, PickAsk, Picks, ReadingHeld, AsksStep};
 
-use crate::StepAsked;
-use hold_bindings::{FoundEntry, entry_name, newest};
+use hold_bindings::{entry_name, newest};
 use hold_columns::{INS_END, LAST_END, OUTS_END};
 use hold_reading::Counts;
 use hold_reading::columns::{RULE_START, SCOPE_UNIT, step_end};
@@ -16,10 +15,7 @@ fn declaration(texts: &[u8], bind: &[u32], count: usize, k: usize) -> usize
     requires { HasRule texts.now bind.now count k }
     ensures { Declares texts.now bind.now count k result }
 {
-    match newest(texts, bind, count, 1, entry_name(texts, bind, k)) {
-        FoundEntry::At(j) => j,
-        FoundEntry::Missing => k,
-    }
+    newest(texts, bind, count, 1, entry_name(texts, bind, k)).unwrap_or(k)
 }
 
 // Where the mentions of a step start: where those of the step before it end.
@@ -64,17 +60,18 @@ fn picked(
     }
 }
 
-pub fn asked(texts: &[u8], bind: &[u32], graph: &[u32], c: Counts, step: usize) -> StepAsked
+// The step that is asked for; `None` where there is no such step, or it is phony (18).
+pub fn asked(texts: &[u8], bind: &[u32], graph: &[u32], c: Counts, step: usize) -> Option<Asked>
     requires { ReadingHeld texts.now bind.now graph.now c }
     ensures { AsksStep texts.now bind.now graph.now c step result }
 {
     if c.steps <= step {
-        return StepAsked::NoCommand;
+        return None;
     }
     let both = at(graph, RULE_START + step);
     let rule = both % SCOPE_UNIT;
     if rule == 0 {
-        return StepAsked::NoCommand;
+        return None;
     }
-    StepAsked::Step(picked(texts, bind, graph, c, step, rule - 1, both / SCOPE_UNIT))
+    Some(picked(texts, bind, graph, c, step, rule - 1, both / SCOPE_UNIT))
 }

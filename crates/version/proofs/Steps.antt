@@ -1,4 +1,5 @@
 -- What each byte does to the number under way, and what a caller of `number` learns.
+use Rattle.std.specs.Prelude.{Option, Some, None}
 use Prim.Native.Nat.{ℕ, ◌+◌, ◌-◌, ◌*◌, ◌≤◌, ◌<◌}
 use mathlib.Core.Bool.{true, false}
 use mathlib.Core.List.{List, [], ◌∷◌}
@@ -8,11 +9,9 @@ use native.Mathlib.Omega.{arith}
 use borrow.Author.Tests.{le-leb, lt-leb, leb-true, eq-eqb, ne_eqb}
 use lib.Dec.{leb, eqb}
 use lib.ListN.{length, drop, get_or, drop_of_length-le}
-use lib.Seq.{drop-cons}
+use lib.Seq.{drop-cons, drop-length}
 use Rattle.lists.specs.Tests.{split, and_left, and_right}
 use Rattle.version.specs.Version.{version_dot, version_digit, Number, value, none, in_range, number_from, number}
-use Rattle.version.specs.declared.Part.{Part}
-use Rattle.version.specs.declared.Part.TheVariants.{Value, Malformed}
 use Rattle.version.specs.Part.{part_of}
 
 -- The loop's state: n is what the bytes before i give.
@@ -50,9 +49,9 @@ module _ (s : List ℕ) (from : ℕ) (h : from < length s) where
   begin d = record { small = omega arith; rest = rw (drop-cons s from 0 h, d) }
 
 module _ {s : List ℕ} {from n i : ℕ} (r : Reading s from n i) where
-  pub at_end : length s ≤ i → value n (drop i s) ≡ number (drop from s)
+  pub at_end : length s ≤ i → value n (drop (length s) s) ≡ number (drop from s)
   unfolding number_from in_range
-  at_end h = rw (r.rest, drop_of_length-le s {i = i} h, le-leb _ _ r.small)
+  at_end h = rw (r.rest, drop_of_length-le s {i = i} h, drop-length s, le-leb _ _ r.small)
 
   module _ (h : i < length s) where
     pub at_dot : get_or s i 0 ≡ version_dot → value n (drop i s) ≡ number (drop from s)
@@ -76,12 +75,12 @@ module _ {s : List ℕ} {from n i : ℕ} (r : Reading s from n i) where
         more o = record { small = o; rest = step }
 
 -- What a call of `number` gave, as its caller goes on: no number, the last one, or one with a byte after it.
-module _ (s : List ℕ) {p : Part} {m : Number} (e : part_of s p ≡ m) where
-  pub none_read : p ≡ Malformed → m ≡ none
+module _ (s : List ℕ) {p : Option (ℕ × ℕ)} {m : Number} (e : part_of s p ≡ m) where
+  pub none_read : p ≡ None → m ≡ none
   unfolding part_of
   none_read q = sym e ∙ ap (part_of s) q
 
-  module _ {n i : ℕ} (q : p ≡ Value n i) where
+  module _ {n i : ℕ} (q : p ≡ Some (n, i)) where
     pub last_read : length s ≤ i → m ≡ value n []
     unfolding part_of
     last_read h = sym e ∙ ap (part_of s) q ∙ ap (value n) (drop_of_length-le s {i = i} h)

@@ -1,22 +1,21 @@
 -- Worked cases of the definitions.
-use Rattle.std.specs.Prelude.{true, false, ◌≡◌, refl}
+use Rattle.std.specs.Prelude.{true, false, ◌≡◌, refl, Some, None}
 use Rattle.lists.specs.Text.{bytes}
-use Rattle.version.specs.declared.ReadVersion.TheVariants.{Read, Malformed}
 use Rattle.version.specs.Version.{version, version_digit, in_range, number_from, number, patch_from, minor_from, major_from, read_version, above, too_new, refused_version}
 
 -- What is read.
 reads :
-    (read_version (bytes "1.5") ≡ Read (version 1 5 0))
-    × (read_version (bytes "7") ≡ Read (version 7 0 0))
-    × (read_version (bytes "000000001.05.10") ≡ Read (version 1 5 10))
-    × (read_version (bytes "65535") ≡ Read (version 65535 0 0))
-    × (read_version (bytes "65536") ≡ Malformed)
-    × (read_version (bytes "1.2.3.4") ≡ Malformed)
-    × (read_version (bytes "") ≡ Malformed)
-    × (read_version (bytes "1.") ≡ Malformed)
-    × (read_version (bytes ".5") ≡ Malformed)
-    × (read_version (bytes "1..5") ≡ Malformed)
-    × (read_version (bytes "1.5 ") ≡ Malformed)
+    (read_version (bytes "1.5") ≡ Some (version 1 5 0))
+    × (read_version (bytes "7") ≡ Some (version 7 0 0))
+    × (read_version (bytes "000000001.05.10") ≡ Some (version 1 5 10))
+    × (read_version (bytes "65535") ≡ Some (version 65535 0 0))
+    × (read_version (bytes "65536") ≡ None)
+    × (read_version (bytes "1.2.3.4") ≡ None)
+    × (read_version (bytes "") ≡ None)
+    × (read_version (bytes "1.") ≡ None)
+    × (read_version (bytes ".5") ≡ None)
+    × (read_version (bytes "1..5") ≡ None)
+    × (read_version (bytes "1.5 ") ≡ None)
 unfolding version_digit in_range number_from number patch_from minor_from major_from read_version
 reads = (refl, refl, refl, refl, refl, refl, refl, refl, refl, refl, refl)
 

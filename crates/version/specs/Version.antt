@@ -1,10 +1,8 @@
 -- The version that a manifest asks for: how it is read, and how two are compared. Quotations are of the scope's rules.
-use Rattle.std.specs.Prelude.{ℕ, ◌+◌, ◌-◌, ◌*◌, Bool, true, false, ◌&&◌, List, [], ◌∷◌, ◌≡◌, refl, leb, ltb, eqb}
+use Rattle.std.specs.Prelude.{ℕ, ◌+◌, ◌-◌, ◌*◌, Bool, true, false, ◌&&◌, List, [], ◌∷◌, ◌≡◌, refl, leb, ltb, eqb, Option, Some, None}
 use Rattle.std.proofs.Common.{zero-le, le-ltb}
 use Rattle.lists.specs.Tests.{if_b}
 use Rattle.version.specs.declared.Version.{Version}
-use Rattle.version.specs.declared.ReadVersion.{ReadVersion}
-use Rattle.version.specs.declared.ReadVersion.TheVariants.{Read, Malformed}
 
 abbrev pub version_dot : ℕ
 version_dot = 46
@@ -43,25 +41,25 @@ version a b c = record { major = a; minor = b; patch = c }
 
 -- A version by what was read as its third number, then its second, then its first. A number ends at the end or at a version_dot,
 -- after which the next one begins; after the third nothing may stand.
-unfoldable pub patch_from : ℕ → ℕ → Number → ReadVersion
-patch_from a b none = Malformed
-patch_from a b (value c []) = Read (version a b c)
-patch_from a b (value c (d ∷ s)) = Malformed
+unfoldable pub patch_from : ℕ → ℕ → Number → Option Version
+patch_from a b none = None
+patch_from a b (value c []) = Some (version a b c)
+patch_from a b (value c (d ∷ s)) = None
 
-unfoldable pub minor_from : ℕ → Number → ReadVersion
+unfoldable pub minor_from : ℕ → Number → Option Version
 unfolding number patch_from
-minor_from a none = Malformed
-minor_from a (value b []) = Read (version a b 0)
+minor_from a none = None
+minor_from a (value b []) = Some (version a b 0)
 minor_from a (value b (d ∷ s)) = patch_from a b (number s)
 
-unfoldable pub major_from : Number → ReadVersion
+unfoldable pub major_from : Number → Option Version
 unfolding number minor_from
-major_from none = Malformed
-major_from (value a []) = Read (version a 0 0)
+major_from none = None
+major_from (value a []) = Some (version a 0 0)
 major_from (value a (d ∷ s)) = minor_from a (number s)
 
 -- "one to three decimal numbers with dots, each 0 to 65,535 (leading zeros allowed), absent ones 0"
-unfoldable pub read_version : List ℕ → ReadVersion
+unfoldable pub read_version : List ℕ → Option Version
 unfolding number major_from
 read_version s = major_from (number s)
 
@@ -80,10 +78,10 @@ abbrev pub least : Version
 least = version 0 0 0
 
 -- Refusal 10, "version malformed or above OURS", of what was read, and of the bytes.
-unfoldable pub too_new : ReadVersion → Bool
+unfoldable pub too_new : Option Version → Bool
 unfolding above
-too_new (Read v) = above v ours
-too_new Malformed = true
+too_new (Some v) = above v ours
+too_new None = true
 
 unfoldable pub refused_version : List ℕ → Bool
 unfolding too_new read_version

@@ -12,67 +12,50 @@ pub struct Version {
     pub patch: u32,
 }
 
-#[derive(Clone, Copy)]
-pub enum ReadVersion {
-    Read(Version),
-    Malformed,
-}
-
-// One number of a version: its value, and where the bytes after it start.
-#[derive(Clone, Copy)]
-pub enum Part {
-    Value(u32, usize),
-    Malformed,
-}
-
+#[tactic(auto, unfolding(crate::specs::Version::version_digit))]
 fn is_digit(b: u8) -> bool
     ensures { result ≡ version_digit b }
 {
-    48 <= b && b <= 57
+    b.is_ascii_digit()
 }
 
-// The number that starts at `from`.
-fn number(s: &[u8], from: usize) -> Part
+// The number that starts at `from`, and the place of what stands behind it; None if there is none or it is too great.
+fn number(s: &[u8], from: usize) -> Option<(u32, usize)>
     ensures { part_of s.now result ≡ number (drop from s.now) }
 {
     if s.len() <= from {
-        return Part::Malformed;
+        return None;
     }
     let first = s[from];
     if !is_digit(first) {
-        return Part::Malformed;
+        return None;
     }
     let mut n: u32 = 0;
-    let mut i = from;
-    while i < s.len() {
+    for i in from..s.len() {
         let b = s[i];
         if b == b'.' {
-            return Part::Value(n, i);
+            return Some((n, i));
         }
         if !is_digit(b) {
-            return Part::Malformed;
+            return None;
         }
-        n = n * 10 + (b - 48) as u32;
+        n = n * 10 + (b - b'0') as u32;
         if 65535 < n {
-            return Part::Malformed;
+            return None;
         }
-        i += 1;
     }
-    Part::Value(n, i)
+    Some((n, s.len()))
 }
 
-// The version whose second number starts at `from`.
-fn minor_from(s: &[u8], from: usize, major: u32) -> ReadVersion
+// The version whose second number starts at `from`, None if it is malformed.
+fn minor_from(s: &[u8], from: usize, major: u32) -> Option<Version>
     ensures { result ≡ minor_from major (number (drop from s.now)) }
 {
-    let second = number(s, from);
-    let Part::Value(minor, i) = second else {
-        return ReadVersion::Malformed;
-    };
+    let (minor, i) = number(s, from)?;
     if i < s.len() {
         return patch_from(s, i + 1, major, minor);
     }
-    ReadVersion::Read(Version {
+    Some(Version {
         major,
         minor,
         ..Version::LEAST
@@ -80,17 +63,14 @@ fn minor_from(s: &[u8], from: usize, major: u32) -> ReadVersion
 }
 
 // The version whose third and last number starts at `from`.
-fn patch_from(s: &[u8], from: usize, major: u32, minor: u32) -> ReadVersion
+fn patch_from(s: &[u8], from: usize, major: u32, minor: u32) -> Option<Version>
     ensures { result ≡ patch_from major minor (number (drop from s.now)) }
 {
-    let third = number(s, from);
-    let Part::Value(patch, end) = third else {
-        return ReadVersion::Malformed;
-    };
+    let (patch, end) = number(s, from)?;
     if end < s.len() {
-        return ReadVersion::Malformed;
+        return None;
     }
-    ReadVersion::Read(Version {
+    Some(Version {
         major,
         minor,
         patch,
@@ -112,17 +92,14 @@ impl Version {
         patch: 0,
     };
 
-    pub fn read(s: &[u8]) -> ReadVersion
+    pub fn read(s: &[u8]) -> Option<Version>
         ensures { result ≡ read_version s.now }
     {
-        let first = number(s, 0);
-        let Part::Value(major, i) = first else {
-            return ReadVersion::Malformed;
-        };
+        let (major, i) = number(s, 0)?;
         if i < s.len() {
             return minor_from(s, i + 1, major);
         }
-        ReadVersion::Read(Version {
+        Some(Version {
             major,
             ..Version::LEAST
         })
@@ -132,13 +109,7 @@ impl Version {
     pub fn above(self, other: Version) -> bool
         ensures { result ≡ above self other }
     {
-        if self.major != other.major {
-            return other.major < self.major;
-        }
-        if self.minor != other.minor {
-            return other.minor < self.minor;
-        }
-        other.patch < self.patch
+        (self.major, self.minor, self.patch) > (other.major, other.minor, other.patch)
     }
 
     // Whether a manifest that asks for this version is refused.
@@ -146,8 +117,8 @@ impl Version {
         ensures { result ≡ refused_version s.now }
     {
         match Version::read(s) {
-            ReadVersion::Read(v) => v.above(Version::OURS),
-            ReadVersion::Malformed => true,
+            Some(v) => v.above(Version::OURS),
+            None => true,
         }
     }
 }

@@ -14,8 +14,11 @@ use mir.Val.{Fits}
 use lib.Seq.{drop-cons, take-add, take-take, take_all}
 use Rattle.lists.specs.Bytes.{less_bytes, less_same, less_lower, less_prefix}
 use Rattle.lists.specs.Order.{order_bytes, less_order, greater_order, equal_order}
-use Rattle.lists.specs.declared.Order.TheVariants.{Less, Equal, Greater}
-use Rattle.windows.specs.Windows.{Byte, high_at, High, Alike, AlikeToEnd}
+use Rattle.std.specs.Cmp.{ranked}
+use Rattle.std.specs.Ordering.{nat_cmp, ordering_then}
+use Rattle.std.specs.declared.cmp.Ordering.{Ordering}
+use Rattle.std.specs.declared.cmp.Ordering.TheVariants.{Less, Equal, Greater}
+use Rattle.windows.specs.Windows.{high_at, High, Alike, AlikeToEnd}
 
 -- ---- the numbers
 
@@ -43,10 +46,12 @@ module _ (s : List ℕ) (at : ℕ) where
       let d : at + 3 + 1 ≡ at + 4 = omega arith in
       rw (high_suc s at (suc (suc (suc size))), high_suc s (at + 1) (suc (suc size)), a, high_suc s (at + 2) (suc size), b, high_suc s (at + 3) size, d)
 
-  pub high_word_is : {b0 b1 b2 b3 : ℕ} → Byte (get_or s at 0) b0 → Byte (get_or s (at + 1) 0) b1 → Byte (get_or s (at + 2) 0) b2 → Byte (get_or s (at + 3) 0) b3 →
-      High s at 4 (b0 * 16777216 + b1 * 65536 + b2 * 256 + b3)
-  high_word_is p0 p1 p2 p3 =
-      record { is = omega (arith, four_high 0, high_zero s (at + 4), p0.same, p1.same, p2.same, p3.same); small = omega (arith, p0.small, p1.small, p2.small, p3.small) }
+  pub high_word_is : Bytes s → High s at 4 (get_or s at 0 * 16777216 + get_or s (at + 1) 0 * 65536 + get_or s (at + 2) 0 * 256 + get_or s (at + 3) 0)
+  high_word_is f =
+      record {
+        is = omega (arith, four_high 0, high_zero s (at + 4));
+        small = omega (arith, (f at).fits, (f (at + 1)).fits, (f (at + 2)).fits, (f (at + 3)).fits);
+      }
 
   pub high_long_is : {h l : ℕ} → High s at 4 h → High s (at + 4) 4 l → High s at 8 (h * 4294967296 + l)
   high_long_is p q =
@@ -163,3 +168,20 @@ module _ {a b : List ℕ} {n : ℕ} (r : AlikeToEnd a b n) (s : Alike a b (n - 8
       sym
       (equal_order a b
       (sym (take_all n a (omega (arith, r.least))) ∙ whole ∙ take_all n b (omega (arith, r.least))))
+
+-- How two numbers, or two lengths, compare, and the answer for the two lists that it is.
+module _ {a b : List ℕ} {i : ℕ} (r : Alike a b i) (fa : Bytes a) (fb : Bytes b) (ha : i + 8 ≤ length a) (hb : i + 8 ≤ length b) {x y : ℕ} (p : High a i 8 x) (q : High b i 8 y) where
+  pub window_differs : (x ≡ y → ⊥) → (o : Ordering) → o ≡ nat_cmp x y → o ≡ order_bytes a b
+  window_differs h Less e = window_lower r fa fb ha hb p q (ranked x y Less e)
+  window_differs h Equal e = absurd (h (ranked x y Equal e))
+  window_differs h Greater e = window_higher r fa fb ha hb p q (ranked x y Greater e)
+
+module _ {a b : List ℕ} {n : ℕ} (r : AlikeToEnd a b n) (fa : Bytes a) (fb : Bytes b) (ha : n - 8 + 8 ≤ length a) (hb : n - 8 + 8 ≤ length b) {x y : ℕ} (p : High a (n - 8) 8 x) (q : High b (n - 8) 8 y) where
+  pub end_order : (o l : Ordering) → o ≡ nat_cmp x y → l ≡ nat_cmp (length a) (length b) → ordering_then o l ≡ order_bytes a b
+  end_order Less l e f = window_lower r.alike fa fb ha hb p q (ranked x y Less e)
+  end_order Greater l e f = window_higher r.alike fa fb ha hb p q (ranked x y Greater e)
+  end_order Equal Less e f = end_shorter r (window_same r.alike fa fb ha hb p q (ranked x y Equal e)) (ranked _ _ Less f)
+  end_order Equal Greater e f = end_longer r (window_same r.alike fa fb ha hb p q (ranked x y Equal e)) (ranked _ _ Greater f)
+  end_order Equal Equal e f =
+      let l : length a ≡ length b = ranked _ _ Equal f in
+      end_same r (window_same r.alike fa fb ha hb p q (ranked x y Equal e)) (omega arith) (omega arith)

@@ -1,10 +1,6 @@
 -- Windows of eight bytes, by which two lists of bytes are compared.
 use Rattle.std.specs.Prelude.{ℕ, zero, suc, ◌+◌, ◌-◌, ◌*◌, ◌^◌, ◌≤◌, ◌<◌, min, List, ◌≡◌, length, take, get_or}
 
-pub record Byte (b r : ℕ) : Type 0 where
-  pub same : r ≡ b
-  pub small : r < 256
-
 -- the number in the `size` bytes at `at` with the first byte highest, and that r is it
 unfoldable pub high_at : ℕ → ℕ → List ℕ → ℕ
 high_at at zero s = 0

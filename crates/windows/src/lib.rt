@@ -1,15 +1,16 @@
-// Slices of bytes compared by eight bytes at a time, since what is compared often begins alike.
+// Slices of bytes compared by eight bytes at a time, since what is compared often begins alike. The library's `cmp`
+// and `==` of slices go byte by byte: it keeps its comparison by words for texts.
 #![tactic(auto)]
 
 ghost use Rattle.std.specs.Prelude.{◌≡◌, ◌+◌, ◌≤◌, min, length};
 ghost use Rattle.lists.specs.Bytes.{eq_bytes};
 ghost use Rattle.lists.specs.Order.{order_bytes};
-ghost use Rattle.windows.specs.Windows.{Byte, High, AlikeToEnd};
+ghost use Rattle.windows.specs.Windows.{High, AlikeToEnd};
 
-use lists::Order;
+use std::cmp::Ordering;
 
 // How two slices compare where the shorter has n bytes, eight at least. The last eight may overlap the eight before.
-pub fn compare_long(a: &[u8], b: &[u8], n: usize) -> Order
+pub fn compare_long(a: &[u8], b: &[u8], n: usize) -> Ordering
     requires { (n ≡ min (length a.now) (length b.now)) × (8 ≤ n) }
     ensures { result ≡ order_bytes a.now b.now }
 {
@@ -17,11 +18,8 @@ pub fn compare_long(a: &[u8], b: &[u8], n: usize) -> Order
     while i + 8 <= n {
         let x = high_long(a, i);
         let y = high_long(b, i);
-        if x < y {
-            return Order::Less;
-        }
-        if y < x {
-            return Order::Greater;
+        if x != y {
+            return x.cmp(&y);
         }
         i += 8;
     }
@@ -33,33 +31,17 @@ pub fn equal_long(a: &[u8], b: &[u8]) -> bool
     requires { (length a.now ≡ length b.now) × (8 ≤ length a.now) }
     ensures { result ≡ eq_bytes a.now b.now }
 {
-    match compare_long(a, b, a.len()) {
-        Order::Less => false,
-        Order::Equal => true,
-        Order::Greater => false,
-    }
+    compare_long(a, b, a.len()).is_eq()
 }
 
 // How they compare where the shorter has n bytes, and at most its last eight differ.
-fn compare_end(a: &[u8], b: &[u8], n: usize) -> Order
+fn compare_end(a: &[u8], b: &[u8], n: usize) -> Ordering
     requires { AlikeToEnd a.now b.now n }
     ensures { result ≡ order_bytes a.now b.now }
 {
     let x = high_long(a, n - 8);
     let y = high_long(b, n - 8);
-    if x < y {
-        return Order::Less;
-    }
-    if y < x {
-        return Order::Greater;
-    }
-    if a.len() < b.len() {
-        return Order::Less;
-    }
-    if b.len() < a.len() {
-        return Order::Greater;
-    }
-    Order::Equal
+    x.cmp(&y).then(a.len().cmp(&b.len()))
 }
 
 // The number in the eight bytes at `at` with the first byte highest, which orders them as bytes are ordered.
@@ -76,11 +58,5 @@ fn high_word(s: &[u8], at: usize) -> usize
     requires { at + 4 ≤ length s.now }
     ensures { High s.now at 4 result }
 {
-    wide(s[at]) * 16777216 + wide(s[at + 1]) * 65536 + wide(s[at + 2]) * 256 + wide(s[at + 3])
-}
-
-fn wide(b: u8) -> usize
-    ensures { Byte b result }
-{
-    b as usize
+    u32::from_be_bytes([s[at], s[at + 1], s[at + 2], s[at + 3]]) as usize
 }

@@ -8,10 +8,10 @@ pub returns-then-not-n : goal.returns-then-not-n
 returns-then-not-n c = placed_outside c.args.bundle.now c.args.n.number c.args.n.value c.args.n.text (not-true _ c.if-not-n.true)
 
 pub spot_of-requires : goal.spot_of-requires
-spot_of-requires c = let asked = spot_asked (opened c.index.ensures c.in-Sound.is) in record { laid_bundle = asked.0; n_value = asked.1 }
+spot_of-requires c = let asked = spot_asked (opened c.index.ensures c.in-Some.is) in record { laid_bundle = asked.0; n_value = asked.1 }
 
-pub returns-in-Sound : goal.returns-in-Sound
-returns-in-Sound c = placed_inside c.args.bundle.now c.args.n.number c.args.n.value c.args.n.text (not-false _ c.if-not-n.false) (opened c.index.ensures c.in-Sound.is).sound c.spot_of.ensures c.at_spot.ensures
+pub returns-in-Some : goal.returns-in-Some
+returns-in-Some c = placed_inside c.args.bundle.now c.args.n.number c.args.n.value c.args.n.text (not-false _ c.if-not-n.false) (opened c.index.ensures c.in-Some.is).sound c.spot_of.ensures c.at_spot.ensures
 
-pub returns-in-Malformed : goal.returns-in-Malformed
-returns-in-Malformed c = placed_malformed c.args.bundle.now c.args.n.number c.args.n.value c.args.n.text (not-false _ c.if-not-n.false) (malformed_is c.index.ensures c.in-Malformed.is)
+pub returns-in-None : goal.returns-in-None
+returns-in-None c = placed_malformed c.args.bundle.now c.args.n.number c.args.n.value c.args.n.text (not-false _ c.if-not-n.false) (malformed_is c.index.ensures c.in-None.is)

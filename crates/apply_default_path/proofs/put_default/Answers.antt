@@ -15,25 +15,22 @@ overflow_add-c c = let limits : Within (length c.args.path.now) c.args.c = path_
 pub put-requires : goal.put-requires
 put-requires c =
     let limits : Within (length c.args.path.now) c.args.c = path_within (length c.args.path.now) c.args.c c.requires.within in
-    (default_room c.requires.files.filed.graphed (limits).few, omega (arith, entry_low c.requires.files.filed c.find_name.ensures c.in-At.is))
+    (default_room c.requires.files.filed.graphed (limits).few, omega (arith, entry_low c.requires.files.filed c.find_name.ensures c.in-Some.is))
 
 pub overflow_add-result : goal.overflow_add-result
 overflow_add-result c = let limits : Within (length c.args.path.now) c.args.c = path_within (length c.args.path.now) c.args.c c.requires.within in
     omega (arith, (limits).few, c.requires.files.filed.graphed.few_mentions)
 
-pub overflow_add-result-in-At : goal.overflow_add-result-in-At
-overflow_add-result-in-At c = let limits : Within (length c.args.path.now) c.args.c = path_within (length c.args.path.now) c.args.c c.requires.within in
+pub overflow_add-result-2 : goal.overflow_add-result-2
+overflow_add-result-2 c = let limits : Within (length c.args.path.now) c.args.c = path_within (length c.args.path.now) c.args.c c.requires.within in
     omega (arith, (limits).few)
 
-pub overflow_add-result-in-At-2 : goal.overflow_add-result-in-At-2
-overflow_add-result-in-At-2 c = let limits : Within (length c.args.path.now) c.args.c = path_within (length c.args.path.now) c.args.c c.requires.within in
+pub overflow_add-result-3 : goal.overflow_add-result-3
+overflow_add-result-3 c = let limits : Within (length c.args.path.now) c.args.c = path_within (length c.args.path.now) c.args.c c.requires.within in
     omega (arith, (limits).low)
 
-pub shape_of-graph : goal.shape_of-graph
-shape_of-graph c = c.put.auto.arena
+pub returns : goal.returns
+returns c = rw c.put.ensures (put_found c.find_name.ensures c.in-Some.is c.requires.within)
 
-pub returns-in-At : goal.returns-in-At
-returns-in-At c = rw c.put.ensures (put_found c.find_name.ensures c.in-At.is c.requires.within)
-
-pub returns-in-Missing : goal.returns-in-Missing
-returns-in-Missing c = put_missing c.find_name.ensures c.in-Missing.is
+pub returns-in_default : goal.returns-in_default
+returns-in_default c = put_missing c.find_name.ensures c.in_default.is

@@ -14,35 +14,35 @@ pub loop-from-init : goal.loop-from-init
 loop-from-init c = (refl, refl, add_begin c.args.s.start c.requires.right c.requires.asks.stands.within)
 
 pub slice_bounds-add_default-count : goal.slice_bounds-add_default-count
-slice_bounds-add_default-count c = let next : PathNext c.args.l.now c.loop-from.i c.in-Path.from c.in-Path.to = goes_on _ _ _ c.next_listed.ensures c.in-Path.is in
+slice_bounds-add_default-count c = let next : PathNext c.args.l.now c.loop-from.i c.in-Some.from c.in-Some.to = goes_on _ _ _ c.next_listed.ensures c.in-Some.is in
     omega (arith, (next).longer)
 
 pub slice_bounds-add_default-start : goal.slice_bounds-add_default-start
-slice_bounds-add_default-start c = let next : PathNext c.args.l.now c.loop-from.i c.in-Path.from c.in-Path.to = goes_on _ _ _ c.next_listed.ensures c.in-Path.is in
+slice_bounds-add_default-start c = let next : PathNext c.args.l.now c.loop-from.i c.in-Some.from c.in-Some.to = goes_on _ _ _ c.next_listed.ensures c.in-Some.is in
     omega (arith, (next).longer, (next).within)
 
 pub slice_bounds-add_default-end : goal.slice_bounds-add_default-end
-slice_bounds-add_default-end c = let next : PathNext c.args.l.now c.loop-from.i c.in-Path.from c.in-Path.to = goes_on _ _ _ c.next_listed.ensures c.in-Path.is in
+slice_bounds-add_default-end c = let next : PathNext c.args.l.now c.loop-from.i c.in-Some.from c.in-Some.to = goes_on _ _ _ c.next_listed.ensures c.in-Some.is in
     omega (arith, (next).within)
 
 pub add_default-requires : goal.add_default-requires
 add_default-requires c =
-    let next : PathNext c.args.l.now c.loop-from.i c.in-Path.from c.in-Path.to = goes_on _ _ _ c.next_listed.ensures c.in-Path.is in
+    let next : PathNext c.args.l.now c.loop-from.i c.in-Some.from c.in-Some.to = goes_on _ _ _ c.next_listed.ensures c.in-Some.is in
     let p = c.requires.asks in
     let w = add_whole c.loop-from.invariant.2 p.stands p.whole in
     record { ready = ready_path p.table p.short (table_held w) (next); room = omega (arith, p.room, c.loop-from.invariant.1); whole = w }
 
 pub loop-from-smaller : goal.loop-from-smaller
-loop-from-smaller c = let next : PathNext c.args.l.now c.loop-from.i c.in-Path.from c.in-Path.to = goes_on _ _ _ c.next_listed.ensures c.in-Path.is in
+loop-from-smaller c = let next : PathNext c.args.l.now c.loop-from.i c.in-Some.from c.in-Some.to = goes_on _ _ _ c.next_listed.ensures c.in-Some.is in
     omega (arith, (next).longer, (next).within, (next).forward)
 
 pub loop-from-preserved : goal.loop-from-preserved
-loop-from-preserved c = let next : PathNext c.args.l.now c.loop-from.i c.in-Path.from c.in-Path.to = goes_on _ _ _ c.next_listed.ensures c.in-Path.is in
-    (search rules, search rules, add_on c.loop-from.invariant.2 (next) c.add_default.ensures.promise c.in-Added.is)
+loop-from-preserved c = let next : PathNext c.args.l.now c.loop-from.i c.in-Some.from c.in-Some.to = goes_on _ _ _ c.next_listed.ensures c.in-Some.is in
+    (search rules, search rules, add_on c.loop-from.invariant.2 (next) c.add_default.ensures.promise c.in-Some-add_default.is)
 
-pub returns-in-Over : goal.returns-in-Over
-returns-in-Over c = let next : PathNext c.args.l.now c.loop-from.i c.in-Path.from c.in-Path.to = goes_on _ _ _ c.next_listed.ensures c.in-Path.is in
-    record { space = (record { long = (search rules) }, record { long = (search rules) }); promise = λ ps w. add_over c.loop-from.invariant.2 (next) c.add_default.ensures.promise c.in-Over.is w }
+pub returns-in_default-add_default : goal.returns-in_default-add_default
+returns-in_default-add_default c = let next : PathNext c.args.l.now c.loop-from.i c.in-Some.from c.in-Some.to = goes_on _ _ _ c.next_listed.ensures c.in-Some.is in
+    record { space = search rules; promise = λ ps w. add_over c.loop-from.invariant.2 (next) c.add_default.ensures.promise c.in_default-add_default.is w }
 
-pub returns-in-Stop : goal.returns-in-Stop
-returns-in-Stop c = record { space = (record { long = (search rules) }, record { long = (search rules) }); promise = λ ps w. add_end c.loop-from.invariant.2 (stops _ _ _ c.next_listed.ensures c.in-Stop.is) w }
+pub returns : goal.returns
+returns c = record { space = search rules; promise = λ ps w. add_end c.loop-from.invariant.2 (stops _ _ _ c.next_listed.ensures c.in_default.is) w }

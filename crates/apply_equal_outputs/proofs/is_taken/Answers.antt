@@ -18,10 +18,10 @@ overflow_add-from c = let a = c.requires.path in omega (arith, a.forward, a.with
 pub insert-requires : goal.insert-requires
 insert-requires c =
     let a = c.requires in
-    (omega (arith, (c.place_for.ensures.free c.in-Free.is).within, length-take c.args.n c.args.table.now), a.room, entry_small a.path)
+    (omega (arith, (c.place_for.ensures.free c.in-Some.is).within, length-take c.args.n c.args.table.now), a.room, entry_small a.path)
 
-pub returns-in-Taken : goal.returns-in-Taken
-returns-in-Taken c = path_taken (c.place_for.ensures.taken c.in-Taken.is)
+pub returns-in_default : goal.returns-in_default
+returns-in_default c = path_taken (c.place_for.ensures.taken c.in_default.is)
 
-pub returns-in-Free : goal.returns-in-Free
-returns-in-Free c = let a = c.requires in path_added (c.place_for.ensures.free c.in-Free.is) a.path a.sorted c.insert.ensures
+pub returns : goal.returns
+returns c = let a = c.requires in path_added (c.place_for.ensures.free c.in-Some.is) a.path a.sorted c.insert.ensures

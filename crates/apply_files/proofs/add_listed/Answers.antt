@@ -1,6 +1,6 @@
 -- `apply_files::add_listed` meets its contract.
 -- the path that was found within the limits
-use mathlib.Core.Path.{refl}
+use borrow.Author.Rules.{rules}
 use native.Mathlib.Omega.{arith}
 use lib.ListN.{length}
 use Rattle.apply_files.proofs.Columns.{graph_long}
@@ -23,38 +23,14 @@ note_first-requires c =
     let n = new_low c.add_listed_name.ensures l w c.in-New.is in
     (n.0, n.1, omega (arith, w.paths_counted, mentions_short w c.args.name.now l), l.few, l.low, graph_long w.columns)
 
-pub shape_of-names-in-Old : goal.shape_of-names-in-Old
-shape_of-names-in-Old c = c.add_listed_name.auto.names
-
-pub shape_of-index-in-Old : goal.shape_of-index-in-Old
-shape_of-index-in-Old c = c.add_listed_name.auto.index
-
-pub shape_of-graph-in-Old : goal.shape_of-graph-in-Old
-shape_of-graph-in-Old c = c.note_again.auto.graph
-
 pub returns-in-Old : goal.returns-in-Old
 returns-in-Old c = let within : Within (length c.args.name.now) c.args.c = path_within _ _ c.requires.within in
-    record { space = (record { long = (c.add_listed_name.auto.names) }, record { long = (c.add_listed_name.auto.index) }, record { long = (c.note_again.auto.graph) }); promise = record { adds = λ texts bind h w. path_old c.add_listed_name.ensures (within) w c.in-Old.is c.note_again.ensures } }
-
-pub shape_of-names-in-New : goal.shape_of-names-in-New
-shape_of-names-in-New c = c.add_listed_name.auto.names
-
-pub shape_of-index-in-New : goal.shape_of-index-in-New
-shape_of-index-in-New c = c.add_listed_name.auto.index
-
-pub shape_of-graph-in-New : goal.shape_of-graph-in-New
-shape_of-graph-in-New c = c.note_first.auto.graph
+    record { space = search rules; promise = record { adds = λ texts bind h w. path_old c.add_listed_name.ensures (within) w c.in-Old.is c.note_again.ensures } }
 
 pub returns-in-New : goal.returns-in-New
 returns-in-New c = let within : Within (length c.args.name.now) c.args.c = path_within _ _ c.requires.within in
-    record { space = (record { long = (c.add_listed_name.auto.names) }, record { long = (c.add_listed_name.auto.index) }, record { long = (c.note_first.auto.graph) }); promise = record { adds = λ texts bind h w. path_new c.add_listed_name.ensures (within) w c.in-New.is c.note_first.ensures } }
-
-pub shape_of-names-in-Full : goal.shape_of-names-in-Full
-shape_of-names-in-Full c = c.add_listed_name.auto.names
-
-pub shape_of-index-in-Full : goal.shape_of-index-in-Full
-shape_of-index-in-Full c = c.add_listed_name.auto.index
+    record { space = search rules; promise = record { adds = λ texts bind h w. path_new c.add_listed_name.ensures (within) w c.in-New.is c.note_first.ensures } }
 
 pub returns-in-Full : goal.returns-in-Full
 returns-in-Full c = let within : Within (length c.args.name.now) c.args.c = path_within _ _ c.requires.within in
-    record { space = (record { long = (c.add_listed_name.auto.names) }, record { long = (c.add_listed_name.auto.index) }, record { long = refl }); promise = record { adds = λ texts bind h w. path_full c.add_listed_name.ensures (within) w c.requires.names_long c.in-Full.is } }
+    record { space = search rules; promise = record { adds = λ texts bind h w. path_full c.add_listed_name.ensures (within) w c.requires.names_long c.in-Full.is } }

@@ -6,8 +6,5 @@ use lib.ListN.{set}
 use Rattle.hold_reading.specs.Held.{made_start}
 use Rattle.apply_files.proofs.note_first.Goals as goal
 
-pub shape_of-graph : goal.shape_of-graph
-shape_of-graph c = c.put-2.auto.arena ∙ c.put.auto.arena
-
 pub returns : goal.returns
 returns c = record { stored = (let a = c.args in c.put-2.ensures ∙ ap (λ (g : List ℕ). set g (made_start + a.c.files) 0) c.put.ensures); counted = refl }

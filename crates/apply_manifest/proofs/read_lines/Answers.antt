@@ -1,27 +1,6 @@
--- src/lib.rt:53:5
 use Rattle.apply_manifest.proofs.Answers.{top_asks, top_read}
 use borrow.Author.Rules.{rules}
 use Rattle.apply_manifest.proofs.read_lines.Goals as goal
-
--- src/lib.rt:54:5
-
--- src/lib.rt:57:15
-
--- src/lib.rt:59:5
-
--- src/lib.rt:40:1
-
--- src/lib.rt:40:1
-
--- src/lib.rt:40:1
-
--- src/lib.rt:40:1
-
--- src/lib.rt:40:1
-
--- src/lib.rt:40:1
-
--- src/lib.rt:40:1
 
 pub clear-requires : goal.clear-requires
 clear-requires c = c.requires.roomy.numbers_room

@@ -1,17 +1,15 @@
 -- `apply_mentions::mention` meets its contract.
 -- past the limits
+use borrow.Author.Rules.{rules}
 use mathlib.Core.Bool.{false}
-use mathlib.Core.Path.{◌≡◌, sym, ◌∙◌, refl}
+use mathlib.Core.Path.{◌≡◌, sym, ◌∙◌}
 use native.Mathlib.Omega.{arith}
 use Rattle.apply_files.specs.Path.{path_over}
 use Rattle.apply_mentions.proofs.Mentioning.{mention_over, path_fits, path_counted, mention_fits, mention_marked}
 use Rattle.apply_mentions.proofs.mention.Goals as goal
 
-pub shape_of-word-then-path_over : goal.shape_of-word-then-path_over
-shape_of-word-then-path_over c = c.expand-n.auto.word
-
 pub returns-then-path_over : goal.returns-then-path_over
-returns-then-path_over c = record { space = (record { names = record { long = refl }; index = record { long = refl }; texts = record { long = refl }; bind = record { long = refl }; graph = record { long = refl } }, record { long = (c.expand-n.auto.word) }); promise = mention_over c.requires c.expand-n.ensures (sym c.path_over.ensures ∙ c.if-path_over.true) }
+returns-then-path_over c = record { space = search rules; promise = mention_over c.requires c.expand-n.ensures (sym c.path_over.ensures ∙ c.if-path_over.true) }
 
 pub slice_bounds-add_path-end : goal.slice_bounds-add_path-end
 slice_bounds-add_path-end c = let inside : path_over c.expand-n.result c.args.c ≡ false = sym c.path_over.ensures ∙ c.if-path_over.false in
@@ -25,18 +23,6 @@ pub add_path-requires : goal.add_path-requires
 add_path-requires c = let inside : path_over c.expand-n.result c.args.c ≡ false = sym c.path_over.ensures ∙ c.if-path_over.false in
     mention_fits c.requires c.expand-n.ensures (inside)
 
-pub shape_of-names : goal.shape_of-names
-shape_of-names c = c.add_path.auto.names
-
-pub shape_of-index : goal.shape_of-index
-shape_of-index c = c.add_path.auto.index
-
-pub shape_of-graph : goal.shape_of-graph
-shape_of-graph c = c.add_path.auto.graph
-
-pub shape_of-word : goal.shape_of-word
-shape_of-word c = c.expand-n.auto.word
-
 pub returns : goal.returns
 returns c = let inside : path_over c.expand-n.result c.args.c ≡ false = sym c.path_over.ensures ∙ c.if-path_over.false in
-    record { space = (record { names = record { long = (c.add_path.auto.names) }; index = record { long = (c.add_path.auto.index) }; texts = record { long = refl }; bind = record { long = refl }; graph = record { long = (c.add_path.auto.graph) } }, record { long = (c.expand-n.auto.word) }); promise = mention_marked c.requires c.expand-n.ensures (inside) c.add_path.ensures.promise }
+    record { space = search rules; promise = mention_marked c.requires c.expand-n.ensures (inside) c.add_path.ensures.promise }

@@ -3,24 +3,6 @@ use native.Mathlib.Omega.{arith}
 use mathlib.Core.Path.{sym, ◌∙◌}
 use Rattle.apply_open.proofs.find_named.Goals as goal
 
--- src/lib.rt:40:9
-
--- src/lib.rt:42:5
-
--- src/lib.rt:43:24
-
--- src/lib.rt:43:12
-
--- src/lib.rt:44:13
-
--- src/lib.rt:46:9
-
--- src/lib.rt:42:5
-
--- src/lib.rt:42:5
-
--- src/lib.rt:36:1
-
 pub word-n-requires : goal.word-n-requires
 word-n-requires c = head_room _ c.requires
 
@@ -30,17 +12,8 @@ loop-k-init c = none_begin _ _
 pub record_name-requires : goal.record_name-requires
 record_name-requires c = record { laid_bundle = c.requires; k_bound = omega (arith, c.word-n.ensures.is, c.loop-k-test.true) }
 
-pub equal-requires : goal.equal-requires
-equal-requires c = tt
-
 pub returns-then-equal : goal.returns-then-equal
 returns-then-equal c = none_here c.loop-k.invariant (name_below _ c.word-n.ensures.is c.loop-k-test.true) c.record_name.ensures (sym c.equal.ensures ∙ c.if-equal.true)
-
-pub overflow_add-k : goal.overflow_add-k
-overflow_add-k c = omega (arith, c.loop-k-test.true, c.word-n.ensures.small)
-
-pub loop-k-smaller : goal.loop-k-smaller
-loop-k-smaller c = omega (arith, c.loop-k-test.true)
 
 pub loop-k-preserved : goal.loop-k-preserved
 loop-k-preserved c = none_on c.loop-k.invariant (name_below _ c.word-n.ensures.is c.loop-k-test.true) c.record_name.ensures (sym c.equal.ensures ∙ c.if-equal.false)

@@ -13,34 +13,34 @@ pub loop-from-init : goal.loop-from-init
 loop-from-init c = (refl, look_begin c.requires.within)
 
 pub slice_bounds-is_wrong-count : goal.slice_bounds-is_wrong-count
-slice_bounds-is_wrong-count c = let next : PathNext c.args.l.now c.loop-from.i c.in-Path.from c.in-Path.to = goes_on _ _ _ c.next_listed.ensures c.in-Path.is in
+slice_bounds-is_wrong-count c = let next : PathNext c.args.l.now c.loop-from.i c.in-Some.from c.in-Some.to = goes_on _ _ _ c.next_listed.ensures c.in-Some.is in
     omega (arith, (next).longer)
 
 pub slice_bounds-is_wrong-start : goal.slice_bounds-is_wrong-start
-slice_bounds-is_wrong-start c = let next : PathNext c.args.l.now c.loop-from.i c.in-Path.from c.in-Path.to = goes_on _ _ _ c.next_listed.ensures c.in-Path.is in
+slice_bounds-is_wrong-start c = let next : PathNext c.args.l.now c.loop-from.i c.in-Some.from c.in-Some.to = goes_on _ _ _ c.next_listed.ensures c.in-Some.is in
     omega (arith, (next).longer, (next).within)
 
 pub slice_bounds-is_wrong-end : goal.slice_bounds-is_wrong-end
-slice_bounds-is_wrong-end c = let next : PathNext c.args.l.now c.loop-from.i c.in-Path.from c.in-Path.to = goes_on _ _ _ c.next_listed.ensures c.in-Path.is in
+slice_bounds-is_wrong-end c = let next : PathNext c.args.l.now c.loop-from.i c.in-Some.from c.in-Some.to = goes_on _ _ _ c.next_listed.ensures c.in-Some.is in
     omega (arith, (next).within)
 
 pub is_wrong-requires : goal.is_wrong-requires
 is_wrong-requires c =
-    let next : PathNext c.args.l.now c.loop-from.i c.in-Path.from c.in-Path.to = goes_on _ _ _ c.next_listed.ensures c.in-Path.is in
+    let next : PathNext c.args.l.now c.loop-from.i c.in-Some.from c.in-Some.to = goes_on _ _ _ c.next_listed.ensures c.in-Some.is in
     let p = c.requires in
     record { ready = ready_path p.table p.short (table_held p.whole) (next); room = omega (arith, p.room, c.loop-from.invariant.0); whole = p.whole }
 
 pub returns-then-is_wrong : goal.returns-then-is_wrong
-returns-then-is_wrong c = let next : PathNext c.args.l.now c.loop-from.i c.in-Path.from c.in-Path.to = goes_on _ _ _ c.next_listed.ensures c.in-Path.is in
-    record { space = record { long = (search rules) }; promise = look_found c.loop-from.invariant.1 (next) c.is_wrong.ensures.promise c.if-is_wrong.true }
+returns-then-is_wrong c = let next : PathNext c.args.l.now c.loop-from.i c.in-Some.from c.in-Some.to = goes_on _ _ _ c.next_listed.ensures c.in-Some.is in
+    record { space = search rules; promise = look_found c.loop-from.invariant.1 (next) c.is_wrong.ensures.promise c.if-is_wrong.true }
 
 pub loop-from-smaller : goal.loop-from-smaller
-loop-from-smaller c = let next : PathNext c.args.l.now c.loop-from.i c.in-Path.from c.in-Path.to = goes_on _ _ _ c.next_listed.ensures c.in-Path.is in
+loop-from-smaller c = let next : PathNext c.args.l.now c.loop-from.i c.in-Some.from c.in-Some.to = goes_on _ _ _ c.next_listed.ensures c.in-Some.is in
     omega (arith, (next).longer, (next).within, (next).forward)
 
 pub loop-from-preserved : goal.loop-from-preserved
-loop-from-preserved c = let next : PathNext c.args.l.now c.loop-from.i c.in-Path.from c.in-Path.to = goes_on _ _ _ c.next_listed.ensures c.in-Path.is in
+loop-from-preserved c = let next : PathNext c.args.l.now c.loop-from.i c.in-Some.from c.in-Some.to = goes_on _ _ _ c.next_listed.ensures c.in-Some.is in
     (search rules, look_more c.loop-from.invariant.1 (next) c.is_wrong.ensures.promise c.if-is_wrong.false)
 
-pub returns-in-Stop : goal.returns-in-Stop
-returns-in-Stop c = record { space = record { long = (search rules) }; promise = look_end c.loop-from.invariant.1 (stops _ _ _ c.next_listed.ensures c.in-Stop.is) }
+pub returns : goal.returns
+returns c = record { space = search rules; promise = look_end c.loop-from.invariant.1 (stops _ _ _ c.next_listed.ensures c.in_default.is) }

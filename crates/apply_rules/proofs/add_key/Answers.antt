@@ -1,5 +1,6 @@
 -- `apply_rules::add_key` meets its contract.
-use mathlib.Core.Path.{sym, ◌∙◌, refl}
+use borrow.Author.Rules.{rules}
+use mathlib.Core.Path.{sym, ◌∙◌}
 use native.Mathlib.Omega.{arith}
 use Rattle.apply_rules.proofs.Outcomes.{of_rule_law, key_ready, keys_bad, keys_over, keys_go}
 use Rattle.apply_rules.proofs.add_key.Goals as goal
@@ -7,24 +8,12 @@ use Rattle.apply_rules.proofs.add_key.Goals as goal
 pub is_bad_key-requires : goal.is_bad_key-requires
 is_bad_key-requires c = of_rule_law c.requires
 
-pub shape_of-texts-then-is_bad_key : goal.shape_of-texts-then-is_bad_key
-shape_of-texts-then-is_bad_key c = refl
-
-pub shape_of-bind-then-is_bad_key : goal.shape_of-bind-then-is_bad_key
-shape_of-bind-then-is_bad_key c = refl
-
 pub returns-then-is_bad_key : goal.returns-then-is_bad_key
-returns-then-is_bad_key c = record { space = (record { long = (refl) }, record { long = (refl) }); promise = let a = c.args in keys_bad a.start a.head a.entry a.name.now a.raw.now c.is_bad_key.ensures c.if-is_bad_key.true }
-
-pub shape_of-texts-then-binding_over : goal.shape_of-texts-then-binding_over
-shape_of-texts-then-binding_over c = refl
-
-pub shape_of-bind-then-binding_over : goal.shape_of-bind-then-binding_over
-shape_of-bind-then-binding_over c = refl
+returns-then-is_bad_key c = record { space = search rules; promise = let a = c.args in keys_bad a.start a.head a.entry a.name.now a.raw.now c.is_bad_key.ensures c.if-is_bad_key.true }
 
 pub returns-then-binding_over : goal.returns-then-binding_over
 returns-then-binding_over c = record {
-  space = (record { long = (refl) }, record { long = (refl) });
+  space = search rules;
   promise = let a = c.args in
       keys_over a.start a.head a.entry a.name.now a.raw.now c.is_bad_key.ensures c.if-is_bad_key.false (sym c.binding_over.ensures ∙ c.if-binding_over.true);
 }
@@ -40,15 +29,9 @@ push_binding-d-requires c =
     let a = c.args in
     key_ready c.requires a.name.now a.raw.now (sym c.binding_over.ensures ∙ c.if-binding_over.false)
 
-pub shape_of-texts : goal.shape_of-texts
-shape_of-texts c = c.push_binding-d.auto.texts
-
-pub shape_of-bind : goal.shape_of-bind
-shape_of-bind c = c.push_binding-d.auto.bind
-
 pub returns : goal.returns
 returns c = record {
-  space = (record { long = (c.push_binding-d.auto.texts) }, record { long = (c.push_binding-d.auto.bind) });
+  space = search rules;
   promise = let a = c.args in
       keys_go a.start a.head a.entry a.name.now a.raw.now c.is_bad_key.ensures c.if-is_bad_key.false (sym c.binding_over.ensures ∙ c.if-binding_over.false) c.push_binding-d.ensures;
 }

@@ -1,4 +1,5 @@
 -- `apply_rules::close` meets its contract.
+use mathlib.Core.Logic.{inl, inr}
 use mathlib.Core.Path.{subst}
 use Rattle.hold_reading.specs.Binds.{SoundBlock}
 use Rattle.hold_reading.specs.declared.Open.{Open}
@@ -11,13 +12,10 @@ has_command-requires c =
     of_rule_law (subst (λ (o : Open). SoundBlock a.texts.now a.bind.now a.c o) c.in-Rule.is c.requires)
 
 pub returns-in-Nothing : goal.returns-in-Nothing
-returns-in-Nothing c = rw c.in-Nothing.is closed_none
+returns-in-Nothing c = elim c.in-Nothing.is [ inl e ↦ rw e closed_none | inr e ↦ rw e closed_step ]
 
 pub returns-then-has_command : goal.returns-then-has_command
 returns-then-has_command c = rw c.in-Rule.is (closed_rule c.in-Rule.head c.in-Rule.entry c.has_command.ensures c.if-has_command.true)
 
 pub returns-else-has_command : goal.returns-else-has_command
 returns-else-has_command c = rw c.in-Rule.is (closed_bare c.in-Rule.head c.in-Rule.entry c.has_command.ensures c.if-has_command.false)
-
-pub returns-in-Step : goal.returns-in-Step
-returns-in-Step c = rw c.in-Step.is closed_step

@@ -15,12 +15,6 @@ overflow_add-f c = omega (arith, make_low c.loop-i.invariant c.loop-i-test.true 
 pub put-requires : goal.put-requires
 put-requires c = (make_fits c.loop-i.invariant c.loop-i-test.true c.at-f.ensures, c.requires.small)
 
-pub overflow_add-i : goal.overflow_add-i
-overflow_add-i c = omega arith
-
-pub loop-i-smaller : goal.loop-i-smaller
-loop-i-smaller c = omega (arith, c.loop-i-test.true)
-
 pub loop-i-preserved : goal.loop-i-preserved
 loop-i-preserved c = make_on c.loop-i.invariant c.loop-i-test.true c.at-f.ensures c.put.ensures
 

@@ -13,12 +13,12 @@ returns-then-equal c = λ log h. number_phony _ log (sym c.equal.ensures ∙ c.i
 pub overflow_add-result : goal.overflow_add-result
 overflow_add-result c =
     let s = c.requires in
-    omega (arith, newest_below 1 c.args.name.now s.log _ (sym (c.newest.ensures s.log s.held) ∙ c.in-At.is), s.held.rows.counted, s.held.rows.few)
+    omega (arith, newest_below 1 c.args.name.now s.log _ (sym (c.newest.ensures s.log s.held) ∙ c.in-Some.is), s.held.rows.counted, s.held.rows.few)
 
-pub returns-in-At : goal.returns-in-At
+pub returns-in-Some : goal.returns-in-Some
 unfolding is_phony
-returns-in-At c = λ log h. number_at _ log (sym c.equal.ensures ∙ c.if-equal.false) (sym c.in-At.is ∙ c.newest.ensures log h)
+returns-in-Some c = λ log h. number_at _ log (sym c.equal.ensures ∙ c.if-equal.false) (sym c.in-Some.is ∙ c.newest.ensures log h)
 
-pub returns-in-Missing : goal.returns-in-Missing
+pub returns-in-None : goal.returns-in-None
 unfolding is_phony
-returns-in-Missing c = λ log h. number_missing _ log (sym c.equal.ensures ∙ c.if-equal.false) (sym c.in-Missing.is ∙ c.newest.ensures log h)
+returns-in-None c = λ log h. number_missing _ log (sym c.equal.ensures ∙ c.if-equal.false) (sym c.in-None.is ∙ c.newest.ensures log h)

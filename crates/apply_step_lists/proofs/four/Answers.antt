@@ -1,5 +1,4 @@
 -- `apply_step_lists::four` meets its contract.
-use mathlib.Core.Path.{◌∙◌, refl}
 use native.Mathlib.Omega.{arith}
 use Rattle.apply_step_lists.proofs.Listing.{four_first, four_second, four_on, four_over}
 use borrow.Author.Rules.{rules}
@@ -14,35 +13,11 @@ two-requires c = rw c.end_place-outs_end.ensures (four_first c.requires)
 pub end_place-implicit_end-requires : goal.end_place-implicit_end-requires
 end_place-implicit_end-requires c = omega (arith, c.requires.few)
 
-pub two-requires-in-On : goal.two-requires-in-On
-two-requires-in-On c = rw c.end_place-implicit_end.ensures (four_second c.requires (search rules) (search rules) (rw (c.in-On.is, c.end_place-outs_end.ensures) at c.two.ensures.promise))
+pub two-requires-2 : goal.two-requires-2
+two-requires-2 c = rw c.end_place-implicit_end.ensures (four_second c.requires (search rules) (search rules) (rw (c.in_ok-d.was, c.end_place-outs_end.ensures) at c.two.ensures.promise))
 
-pub shape_of-names-in-On : goal.shape_of-names-in-On
-shape_of-names-in-On c = c.two-in-On.auto.names ∙ c.two.auto.names
+pub returns : goal.returns
+returns c = record { space = search rules; promise = four_on (rw (c.in_ok-d.was, c.end_place-outs_end.ensures) at c.two.ensures.promise) (rw c.end_place-implicit_end.ensures at c.two-2.ensures.promise) }
 
-pub shape_of-index-in-On : goal.shape_of-index-in-On
-shape_of-index-in-On c = c.two-in-On.auto.index ∙ c.two.auto.index
-
-pub shape_of-graph-in-On : goal.shape_of-graph-in-On
-shape_of-graph-in-On c = c.two-in-On.auto.graph ∙ c.two.auto.graph
-
-pub shape_of-word-in-On : goal.shape_of-word-in-On
-shape_of-word-in-On c = c.two-in-On.auto.word ∙ c.two.auto.word
-
-pub returns-in-On : goal.returns-in-On
-returns-in-On c = record { space = (record { names = record { long = (c.two-in-On.auto.names ∙ c.two.auto.names) }; index = record { long = (c.two-in-On.auto.index ∙ c.two.auto.index) }; texts = record { long = refl }; bind = record { long = refl }; graph = record { long = (c.two-in-On.auto.graph ∙ c.two.auto.graph) } }, record { long = (c.two-in-On.auto.word ∙ c.two.auto.word) }); promise = four_on (rw (c.in-On.is, c.end_place-outs_end.ensures) at c.two.ensures.promise) (rw c.end_place-implicit_end.ensures at c.two-in-On.ensures.promise) }
-
-pub shape_of-names-in-Over : goal.shape_of-names-in-Over
-shape_of-names-in-Over c = c.two.auto.names
-
-pub shape_of-index-in-Over : goal.shape_of-index-in-Over
-shape_of-index-in-Over c = c.two.auto.index
-
-pub shape_of-graph-in-Over : goal.shape_of-graph-in-Over
-shape_of-graph-in-Over c = c.two.auto.graph
-
-pub shape_of-word-in-Over : goal.shape_of-word-in-Over
-shape_of-word-in-Over c = c.two.auto.word
-
-pub returns-in-Over : goal.returns-in-Over
-returns-in-Over c = record { space = (record { names = record { long = (c.two.auto.names) }; index = record { long = (c.two.auto.index) }; texts = record { long = refl }; bind = record { long = refl }; graph = record { long = (c.two.auto.graph) } }, record { long = (c.two.auto.word) }); promise = four_over (rw (c.in-Over.is, c.end_place-outs_end.ensures) at c.two.ensures.promise) }
+pub returns-in_err-d : goal.returns-in_err-d
+returns-in_err-d c = record { space = search rules; promise = rw c.from_residual.ensures (four_over (rw (c.in_err-d.was, c.end_place-outs_end.ensures) at c.two.ensures.promise)) }

@@ -1,3 +1,5 @@
+use borrow.Author.Rules.{rules}
+use Rattle.std.proofs.lemmas.Result.{err_from_is_err_and}
 use mathlib.Core.Path.{refl, ◌∙◌}
 use native.Mathlib.Omega.{arith}
 use lib.ListN.{length-replicate}
@@ -15,45 +17,45 @@ pub open_file-open_path-requires : goal.open_file-open_path-requires
 open_file-open_path-requires t c = path_asks c.requires
 
 pub open_file-returns-then-l-eq0 : goal.open_file-returns-then-l-eq0
-open_file-returns-then-l-eq0 t c = record { space = (record { names = record { long = refl }; index = record { long = refl }; texts = record { long = refl }; bind = record { long = refl }; graph = record { long = refl } }, record { long = (c.open_path.auto.word) }); promise = all_open c.args.b.now c.args.l.start c.args.l.sub c.args.raw.now _ (rw c.in-Found.is at c.open_path.ensures.promise) c.if-l-eq0.true }
+open_file-returns-then-l-eq0 t c = record { space = search rules; promise = all_open c.args.b.now c.args.l.start c.args.l.sub c.args.raw.now _ (rw c.in_ok-k.was at c.open_path.ensures.promise) c.if-l-eq0.true }
 
 pub open_file-enter-f-requires : goal.open_file-enter-f-requires
-open_file-enter-f-requires t c = enter_asks c.args.b.now c.args.l.start c.args.l.sub c.args.raw.now _ (rw c.in-Found.is at c.open_path.ensures.promise) c.requires.between
+open_file-enter-f-requires t c = enter_asks c.args.b.now c.args.l.start c.args.l.sub c.args.raw.now _ (rw c.in_ok-k.was at c.open_path.ensures.promise) c.requires.between
 
 pub open_file-read_text-requires : goal.open_file-read_text-requires
-open_file-read_text-requires t c = (omega (arith, c.decreases, c.if-l-eq0.false), text_asks c.args.b.now c.args.l.start c.args.l.sub c.args.raw.now _ (rw c.in-Found.is at c.open_path.ensures.promise) c.enter-f.ensures.promise c.requires c.open_path.ensures.space.long)
+open_file-read_text-requires t c = (omega (arith, c.decreases, c.if-l-eq0.false), text_asks c.args.b.now c.args.l.start c.args.l.sub c.args.raw.now _ (rw c.in_ok-k.was at c.open_path.ensures.promise) c.enter-f.ensures.promise c.requires c.open_path.ensures.space.long)
 
 pub open_file-leave-requires : goal.open_file-leave-requires
-open_file-leave-requires t c = leave_asks c.args.b.now c.args.l.start c.args.l.sub c.args.raw.now _ (rw c.in-Found.is at c.open_path.ensures.promise) c.enter-f.ensures.promise c.if-l-eq0.false (rw c.in-Goes.is at c.read_text.ensures.promise) c.requires.between
+open_file-leave-requires t c = leave_asks c.args.b.now c.args.l.start c.args.l.sub c.args.raw.now _ (rw c.in_ok-k.was at c.open_path.ensures.promise) c.enter-f.ensures.promise c.if-l-eq0.false (rw c.in_ok-read.was at c.read_text.ensures.promise) c.requires.between
 
-pub open_file-returns-in-Goes : goal.open_file-returns-in-Goes
-open_file-returns-in-Goes t c = record { space = (record { names = record { long = (c.read_text.auto.names) }; index = record { long = (c.read_text.auto.index) }; texts = record { long = (c.leave.auto.texts ∙ c.read_text.auto.texts ∙ c.enter-f.auto.texts) }; bind = record { long = (c.leave.auto.bind ∙ c.read_text.auto.bind ∙ c.enter-f.auto.bind) }; graph = record { long = (c.read_text.auto.graph) } }, record { long = (c.read_text.auto.word ∙ c.open_path.auto.word) }); promise = file_read c.args.b.now c.args.l.start c.args.l.sub c.args.raw.now _ (rw c.in-Found.is at c.open_path.ensures.promise) c.enter-f.ensures.promise c.if-l-eq0.false (rw c.in-Goes.is at c.read_text.ensures.promise) c.leave.ensures.promise }
+pub open_file-returns : goal.open_file-returns
+open_file-returns t c = record { space = search rules; promise = file_read c.args.b.now c.args.l.start c.args.l.sub c.args.raw.now _ (rw c.in_ok-k.was at c.open_path.ensures.promise) c.enter-f.ensures.promise c.if-l-eq0.false (rw c.in_ok-read.was at c.read_text.ensures.promise) c.leave.ensures.promise }
 
-pub open_file-returns-in-Refused-read_text : goal.open_file-returns-in-Refused-read_text
-open_file-returns-in-Refused-read_text t c = record { space = (record { names = record { long = (c.read_text.auto.names) }; index = record { long = (c.read_text.auto.index) }; texts = record { long = (c.read_text.auto.texts ∙ c.enter-f.auto.texts) }; bind = record { long = (c.read_text.auto.bind ∙ c.enter-f.auto.bind) }; graph = record { long = (c.read_text.auto.graph) } }, record { long = (c.read_text.auto.word ∙ c.open_path.auto.word) }); promise = file_stopped c.args.b.now c.args.l.start c.args.l.sub c.args.raw.now _ (rw c.in-Found.is at c.open_path.ensures.promise) c.enter-f.ensures.promise c.if-l-eq0.false (rw c.in-Refused-read_text.is at c.read_text.ensures.promise) }
+pub open_file-returns-in_err-read : goal.open_file-returns-in_err-read
+open_file-returns-in_err-read t c = record { space = search rules; promise = let p = err_from_is_err_and c.from_residual-in_err-read.result c.from_residual-in_err-read.ensures.1 in rw (p.1, p.2) (file_stopped c.args.b.now c.args.l.start c.args.l.sub c.args.raw.now _ (rw c.in_ok-k.was at c.open_path.ensures.promise) c.enter-f.ensures.promise c.if-l-eq0.false (rw c.in_err-read.was at c.read_text.ensures.promise)) }
 
-pub open_file-returns-in-Refused : goal.open_file-returns-in-Refused
-open_file-returns-in-Refused t c = record { space = (record { names = record { long = refl }; index = record { long = refl }; texts = record { long = refl }; bind = record { long = refl }; graph = record { long = refl } }, record { long = (c.open_path.auto.word) }); promise = not_opened c.args.b.now c.args.l.more c.args.l.start c.args.l.sub c.args.raw.now (rw c.in-Refused.is at c.open_path.ensures.promise) }
+pub open_file-returns-in_err-k : goal.open_file-returns-in_err-k
+open_file-returns-in_err-k t c = record { space = search rules; promise = let p = err_from_is_err_and c.from_residual.result c.from_residual.ensures.1 in rw (p.1, p.2) (not_opened c.args.b.now c.args.l.more c.args.l.start c.args.l.sub c.args.raw.now (rw c.in_err-k.was at c.open_path.ensures.promise)) }
 
 pub read_each-loop-k-init : goal.read_each-loop-k-init
 read_each-loop-k-init t c = (same_begin, each_begin (file_opener c.args.b.now c.args.p.more) c.requires.lines)
 
 pub read_each-read_turn-r-requires : goal.read_each-read_turn-r-requires
-read_each-read_turn-r-requires t c = (omega (arith, c.decreases), turn_asked c.loop-k.invariant.1 c.requires c.loop-k-test.true c.in-Goes.is c.loop-k.invariant.0)
+read_each-read_turn-r-requires t c = (omega (arith, c.decreases), turn_asked c.loop-k.invariant.1 c.requires c.loop-k-test.true refl c.loop-k.invariant.0)
 
 pub read_each-loop-k-preserved : goal.read_each-loop-k-preserved
 read_each-loop-k-preserved t c =
     let k = c.read_turn-r.auto in
     let e = c.loop-k.invariant.0 in (
       record { names_same = omega (arith, k, e.names_same); ends_same = omega (arith, k, e.ends_same); texts_same = omega (arith, k, e.texts_same); bind_same = omega (arith, k, e.bind_same); graph_same = omega (arith, k, e.graph_same); word_same = omega (arith, k, e.word_same) },
-      each_joins c.loop-k.invariant.1 c.in-Goes.is c.read_turn-r.ensures.promise.done,
+      each_joins c.loop-k.invariant.1 refl (rw c.in_ok-kept.was at c.read_turn-r.ensures.promise.done),
     )
 
-pub read_each-returns-in-Refused : goal.read_each-returns-in-Refused
-read_each-returns-in-Refused t c = record { space = (record { names = record { long = (c.loop-k.invariant.0.names_same) }; index = record { long = (c.loop-k.invariant.0.ends_same) }; texts = record { long = (c.loop-k.invariant.0.texts_same) }; bind = record { long = (c.loop-k.invariant.0.bind_same) }; graph = record { long = (c.loop-k.invariant.0.graph_same) } }, record { long = (c.loop-k.invariant.0.word_same) }); promise = each_refused c.loop-k.invariant.1 c.in-Refused.is }
+pub read_each-returns-in_err-kept : goal.read_each-returns-in_err-kept
+read_each-returns-in_err-kept t c = record { space = search rules; promise = let p = err_from_is_err_and c.from_residual.result c.from_residual.ensures.1 in rw (p.1, p.2) (each_refused (each_joins c.loop-k.invariant.1 refl c.read_turn-r.ensures.promise.done) c.in_err-kept.was) }
 
 pub read_each-returns : goal.read_each-returns
-read_each-returns t c = record { space = (record { names = record { long = (c.loop-k.invariant.0.names_same) }; index = record { long = (c.loop-k.invariant.0.ends_same) }; texts = record { long = (c.loop-k.invariant.0.texts_same) }; bind = record { long = (c.loop-k.invariant.0.bind_same) }; graph = record { long = (c.loop-k.invariant.0.graph_same) } }, record { long = (c.loop-k.invariant.0.word_same) }); promise = each_end c.loop-k.invariant.1 c.loop-k-test.false }
+read_each-returns t c = record { space = search rules; promise = each_end c.loop-k.invariant.1 c.loop-k-test.false }
 
 pub read_text-record_text-m-requires-clause-laid_bundle : goal.read_text-record_text-m-requires-clause-laid_bundle
 read_text-record_text-m-requires-clause-laid_bundle t c = laid _ c.requires.bundle.sound
@@ -76,17 +78,17 @@ read_text-loop-from-preserved t c =
     let e = c.loop-from.invariant.0 in (
       record { names_same = omega (arith, k, e.names_same); ends_same = omega (arith, k, e.ends_same); texts_same = omega (arith, k, e.texts_same); bind_same = omega (arith, k, e.bind_same); graph_same = omega (arith, k, e.graph_same); word_same = omega (arith, k, e.word_same) },
       c.lines_from-f.ensures.long ∙ c.loop-from.invariant.1,
-      turn_on c.loop-from.invariant.2 c.lines_from-f.ensures (rw c.in-Goes.is at c.read_each.ensures.promise),
+      turn_on c.loop-from.invariant.2 c.lines_from-f.ensures (rw c.in_ok-kept.was at c.read_each.ensures.promise),
     )
 
-pub read_text-returns-in-Refused : goal.read_text-returns-in-Refused
-read_text-returns-in-Refused t c = record { space = (record { names = record { long = (omega (arith, c.read_each.auto, c.loop-from.invariant.0.names_same)) }; index = record { long = (omega (arith, c.read_each.auto, c.loop-from.invariant.0.ends_same)) }; texts = record { long = (omega (arith, c.read_each.auto, c.loop-from.invariant.0.texts_same)) }; bind = record { long = (omega (arith, c.read_each.auto, c.loop-from.invariant.0.bind_same)) }; graph = record { long = (omega (arith, c.read_each.auto, c.loop-from.invariant.0.graph_same)) } }, record { long = (omega (arith, c.read_each.auto, c.loop-from.invariant.0.word_same)) }); promise = turn_refused c.loop-from.invariant.2 c.lines_from-f.ensures (bundle_texts c.args.b.now) c.args.o.record c.record_text-m.ensures c.text_base.ensures (rw c.in-Refused.is at c.read_each.ensures.promise) }
+pub read_text-returns-in_err-kept : goal.read_text-returns-in_err-kept
+read_text-returns-in_err-kept t c = record { space = search rules; promise = let p = err_from_is_err_and c.from_residual.result c.from_residual.ensures.1 in rw (p.1, p.2) (turn_refused c.loop-from.invariant.2 c.lines_from-f.ensures (bundle_texts c.args.b.now) c.args.o.record c.record_text-m.ensures c.text_base.ensures (rw c.in_err-kept.was at c.read_each.ensures.promise)) }
 
 pub read_text-close-requires : goal.read_text-close-requires
 read_text-close-requires t c = turn_sound c.loop-from.invariant.2 c.requires.between
 
 pub read_text-returns : goal.read_text-returns
-read_text-returns t c = record { space = (record { names = record { long = (c.loop-from.invariant.0.names_same) }; index = record { long = (c.loop-from.invariant.0.ends_same) }; texts = record { long = (c.loop-from.invariant.0.texts_same) }; bind = record { long = (c.loop-from.invariant.0.bind_same) }; graph = record { long = (c.loop-from.invariant.0.graph_same) } }, record { long = (c.loop-from.invariant.0.word_same) }); promise = turn_end c.loop-from.invariant.2 (bundle_texts c.args.b.now) c.args.o.record c.record_text-m.ensures c.text_base.ensures c.loop-from-test.false c.close.ensures }
+read_text-returns t c = record { space = search rules; promise = turn_end c.loop-from.invariant.2 (bundle_texts c.args.b.now) c.args.o.record c.record_text-m.ensures c.text_base.ensures c.loop-from-test.false c.close.ensures }
 
 pub read_turn-at-start-requires : goal.read_turn-at-start-requires
 read_turn-at-start-requires t c = (opened_stretch (rw c.in-Opens.is at c.read_stretch.ensures.promise)).below
@@ -122,7 +124,7 @@ pub read_turn-overflow_add-result : goal.read_turn-overflow_add-result
 read_turn-overflow_add-result t c = omega (arith, opens_two (opened_stretch (rw c.in-Opens.is at c.read_stretch.ensures.promise)), c.requires.lines.few)
 
 pub read_turn-returns-in-Answered : goal.read_turn-returns-in-Answered
-read_turn-returns-in-Answered t c = record { space = (record { names = record { long = (c.read_stretch.auto.names) }; index = record { long = (c.read_stretch.auto.index) }; texts = record { long = (c.read_stretch.auto.texts) }; bind = record { long = (c.read_stretch.auto.bind) }; graph = record { long = (c.read_stretch.auto.graph) } }, record { long = (c.read_stretch.auto.word) }); promise = all_done (file_opener c.args.b.now c.args.lines.more) c.args.lines.base c.args.m.now c.args.found.now c.args.lines.from c.requires.some (answered_stretch (rw c.in-Answered.is at c.read_stretch.ensures.promise) (file_opener c.args.b.now c.args.lines.more)) }
+read_turn-returns-in-Answered t c = record { space = search rules; promise = all_done (file_opener c.args.b.now c.args.lines.more) c.args.lines.base c.args.m.now c.args.found.now c.args.lines.from c.requires.some (answered_stretch (rw c.in-Answered.is at c.read_stretch.ensures.promise) (file_opener c.args.b.now c.args.lines.more)) }
 
 pub read_turn-returns-in-Opens : goal.read_turn-returns-in-Opens
-read_turn-returns-in-Opens t c = record { space = (record { names = record { long = (c.open_file-answer.auto.names ∙ c.read_stretch.auto.names) }; index = record { long = (c.open_file-answer.auto.index ∙ c.read_stretch.auto.index) }; texts = record { long = (c.open_file-answer.auto.texts ∙ c.read_stretch.auto.texts) }; bind = record { long = (c.open_file-answer.auto.bind ∙ c.read_stretch.auto.bind) }; graph = record { long = (c.open_file-answer.auto.graph ∙ c.read_stretch.auto.graph) } }, record { long = (c.open_file-answer.auto.word ∙ c.read_stretch.auto.word) }); promise = opens_done (opened_stretch (rw c.in-Opens.is at c.read_stretch.ensures.promise)) c.at-start.ensures c.at-end.ensures (file_opener c.args.b.now c.args.lines.more) c.open_file-answer.ensures.promise }
+read_turn-returns-in-Opens t c = record { space = search rules; promise = opens_done (opened_stretch (rw c.in-Opens.is at c.read_stretch.ensures.promise)) c.at-start.ensures c.at-end.ensures (file_opener c.args.b.now c.args.lines.more) c.open_file-answer.ensures.promise }

@@ -1,7 +1,9 @@
 use Rattle.std.proofs.Common.{◌≡◌, ◌+◌, ◌*◌, ◌-◌, length}
 use Rattle.hold_reading.specs.Buffers.{buffers}
 use Rattle.apply_texts.specs.Texts.{file_opener}
-use Rattle.apply_stretch.proofs.Each.{Same, EachFrom}
+use Rattle.std.specs.Prelude.{Ok}
+use Rattle.apply_stretch.specs.Stretches.{LinesDone}
+use Rattle.apply_stretch.proofs.Each.{Same}
 use Rattle.apply_texts.proofs.Turns.{Reached}
 use Rattle.apply_texts.proofs.+open_file_read_each_read_text_read_turn.Given as goal
 
@@ -21,7 +23,7 @@ abbrev pub invariant-read_each-loop-k : goal.invariant-read_each-loop-k
 invariant-read_each-loop-k l =
     let b₀ = buffers l.initial.names l.initial.index l.initial.texts l.initial.bind l.initial.graph in
     let b₁ = buffers l.names l.index l.texts l.bind l.graph in
-    Same b₀ l.initial.word b₁ l.word × EachFrom (file_opener l.b l.p.more) l.p.base l.m l.found 0 b₀ l.initial.a b₁ l.a l.k
+    Same b₀ l.initial.word b₁ l.word × LinesDone (file_opener l.b l.p.more) l.p.base l.m l.found 0 b₀ l.initial.kept.counts l.initial.kept.«open» b₁ (Ok l.kept) l.k
 
 abbrev pub decreases-read_each-loop-k : goal.decreases-read_each-loop-k
 decreases-read_each-loop-k l = length l.found - l.k
@@ -30,7 +32,7 @@ abbrev pub invariant-read_text-loop-from : goal.invariant-read_text-loop-from
 invariant-read_text-loop-from l =
     let b₀ = buffers l.initial.names l.initial.index l.initial.texts l.initial.bind l.initial.graph in
     let b₁ = buffers l.names l.index l.texts l.bind l.graph in
-    Same b₀ l.initial.word b₁ l.word × (length l.found ≡ 64) × Reached (file_opener l.b l.p.more) l.p.base l.m b₀ l.initial.counts l.initial.block b₁ l.counts l.block l.from
+    Same b₀ l.initial.word b₁ l.word × (length l.found ≡ 64) × Reached (file_opener l.b l.p.more) l.p.base l.m b₀ l.initial.kept.counts l.initial.kept.«open» b₁ l.kept.counts l.kept.«open» l.from
 
 abbrev pub decreases-read_text-loop-from : goal.decreases-read_text-loop-from
 decreases-read_text-loop-from l = length l.m - l.from

@@ -1,7 +1,7 @@
 -- `apply_variables::add_to_block` meets its contract.
 -- past the limits
 use mathlib.Core.Bool.{false}
-use mathlib.Core.Path.{◌≡◌, sym, ◌∙◌, refl}
+use mathlib.Core.Path.{◌≡◌, sym, ◌∙◌}
 use borrow.Author.Rules.{rules}
 use lib.ListN.{length}
 use native.Mathlib.Omega.{arith}
@@ -10,18 +10,9 @@ use Rattle.apply_variables.proofs.Outcomes.{line_over, line_goes, step_begun, li
 use Rattle.apply_variables.proofs.Values.{value_fits, value_counted}
 use Rattle.apply_variables.proofs.add_to_block.Goals as goal
 
-pub shape_of-texts-then-binding_over : goal.shape_of-texts-then-binding_over
-shape_of-texts-then-binding_over c = refl
-
-pub shape_of-bind-then-binding_over : goal.shape_of-bind-then-binding_over
-shape_of-bind-then-binding_over c = refl
-
-pub shape_of-word-then-binding_over : goal.shape_of-word-then-binding_over
-shape_of-word-then-binding_over c = c.expand-len.auto.word
-
 pub returns-then-binding_over : goal.returns-then-binding_over
 returns-then-binding_over c = record {
-  space = (record { long = (refl) }, record { long = (refl) }, record { long = (c.expand-len.auto.word) });
+  space = search rules;
   promise = let a = c.args in
       line_over a.start a.name.now a.raw.now c.expand-len.ensures (sym c.binding_over.ensures ∙ c.if-binding_over.true);
 }
@@ -42,16 +33,10 @@ push_binding-d-requires c =
     let inside : binding_over (length c.args.name.now) c.expand-len.result c.args.c ≡ false = sym c.binding_over.ensures ∙ c.if-binding_over.false in
     line_ready c.requires.sound c.args.name.now _ (rw (value_counted c.requires _ _ (inside) c.expand-len.ensures) (inside))
 
-pub shape_of-texts : goal.shape_of-texts
-shape_of-texts c = c.push_binding-d.auto.texts
-
-pub shape_of-bind : goal.shape_of-bind
-shape_of-bind c = c.push_binding-d.auto.bind
-
 pub returns : goal.returns
 returns c = let inside : binding_over (length c.args.name.now) c.expand-len.result c.args.c ≡ false = sym c.binding_over.ensures ∙ c.if-binding_over.false in
     record {
-      space = (record { long = (c.push_binding-d.auto.texts) }, record { long = (c.push_binding-d.auto.bind) }, record { long = (search rules) });
+      space = search rules;
       promise =
           let a = c.args in
           line_goes a.start a.name.now a.raw.now c.expand-len.ensures (value_fits c.requires _ _ (inside)) (rw (value_counted c.requires _ _ (inside) c.expand-len.ensures) (inside)) c.push_binding-d.ensures;

@@ -1,7 +1,7 @@
 -- `apply_variables::add_var` meets its contract.
 -- past the limits
 use mathlib.Core.Bool.{false}
-use mathlib.Core.Path.{◌≡◌, sym, ◌∙◌, refl}
+use mathlib.Core.Path.{◌≡◌, sym, ◌∙◌}
 use borrow.Author.Rules.{rules}
 use lib.ListN.{length}
 use native.Mathlib.Omega.{arith}
@@ -10,18 +10,9 @@ use Rattle.apply_variables.proofs.Outcomes.{var_over, var_valued}
 use Rattle.apply_variables.proofs.Values.{value_fits, value_counted}
 use Rattle.apply_variables.proofs.add_var.Goals as goal
 
-pub shape_of-texts-then-binding_over : goal.shape_of-texts-then-binding_over
-shape_of-texts-then-binding_over c = refl
-
-pub shape_of-bind-then-binding_over : goal.shape_of-bind-then-binding_over
-shape_of-bind-then-binding_over c = refl
-
-pub shape_of-word-then-binding_over : goal.shape_of-word-then-binding_over
-shape_of-word-then-binding_over c = c.expand-n.auto.word
-
 pub returns-then-binding_over : goal.returns-then-binding_over
 returns-then-binding_over c = record {
-  space = (record { long = (refl) }, record { long = (refl) }, record { long = (c.expand-n.auto.word) });
+  space = search rules;
   promise = let a = c.args in
       var_over a.start a.name.now a.raw.now c.expand-n.ensures (sym c.binding_over.ensures ∙ c.if-binding_over.true);
 }
@@ -39,16 +30,10 @@ set_var-requires c =
     let inside : binding_over (length c.args.name.now) c.expand-n.result c.args.c ≡ false = sym c.binding_over.ensures ∙ c.if-binding_over.false in
     record { sound = c.requires.sound; within = rw (value_counted c.requires _ _ (inside) c.expand-n.ensures) (inside) }
 
-pub shape_of-texts : goal.shape_of-texts
-shape_of-texts c = c.set_var.auto.texts
-
-pub shape_of-bind : goal.shape_of-bind
-shape_of-bind c = c.set_var.auto.bind
-
 pub returns : goal.returns
 returns c = let inside : binding_over (length c.args.name.now) c.expand-n.result c.args.c ≡ false = sym c.binding_over.ensures ∙ c.if-binding_over.false in
     record {
-      space = (record { long = (c.set_var.auto.texts) }, record { long = (c.set_var.auto.bind) }, record { long = (search rules) });
+      space = search rules;
       promise =
           let a = c.args in
           var_valued a.start a.name.now a.raw.now c.expand-n.ensures (value_fits c.requires _ _ (inside)) c.set_var.ensures.promise;

@@ -3,16 +3,10 @@ use mathlib.Core.Path.{sym, ◌∙◌}
 use Rattle.spec.specs.Statements.{wrong_version}
 use Rattle.apply_variables.proofs.is_wrong_version.Goals as goal
 
-pub equal-requires : goal.equal-requires
-equal-requires c = tt
-
-pub refused-requires : goal.refused-requires
-refused-requires c = tt
-
 pub returns-then-equal : goal.returns-then-equal
 unfolding wrong_version
 returns-then-equal c = c.refused.ensures ∙ rw (sym c.equal.ensures ∙ c.if-equal.true)
 
-pub returns : goal.returns
+pub returns-else-equal : goal.returns-else-equal
 unfolding wrong_version
-returns c = rw (sym c.equal.ensures ∙ c.if-equal.false)
+returns-else-equal c = c.if-equal.false ∙ rw (sym c.equal.ensures ∙ c.if-equal.false)

@@ -1,16 +1,14 @@
 -- `apply_variables::set_var` meets its contract.
-use mathlib.Core.Path.{sym, ◌∙◌, refl}
+use borrow.Author.Rules.{rules}
+use mathlib.Core.Path.{sym, ◌∙◌}
 use native.Mathlib.Omega.{arith}
 use Rattle.hold_reading.proofs.Lift.{none_bound}
 use Rattle.apply_variables.proofs.Outcomes.{var_wrong, var_goes, var_scopes, var_ready}
 use Rattle.apply_variables.proofs.set_var.Goals as goal
 
-pub is_wrong_version-requires : goal.is_wrong_version-requires
-is_wrong_version-requires c = tt
-
 pub returns-then-is_wrong_version : goal.returns-then-is_wrong_version
 returns-then-is_wrong_version c = record {
-  space = (record { long = refl }, record { long = refl });
+  space = search rules;
   promise = let a = c.args in
       var_wrong a.start a.name.now a.value.now c.requires.within (sym c.is_wrong_version.ensures ∙ c.if-is_wrong_version.true);
 }
@@ -31,15 +29,9 @@ push_binding-d-requires c =
     let a = c.args in
     var_ready a.start a.name.now a.value.now c.requires.within c.current_scope-scope.ensures c.requires.sound
 
-pub shape_of-texts : goal.shape_of-texts
-shape_of-texts c = c.push_binding-d.auto.texts
-
-pub shape_of-bind : goal.shape_of-bind
-shape_of-bind c = c.push_binding-d.auto.bind
-
 pub returns : goal.returns
 returns c = record {
-  space = (record { long = (c.push_binding-d.auto.texts) }, record { long = (c.push_binding-d.auto.bind) });
+  space = search rules;
   promise = let a = c.args in
       var_goes a.start a.name.now a.value.now c.requires.within c.current_scope-scope.ensures (sym c.is_wrong_version.ensures ∙ c.if-is_wrong_version.false) c.push_binding-d.ensures;
 }

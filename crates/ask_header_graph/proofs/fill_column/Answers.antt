@@ -1,12 +1,9 @@
 -- `ask_header_graph::fill_column` meets its contract.
-use Rattle.ask_header_graph.proofs.Filling.{fill_begin, fill_more, fill_end}
+use mathlib.Core.Path.{refl}
+use native.Mathlib.Omega.{arith}
+use Rattle.std.proofs.lemmas.Slice.{put_mid-paste}
+use Rattle.ask_header_graph.proofs.Filling.{fill_copied}
 use Rattle.ask_header_graph.proofs.fill_column.Goals as goal
 
-pub loop-i-init : goal.loop-i-init
-loop-i-init c = fill_begin c.requires
-
-pub loop-i-preserved : goal.loop-i-preserved
-loop-i-preserved c = fill_more c.loop-i.invariant c.loop-i-test.true
-
 pub returns : goal.returns
-returns c = fill_end c.loop-i.invariant c.loop-i-test.false
+returns c = fill_copied c.requires (put_mid-paste _ _ _ _ _ _ c.copy_from_slice.ensures.after (omega arith) refl)

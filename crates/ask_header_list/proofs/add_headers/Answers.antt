@@ -19,34 +19,34 @@ pub mention_listed-requires : goal.mention_listed-requires
 mention_listed-requires c = told_asked c.requires.held c.places_of-p.ensures c.at-out.ensures c.find_depfile-place.ensures c.copy_mentions-d.ensures c.requires.names_long c.requires.word_long c.requires.indexed
 
 pub close_step-requires : goal.close_step-requires
-close_step-requires c = close_asked c.requires.held c.places_of-p.ensures c.at-out.ensures c.find_depfile-place.ensures c.copy_mentions-d.ensures c.mention_listed.ensures.promise c.in-Told.is (c.mention_listed.auto.second ∙ c.copy_mentions-d.auto.second)
+close_step-requires c = close_asked c.requires.held c.places_of-p.ensures c.at-out.ensures c.find_depfile-place.ensures c.copy_mentions-d.ensures c.mention_listed.ensures.promise c.in-Some.is (c.mention_listed.auto.second ∙ c.copy_mentions-d.auto.second)
 
-pub shape_of-names-in-Told : goal.shape_of-names-in-Told
-shape_of-names-in-Told c = c.mention_listed.auto.names
+pub shape_of-names : goal.shape_of-names
+shape_of-names c = c.mention_listed.auto.names
 
-pub shape_of-index-in-Told : goal.shape_of-index-in-Told
-shape_of-index-in-Told c = c.mention_listed.auto.index
+pub shape_of-index : goal.shape_of-index
+shape_of-index c = c.mention_listed.auto.index
 
-pub shape_of-second-in-Told : goal.shape_of-second-in-Told
-shape_of-second-in-Told c = c.close_step.auto.second ∙ c.mention_listed.auto.second ∙ c.copy_mentions-d.auto.second
+pub shape_of-second : goal.shape_of-second
+shape_of-second c = c.close_step.auto.second ∙ c.mention_listed.auto.second ∙ c.copy_mentions-d.auto.second
 
-pub shape_of-word-in-Told : goal.shape_of-word-in-Told
-shape_of-word-in-Told c = c.mention_listed.auto.word
+pub shape_of-word : goal.shape_of-word
+shape_of-word c = c.mention_listed.auto.word
 
-pub returns-in-Told : goal.returns-in-Told
-returns-in-Told c = record { space = (record { long = (c.mention_listed.auto.names) }, record { long = (c.mention_listed.auto.index) }, record { long = (c.close_step.auto.second ∙ c.mention_listed.auto.second ∙ c.copy_mentions-d.auto.second) }, record { long = (c.mention_listed.auto.word) }); promise = record { agrees = λ log texts bind rd h w. headed_here w c.places_of-p.ensures c.at-out.ensures c.find_depfile-place.ensures c.copy_mentions-d.ensures c.mention_listed.ensures.promise c.in-Told.is c.close_step.ensures } }
+pub returns : goal.returns
+returns c = record { space = (record { long = (c.mention_listed.auto.names) }, record { long = (c.mention_listed.auto.index) }, record { long = (c.close_step.auto.second ∙ c.mention_listed.auto.second ∙ c.copy_mentions-d.auto.second) }, record { long = (c.mention_listed.auto.word) }); promise = record { agrees = λ log texts bind rd h w. headed_here w c.places_of-p.ensures c.at-out.ensures c.find_depfile-place.ensures c.copy_mentions-d.ensures c.mention_listed.ensures.promise c.in-Some.is c.close_step.ensures } }
 
-pub shape_of-names-in-Refused : goal.shape_of-names-in-Refused
-shape_of-names-in-Refused c = c.mention_listed.auto.names
+pub shape_of-names-in_default : goal.shape_of-names-in_default
+shape_of-names-in_default c = c.mention_listed.auto.names
 
-pub shape_of-index-in-Refused : goal.shape_of-index-in-Refused
-shape_of-index-in-Refused c = c.mention_listed.auto.index
+pub shape_of-index-in_default : goal.shape_of-index-in_default
+shape_of-index-in_default c = c.mention_listed.auto.index
 
-pub shape_of-second-in-Refused : goal.shape_of-second-in-Refused
-shape_of-second-in-Refused c = c.mention_listed.auto.second ∙ c.copy_mentions-d.auto.second
+pub shape_of-second-in_default : goal.shape_of-second-in_default
+shape_of-second-in_default c = c.mention_listed.auto.second ∙ c.copy_mentions-d.auto.second
 
-pub shape_of-word-in-Refused : goal.shape_of-word-in-Refused
-shape_of-word-in-Refused c = c.mention_listed.auto.word
+pub shape_of-word-in_default : goal.shape_of-word-in_default
+shape_of-word-in_default c = c.mention_listed.auto.word
 
-pub returns-in-Refused : goal.returns-in-Refused
-returns-in-Refused c = record { space = (record { long = (c.mention_listed.auto.names) }, record { long = (c.mention_listed.auto.index) }, record { long = (c.mention_listed.auto.second ∙ c.copy_mentions-d.auto.second) }, record { long = (c.mention_listed.auto.word) }); promise = record { agrees = λ log texts bind rd h w. refused_here w c.places_of-p.ensures c.at-out.ensures c.find_depfile-place.ensures c.copy_mentions-d.ensures c.mention_listed.ensures.promise c.in-Refused.is } }
+pub returns-in_default : goal.returns-in_default
+returns-in_default c = record { space = (record { long = (c.mention_listed.auto.names) }, record { long = (c.mention_listed.auto.index) }, record { long = (c.mention_listed.auto.second ∙ c.copy_mentions-d.auto.second) }, record { long = (c.mention_listed.auto.word) }); promise = record { agrees = λ log texts bind rd h w. refused_here w c.places_of-p.ensures c.at-out.ensures c.find_depfile-place.ensures c.copy_mentions-d.ensures c.mention_listed.ensures.promise c.in_default.is } }

@@ -1,9 +1,5 @@
-use Prim.Native.Nat.{◌-◌}
 use Rattle.ask_header_list.proofs.Copying.{Copying}
 use Rattle.ask_header_list.proofs.copy_mentions.Given as goal
 
 abbrev pub invariant-loop-i : goal.invariant-loop-i
 invariant-loop-i l = Copying l.graph l.from l.to l.initial.second l.c l.second l.i l.paths
-
-abbrev pub decreases-loop-i : goal.decreases-loop-i
-decreases-loop-i l = l.to - l.i

@@ -11,10 +11,10 @@ pub add_header_list-requires : goal.add_header_list-requires
 add_header_list-requires c = told_asks c.requires c.in-Lists.is c.record_text-text.ensures
 
 pub overflow_sub-result : goal.overflow_sub-result
-overflow_sub-result c = omega (arith, (told_more c.requires c.in-On.is c.add_header_list.ensures.promise).0)
+overflow_sub-result c = omega (arith, (told_more c.requires c.in_ok-d-in-Lists.was c.add_header_list.ensures.promise).0)
 
 pub overflow_mul-result : goal.overflow_mul-result
-overflow_mul-result c = record { fits = omega (arith, (told_more c.requires c.in-On.is c.add_header_list.ensures.promise).1) }
+overflow_mul-result c = record { fits = omega (arith, (told_more c.requires c.in_ok-d-in-Lists.was c.add_header_list.ensures.promise).1) }
 
 pub returns-in-Unnamed : goal.returns-in-Unnamed
 returns-in-Unnamed c = record { space = (record { long = refl }, record { long = refl }, record { long = refl }, record { long = refl }); promise = tells_as c.in-Unnamed.is tells_unnamed }
@@ -25,32 +25,20 @@ returns-in-Absent c = record { space = (record { long = refl }, record { long = 
 pub returns-in-Malformed : goal.returns-in-Malformed
 returns-in-Malformed c = record { space = (record { long = refl }, record { long = refl }, record { long = refl }, record { long = refl }); promise = tells_as c.in-Malformed.is tells_malformed }
 
-pub shape_of-names-in-On : goal.shape_of-names-in-On
-shape_of-names-in-On c = c.add_header_list.auto.names
+pub returns-in_ok-d-in-Lists : goal.returns-in_ok-d-in-Lists
+returns-in_ok-d-in-Lists c = record { space = (record { long = (c.add_header_list.auto.names) }, record { long = (c.add_header_list.auto.index) }, record { long = (c.add_header_list.auto.graph) }, record { long = (c.add_header_list.auto.word) }); promise = tells_as c.in-Lists.is (tells_on c.record_text-text.ensures c.in_ok-d-in-Lists.was c.add_header_list.ensures.promise) }
 
-pub shape_of-index-in-On : goal.shape_of-index-in-On
-shape_of-index-in-On c = c.add_header_list.auto.index
+pub shape_of-names-in_err-d-in-Lists : goal.shape_of-names-in_err-d-in-Lists
+shape_of-names-in_err-d-in-Lists c = c.add_header_list.auto.names
 
-pub shape_of-second-in-On : goal.shape_of-second-in-On
-shape_of-second-in-On c = c.add_header_list.auto.graph
+pub shape_of-index-in_err-d-in-Lists : goal.shape_of-index-in_err-d-in-Lists
+shape_of-index-in_err-d-in-Lists c = c.add_header_list.auto.index
 
-pub shape_of-word-in-On : goal.shape_of-word-in-On
-shape_of-word-in-On c = c.add_header_list.auto.word
+pub shape_of-second-in_err-d-in-Lists : goal.shape_of-second-in_err-d-in-Lists
+shape_of-second-in_err-d-in-Lists c = c.add_header_list.auto.graph
 
-pub returns-in-On : goal.returns-in-On
-returns-in-On c = record { space = (record { long = (c.add_header_list.auto.names) }, record { long = (c.add_header_list.auto.index) }, record { long = (c.add_header_list.auto.graph) }, record { long = (c.add_header_list.auto.word) }); promise = tells_as c.in-Lists.is (tells_on c.record_text-text.ensures c.in-On.is c.add_header_list.ensures.promise) }
+pub shape_of-word-in_err-d-in-Lists : goal.shape_of-word-in_err-d-in-Lists
+shape_of-word-in_err-d-in-Lists c = c.add_header_list.auto.word
 
-pub shape_of-names-in-Over : goal.shape_of-names-in-Over
-shape_of-names-in-Over c = c.add_header_list.auto.names
-
-pub shape_of-index-in-Over : goal.shape_of-index-in-Over
-shape_of-index-in-Over c = c.add_header_list.auto.index
-
-pub shape_of-second-in-Over : goal.shape_of-second-in-Over
-shape_of-second-in-Over c = c.add_header_list.auto.graph
-
-pub shape_of-word-in-Over : goal.shape_of-word-in-Over
-shape_of-word-in-Over c = c.add_header_list.auto.word
-
-pub returns-in-Over : goal.returns-in-Over
-returns-in-Over c = record { space = (record { long = (c.add_header_list.auto.names) }, record { long = (c.add_header_list.auto.index) }, record { long = (c.add_header_list.auto.graph) }, record { long = (c.add_header_list.auto.word) }); promise = tells_as c.in-Lists.is (tells_over c.record_text-text.ensures c.in-Over.is c.add_header_list.ensures.promise) }
+pub returns-in_err-d-in-Lists : goal.returns-in_err-d-in-Lists
+returns-in_err-d-in-Lists c = record { space = (record { long = (c.add_header_list.auto.names) }, record { long = (c.add_header_list.auto.index) }, record { long = (c.add_header_list.auto.graph) }, record { long = (c.add_header_list.auto.word) }); promise = rw c.from_residual.ensures (tells_as c.in-Lists.is (tells_over c.record_text-text.ensures c.in_err-d-in-Lists.was c.add_header_list.ensures.promise)) }

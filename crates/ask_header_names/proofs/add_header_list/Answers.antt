@@ -19,10 +19,10 @@ pub loop-next-smaller : goal.loop-next-smaller
 loop-next-smaller c = let l = name_listed _ _ _ _ _ c.next_prerequisite.ensures c.in-Name.is in omega (arith, l.forward, l.within)
 
 pub loop-next-preserved : goal.loop-next-preserved
-loop-next-preserved c = list_on c.loop-next.invariant c.next_prerequisite.auto.word (name_listed _ _ _ _ _ c.next_prerequisite.ensures c.in-Name.is) c.add_header.auto.names c.add_header.auto.index c.add_header.auto.graph (rw c.in-On.is at c.add_header.ensures.promise)
+loop-next-preserved c = list_on c.loop-next.invariant c.next_prerequisite.auto.word (name_listed _ _ _ _ _ c.next_prerequisite.ensures c.in-Name.is) c.add_header.auto.names c.add_header.auto.index c.add_header.auto.graph (rw c.in_ok-d-in-Name.was at c.add_header.ensures.promise)
 
-pub returns-in-Over : goal.returns-in-Over
-returns-in-Over c = record { space = (record { long = (search rules) }, record { long = (search rules) }, record { long = (search rules) }, record { long = (search rules) }); promise = loop.list_over c.loop-next.invariant c.next_prerequisite.auto.word (name_listed _ _ _ _ _ c.next_prerequisite.ensures c.in-Name.is) (rw c.in-Over.is at c.add_header.ensures.promise) }
+pub returns-in_err-d-in-Name : goal.returns-in_err-d-in-Name
+returns-in_err-d-in-Name c = record { space = (record { long = (search rules) }, record { long = (search rules) }, record { long = (search rules) }, record { long = (search rules) }); promise = rw c.from_residual.ensures (loop.list_over c.loop-next.invariant c.next_prerequisite.auto.word (name_listed _ _ _ _ _ c.next_prerequisite.ensures c.in-Name.is) (rw c.in_err-d-in-Name.was at c.add_header.ensures.promise)) }
 
 pub returns-in-End : goal.returns-in-End
 returns-in-End c = record { space = (record { long = (search rules) }, record { long = (search rules) }, record { long = (search rules) }, record { long = (search rules) }); promise = list_end c.loop-next.invariant (list_over _ _ _ _ _ c.next_prerequisite.ensures c.in-End.is) }

@@ -1,20 +1,18 @@
 -- `ask_judged_times::mark_forced` meets its contract.
-use mathlib.Core.Path.{sym, ap, ◌∙◌}
-use Rattle.hold_columns.specs.Columns.{bit}
+use mathlib.Core.Path.{sym, ◌∙◌}
+use native.Mathlib.Omega.{arith}
+use Rattle.std.proofs.lemmas.Grind.{common_steps}
 use Rattle.ask_judged_times.proofs.Forcing.{force_begin, force_more, force_end}
 use Rattle.ask_judged_times.proofs.mark_forced.Goals as goal
 
 pub loop-s-init : goal.loop-s-init
 loop-s-init c = force_begin c.requires
 
-pub is_forced-requires : goal.is_forced-requires
-is_forced-requires c = (c.requires.asked, c.loop-s-test.true)
-
-pub loop-s-preserved-then-is_forced : goal.loop-s-preserved-then-is_forced
-loop-s-preserved-then-is_forced c = force_more c.loop-s.invariant c.loop-s-test.true (sym (ap bit (sym c.is_forced.ensures ∙ c.if-is_forced.true)))
+pub is_forced-forced-requires : goal.is_forced-forced-requires
+is_forced-forced-requires c = (c.requires.asked, c.loop-s-test.true)
 
 pub loop-s-preserved : goal.loop-s-preserved
-loop-s-preserved c = force_more c.loop-s.invariant c.loop-s-test.true (sym (ap bit (sym c.is_forced.ensures ∙ c.if-is_forced.false)))
+loop-s-preserved c = force_more c.loop-s.invariant c.loop-s-test.true (grind (arith, common_steps))
 
 pub shape_of-marks : goal.shape_of-marks
 shape_of-marks c = c.loop-s.invariant.long ∙ sym c.requires.marks_long

@@ -38,32 +38,32 @@ read_manifest-requires c = roomy c.table-t.ensures (length-replicate {A = ℕ} m
 pub slice_bounds-plan_read-end : goal.slice_bounds-plan_read-end
 slice_bounds-plan_read-end c = sym (c.read_manifest.auto.names ∙ length-replicate {A = ℕ} max_written 0)
 
-pub slice_bounds-plan_read-end-in-Accepted : goal.slice_bounds-plan_read-end-in-Accepted
-slice_bounds-plan_read-end-in-Accepted c = sym (c.read_manifest.auto.index ∙ length-replicate {A = ℕ} max_numbers 0)
+pub slice_bounds-plan_read-end-in-Ok : goal.slice_bounds-plan_read-end-in-Ok
+slice_bounds-plan_read-end-in-Ok c = sym (c.read_manifest.auto.index ∙ length-replicate {A = ℕ} max_numbers 0)
 
-pub slice_bounds-plan_read-end-in-Accepted-2 : goal.slice_bounds-plan_read-end-in-Accepted-2
-slice_bounds-plan_read-end-in-Accepted-2 c = sym (c.read_manifest.auto.texts ∙ length-replicate {A = ℕ} max_texts 0)
+pub slice_bounds-plan_read-end-in-Ok-2 : goal.slice_bounds-plan_read-end-in-Ok-2
+slice_bounds-plan_read-end-in-Ok-2 c = sym (c.read_manifest.auto.texts ∙ length-replicate {A = ℕ} max_texts 0)
 
-pub slice_bounds-plan_read-end-in-Accepted-3 : goal.slice_bounds-plan_read-end-in-Accepted-3
-slice_bounds-plan_read-end-in-Accepted-3 c = sym (c.read_manifest.auto.bind ∙ length-replicate {A = ℕ} max_rows 0)
+pub slice_bounds-plan_read-end-in-Ok-3 : goal.slice_bounds-plan_read-end-in-Ok-3
+slice_bounds-plan_read-end-in-Ok-3 c = sym (c.read_manifest.auto.bind ∙ length-replicate {A = ℕ} max_rows 0)
 
-pub slice_bounds-plan_read-end-in-Accepted-4 : goal.slice_bounds-plan_read-end-in-Accepted-4
-slice_bounds-plan_read-end-in-Accepted-4 c = sym (c.read_manifest.auto.graph ∙ length-replicate {A = ℕ} (columns_end + max_manifest) 0)
+pub slice_bounds-plan_read-end-in-Ok-4 : goal.slice_bounds-plan_read-end-in-Ok-4
+slice_bounds-plan_read-end-in-Ok-4 c = sym (c.read_manifest.auto.graph ∙ length-replicate {A = ℕ} (columns_end + max_manifest) 0)
 
 pub plan_read-requires : goal.plan_read-requires
-plan_read-requires c = askable c.requires c.table-t.ensures (c.read_manifest.auto.names ∙ length-replicate {A = ℕ} max_written 0) (read_accepted _ _ c.read_manifest.ensures.promise c.in-Accepted.is)
+plan_read-requires c = askable c.requires c.table-t.ensures (c.read_manifest.auto.names ∙ length-replicate {A = ℕ} max_written 0) (read_accepted _ _ c.read_manifest.ensures.promise c.in-Ok.is)
 
 pub zero_words_from-requires : goal.zero_words_from-requires
 zero_words_from-requires c = tt
 
-pub shape_of-list-in-Accepted : goal.shape_of-list-in-Accepted
-shape_of-list-in-Accepted c = c.plan_read.auto.list
+pub shape_of-list-in-Ok : goal.shape_of-list-in-Ok
+shape_of-list-in-Ok c = c.plan_read.auto.list
 
-pub returns-in-Accepted : goal.returns-in-Accepted
-returns-in-Accepted c = planned _ _ _ _ _ c.requires (read_accepted _ _ c.read_manifest.ensures.promise c.in-Accepted.is) c.plan_read.ensures.promise
+pub returns-in-Ok : goal.returns-in-Ok
+returns-in-Ok c = planned _ _ _ _ _ c.requires (read_accepted _ _ c.read_manifest.ensures.promise c.in-Ok.is) c.plan_read.ensures.promise
 
-pub shape_of-list-in-Refused : goal.shape_of-list-in-Refused
-shape_of-list-in-Refused c = c.zero_words_from.auto.buf
+pub shape_of-list-in-Err : goal.shape_of-list-in-Err
+shape_of-list-in-Err c = c.zero_words_from.auto.buf
 
-pub returns-in-Refused : goal.returns-in-Refused
-returns-in-Refused c = unread _ _ _ _ _ c.requires (read_refused _ _ c.read_manifest.ensures.promise c.in-Refused.is) c.zero_words_from.ensures
+pub returns-in-Err : goal.returns-in-Err
+returns-in-Err c = unread _ _ _ _ _ c.requires (read_refused _ _ c.read_manifest.ensures.promise c.in-Err.is) c.zero_words_from.ensures

@@ -11,22 +11,22 @@ pub zero_words_from-requires : goal.zero_words_from-requires
 zero_words_from-requires c = tt
 
 pub slice_bounds-plan_headers-end : goal.slice_bounds-plan_headers-end
-slice_bounds-plan_headers-end c = roots_within c.choose_roots.ensures c.in-From.is
+slice_bounds-plan_headers-end c = roots_within c.choose_roots.ensures c.in-Some.is
 
-pub slice_bounds-plan_headers-end-in-From : goal.slice_bounds-plan_headers-end-in-From
-slice_bounds-plan_headers-end-in-From c = sym (length-take-le _ _ (roots_within c.choose_roots.ensures c.in-From.is))
+pub slice_bounds-plan_headers-end-2 : goal.slice_bounds-plan_headers-end-2
+slice_bounds-plan_headers-end-2 c = sym (length-take-le _ _ (roots_within c.choose_roots.ensures c.in-Some.is))
 
 pub plan_headers-requires : goal.plan_headers-requires
-plan_headers-requires c = from_roots c.choose_roots.ensures c.in-From.is c.requires
+plan_headers-requires c = from_roots c.choose_roots.ensures c.in-Some.is c.requires
 
-pub shape_of-out-in-None : goal.shape_of-out-in-None
-shape_of-out-in-None c = c.choose_roots.auto.out
+pub shape_of-out-in_default : goal.shape_of-out-in_default
+shape_of-out-in_default c = c.choose_roots.auto.out
 
-pub shape_of-list-in-None : goal.shape_of-list-in-None
-shape_of-list-in-None c = c.zero_words_from.auto.buf
+pub shape_of-list-in_default : goal.shape_of-list-in_default
+shape_of-list-in_default c = c.zero_words_from.auto.buf
 
-pub returns-in-None : goal.returns-in-None
-returns-in-None c = record { space = (record { long = refl }, record { long = refl }, record { long = (c.choose_roots.auto.out) }); promise = rootless c.choose_roots.ensures c.in-None.is c.zero_words_from.ensures }
+pub returns-in_default : goal.returns-in_default
+returns-in_default c = record { space = (record { long = refl }, record { long = refl }, record { long = (c.choose_roots.auto.out) }); promise = rootless c.choose_roots.ensures c.in_default.is c.zero_words_from.ensures }
 
 pub shape_of-names : goal.shape_of-names
 shape_of-names c = c.plan_headers.auto.names
@@ -34,11 +34,11 @@ shape_of-names c = c.plan_headers.auto.names
 pub shape_of-index : goal.shape_of-index
 shape_of-index c = c.plan_headers.auto.index
 
-pub shape_of-out-in-From : goal.shape_of-out-in-From
-shape_of-out-in-From c = c.choose_roots.auto.out
+pub shape_of-out : goal.shape_of-out
+shape_of-out c = c.choose_roots.auto.out
 
-pub shape_of-list-in-From : goal.shape_of-list-in-From
-shape_of-list-in-From c = c.plan_headers.auto.list
+pub shape_of-list : goal.shape_of-list
+shape_of-list c = c.plan_headers.auto.list
 
-pub returns-in-From : goal.returns-in-From
-returns-in-From c = record { space = (c.plan_headers.ensures.space.0, c.plan_headers.ensures.space.1, record { long = (c.choose_roots.auto.out) }); promise = rooted c.choose_roots.ensures c.in-From.is c.plan_headers.ensures.promise }
+pub returns : goal.returns
+returns c = record { space = (c.plan_headers.ensures.space.0, c.plan_headers.ensures.space.1, record { long = (c.choose_roots.auto.out) }); promise = rooted c.choose_roots.ensures c.in-Some.is c.plan_headers.ensures.promise }

@@ -32,31 +32,31 @@ pub slice_bounds-plan_second-end : goal.slice_bounds-plan_second-end
 slice_bounds-plan_second-end c = sym (c.head_steps.auto.second ∙ length-replicate {A = ℕ} columns_end 0)
 
 pub plan_second-requires : goal.plan_second-requires
-plan_second-requires c = ask_second c.requires c.head_steps.ensures.promise c.in-Headed.is
+plan_second-requires c = ask_second c.requires c.head_steps.ensures.promise c.in-Ok.is
 
 pub zero_words_from-requires : goal.zero_words_from-requires
 zero_words_from-requires c = tt
 
-pub shape_of-names-in-Headed : goal.shape_of-names-in-Headed
-shape_of-names-in-Headed c = c.head_steps.auto.names
+pub shape_of-names-in-Ok : goal.shape_of-names-in-Ok
+shape_of-names-in-Ok c = c.head_steps.auto.names
 
-pub shape_of-index-in-Headed : goal.shape_of-index-in-Headed
-shape_of-index-in-Headed c = c.head_steps.auto.index
+pub shape_of-index-in-Ok : goal.shape_of-index-in-Ok
+shape_of-index-in-Ok c = c.head_steps.auto.index
 
-pub shape_of-list-in-Headed : goal.shape_of-list-in-Headed
-shape_of-list-in-Headed c = c.plan_second.auto.list
+pub shape_of-list-in-Ok : goal.shape_of-list-in-Ok
+shape_of-list-in-Ok c = c.plan_second.auto.list
 
-pub returns-in-Headed : goal.returns-in-Headed
-returns-in-Headed c = record { space = (record { long = (c.head_steps.auto.names) }, record { long = (c.head_steps.auto.index) }); promise = planned c.head_steps.ensures.promise c.in-Headed.is c.plan_second.ensures }
+pub returns-in-Ok : goal.returns-in-Ok
+returns-in-Ok c = record { space = (record { long = (c.head_steps.auto.names) }, record { long = (c.head_steps.auto.index) }); promise = planned c.head_steps.ensures.promise c.in-Ok.is c.plan_second.ensures }
 
-pub shape_of-names-in-Refused : goal.shape_of-names-in-Refused
-shape_of-names-in-Refused c = c.head_steps.auto.names
+pub shape_of-names-in-Err : goal.shape_of-names-in-Err
+shape_of-names-in-Err c = c.head_steps.auto.names
 
-pub shape_of-index-in-Refused : goal.shape_of-index-in-Refused
-shape_of-index-in-Refused c = c.head_steps.auto.index
+pub shape_of-index-in-Err : goal.shape_of-index-in-Err
+shape_of-index-in-Err c = c.head_steps.auto.index
 
-pub shape_of-list-in-Refused : goal.shape_of-list-in-Refused
-shape_of-list-in-Refused c = c.zero_words_from.auto.buf
+pub shape_of-list-in-Err : goal.shape_of-list-in-Err
+shape_of-list-in-Err c = c.zero_words_from.auto.buf
 
-pub returns-in-Refused : goal.returns-in-Refused
-returns-in-Refused c = record { space = (record { long = (c.head_steps.auto.names) }, record { long = (c.head_steps.auto.index) }); promise = refused c.head_steps.ensures.promise c.in-Refused.is c.zero_words_from.ensures }
+pub returns-in-Err : goal.returns-in-Err
+returns-in-Err c = record { space = (record { long = (c.head_steps.auto.names) }, record { long = (c.head_steps.auto.index) }); promise = refused c.head_steps.ensures.promise c.in-Err.is c.zero_words_from.ensures }

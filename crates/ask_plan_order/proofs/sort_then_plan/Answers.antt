@@ -13,24 +13,24 @@ pub order_needed-requires : goal.order_needed-requires
 order_needed-requires c = ask_sort c.requires
 
 pub slice_bounds-plan_sources-end : goal.slice_bounds-plan_sources-end
-slice_bounds-plan_sources-end c = let sorted : InOrder c.args.mentions.now c.args.ends.now c.args.made.now c.args.roots.now (length c.args.phony.now)
-    c.order_needed.new.order c.in-Ordered.k c.args.list.now c.order_needed.new.list = order_told _ _ _ _ _ _ _ c.order_needed.ensures c.requires.long c.in-Ordered.is in
+slice_bounds-plan_sources-end c = let sorted : InOrder c.args.g.now.mentions.now c.args.g.now.ends.now c.args.g.now.made.now c.args.roots.now (length c.args.g.now.phony.now)
+    c.order_needed.new.order c.in-Ok.k c.args.list.now c.order_needed.new.list = order_told _ _ _ _ _ _ _ c.order_needed.ensures c.requires.long c.in-Ok.is in
     omega (arith, (sorted).sorted.within, c.order_needed.auto, c.requires.long)
 
-pub slice_bounds-plan_sources-end-in-Ordered : goal.slice_bounds-plan_sources-end-in-Ordered
-slice_bounds-plan_sources-end-in-Ordered c = let sorted : InOrder c.args.mentions.now c.args.ends.now c.args.made.now c.args.roots.now (length c.args.phony.now)
-    c.order_needed.new.order c.in-Ordered.k c.args.list.now c.order_needed.new.list = order_told _ _ _ _ _ _ _ c.order_needed.ensures c.requires.long c.in-Ordered.is in
+pub slice_bounds-plan_sources-end-in-Ok : goal.slice_bounds-plan_sources-end-in-Ok
+slice_bounds-plan_sources-end-in-Ok c = let sorted : InOrder c.args.g.now.mentions.now c.args.g.now.ends.now c.args.g.now.made.now c.args.roots.now (length c.args.g.now.phony.now)
+    c.order_needed.new.order c.in-Ok.k c.args.list.now c.order_needed.new.list = order_told _ _ _ _ _ _ _ c.order_needed.ensures c.requires.long c.in-Ok.is in
     sym (length-take-le _ _ (omega (arith, (sorted).sorted.within, c.order_needed.auto, c.requires.long)))
 
 pub plan_sources-requires : goal.plan_sources-requires
-plan_sources-requires c = let sorted : InOrder c.args.mentions.now c.args.ends.now c.args.made.now c.args.roots.now (length c.args.phony.now)
-    c.order_needed.new.order c.in-Ordered.k c.args.list.now c.order_needed.new.list = order_told _ _ _ _ _ _ _ c.order_needed.ensures c.requires.long c.in-Ordered.is in
+plan_sources-requires c = let sorted : InOrder c.args.g.now.mentions.now c.args.g.now.ends.now c.args.g.now.made.now c.args.roots.now (length c.args.g.now.phony.now)
+    c.order_needed.new.order c.in-Ok.k c.args.list.now c.order_needed.new.list = order_told _ _ _ _ _ _ _ c.order_needed.ensures c.requires.long c.in-Ok.is in
     ask_sources c.requires.asked (sorted)
 
-pub returns-in-Ordered : goal.returns-in-Ordered
-returns-in-Ordered c = let sorted : InOrder c.args.mentions.now c.args.ends.now c.args.made.now c.args.roots.now (length c.args.phony.now)
-    c.order_needed.new.order c.in-Ordered.k c.args.list.now c.order_needed.new.list = order_told _ _ _ _ _ _ _ c.order_needed.ensures c.requires.long c.in-Ordered.is in
+pub returns-in-Ok : goal.returns-in-Ok
+returns-in-Ok c = let sorted : InOrder c.args.g.now.mentions.now c.args.g.now.ends.now c.args.g.now.made.now c.args.roots.now (length c.args.g.now.phony.now)
+    c.order_needed.new.order c.in-Ok.k c.args.list.now c.order_needed.new.list = order_told _ _ _ _ _ _ _ c.order_needed.ensures c.requires.long c.in-Ok.is in
     record { space = record { long = (search rules) }; promise = goes_on (sorted) c.plan_sources.ensures }
 
-pub returns-in-Circular : goal.returns-in-Circular
-returns-in-Circular c = record { space = record { long = (search rules) }; promise = circle (circle_told _ _ _ _ _ _ _ c.order_needed.ensures c.requires.long c.in-Circular.is) }
+pub returns-in-Err : goal.returns-in-Err
+returns-in-Err c = record { space = record { long = (search rules) }; promise = circle (circle_told _ _ _ _ _ _ _ c.order_needed.ensures c.requires.long c.in-Err.is) }

@@ -26,11 +26,11 @@ slice_bounds-find_name-start c = let t = turn c.loop-end.invariant c.name_at.ens
 pub slice_bounds-find_name-end : goal.slice_bounds-find_name-end
 slice_bounds-find_name-end c = let t = turn c.loop-end.invariant c.name_at.ensures c.in-Name.is in omega (arith, t.some, t.within)
 
-pub returns-in-Missing : goal.returns-in-Missing
-returns-in-Missing c = record { space = record { long = (search rules) }; promise = unknown c.loop-end.invariant c.name_at.ensures c.in-Name.is c.find_name.ensures c.in-Missing.is }
+pub returns-in_default : goal.returns-in_default
+returns-in_default c = record { space = record { long = (search rules) }; promise = unknown c.loop-end.invariant c.name_at.ensures c.in-Name.is c.find_name.ensures c.in_default.is }
 
 pub overflow_cast-out : goal.overflow_cast-out
-overflow_cast-out c = let h = known c.loop-end.invariant c.name_at.ensures c.in-Name.is c.find_name.ensures c.in-At.is in search rules
+overflow_cast-out c = let h = known c.loop-end.invariant c.name_at.ensures c.in-Name.is c.find_name.ensures c.in-Some.is in search rules
 
 pub overflow_add-from : goal.overflow_add-from
 overflow_add-from c = let t = turn c.loop-end.invariant c.name_at.ensures c.in-Name.is in search rules
@@ -39,4 +39,4 @@ pub loop-end-smaller : goal.loop-end-smaller
 loop-end-smaller c = let t = turn c.loop-end.invariant c.name_at.ensures c.in-Name.is in omega (arith, t.some, t.within)
 
 pub loop-end-preserved : goal.loop-end-preserved
-loop-end-preserved c = more c.loop-end.invariant c.name_at.ensures c.in-Name.is c.find_name.ensures c.in-At.is
+loop-end-preserved c = more c.loop-end.invariant c.name_at.ensures c.in-Name.is c.find_name.ensures c.in-Some.is

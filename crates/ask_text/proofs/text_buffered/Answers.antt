@@ -35,35 +35,35 @@ slice_bounds-read_manifest-end-6 c = sym (length-replicate {A = ℕ} max_value 0
 pub read_manifest-requires : goal.read_manifest-requires
 read_manifest-requires c = roomy c.table-t.ensures (length-replicate {A = ℕ} max_written 0) (length-replicate {A = ℕ} max_numbers 0) (length-replicate {A = ℕ} max_texts 0) (length-replicate {A = ℕ} max_rows 0) (length-replicate {A = ℕ} (columns_end + max_manifest) 0) (length-replicate {A = ℕ} max_value 0)
 
-pub slice_bounds-text_of-end : goal.slice_bounds-text_of-end
-slice_bounds-text_of-end c = sym (c.read_manifest.auto.names ∙ length-replicate {A = ℕ} max_written 0)
+pub slice_bounds-read-end : goal.slice_bounds-read-end
+slice_bounds-read-end c = sym (c.read_manifest.auto.names ∙ length-replicate {A = ℕ} max_written 0)
 
-pub slice_bounds-text_of-end-in-Accepted : goal.slice_bounds-text_of-end-in-Accepted
-slice_bounds-text_of-end-in-Accepted c = sym (c.read_manifest.auto.index ∙ length-replicate {A = ℕ} max_numbers 0)
+pub slice_bounds-read-end-in-Ok : goal.slice_bounds-read-end-in-Ok
+slice_bounds-read-end-in-Ok c = sym (c.read_manifest.auto.index ∙ length-replicate {A = ℕ} max_numbers 0)
 
-pub slice_bounds-text_of-end-in-Accepted-2 : goal.slice_bounds-text_of-end-in-Accepted-2
-slice_bounds-text_of-end-in-Accepted-2 c = sym (c.read_manifest.auto.texts ∙ length-replicate {A = ℕ} max_texts 0)
+pub slice_bounds-read-end-in-Ok-2 : goal.slice_bounds-read-end-in-Ok-2
+slice_bounds-read-end-in-Ok-2 c = sym (c.read_manifest.auto.texts ∙ length-replicate {A = ℕ} max_texts 0)
 
-pub slice_bounds-text_of-end-in-Accepted-3 : goal.slice_bounds-text_of-end-in-Accepted-3
-slice_bounds-text_of-end-in-Accepted-3 c = sym (c.read_manifest.auto.bind ∙ length-replicate {A = ℕ} max_rows 0)
+pub slice_bounds-read-end-in-Ok-3 : goal.slice_bounds-read-end-in-Ok-3
+slice_bounds-read-end-in-Ok-3 c = sym (c.read_manifest.auto.bind ∙ length-replicate {A = ℕ} max_rows 0)
 
-pub slice_bounds-text_of-end-in-Accepted-4 : goal.slice_bounds-text_of-end-in-Accepted-4
-slice_bounds-text_of-end-in-Accepted-4 c = sym (c.read_manifest.auto.graph ∙ length-replicate {A = ℕ} (columns_end + max_manifest) 0)
+pub slice_bounds-read-end-in-Ok-4 : goal.slice_bounds-read-end-in-Ok-4
+slice_bounds-read-end-in-Ok-4 c = sym (c.read_manifest.auto.graph ∙ length-replicate {A = ℕ} (columns_end + max_manifest) 0)
 
 pub text_of-requires : goal.text_of-requires
-text_of-requires c = askable _ _ c.requires (read_accepted _ _ c.read_manifest.ensures.promise c.in-Accepted.is) c.table-t.ensures
+text_of-requires c = askable _ _ c.requires (read_accepted _ _ c.read_manifest.ensures.promise c.in-Ok.is) c.table-t.ensures
 
 pub zero_bytes_from-requires : goal.zero_bytes_from-requires
 zero_bytes_from-requires c = tt
 
-pub shape_of-buffer-in-Accepted : goal.shape_of-buffer-in-Accepted
-shape_of-buffer-in-Accepted c = c.text_of.auto.buffer
+pub shape_of-buffer-in-Ok : goal.shape_of-buffer-in-Ok
+shape_of-buffer-in-Ok c = c.text_of.auto.buffer
 
-pub returns-in-Accepted : goal.returns-in-Accepted
-returns-in-Accepted c = written _ _ c.requires (read_accepted _ _ c.read_manifest.ensures.promise c.in-Accepted.is) c.text_of.ensures
+pub returns-in-Ok : goal.returns-in-Ok
+returns-in-Ok c = written _ _ c.requires (read_accepted _ _ c.read_manifest.ensures.promise c.in-Ok.is) c.text_of.ensures
 
-pub shape_of-buffer-in-Refused : goal.shape_of-buffer-in-Refused
-shape_of-buffer-in-Refused c = c.zero_bytes_from.auto.buf
+pub shape_of-buffer-in-Err : goal.shape_of-buffer-in-Err
+shape_of-buffer-in-Err c = c.zero_bytes_from.auto.buf
 
-pub returns-in-Refused : goal.returns-in-Refused
-returns-in-Refused c = unread _ _ c.requires _ _ (read_refused _ _ c.read_manifest.ensures.promise c.in-Refused.is) c.zero_bytes_from.ensures
+pub returns-in-Err : goal.returns-in-Err
+returns-in-Err c = unread _ _ c.requires _ _ (read_refused _ _ c.read_manifest.ensures.promise c.in-Err.is) c.zero_bytes_from.ensures

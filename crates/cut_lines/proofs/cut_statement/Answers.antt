@@ -1,5 +1,6 @@
 -- `cut_lines::cut_statement` meets its contract.
 use mathlib.Core.Path.{sym, ◌∙◌, subst}
+use Rattle.std.proofs.lemmas.Result.{err_from_is_err_and}
 use lib.Seq.{length-take-le}
 use Rattle.cut_forms.specs.Statements.{StatementAt, AssignmentAt}
 use Rattle.cut_lines.proofs.Begins.{statement_rule, statement_build, statement_default, statement_include, statement_subninja, statement_binding}
@@ -33,14 +34,15 @@ returns-then-equal-5 c =
     rw (statement_subninja c.name_end-end.ensures (sym c.equal.ensures ∙ c.if-equal.false) (sym c.equal-2.ensures ∙ c.if-equal-2.false) (sym c.equal-3.ensures ∙ c.if-equal-3.false) (sym c.equal-4.ensures ∙ c.if-equal-4.false) (sym c.equal-5.ensures ∙ c.if-equal-5.true))
     c.cut_open-then-equal-5.ensures
 
-pub returns-in-Binding : goal.returns-in-Binding
+pub returns : goal.returns
 unfolding StatementAt AssignmentAt
-returns-in-Binding c =
+returns c =
     rw (statement_binding c.name_end-end.ensures (sym c.equal.ensures ∙ c.if-equal.false) (sym c.equal-2.ensures ∙ c.if-equal-2.false) (sym c.equal-3.ensures ∙ c.if-equal-3.false) (sym c.equal-4.ensures ∙ c.if-equal-4.false) (sym c.equal-5.ensures ∙ c.if-equal-5.false))
-    (subst (AssignmentAt _ _) c.in-Binding.is c.cut_binding.ensures)
+    (subst (AssignmentAt _ _) c.in_ok-from.was c.cut_binding.ensures)
 
-pub returns-in-Wrong : goal.returns-in-Wrong
+pub returns-in_err-from : goal.returns-in_err-from
 unfolding StatementAt AssignmentAt
-returns-in-Wrong c =
-    rw (statement_binding c.name_end-end.ensures (sym c.equal.ensures ∙ c.if-equal.false) (sym c.equal-2.ensures ∙ c.if-equal-2.false) (sym c.equal-3.ensures ∙ c.if-equal-3.false) (sym c.equal-4.ensures ∙ c.if-equal-4.false) (sym c.equal-5.ensures ∙ c.if-equal-5.false))
-    (subst (AssignmentAt _ _) c.in-Wrong.is c.cut_binding.ensures)
+returns-in_err-from c =
+    let p = err_from_is_err_and c.from_residual.result c.from_residual.ensures.1 in
+    rw (p.1, p.2) (rw (statement_binding c.name_end-end.ensures (sym c.equal.ensures ∙ c.if-equal.false) (sym c.equal-2.ensures ∙ c.if-equal-2.false) (sym c.equal-3.ensures ∙ c.if-equal-3.false) (sym c.equal-4.ensures ∙ c.if-equal-4.false) (sym c.equal-5.ensures ∙ c.if-equal-5.false))
+    (subst (AssignmentAt _ _) c.in_err-from.was c.cut_binding.ensures))

@@ -7,18 +7,20 @@ use Rattle.cut_refusals.proofs.Dollars.{sound_indented}
 use Rattle.cut_refusals.proofs.Cut.{line_wrong, line_open, line_binds, fault_near}
 use Rattle.cut_refusals.proofs.cut_block_line.Goals as goal
 
-pub returns-then-ended : goal.returns-then-ended
+pub returns-in-Ok : goal.returns-in-Ok
 unfolding AssignmentAt BlockLineAt
-returns-then-ended c = line_binds (line_of _ _ _) (sound_indented _) (subst (AssignmentAt _ _) c.in-Binding.is c.cut_indented.ensures) c.if-ended.true
+returns-in-Ok c = line_binds (line_of _ _ _) (sound_indented _) (subst (AssignmentAt _ _) c.in-Ok.is c.cut_indented.ensures) c.if-ended.true
+
+pub returns-in-Ok-2 : goal.returns-in-Ok-2
+unfolding AssignmentAt BlockLineAt
+returns-in-Ok-2 c =
+    let b : BindingAt _ _ _ _ _ = subst (AssignmentAt _ _) c.in-Ok.is c.cut_indented.ensures in
+    line_open (line_of _ _ _) b.cut c.if-ended.false
 
 pub refusal-requires : goal.refusal-requires
 unfolding AssignmentAt
-refusal-requires c = fault_near _ _ _ c.requires.near (subst (AssignmentAt _ _) c.in-Wrong.is c.cut_indented.ensures)
+refusal-requires c = fault_near _ _ _ c.requires.near (subst (AssignmentAt _ _) c.in-Err.is c.cut_indented.ensures)
 
-pub returns-else-ended : goal.returns-else-ended
+pub returns-in-Err : goal.returns-in-Err
 unfolding AssignmentAt BlockLineAt
-returns-else-ended c = let b : BindingAt _ _ _ _ _ = (subst (AssignmentAt _ _) c.in-Binding.is c.cut_indented.ensures) in line_open (line_of _ _ _) b.cut c.if-ended.false
-
-pub returns-in-Wrong : goal.returns-in-Wrong
-unfolding AssignmentAt BlockLineAt
-returns-in-Wrong c = rw c.refusal.ensures (line_wrong (line_of _ _ _) _ (subst (AssignmentAt _ _) c.in-Wrong.is c.cut_indented.ensures))
+returns-in-Err c = rw c.refusal.ensures (line_wrong (line_of _ _ _) _ (subst (AssignmentAt _ _) c.in-Err.is c.cut_indented.ensures))

@@ -1,77 +1,54 @@
 -- `graph_list::list_pending` meets its contract.
-use Prim.Native.Nat.{◌≤◌, ◌<◌}
 use mathlib.Core.Path.{◌∙◌, sym}
 use native.Mathlib.Omega.{arith}
-use lib.ListN.{length}
-use Rattle.spec.specs.Limits.{max_steps}
-use Rattle.graph_list.proofs.Listing.{list_ask, list_begin, list_room, list_again, list_more, list_end}
+use Rattle.graph_list.proofs.Listing.{list_ask, list_begin, list_room, list_again, list_more, list_end, next_low}
 use Rattle.graph_list.proofs.list_pending.Goals as goal
 
--- the step to list
-
--- the numbers of a turn
-
-pub next_ready-s-requires : goal.next_ready-s-requires
-next_ready-s-requires c = list_ask c.requires
-
 pub loop-s-init : goal.loop-s-init
-loop-s-init c = list_begin c.requires c.next_ready-s.ensures
+loop-s-init c = list_begin c.requires
+
+pub next_ready-requires : goal.next_ready-requires
+next_ready-requires c = list_again c.requires c.loop-s.invariant
 
 pub overflow_cast-list : goal.overflow_cast-list
-overflow_cast-list c = let numbers : (c.loop-s.s < length c.args.pending.now) × (c.loop-s.count < length c.args.pending.now)
-    × (length c.args.pending.now ≤ max_steps) × (length c.args.pending.now ≤ length c.loop-s.list) = let low : c.loop-s.s < length c.args.pending.now = rw c.loop-s.invariant.pending_long at c.loop-s-test.true in
-    (low, list_room c.requires c.loop-s.invariant (low), c.requires.sound.few_steps, rw c.loop-s.invariant.list_long c.requires.room) in
-    omega (arith, numbers)
+overflow_cast-list c = let low = next_low c.requires c.loop-s.invariant c.next_ready.ensures c.in-Some.is in
+    omega (arith, low, c.requires.sound.few_steps)
 
 pub offset_bounds-list-count : goal.offset_bounds-list-count
-offset_bounds-list-count c = let numbers : (c.loop-s.s < length c.args.pending.now) × (c.loop-s.count < length c.args.pending.now)
-    × (length c.args.pending.now ≤ max_steps) × (length c.args.pending.now ≤ length c.loop-s.list) = let low : c.loop-s.s < length c.args.pending.now = rw c.loop-s.invariant.pending_long at c.loop-s-test.true in
-    (low, list_room c.requires c.loop-s.invariant (low), c.requires.sound.few_steps, rw c.loop-s.invariant.list_long c.requires.room) in
-    omega (arith, numbers)
+offset_bounds-list-count c = let room = list_room c.requires c.loop-s.invariant c.next_ready.ensures c.in-Some.is in
+    omega (arith, room, c.loop-s.invariant.list_long, c.requires.room, c.requires.sound.few_steps)
 
 pub bounds-list-count : goal.bounds-list-count
-bounds-list-count c = let numbers : (c.loop-s.s < length c.args.pending.now) × (c.loop-s.count < length c.args.pending.now)
-    × (length c.args.pending.now ≤ max_steps) × (length c.args.pending.now ≤ length c.loop-s.list) = let low : c.loop-s.s < length c.args.pending.now = rw c.loop-s.invariant.pending_long at c.loop-s-test.true in
-    (low, list_room c.requires c.loop-s.invariant (low), c.requires.sound.few_steps, rw c.loop-s.invariant.list_long c.requires.room) in
-    omega (arith, numbers)
+bounds-list-count c = let room = list_room c.requires c.loop-s.invariant c.next_ready.ensures c.in-Some.is in
+    omega (arith, room, c.loop-s.invariant.list_long, c.requires.room)
 
 pub overflow_add-count : goal.overflow_add-count
-overflow_add-count c = let numbers : (c.loop-s.s < length c.args.pending.now) × (c.loop-s.count < length c.args.pending.now)
-    × (length c.args.pending.now ≤ max_steps) × (length c.args.pending.now ≤ length c.loop-s.list) = let low : c.loop-s.s < length c.args.pending.now = rw c.loop-s.invariant.pending_long at c.loop-s-test.true in
-    (low, list_room c.requires c.loop-s.invariant (low), c.requires.sound.few_steps, rw c.loop-s.invariant.list_long c.requires.room) in
-    omega (arith, numbers)
+overflow_add-count c = let room = list_room c.requires c.loop-s.invariant c.next_ready.ensures c.in-Some.is in
+    omega (arith, room, c.requires.sound.few_steps)
 
 pub offset_bounds-pending-s : goal.offset_bounds-pending-s
-offset_bounds-pending-s c = let numbers : (c.loop-s.s < length c.args.pending.now) × (c.loop-s.count < length c.args.pending.now)
-    × (length c.args.pending.now ≤ max_steps) × (length c.args.pending.now ≤ length c.loop-s.list) = let low : c.loop-s.s < length c.args.pending.now = rw c.loop-s.invariant.pending_long at c.loop-s-test.true in
-    (low, list_room c.requires c.loop-s.invariant (low), c.requires.sound.few_steps, rw c.loop-s.invariant.list_long c.requires.room) in
-    omega (arith, numbers)
+offset_bounds-pending-s c = let low = next_low c.requires c.loop-s.invariant c.next_ready.ensures c.in-Some.is in
+    omega (arith, low, c.requires.sound.few_steps)
 
 pub bounds-pending-s : goal.bounds-pending-s
-bounds-pending-s c = c.loop-s-test.true
-
-pub next_ready-s-requires-in-loop-s : goal.next_ready-s-requires-in-loop-s
-next_ready-s-requires-in-loop-s c = let low : c.loop-s.s < length c.args.pending.now = rw c.loop-s.invariant.pending_long at c.loop-s-test.true in
-    list_again c.requires c.loop-s.invariant (low)
+bounds-pending-s c = let low = next_low c.requires c.loop-s.invariant c.next_ready.ensures c.in-Some.is in
+    omega (arith, low, c.loop-s.invariant.pending_long)
 
 pub loop-s-smaller : goal.loop-s-smaller
-loop-s-smaller c = let numbers : (c.loop-s.s < length c.args.pending.now) × (c.loop-s.count < length c.args.pending.now)
-    × (length c.args.pending.now ≤ max_steps) × (length c.args.pending.now ≤ length c.loop-s.list) = let low : c.loop-s.s < length c.args.pending.now = rw c.loop-s.invariant.pending_long at c.loop-s-test.true in
-    (low, list_room c.requires c.loop-s.invariant (low), c.requires.sound.few_steps, rw c.loop-s.invariant.list_long c.requires.room) in
-    omega (arith, numbers)
+loop-s-smaller c = let room = list_room c.requires c.loop-s.invariant c.next_ready.ensures c.in-Some.is in
+    omega (arith, room)
 
 pub loop-s-preserved : goal.loop-s-preserved
-loop-s-preserved c = let low : c.loop-s.s < length c.args.pending.now = rw c.loop-s.invariant.pending_long at c.loop-s-test.true in
-    list_more c.requires c.loop-s.invariant (low) c.next_ready-s-in-loop-s.ensures
+loop-s-preserved c = list_more c.requires c.loop-s.invariant c.next_ready.ensures c.in-Some.is
 
 pub shape_of-pending : goal.shape_of-pending
 shape_of-pending c = c.loop-s.invariant.pending_long
 
 pub shape_of-clear : goal.shape_of-clear
-shape_of-clear c = c.loop-s.invariant.clear_long ∙ sym (list_ask c.requires).long
+shape_of-clear c = c.next_ready.auto.clear ∙ c.loop-s.invariant.clear_long ∙ sym (list_ask c.requires).long
 
 pub shape_of-list : goal.shape_of-list
 shape_of-list c = c.zero_words_from.auto.buf ∙ c.loop-s.invariant.list_long
 
 pub returns : goal.returns
-returns c = record { space = (record { long = (c.loop-s.invariant.pending_long) }, record { long = (c.loop-s.invariant.clear_long ∙ sym (list_ask c.requires).long) }); promise = rw c.zero_words_from.ensures (list_end c.requires c.loop-s.invariant (rw c.loop-s.invariant.pending_long at c.loop-s-test.false)) }
+returns c = record { space = (record { long = (c.loop-s.invariant.pending_long) }, record { long = (c.next_ready.auto.clear ∙ c.loop-s.invariant.clear_long ∙ sym (list_ask c.requires).long) }); promise = rw c.zero_words_from.ensures (list_end c.requires c.loop-s.invariant c.next_ready.ensures c.in_default.is) }

@@ -1,10 +1,5 @@
-use Prim.Native.Nat.{◌-◌}
-use lib.ListN.{length}
 use Rattle.graph_list.proofs.Passing.{Passing}
 use Rattle.graph_list.proofs.next_ready.Given as goal
 
-abbrev pub invariant-loop-i : goal.invariant-loop-i
-invariant-loop-i l = Passing l.mentions l.ends l.made l.order l.pending l.clear l.best l.i
-
-abbrev pub decreases-loop-i : goal.decreases-loop-i
-decreases-loop-i l = length l.order - l.i
+abbrev pub invariant-loop-s : goal.invariant-loop-s
+invariant-loop-s l = Passing l.g.mentions.now l.g.ends.now l.g.made.now l.order l.pending l.clear l.best l.s-index

@@ -23,7 +23,7 @@ pub next_open-i-requires : goal.next_open-i-requires
 next_open-i-requires c = (rw c.loop-depth.invariant.walk.long (top_files c.loop-depth.invariant c.loop-depth-test.true c.at-s.ensures c.requires.sound c.inputs-fs.ensures), top_start c.loop-depth.invariant c.loop-depth-test.true c.at-s.ensures c.requires.sound c.inputs-fs.ensures c.at.ensures)
 
 pub overflow_cast-next : goal.overflow_cast-next
-overflow_cast-next c = let turn : Turn c.args.mentions.now c.args.ends.now c.args.made.now (length c.args.order.now) (take c.args.already c.args.order.now) c.args.root
+overflow_cast-next c = let turn : Turn c.args.g.now.mentions.now c.args.g.now.ends.now c.args.g.now.made.now (length c.args.order.now) (take c.args.already c.args.order.now) c.args.root
     c.loop-depth.seen c.loop-depth.next c.loop-depth.path c.loop-depth.order c.loop-depth.depth c.loop-depth.done c.at-s.result c.inputs-fs.result.now c.at.result c.next_open-i.result = record {
       sound = c.requires.sound;
       state = c.loop-depth.invariant;
@@ -36,7 +36,7 @@ overflow_cast-next c = let turn : Turn c.args.mentions.now c.args.ends.now c.arg
     omega (arith, numbers (turn))
 
 pub offset_bounds-next-s : goal.offset_bounds-next-s
-offset_bounds-next-s c = let turn : Turn c.args.mentions.now c.args.ends.now c.args.made.now (length c.args.order.now) (take c.args.already c.args.order.now) c.args.root
+offset_bounds-next-s c = let turn : Turn c.args.g.now.mentions.now c.args.g.now.ends.now c.args.g.now.made.now (length c.args.order.now) (take c.args.already c.args.order.now) c.args.root
     c.loop-depth.seen c.loop-depth.next c.loop-depth.path c.loop-depth.order c.loop-depth.depth c.loop-depth.done c.at-s.result c.inputs-fs.result.now c.at.result c.next_open-i.result = record {
       sound = c.requires.sound;
       state = c.loop-depth.invariant;
@@ -49,7 +49,7 @@ offset_bounds-next-s c = let turn : Turn c.args.mentions.now c.args.ends.now c.a
     omega (arith, numbers (turn))
 
 pub bounds-next-s : goal.bounds-next-s
-bounds-next-s c = let turn : Turn c.args.mentions.now c.args.ends.now c.args.made.now (length c.args.order.now) (take c.args.already c.args.order.now) c.args.root
+bounds-next-s c = let turn : Turn c.args.g.now.mentions.now c.args.g.now.ends.now c.args.g.now.made.now (length c.args.order.now) (take c.args.already c.args.order.now) c.args.root
     c.loop-depth.seen c.loop-depth.next c.loop-depth.path c.loop-depth.order c.loop-depth.depth c.loop-depth.done c.at-s.result c.inputs-fs.result.now c.at.result c.next_open-i.result = record {
       sound = c.requires.sound;
       state = c.loop-depth.invariant;
@@ -65,7 +65,7 @@ pub maker-m-requires : goal.maker-m-requires
 maker-m-requires c = (c.if-i-fs.true, (top_files c.loop-depth.invariant c.loop-depth-test.true c.at-s.ensures c.requires.sound c.inputs-fs.ensures).low c.next_open-i.result c.if-i-fs.true)
 
 pub overflow_sub-m : goal.overflow_sub-m
-overflow_sub-m c = let turn : Turn c.args.mentions.now c.args.ends.now c.args.made.now (length c.args.order.now) (take c.args.already c.args.order.now) c.args.root
+overflow_sub-m c = let turn : Turn c.args.g.now.mentions.now c.args.g.now.ends.now c.args.g.now.made.now (length c.args.order.now) (take c.args.already c.args.order.now) c.args.root
     c.loop-depth.seen c.loop-depth.next c.loop-depth.path c.loop-depth.order c.loop-depth.depth c.loop-depth.done c.at-s.result c.inputs-fs.result.now c.at.result c.next_open-i.result = record {
       sound = c.requires.sound;
       state = c.loop-depth.invariant;
@@ -78,7 +78,7 @@ overflow_sub-m c = let turn : Turn c.args.mentions.now c.args.ends.now c.args.ma
     omega (arith, open_maker (turn) c.if-i-fs.true c.maker-m.ensures)
 
 pub at-requires-then-i-fs : goal.at-requires-then-i-fs
-at-requires-then-i-fs c = let turn : Turn c.args.mentions.now c.args.ends.now c.args.made.now (length c.args.order.now) (take c.args.already c.args.order.now) c.args.root
+at-requires-then-i-fs c = let turn : Turn c.args.g.now.mentions.now c.args.g.now.ends.now c.args.g.now.made.now (length c.args.order.now) (take c.args.already c.args.order.now) c.args.root
     c.loop-depth.seen c.loop-depth.next c.loop-depth.path c.loop-depth.order c.loop-depth.depth c.loop-depth.done c.at-s.result c.inputs-fs.result.now c.at.result c.next_open-i.result = record {
       sound = c.requires.sound;
       state = c.loop-depth.invariant;
@@ -91,7 +91,7 @@ at-requires-then-i-fs c = let turn : Turn c.args.mentions.now c.args.ends.now c.
     omega (arith, open_low (turn) c.if-i-fs.true c.maker-m.ensures, numbers (turn))
 
 pub shape_of-seen-then-at-eq1 : goal.shape_of-seen-then-at-eq1
-shape_of-seen-then-at-eq1 c = let turn : Turn c.args.mentions.now c.args.ends.now c.args.made.now (length c.args.order.now) (take c.args.already c.args.order.now) c.args.root
+shape_of-seen-then-at-eq1 c = let turn : Turn c.args.g.now.mentions.now c.args.g.now.ends.now c.args.g.now.made.now (length c.args.order.now) (take c.args.already c.args.order.now) c.args.root
     c.loop-depth.seen c.loop-depth.next c.loop-depth.path c.loop-depth.order c.loop-depth.depth c.loop-depth.done c.at-s.result c.inputs-fs.result.now c.at.result c.next_open-i.result = record {
       sound = c.requires.sound;
       state = c.loop-depth.invariant;
@@ -104,7 +104,7 @@ shape_of-seen-then-at-eq1 c = let turn : Turn c.args.mentions.now c.args.ends.no
     omega (arith, numbers (turn), c.requires.visited.walk.long)
 
 pub shape_of-next-then-at-eq1 : goal.shape_of-next-then-at-eq1
-shape_of-next-then-at-eq1 c = let turn : Turn c.args.mentions.now c.args.ends.now c.args.made.now (length c.args.order.now) (take c.args.already c.args.order.now) c.args.root
+shape_of-next-then-at-eq1 c = let turn : Turn c.args.g.now.mentions.now c.args.g.now.ends.now c.args.g.now.made.now (length c.args.order.now) (take c.args.already c.args.order.now) c.args.root
     c.loop-depth.seen c.loop-depth.next c.loop-depth.path c.loop-depth.order c.loop-depth.depth c.loop-depth.done c.at-s.result c.inputs-fs.result.now c.at.result c.next_open-i.result = record {
       sound = c.requires.sound;
       state = c.loop-depth.invariant;
@@ -117,7 +117,7 @@ shape_of-next-then-at-eq1 c = let turn : Turn c.args.mentions.now c.args.ends.no
     simp length-set (omega (arith, numbers (turn), c.requires.visited.next_long))
 
 pub shape_of-path-then-at-eq1 : goal.shape_of-path-then-at-eq1
-shape_of-path-then-at-eq1 c = let turn : Turn c.args.mentions.now c.args.ends.now c.args.made.now (length c.args.order.now) (take c.args.already c.args.order.now) c.args.root
+shape_of-path-then-at-eq1 c = let turn : Turn c.args.g.now.mentions.now c.args.g.now.ends.now c.args.g.now.made.now (length c.args.order.now) (take c.args.already c.args.order.now) c.args.root
     c.loop-depth.seen c.loop-depth.next c.loop-depth.path c.loop-depth.order c.loop-depth.depth c.loop-depth.done c.at-s.result c.inputs-fs.result.now c.at.result c.next_open-i.result = record {
       sound = c.requires.sound;
       state = c.loop-depth.invariant;
@@ -130,7 +130,7 @@ shape_of-path-then-at-eq1 c = let turn : Turn c.args.mentions.now c.args.ends.no
     omega (arith, numbers (turn), c.requires.path_long)
 
 pub shape_of-order-then-at-eq1 : goal.shape_of-order-then-at-eq1
-shape_of-order-then-at-eq1 c = let turn : Turn c.args.mentions.now c.args.ends.now c.args.made.now (length c.args.order.now) (take c.args.already c.args.order.now) c.args.root
+shape_of-order-then-at-eq1 c = let turn : Turn c.args.g.now.mentions.now c.args.g.now.ends.now c.args.g.now.made.now (length c.args.order.now) (take c.args.already c.args.order.now) c.args.root
     c.loop-depth.seen c.loop-depth.next c.loop-depth.path c.loop-depth.order c.loop-depth.depth c.loop-depth.done c.at-s.result c.inputs-fs.result.now c.at.result c.next_open-i.result = record {
       sound = c.requires.sound;
       state = c.loop-depth.invariant;
@@ -144,7 +144,7 @@ shape_of-order-then-at-eq1 c = let turn : Turn c.args.mentions.now c.args.ends.n
 
 pub returns-then-at-eq1 : goal.returns-then-at-eq1
 unfolding Explored
-returns-then-at-eq1 c = let turn : Turn c.args.mentions.now c.args.ends.now c.args.made.now (length c.args.order.now) (take c.args.already c.args.order.now) c.args.root
+returns-then-at-eq1 c = let turn : Turn c.args.g.now.mentions.now c.args.g.now.ends.now c.args.g.now.made.now (length c.args.order.now) (take c.args.already c.args.order.now) c.args.root
     c.loop-depth.seen c.loop-depth.next c.loop-depth.path c.loop-depth.order c.loop-depth.depth c.loop-depth.done c.at-s.result c.inputs-fs.result.now c.at.result c.next_open-i.result = record {
       sound = c.requires.sound;
       state = c.loop-depth.invariant;
@@ -157,7 +157,7 @@ returns-then-at-eq1 c = let turn : Turn c.args.mentions.now c.args.ends.now c.ar
     explore_circle (turn) c.if-i-fs.true c.maker-m.ensures c.at-then-i-fs.ensures c.if-at-eq1.true c.place.ensures
 
 pub offset_bounds-seen-m : goal.offset_bounds-seen-m
-offset_bounds-seen-m c = let push : (c.maker-m.result - 1 < length c.args.order.now) × (c.loop-depth.depth < length c.args.order.now) = let turn : Turn c.args.mentions.now c.args.ends.now c.args.made.now (length c.args.order.now) (take c.args.already c.args.order.now) c.args.root
+offset_bounds-seen-m c = let push : (c.maker-m.result - 1 < length c.args.order.now) × (c.loop-depth.depth < length c.args.order.now) = let turn : Turn c.args.g.now.mentions.now c.args.g.now.ends.now c.args.g.now.made.now (length c.args.order.now) (take c.args.already c.args.order.now) c.args.root
     c.loop-depth.seen c.loop-depth.next c.loop-depth.path c.loop-depth.order c.loop-depth.depth c.loop-depth.done c.at-s.result c.inputs-fs.result.now c.at.result c.next_open-i.result = record {
       sound = c.requires.sound;
       state = c.loop-depth.invariant;
@@ -168,7 +168,7 @@ offset_bounds-seen-m c = let push : (c.maker-m.result - 1 < length c.args.order.
       opens = c.next_open-i.ensures;
     } in
     (open_low (turn) c.if-i-fs.true c.maker-m.ensures, push_room (turn) c.if-i-fs.true c.maker-m.ensures c.at-then-i-fs.ensures c.if-at-eq1.false) in
-    let turn : Turn c.args.mentions.now c.args.ends.now c.args.made.now (length c.args.order.now) (take c.args.already c.args.order.now) c.args.root
+    let turn : Turn c.args.g.now.mentions.now c.args.g.now.ends.now c.args.g.now.made.now (length c.args.order.now) (take c.args.already c.args.order.now) c.args.root
     c.loop-depth.seen c.loop-depth.next c.loop-depth.path c.loop-depth.order c.loop-depth.depth c.loop-depth.done c.at-s.result c.inputs-fs.result.now c.at.result c.next_open-i.result = record {
       sound = c.requires.sound;
       state = c.loop-depth.invariant;
@@ -181,7 +181,7 @@ offset_bounds-seen-m c = let push : (c.maker-m.result - 1 < length c.args.order.
     omega (arith, push, numbers (turn))
 
 pub bounds-seen-m : goal.bounds-seen-m
-bounds-seen-m c = let push : (c.maker-m.result - 1 < length c.args.order.now) × (c.loop-depth.depth < length c.args.order.now) = let turn : Turn c.args.mentions.now c.args.ends.now c.args.made.now (length c.args.order.now) (take c.args.already c.args.order.now) c.args.root
+bounds-seen-m c = let push : (c.maker-m.result - 1 < length c.args.order.now) × (c.loop-depth.depth < length c.args.order.now) = let turn : Turn c.args.g.now.mentions.now c.args.g.now.ends.now c.args.g.now.made.now (length c.args.order.now) (take c.args.already c.args.order.now) c.args.root
     c.loop-depth.seen c.loop-depth.next c.loop-depth.path c.loop-depth.order c.loop-depth.depth c.loop-depth.done c.at-s.result c.inputs-fs.result.now c.at.result c.next_open-i.result = record {
       sound = c.requires.sound;
       state = c.loop-depth.invariant;
@@ -192,7 +192,7 @@ bounds-seen-m c = let push : (c.maker-m.result - 1 < length c.args.order.now) ×
       opens = c.next_open-i.ensures;
     } in
     (open_low (turn) c.if-i-fs.true c.maker-m.ensures, push_room (turn) c.if-i-fs.true c.maker-m.ensures c.at-then-i-fs.ensures c.if-at-eq1.false) in
-    let turn : Turn c.args.mentions.now c.args.ends.now c.args.made.now (length c.args.order.now) (take c.args.already c.args.order.now) c.args.root
+    let turn : Turn c.args.g.now.mentions.now c.args.g.now.ends.now c.args.g.now.made.now (length c.args.order.now) (take c.args.already c.args.order.now) c.args.root
     c.loop-depth.seen c.loop-depth.next c.loop-depth.path c.loop-depth.order c.loop-depth.depth c.loop-depth.done c.at-s.result c.inputs-fs.result.now c.at.result c.next_open-i.result = record {
       sound = c.requires.sound;
       state = c.loop-depth.invariant;
@@ -205,7 +205,7 @@ bounds-seen-m c = let push : (c.maker-m.result - 1 < length c.args.order.now) ×
     omega (arith, push, numbers (turn))
 
 pub overflow_cast-path-then-i-fs : goal.overflow_cast-path-then-i-fs
-overflow_cast-path-then-i-fs c = let push : (c.maker-m.result - 1 < length c.args.order.now) × (c.loop-depth.depth < length c.args.order.now) = let turn : Turn c.args.mentions.now c.args.ends.now c.args.made.now (length c.args.order.now) (take c.args.already c.args.order.now) c.args.root
+overflow_cast-path-then-i-fs c = let push : (c.maker-m.result - 1 < length c.args.order.now) × (c.loop-depth.depth < length c.args.order.now) = let turn : Turn c.args.g.now.mentions.now c.args.g.now.ends.now c.args.g.now.made.now (length c.args.order.now) (take c.args.already c.args.order.now) c.args.root
     c.loop-depth.seen c.loop-depth.next c.loop-depth.path c.loop-depth.order c.loop-depth.depth c.loop-depth.done c.at-s.result c.inputs-fs.result.now c.at.result c.next_open-i.result = record {
       sound = c.requires.sound;
       state = c.loop-depth.invariant;
@@ -216,7 +216,7 @@ overflow_cast-path-then-i-fs c = let push : (c.maker-m.result - 1 < length c.arg
       opens = c.next_open-i.ensures;
     } in
     (open_low (turn) c.if-i-fs.true c.maker-m.ensures, push_room (turn) c.if-i-fs.true c.maker-m.ensures c.at-then-i-fs.ensures c.if-at-eq1.false) in
-    let turn : Turn c.args.mentions.now c.args.ends.now c.args.made.now (length c.args.order.now) (take c.args.already c.args.order.now) c.args.root
+    let turn : Turn c.args.g.now.mentions.now c.args.g.now.ends.now c.args.g.now.made.now (length c.args.order.now) (take c.args.already c.args.order.now) c.args.root
     c.loop-depth.seen c.loop-depth.next c.loop-depth.path c.loop-depth.order c.loop-depth.depth c.loop-depth.done c.at-s.result c.inputs-fs.result.now c.at.result c.next_open-i.result = record {
       sound = c.requires.sound;
       state = c.loop-depth.invariant;
@@ -229,7 +229,7 @@ overflow_cast-path-then-i-fs c = let push : (c.maker-m.result - 1 < length c.arg
     omega (arith, push, numbers (turn))
 
 pub offset_bounds-path-depth : goal.offset_bounds-path-depth
-offset_bounds-path-depth c = let push : (c.maker-m.result - 1 < length c.args.order.now) × (c.loop-depth.depth < length c.args.order.now) = let turn : Turn c.args.mentions.now c.args.ends.now c.args.made.now (length c.args.order.now) (take c.args.already c.args.order.now) c.args.root
+offset_bounds-path-depth c = let push : (c.maker-m.result - 1 < length c.args.order.now) × (c.loop-depth.depth < length c.args.order.now) = let turn : Turn c.args.g.now.mentions.now c.args.g.now.ends.now c.args.g.now.made.now (length c.args.order.now) (take c.args.already c.args.order.now) c.args.root
     c.loop-depth.seen c.loop-depth.next c.loop-depth.path c.loop-depth.order c.loop-depth.depth c.loop-depth.done c.at-s.result c.inputs-fs.result.now c.at.result c.next_open-i.result = record {
       sound = c.requires.sound;
       state = c.loop-depth.invariant;
@@ -240,7 +240,7 @@ offset_bounds-path-depth c = let push : (c.maker-m.result - 1 < length c.args.or
       opens = c.next_open-i.ensures;
     } in
     (open_low (turn) c.if-i-fs.true c.maker-m.ensures, push_room (turn) c.if-i-fs.true c.maker-m.ensures c.at-then-i-fs.ensures c.if-at-eq1.false) in
-    let turn : Turn c.args.mentions.now c.args.ends.now c.args.made.now (length c.args.order.now) (take c.args.already c.args.order.now) c.args.root
+    let turn : Turn c.args.g.now.mentions.now c.args.g.now.ends.now c.args.g.now.made.now (length c.args.order.now) (take c.args.already c.args.order.now) c.args.root
     c.loop-depth.seen c.loop-depth.next c.loop-depth.path c.loop-depth.order c.loop-depth.depth c.loop-depth.done c.at-s.result c.inputs-fs.result.now c.at.result c.next_open-i.result = record {
       sound = c.requires.sound;
       state = c.loop-depth.invariant;
@@ -253,7 +253,7 @@ offset_bounds-path-depth c = let push : (c.maker-m.result - 1 < length c.args.or
     omega (arith, push, numbers (turn))
 
 pub bounds-path-depth : goal.bounds-path-depth
-bounds-path-depth c = let push : (c.maker-m.result - 1 < length c.args.order.now) × (c.loop-depth.depth < length c.args.order.now) = let turn : Turn c.args.mentions.now c.args.ends.now c.args.made.now (length c.args.order.now) (take c.args.already c.args.order.now) c.args.root
+bounds-path-depth c = let push : (c.maker-m.result - 1 < length c.args.order.now) × (c.loop-depth.depth < length c.args.order.now) = let turn : Turn c.args.g.now.mentions.now c.args.g.now.ends.now c.args.g.now.made.now (length c.args.order.now) (take c.args.already c.args.order.now) c.args.root
     c.loop-depth.seen c.loop-depth.next c.loop-depth.path c.loop-depth.order c.loop-depth.depth c.loop-depth.done c.at-s.result c.inputs-fs.result.now c.at.result c.next_open-i.result = record {
       sound = c.requires.sound;
       state = c.loop-depth.invariant;
@@ -264,7 +264,7 @@ bounds-path-depth c = let push : (c.maker-m.result - 1 < length c.args.order.now
       opens = c.next_open-i.ensures;
     } in
     (open_low (turn) c.if-i-fs.true c.maker-m.ensures, push_room (turn) c.if-i-fs.true c.maker-m.ensures c.at-then-i-fs.ensures c.if-at-eq1.false) in
-    let turn : Turn c.args.mentions.now c.args.ends.now c.args.made.now (length c.args.order.now) (take c.args.already c.args.order.now) c.args.root
+    let turn : Turn c.args.g.now.mentions.now c.args.g.now.ends.now c.args.g.now.made.now (length c.args.order.now) (take c.args.already c.args.order.now) c.args.root
     c.loop-depth.seen c.loop-depth.next c.loop-depth.path c.loop-depth.order c.loop-depth.depth c.loop-depth.done c.at-s.result c.inputs-fs.result.now c.at.result c.next_open-i.result = record {
       sound = c.requires.sound;
       state = c.loop-depth.invariant;
@@ -277,7 +277,7 @@ bounds-path-depth c = let push : (c.maker-m.result - 1 < length c.args.order.now
     omega (arith, push, numbers (turn))
 
 pub overflow_add-depth : goal.overflow_add-depth
-overflow_add-depth c = let push : (c.maker-m.result - 1 < length c.args.order.now) × (c.loop-depth.depth < length c.args.order.now) = let turn : Turn c.args.mentions.now c.args.ends.now c.args.made.now (length c.args.order.now) (take c.args.already c.args.order.now) c.args.root
+overflow_add-depth c = let push : (c.maker-m.result - 1 < length c.args.order.now) × (c.loop-depth.depth < length c.args.order.now) = let turn : Turn c.args.g.now.mentions.now c.args.g.now.ends.now c.args.g.now.made.now (length c.args.order.now) (take c.args.already c.args.order.now) c.args.root
     c.loop-depth.seen c.loop-depth.next c.loop-depth.path c.loop-depth.order c.loop-depth.depth c.loop-depth.done c.at-s.result c.inputs-fs.result.now c.at.result c.next_open-i.result = record {
       sound = c.requires.sound;
       state = c.loop-depth.invariant;
@@ -288,7 +288,7 @@ overflow_add-depth c = let push : (c.maker-m.result - 1 < length c.args.order.no
       opens = c.next_open-i.ensures;
     } in
     (open_low (turn) c.if-i-fs.true c.maker-m.ensures, push_room (turn) c.if-i-fs.true c.maker-m.ensures c.at-then-i-fs.ensures c.if-at-eq1.false) in
-    let turn : Turn c.args.mentions.now c.args.ends.now c.args.made.now (length c.args.order.now) (take c.args.already c.args.order.now) c.args.root
+    let turn : Turn c.args.g.now.mentions.now c.args.g.now.ends.now c.args.g.now.made.now (length c.args.order.now) (take c.args.already c.args.order.now) c.args.root
     c.loop-depth.seen c.loop-depth.next c.loop-depth.path c.loop-depth.order c.loop-depth.depth c.loop-depth.done c.at-s.result c.inputs-fs.result.now c.at.result c.next_open-i.result = record {
       sound = c.requires.sound;
       state = c.loop-depth.invariant;
@@ -301,7 +301,7 @@ overflow_add-depth c = let push : (c.maker-m.result - 1 < length c.args.order.no
     omega (arith, push, numbers (turn))
 
 pub loop-depth-smaller-then-i-fs : goal.loop-depth-smaller-then-i-fs
-loop-depth-smaller-then-i-fs c = let push : (c.maker-m.result - 1 < length c.args.order.now) × (c.loop-depth.depth < length c.args.order.now) = let turn : Turn c.args.mentions.now c.args.ends.now c.args.made.now (length c.args.order.now) (take c.args.already c.args.order.now) c.args.root
+loop-depth-smaller-then-i-fs c = let push : (c.maker-m.result - 1 < length c.args.order.now) × (c.loop-depth.depth < length c.args.order.now) = let turn : Turn c.args.g.now.mentions.now c.args.g.now.ends.now c.args.g.now.made.now (length c.args.order.now) (take c.args.already c.args.order.now) c.args.root
     c.loop-depth.seen c.loop-depth.next c.loop-depth.path c.loop-depth.order c.loop-depth.depth c.loop-depth.done c.at-s.result c.inputs-fs.result.now c.at.result c.next_open-i.result = record {
       sound = c.requires.sound;
       state = c.loop-depth.invariant;
@@ -312,7 +312,7 @@ loop-depth-smaller-then-i-fs c = let push : (c.maker-m.result - 1 < length c.arg
       opens = c.next_open-i.ensures;
     } in
     (open_low (turn) c.if-i-fs.true c.maker-m.ensures, push_room (turn) c.if-i-fs.true c.maker-m.ensures c.at-then-i-fs.ensures c.if-at-eq1.false) in
-    let turn : Turn c.args.mentions.now c.args.ends.now c.args.made.now (length c.args.order.now) (take c.args.already c.args.order.now) c.args.root
+    let turn : Turn c.args.g.now.mentions.now c.args.g.now.ends.now c.args.g.now.made.now (length c.args.order.now) (take c.args.already c.args.order.now) c.args.root
     c.loop-depth.seen c.loop-depth.next c.loop-depth.path c.loop-depth.order c.loop-depth.depth c.loop-depth.done c.at-s.result c.inputs-fs.result.now c.at.result c.next_open-i.result = record {
       sound = c.requires.sound;
       state = c.loop-depth.invariant;
@@ -325,7 +325,7 @@ loop-depth-smaller-then-i-fs c = let push : (c.maker-m.result - 1 < length c.arg
     omega (arith, push, numbers (turn))
 
 pub loop-depth-preserved-then-i-fs : goal.loop-depth-preserved-then-i-fs
-loop-depth-preserved-then-i-fs c = let turn : Turn c.args.mentions.now c.args.ends.now c.args.made.now (length c.args.order.now) (take c.args.already c.args.order.now) c.args.root
+loop-depth-preserved-then-i-fs c = let turn : Turn c.args.g.now.mentions.now c.args.g.now.ends.now c.args.g.now.made.now (length c.args.order.now) (take c.args.already c.args.order.now) c.args.root
     c.loop-depth.seen c.loop-depth.next c.loop-depth.path c.loop-depth.order c.loop-depth.depth c.loop-depth.done c.at-s.result c.inputs-fs.result.now c.at.result c.next_open-i.result = record {
       sound = c.requires.sound;
       state = c.loop-depth.invariant;
@@ -338,7 +338,7 @@ loop-depth-preserved-then-i-fs c = let turn : Turn c.args.mentions.now c.args.en
     explore_push (turn) c.if-i-fs.true c.maker-m.ensures c.at-then-i-fs.ensures c.if-at-eq1.false
 
 pub offset_bounds-seen-s : goal.offset_bounds-seen-s
-offset_bounds-seen-s c = let turn : Turn c.args.mentions.now c.args.ends.now c.args.made.now (length c.args.order.now) (take c.args.already c.args.order.now) c.args.root
+offset_bounds-seen-s c = let turn : Turn c.args.g.now.mentions.now c.args.g.now.ends.now c.args.g.now.made.now (length c.args.order.now) (take c.args.already c.args.order.now) c.args.root
     c.loop-depth.seen c.loop-depth.next c.loop-depth.path c.loop-depth.order c.loop-depth.depth c.loop-depth.done c.at-s.result c.inputs-fs.result.now c.at.result c.next_open-i.result = record {
       sound = c.requires.sound;
       state = c.loop-depth.invariant;
@@ -351,7 +351,7 @@ offset_bounds-seen-s c = let turn : Turn c.args.mentions.now c.args.ends.now c.a
     omega (arith, numbers (turn))
 
 pub bounds-seen-s : goal.bounds-seen-s
-bounds-seen-s c = let turn : Turn c.args.mentions.now c.args.ends.now c.args.made.now (length c.args.order.now) (take c.args.already c.args.order.now) c.args.root
+bounds-seen-s c = let turn : Turn c.args.g.now.mentions.now c.args.g.now.ends.now c.args.g.now.made.now (length c.args.order.now) (take c.args.already c.args.order.now) c.args.root
     c.loop-depth.seen c.loop-depth.next c.loop-depth.path c.loop-depth.order c.loop-depth.depth c.loop-depth.done c.at-s.result c.inputs-fs.result.now c.at.result c.next_open-i.result = record {
       sound = c.requires.sound;
       state = c.loop-depth.invariant;
@@ -364,7 +364,7 @@ bounds-seen-s c = let turn : Turn c.args.mentions.now c.args.ends.now c.args.mad
     omega (arith, numbers (turn))
 
 pub overflow_cast-order : goal.overflow_cast-order
-overflow_cast-order c = let turn : Turn c.args.mentions.now c.args.ends.now c.args.made.now (length c.args.order.now) (take c.args.already c.args.order.now) c.args.root
+overflow_cast-order c = let turn : Turn c.args.g.now.mentions.now c.args.g.now.ends.now c.args.g.now.made.now (length c.args.order.now) (take c.args.already c.args.order.now) c.args.root
     c.loop-depth.seen c.loop-depth.next c.loop-depth.path c.loop-depth.order c.loop-depth.depth c.loop-depth.done c.at-s.result c.inputs-fs.result.now c.at.result c.next_open-i.result = record {
       sound = c.requires.sound;
       state = c.loop-depth.invariant;
@@ -377,7 +377,7 @@ overflow_cast-order c = let turn : Turn c.args.mentions.now c.args.ends.now c.ar
     omega (arith, numbers (turn))
 
 pub offset_bounds-order-done : goal.offset_bounds-order-done
-offset_bounds-order-done c = let turn : Turn c.args.mentions.now c.args.ends.now c.args.made.now (length c.args.order.now) (take c.args.already c.args.order.now) c.args.root
+offset_bounds-order-done c = let turn : Turn c.args.g.now.mentions.now c.args.g.now.ends.now c.args.g.now.made.now (length c.args.order.now) (take c.args.already c.args.order.now) c.args.root
     c.loop-depth.seen c.loop-depth.next c.loop-depth.path c.loop-depth.order c.loop-depth.depth c.loop-depth.done c.at-s.result c.inputs-fs.result.now c.at.result c.next_open-i.result = record {
       sound = c.requires.sound;
       state = c.loop-depth.invariant;
@@ -390,7 +390,7 @@ offset_bounds-order-done c = let turn : Turn c.args.mentions.now c.args.ends.now
     omega (arith, numbers (turn))
 
 pub bounds-order-done : goal.bounds-order-done
-bounds-order-done c = let turn : Turn c.args.mentions.now c.args.ends.now c.args.made.now (length c.args.order.now) (take c.args.already c.args.order.now) c.args.root
+bounds-order-done c = let turn : Turn c.args.g.now.mentions.now c.args.g.now.ends.now c.args.g.now.made.now (length c.args.order.now) (take c.args.already c.args.order.now) c.args.root
     c.loop-depth.seen c.loop-depth.next c.loop-depth.path c.loop-depth.order c.loop-depth.depth c.loop-depth.done c.at-s.result c.inputs-fs.result.now c.at.result c.next_open-i.result = record {
       sound = c.requires.sound;
       state = c.loop-depth.invariant;
@@ -403,7 +403,7 @@ bounds-order-done c = let turn : Turn c.args.mentions.now c.args.ends.now c.args
     omega (arith, pop_room (turn) c.if-i-fs.false, numbers (turn))
 
 pub overflow_add-done : goal.overflow_add-done
-overflow_add-done c = let turn : Turn c.args.mentions.now c.args.ends.now c.args.made.now (length c.args.order.now) (take c.args.already c.args.order.now) c.args.root
+overflow_add-done c = let turn : Turn c.args.g.now.mentions.now c.args.g.now.ends.now c.args.g.now.made.now (length c.args.order.now) (take c.args.already c.args.order.now) c.args.root
     c.loop-depth.seen c.loop-depth.next c.loop-depth.path c.loop-depth.order c.loop-depth.depth c.loop-depth.done c.at-s.result c.inputs-fs.result.now c.at.result c.next_open-i.result = record {
       sound = c.requires.sound;
       state = c.loop-depth.invariant;
@@ -419,7 +419,7 @@ pub overflow_sub-depth-else-i-fs : goal.overflow_sub-depth-else-i-fs
 overflow_sub-depth-else-i-fs c = c.loop-depth-test.true
 
 pub loop-depth-smaller : goal.loop-depth-smaller
-loop-depth-smaller c = let turn : Turn c.args.mentions.now c.args.ends.now c.args.made.now (length c.args.order.now) (take c.args.already c.args.order.now) c.args.root
+loop-depth-smaller c = let turn : Turn c.args.g.now.mentions.now c.args.g.now.ends.now c.args.g.now.made.now (length c.args.order.now) (take c.args.already c.args.order.now) c.args.root
     c.loop-depth.seen c.loop-depth.next c.loop-depth.path c.loop-depth.order c.loop-depth.depth c.loop-depth.done c.at-s.result c.inputs-fs.result.now c.at.result c.next_open-i.result = record {
       sound = c.requires.sound;
       state = c.loop-depth.invariant;
@@ -432,7 +432,7 @@ loop-depth-smaller c = let turn : Turn c.args.mentions.now c.args.ends.now c.arg
     omega (arith, pop_room (turn) c.if-i-fs.false, numbers (turn), c.loop-depth-test.true)
 
 pub loop-depth-preserved : goal.loop-depth-preserved
-loop-depth-preserved c = let turn : Turn c.args.mentions.now c.args.ends.now c.args.made.now (length c.args.order.now) (take c.args.already c.args.order.now) c.args.root
+loop-depth-preserved c = let turn : Turn c.args.g.now.mentions.now c.args.g.now.ends.now c.args.g.now.made.now (length c.args.order.now) (take c.args.already c.args.order.now) c.args.root
     c.loop-depth.seen c.loop-depth.next c.loop-depth.path c.loop-depth.order c.loop-depth.depth c.loop-depth.done c.at-s.result c.inputs-fs.result.now c.at.result c.next_open-i.result = record {
       sound = c.requires.sound;
       state = c.loop-depth.invariant;

@@ -5,7 +5,7 @@ use Rattle.graph_order.proofs.explore.Given as goal
 
 abbrev pub invariant-loop-depth : goal.invariant-loop-depth
 invariant-loop-depth l =
-    Exploring l.mentions l.ends l.made (length l.initial.order) (take l.already l.initial.order) l.root l.seen l.next l.path l.order l.depth l.done
+    Exploring l.g.mentions.now l.g.ends.now l.g.made.now (length l.initial.order) (take l.already l.initial.order) l.root l.seen l.next l.path l.order l.depth l.done
 
 abbrev pub decreases-loop-depth : goal.decreases-loop-depth
 decreases-loop-depth l =

@@ -14,4 +14,4 @@ pub loop-j-preserved : goal.loop-j-preserved
 loop-j-preserved c = (omega arith, below_more _ _ c.loop-j.invariant.1 (λ e. c.if-at-x.false (c.at.ensures ∙ e)))
 
 pub returns : goal.returns
-returns c = record { within = omega arith; first = c.loop-j.invariant.1; found = λ b. absurd (omega arith) }
+returns c = record { within = omega arith; first = λ i b. c.loop-j.invariant.1 i (omega arith); found = λ b. absurd (omega arith) }

@@ -6,12 +6,12 @@ use borrow.Author.Rules.{rules}
 use Rattle.graph_order.proofs.sort_or_show.Goals as goal
 
 pub show-requires : goal.show-requires
-show-requires c = showable _ _ _ _ _ _ _ c.sort.ensures.promise c.in-Circle.is (omega (arith, c.sort.auto, c.requires.room, c.requires.asked.path_long))
+show-requires c = showable _ _ _ _ _ _ _ c.sort.ensures.promise c.in-Err.is (omega (arith, c.sort.auto, c.requires.room, c.requires.asked.path_long))
 
-pub returns-in-Done : goal.returns-in-Done
+pub returns-in-Ok : goal.returns-in-Ok
 unfolding NeededSorted
-returns-in-Done c = record { space = (record { long = (search rules) }, record { long = (search rules) }, record { long = (search rules) }); promise = shows_order _ _ _ _ _ _ _ c.sort.ensures.promise c.in-Done.is _ }
+returns-in-Ok c = record { space = (record { long = (search rules) }, record { long = (search rules) }, record { long = (search rules) }); promise = shows_order _ _ _ _ _ _ _ c.sort.ensures.promise c.in-Ok.is _ }
 
-pub returns-in-Circle : goal.returns-in-Circle
+pub returns-in-Err : goal.returns-in-Err
 unfolding NeededSorted
-returns-in-Circle c = record { space = (record { long = (search rules) }, record { long = (search rules) }, record { long = (search rules) }); promise = shows_circle _ _ _ _ _ _ _ c.sort.ensures.promise c.in-Circle.is c.show.ensures }
+returns-in-Err c = record { space = (record { long = (search rules) }, record { long = (search rules) }, record { long = (search rules) }); promise = shows_circle _ _ _ _ _ _ _ c.sort.ensures.promise c.in-Err.is c.show.ensures }

@@ -1,4 +1,6 @@
 -- `graph_stale::judge` meets its contract.
+use native.Mathlib.Omega.{arith}
+use Rattle.std.proofs.lemmas.Grind.{common_steps}
 use Rattle.hold_columns.proofs.Held.{non_order_only_low, outs_low}
 use Rattle.graph_stale.proofs.Judging.{judge_maker, judge_phony, judge_command}
 use Rattle.graph_stale.proofs.judge.Goals as goal
@@ -23,7 +25,7 @@ pub bare_missing-requires : goal.bare_missing-requires
 bare_missing-requires c = (c.requires.0.sound.placed c.args.s c.requires.1, λ f h. rw c.requires.0.timed (c.requires.0.sound.low f h))
 
 pub returns-then-at-eq1 : goal.returns-then-at-eq1
-returns-then-at-eq1 c = λ steps files h. judge_phony h _ _ _ _ c.non_order_only-fs.ensures c.newest-t.ensures c.stale_maker.ensures c.if-stale_maker.false c.at.ensures c.if-at-eq1.true c.bare_missing.ensures c.flag.ensures
+returns-then-at-eq1 c = λ steps files h. judge_phony h _ _ _ _ c.non_order_only-fs.ensures c.newest-t.ensures c.stale_maker.ensures c.if-stale_maker.false c.at.ensures c.if-at-eq1.true c.bare_missing.ensures (grind (arith, common_steps))
 
 pub outs-requires : goal.outs-requires
 outs-requires c = c.requires.0.sound.placed c.args.s c.requires.1
@@ -32,4 +34,4 @@ pub is_outdated-requires : goal.is_outdated-requires
 is_outdated-requires c = outs_low (λ f h. rw c.requires.0.timed (c.requires.0.sound.low f h)) _ _ c.outs.ensures
 
 pub returns : goal.returns
-returns c = λ steps files h. judge_command h _ _ _ _ c.non_order_only-fs.ensures c.newest-t.ensures c.stale_maker.ensures c.if-stale_maker.false c.at.ensures c.if-at-eq1.false c.outs.ensures c.is_outdated.ensures c.flag-2.ensures
+returns c = λ steps files h. judge_command h _ _ _ _ c.non_order_only-fs.ensures c.newest-t.ensures c.stale_maker.ensures c.if-stale_maker.false c.at.ensures c.if-at-eq1.false c.outs.ensures c.is_outdated.ensures (grind (arith, common_steps))

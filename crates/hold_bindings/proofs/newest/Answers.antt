@@ -13,5 +13,5 @@ is_named-requires c = let a = c.requires in record { log = a.log; count = c.args
 pub returns-then-is_named : goal.returns-then-is_named
 returns-then-is_named c = seek_found c.place_of-p.ensures (omega arith) c.at-k.ensures c.is_named.ensures c.if-is_named.true
 
-pub returns : goal.returns
-returns c = seek_other c.place_of-p.ensures (omega arith) c.at-k.ensures c.is_named.ensures c.if-is_named.false
+pub returns-else-is_named : goal.returns-else-is_named
+returns-else-is_named c = seek_other c.place_of-p.ensures (omega arith) c.at-k.ensures c.is_named.ensures c.if-is_named.false

@@ -12,8 +12,8 @@ overflow_mul-k c = omega (arith, c.loop-e.invariant.within c.requires.log c.requ
 pub newest-requires : goal.newest-requires
 newest-requires c = record { log = c.requires.log; held = c.requires.held }
 
-pub returns-in-At : goal.returns-in-At
-returns-in-At c = out_found c.loop-e.invariant c.newest.ensures c.in-At.is
+pub returns-in-Some : goal.returns-in-Some
+returns-in-Some c = out_found c.loop-e.invariant c.newest.ensures c.in-Some.is
 
 pub overflow_add-k : goal.overflow_add-k
 overflow_add-k c = omega (arith, c.loop-e.invariant.within c.requires.log c.requires.held, c.requires.held.scopes.few)
@@ -22,10 +22,10 @@ pub at-parent-requires : goal.at-parent-requires
 at-parent-requires c = omega (arith, c.loop-e.invariant.within c.requires.log c.requires.held, c.requires.held.scopes.few, c.requires.held.rows.bind_long)
 
 pub returns-then-parent-eq0 : goal.returns-then-parent-eq0
-returns-then-parent-eq0 c = out_none c.loop-e.invariant c.newest.ensures c.in-Missing.is c.at-parent.ensures c.if-parent-eq0.true
+returns-then-parent-eq0 c = out_none c.loop-e.invariant c.newest.ensures c.in_default.is c.at-parent.ensures c.if-parent-eq0.true
 
 pub loop-e-smaller : goal.loop-e-smaller
-loop-e-smaller c = out_less c.loop-e.invariant c.newest.ensures c.in-Missing.is c.at-parent.ensures (omega (arith, c.if-parent-eq0.false)) c.requires.log c.requires.held
+loop-e-smaller c = out_less c.loop-e.invariant c.newest.ensures c.in_default.is c.at-parent.ensures (omega (arith, c.if-parent-eq0.false)) c.requires.log c.requires.held
 
 pub loop-e-preserved : goal.loop-e-preserved
-loop-e-preserved c = out_more c.loop-e.invariant c.newest.ensures c.in-Missing.is c.at-parent.ensures (omega (arith, c.if-parent-eq0.false))
+loop-e-preserved c = out_more c.loop-e.invariant c.newest.ensures c.in_default.is c.at-parent.ensures (omega (arith, c.if-parent-eq0.false))

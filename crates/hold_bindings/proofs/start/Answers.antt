@@ -8,5 +8,5 @@ pub returns-then-k-eq0 : goal.returns-then-k-eq0
 unfolding entry_start
 returns-then-k-eq0 c = rw c.if-k-eq0.true
 
-pub returns : goal.returns
-returns c = c.at.ensures ∙ start_later c.args.bind.now c.args.k c.if-k-eq0.false
+pub returns-else-k-eq0 : goal.returns-else-k-eq0
+returns-else-k-eq0 c = c.at.ensures ∙ start_later c.args.bind.now c.args.k c.if-k-eq0.false

@@ -6,22 +6,22 @@ use Rattle.spec.specs.Text.{key_name, key_names}
 use Rattle.hold_keys.specs.Names.{names_joined}
 use Rattle.hold_keys.proofs.key_name.Goals as goal
 
-pub returns-then-k-eq0 : goal.returns-then-k-eq0
+pub returns-in-0 : goal.returns-in-0
 unfolding names_joined concat key_names key_name
-returns-then-k-eq0 c = rw (c.requires.0, c.if-k-eq0.true)
+returns-in-0 c = rw (c.requires.0, c.in-0.is)
 
-pub returns-then-k-eq1 : goal.returns-then-k-eq1
+pub returns-in-1 : goal.returns-in-1
 unfolding names_joined concat key_names key_name
-returns-then-k-eq1 c = rw (c.requires.0, c.if-k-eq1.true)
+returns-in-1 c = rw (c.requires.0, c.in-1.is)
 
-pub returns-then-k-eq2 : goal.returns-then-k-eq2
+pub returns-in-2 : goal.returns-in-2
 unfolding names_joined concat key_names key_name
-returns-then-k-eq2 c = rw (c.requires.0, c.if-k-eq2.true)
+returns-in-2 c = rw (c.requires.0, c.in-2.is)
 
-pub returns-then-k-eq3 : goal.returns-then-k-eq3
+pub returns-in-3 : goal.returns-in-3
 unfolding names_joined concat key_names key_name
-returns-then-k-eq3 c = rw (c.requires.0, c.if-k-eq3.true)
+returns-in-3 c = rw (c.requires.0, c.in-3.is)
 
-pub returns : goal.returns
+pub returns-in_default : goal.returns-in_default
 unfolding names_joined concat key_names key_name
-returns c = let z : c.args.k ≡ 4 = omega (arith, c.requires.1, c.if-k-eq3.false, c.if-k-eq2.false, c.if-k-eq1.false, c.if-k-eq0.false) in rw (c.requires.0, z)
+returns-in_default c = let z : c.args.k ≡ 4 = omega (arith, c.requires.1) in rw (c.requires.0, z)

@@ -16,4 +16,4 @@ pub sum_rest-requires : goal.sum_rest-requires
 sum_rest-requires c = c.loop-i.invariant.1.small
 
 pub returns : goal.returns
-returns c = bucket_is _ c.loop-i.invariant.1 c.sum_rest.ensures c.lesser.ensures
+returns c = bucket_is _ c.loop-i.invariant.1 c.sum_rest.ensures c.min.ensures

@@ -8,5 +8,5 @@ seek-s-requires c = c.requires
 pub returns-then-s-count : goal.returns-then-s-count
 returns-then-s-count c = sought_at c.seek-s.ensures c.if-s-count.true
 
-pub returns : goal.returns
-returns c = sought_none c.seek-s.ensures c.if-s-count.false
+pub returns-else-s-count : goal.returns-else-s-count
+returns-else-s-count c = sought_none c.seek-s.ensures c.if-s-count.false

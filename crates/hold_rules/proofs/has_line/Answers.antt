@@ -1,12 +1,13 @@
 -- `hold_rules::has_line` meets its contract.
-use mathlib.Core.Path.{sym, ◌∙◌}
+use Rattle.std.specs.Prelude.{ℕ, Option, Some, None, is_some}
+use mathlib.Core.Path.{◌≡◌, refl, ◌∙◌, ap}
 use Rattle.hold_bindings.specs.Log.{is_at}
 use Rattle.hold_rules.proofs.has_line.Goals as goal
 
-pub returns-in-At : goal.returns-in-At
+found : (o : Option ℕ) → is_some o ≡ is_at o
 unfolding is_at
-returns-in-At c = λ log h. rw (sym (c.newest.ensures log h) ∙ c.in-At.is)
+found (Some k) = refl
+found None = refl
 
-pub returns-in-Missing : goal.returns-in-Missing
-unfolding is_at
-returns-in-Missing c = λ log h. rw (sym (c.newest.ensures log h) ∙ c.in-Missing.is)
+pub returns : goal.returns
+returns c = λ log h. c.is_some.ensures ∙ found _ ∙ ap is_at (c.newest.ensures log h)

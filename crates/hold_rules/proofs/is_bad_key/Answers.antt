@@ -5,8 +5,8 @@ use Rattle.hold_rules.proofs.is_bad_key.Goals as goal
 
 pub returns-then-not-is_rule_key : goal.returns-then-not-is_rule_key
 unfolding bad_key
-returns-then-not-is_rule_key c = λ log h. rw (sym c.is_rule_key.ensures ∙ c.if-not-is_rule_key.true)
+returns-then-not-is_rule_key c = λ log h. rw c.if-not-is_rule_key.true (rw (sym c.is_rule_key.ensures ∙ c.if-not-is_rule_key.true))
 
-pub returns : goal.returns
+pub returns-else-not-is_rule_key : goal.returns-else-not-is_rule_key
 unfolding bad_key
-returns c = λ log h. c.has_key.ensures log h ∙ rw (sym c.is_rule_key.ensures ∙ c.if-not-is_rule_key.false)
+returns-else-not-is_rule_key c = λ log h. c.has_key.ensures log h ∙ rw (sym c.is_rule_key.ensures ∙ c.if-not-is_rule_key.false)

@@ -6,8 +6,8 @@ use Rattle.hold_rules.proofs.is_declared.Goals as goal
 
 pub returns-then-equal : goal.returns-then-equal
 unfolding is_phony
-returns-then-equal c = λ log rd b. sym (declared_held b c.args.name.now ∙ rw (sym c.equal.ensures ∙ c.if-equal.true))
+returns-then-equal c = λ log rd b. c.if-equal.true ∙ sym (declared_held b c.args.name.now ∙ rw (sym c.equal.ensures ∙ c.if-equal.true))
 
-pub returns : goal.returns
+pub returns-else-equal : goal.returns-else-equal
 unfolding is_phony
-returns c = λ log rd b. c.has_line.ensures log b.held ∙ sym (declared_held b c.args.name.now ∙ rw (sym c.equal.ensures ∙ c.if-equal.false))
+returns-else-equal c = λ log rd b. c.has_line.ensures log b.held ∙ sym (declared_held b c.args.name.now ∙ rw (sym c.equal.ensures ∙ c.if-equal.false))

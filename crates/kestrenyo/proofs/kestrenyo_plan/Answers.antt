@@ -3,4 +3,4 @@ use Rattle.kestrenyo.proofs.Telling.{tells_plan}
 use Rattle.kestrenyo.proofs.kestrenyo_plan.Goals as goal
 
 pub returns : goal.returns
-returns c = tells_plan _ c.of_plan.ensures c.locate.ensures c.plan.ensures
+returns c = tells_plan _ c.of_reply.ensures.plan c.locate.ensures c.plan.ensures

@@ -3,4 +3,4 @@ use Rattle.kestrenyo.proofs.Telling.{tells_text}
 use Rattle.kestrenyo.proofs.kestrenyo_text.Goals as goal
 
 pub returns : goal.returns
-returns c = tells_text _ c.of_text.ensures c.locate.ensures (rw c.wanted_of.ensures at c.text.ensures)
+returns c = tells_text _ c.of_reply.ensures.text c.locate.ensures (rw c.wanted_of.ensures at c.text.ensures)

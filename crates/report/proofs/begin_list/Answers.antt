@@ -5,8 +5,8 @@ use Rattle.report.proofs.begin_list.Goals as goal
 pub returns-then-steps-eq0 : goal.returns-then-steps-eq0
 returns-then-steps-eq0 c = list_none c.args.bundle.now c.args.steps.now c.if-steps-eq0.true c.say_no_work.ensures
 
-pub returns-in-All : goal.returns-in-All
-returns-in-All c = list_fine c.args.bundle.now c.args.steps.now c.args.line.now _ _ _ _ c.if-steps-eq0.false (rw c.in-All.is at c.check_texts.ensures) c.zero_bytes_from.ensures
+pub returns-in-Ok : goal.returns-in-Ok
+returns-in-Ok c = list_fine c.args.bundle.now c.args.steps.now c.args.line.now _ _ _ _ c.if-steps-eq0.false (rw c.in-Ok.is at c.check_texts.ensures) c.zero_bytes_from.ensures
 
-pub returns-in-Refused : goal.returns-in-Refused
-returns-in-Refused c = list_stopped c.args.bundle.now c.args.steps.now c.args.line.now _ _ _ _ c.if-steps-eq0.false (rw c.in-Refused.is at c.check_texts.ensures) c.refuse.ensures
+pub returns-in-Err : goal.returns-in-Err
+returns-in-Err c = list_stopped c.args.bundle.now c.args.steps.now c.args.line.now _ _ _ _ c.if-steps-eq0.false (rw c.in-Err.is at c.check_texts.ensures) c.refuse.ensures

@@ -1,4 +1,5 @@
 -- `report::check_texts` meets its contract.
+use Rattle.std.proofs.lemmas.Result.{err_from_is_err_and}
 use native.Mathlib.Omega.{arith}
 use mathlib.Core.Path.{◌∙◌}
 use Rattle.report.proofs.Rounds.{checking_start, checking_asks, checking_more, checking_on, checking_all, checking_stops, checking_end}
@@ -17,25 +18,27 @@ pub shape_of-ends-then-n-steps : goal.shape_of-ends-then-n-steps
 shape_of-ends-then-n-steps c = c.ask_texts.auto.ends ∙ c.loop-i.invariant.ends_kept
 
 pub returns-then-n-steps : goal.returns-then-n-steps
-returns-then-n-steps c = checking_all c.loop-i-test.true c.loop-i.invariant _ _ _ c.if-n-steps.true (rw c.in-Held.is at c.ask_texts.ensures)
+returns-then-n-steps c = checking_all c.loop-i-test.true c.loop-i.invariant _ _ _ c.if-n-steps.true (rw c.in_ok-n.was at c.ask_texts.ensures)
 
 pub overflow_add-i : goal.overflow_add-i
-overflow_add-i c = omega (arith, checking_more c.loop-i-test.true c.loop-i.invariant _ _ _ (rw c.in-Held.is at c.ask_texts.ensures))
+overflow_add-i c = omega (arith, checking_more c.loop-i-test.true c.loop-i.invariant _ _ _ (rw c.in_ok-n.was at c.ask_texts.ensures))
 
 pub loop-i-smaller : goal.loop-i-smaller
-loop-i-smaller c = omega (arith, checking_more c.loop-i-test.true c.loop-i.invariant _ _ _ (rw c.in-Held.is at c.ask_texts.ensures))
+loop-i-smaller c = omega (arith, checking_more c.loop-i-test.true c.loop-i.invariant _ _ _ (rw c.in_ok-n.was at c.ask_texts.ensures))
 
 pub loop-i-preserved : goal.loop-i-preserved
-loop-i-preserved c = checking_on c.loop-i-test.true c.loop-i.invariant _ _ _ c.ask_texts.auto.bytes c.ask_texts.auto.ends (rw c.in-Held.is at c.ask_texts.ensures)
+loop-i-preserved c = checking_on c.loop-i-test.true c.loop-i.invariant _ _ _ c.ask_texts.auto.bytes c.ask_texts.auto.ends (rw c.in_ok-n.was at c.ask_texts.ensures)
 
-pub shape_of-bytes-in-Refused : goal.shape_of-bytes-in-Refused
-shape_of-bytes-in-Refused c = c.ask_texts.auto.bytes ∙ c.loop-i.invariant.bytes_kept
+pub shape_of-bytes-in_err-n : goal.shape_of-bytes-in_err-n
+shape_of-bytes-in_err-n c = c.ask_texts.auto.bytes ∙ c.loop-i.invariant.bytes_kept
 
-pub shape_of-ends-in-Refused : goal.shape_of-ends-in-Refused
-shape_of-ends-in-Refused c = c.ask_texts.auto.ends ∙ c.loop-i.invariant.ends_kept
+pub shape_of-ends-in_err-n : goal.shape_of-ends-in_err-n
+shape_of-ends-in_err-n c = c.ask_texts.auto.ends ∙ c.loop-i.invariant.ends_kept
 
-pub returns-in-Refused : goal.returns-in-Refused
-returns-in-Refused c = checking_stops c.loop-i-test.true c.loop-i.invariant _ _ _ (rw c.in-Refused.is at c.ask_texts.ensures)
+pub returns-in_err-n : goal.returns-in_err-n
+returns-in_err-n c =
+    let p = err_from_is_err_and c.from_residual.result c.from_residual.ensures.1 in
+    rw (p.1, p.2) (checking_stops c.loop-i-test.true c.loop-i.invariant _ _ _ (rw c.in_err-n.was at c.ask_texts.ensures))
 
 pub shape_of-bytes : goal.shape_of-bytes
 shape_of-bytes c = c.loop-i.invariant.bytes_kept

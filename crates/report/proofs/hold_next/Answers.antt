@@ -1,5 +1,5 @@
 -- `report::hold_next` meets its contract.
-use Rattle.report.proofs.Rounds.{next_held, next_asked, next_refused}
+use Rattle.report.proofs.Rounds.{next_held, next_or}
 use Rattle.report.proofs.hold_next.Goals as goal
 
 pub returns-then-held-ne0 : goal.returns-then-held-ne0
@@ -8,8 +8,5 @@ returns-then-held-ne0 c = next_held c.requires c.if-held-ne0.true
 pub ask_texts-requires : goal.ask_texts-requires
 ask_texts-requires c = c.requires.wanted
 
-pub returns-in-Held : goal.returns-in-Held
-returns-in-Held c = next_asked c.requires _ _ _ (rw c.in-Held.is at c.ask_texts.ensures)
-
-pub returns-in-Refused : goal.returns-in-Refused
-returns-in-Refused c = next_refused c.requires _ _ _ (rw c.in-Refused.is at c.ask_texts.ensures)
+pub returns : goal.returns
+returns c = rw c.unwrap_or.ensures (next_or c.requires _ _ _ c.ask_texts.ensures)

@@ -3,11 +3,11 @@ use native.Mathlib.Omega.{arith}
 use Rattle.run_core.proofs.Deciding.{look_begin, look_more, look_end}
 use Rattle.run_core.proofs.lowest_ready.Goals as goal
 
-pub job_count-i-requires : goal.job_count-i-requires
-job_count-i-requires c = tt
+pub job_count-n-requires : goal.job_count-n-requires
+job_count-n-requires c = tt
 
 pub loop-i-init : goal.loop-i-init
-loop-i-init c = look_begin _ _ _ c.job_count-i.ensures
+loop-i-init c = look_begin _ _ _ c.job_count-n.ensures
 
 pub job_at-requires : goal.job_at-requires
 job_at-requires c = omega (arith, c.loop-i-test.true, c.loop-i.invariant.within)

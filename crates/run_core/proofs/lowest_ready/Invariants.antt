@@ -4,6 +4,3 @@ use Rattle.run_core.proofs.lowest_ready.Given as goal
 
 abbrev pub invariant-loop-i : goal.invariant-loop-i
 invariant-loop-i l = LookedFrom l.marks l.room (jobs_in l.c) l.i l.best
-
-abbrev pub decreases-loop-i : goal.decreases-loop-i
-decreases-loop-i l = l.i

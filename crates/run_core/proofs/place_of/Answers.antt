@@ -1,4 +1,6 @@
 -- `run_core::place_of` meets its contract.
+use mathlib.Core.Path.{◌∙◌}
+use native.Mathlib.Nat.{le_antisymm}
 use Rattle.run_core.proofs.Steps.{place_begin, place_found, place_more, place_end}
 use Rattle.run_core.proofs.place_of.Goals as goal
 
@@ -21,4 +23,4 @@ pub loop-i-preserved : goal.loop-i-preserved
 loop-i-preserved c = place_more c.loop-i.invariant c.loop-i-test.true c.job_count-n.ensures c.job_at.ensures c.is_job.ensures c.if-is_job.false
 
 pub returns : goal.returns
-returns c = place_end c.loop-i.invariant c.loop-i-test.false c.job_count-n.ensures
+returns c = le_antisymm c.loop-i-test.false c.loop-i.auto.i-end ∙ place_end c.loop-i.invariant c.loop-i-test.false c.job_count-n.ensures

@@ -17,17 +17,17 @@ record_name-requires c = record { laid_bundle = c.requires.laid_bundle; k_bound 
 pub place_of-requires : goal.place_of-requires
 place_of-requires c = record { laid_bundle = c.requires.laid_bundle; n_bound = (omega (arith, c.requires.n_value.0), c.loop-k.invariant.sorted) }
 
-pub shape_of-order-in-Taken : goal.shape_of-order-in-Taken
-shape_of-order-in-Taken c = c.loop-k.invariant.long
+pub shape_of-order-in_default : goal.shape_of-order-in_default
+shape_of-order-in_default c = c.loop-k.invariant.long
 
-pub returns-in-Taken : goal.returns-in-Taken
-returns-in-Taken c = sort_twice c.loop-k.invariant c.requires.n_value.0 c.loop-k-test.true c.record_name.ensures c.place_of.ensures c.in-Taken.is
+pub returns-in_default : goal.returns-in_default
+returns-in_default c = sort_twice c.loop-k.invariant c.requires.n_value.0 c.loop-k-test.true c.record_name.ensures c.place_of.ensures c.in_default.is
 
 pub insert-requires : goal.insert-requires
-insert-requires c = (free_within c.loop-k.invariant c.requires.n_value.0 c.loop-k-test.true c.record_name.ensures c.place_of.ensures c.requires.n_value.1 c.in-Free.is, omega (arith, c.loop-k.invariant.long, c.requires.n_value.1), omega (arith, c.requires.n_value.2))
+insert-requires c = (free_within c.loop-k.invariant c.requires.n_value.0 c.loop-k-test.true c.record_name.ensures c.place_of.ensures c.requires.n_value.1 c.in-Err.is, omega (arith, c.loop-k.invariant.long, c.requires.n_value.1), omega (arith, c.requires.n_value.2))
 
 pub loop-k-preserved : goal.loop-k-preserved
-loop-k-preserved c = sort_more c.loop-k.invariant c.requires.n_value.0 c.loop-k-test.true c.record_name.ensures c.place_of.ensures c.in-Free.is c.insert.ensures
+loop-k-preserved c = sort_more c.loop-k.invariant c.requires.n_value.0 c.loop-k-test.true c.record_name.ensures c.place_of.ensures c.in-Err.is c.insert.ensures
 
 pub shape_of-order : goal.shape_of-order
 shape_of-order c = c.loop-k.invariant.long

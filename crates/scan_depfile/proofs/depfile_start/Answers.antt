@@ -8,14 +8,12 @@ pub returns-then-out-eq0 : goal.returns-then-out-eq0
 unfolding StartsList
 returns-then-out-eq0 c = start_empty c.args.s.now c.args.out.now c.if-out-eq0.true
 
-pub behind_colon-requires : goal.behind_colon-requires
-behind_colon-requires c =
-    let t : TargetHere _ _ _ _ = target_here _ _ _ _ c.target_is.ensures c.in-Names.is in
-    t.reads.within
+pub returns : goal.returns
+returns c = start_on c.args.out.now c.skip_blank.ensures c.behind_colon.result (target_here _ _ _ _ c.target_is.ensures c.in_ok-i.was) c.if-out-eq0.false c.behind_colon.ensures
 
-pub returns-in-Names : goal.returns-in-Names
-returns-in-Names c = start_on c.args.out.now c.skip_blank.ensures c.behind_colon.result (target_here _ _ _ _ c.target_is.ensures c.in-Names.is) c.if-out-eq0.false c.behind_colon.ensures
-
-pub returns-in-Refused : goal.returns-in-Refused
+pub returns-in_err-i : goal.returns-in_err-i
 unfolding StartsList
-returns-in-Refused c = start_other c.args.out.now c.skip_blank.ensures (target_other _ _ _ _ c.target_is.ensures c.in-Refused.is)
+returns-in_err-i c = rw c.from_residual.ensures (start_other c.args.out.now c.skip_blank.ensures (target_other _ _ _ _ c.target_is.ensures c.in_err-i.was))
+
+pub behind_colon-requires : goal.behind_colon-requires
+behind_colon-requires c = let t : TargetHere _ _ _ _ = (target_here _ _ _ _ c.target_is.ensures c.in_ok-i.was) in t.reads.within

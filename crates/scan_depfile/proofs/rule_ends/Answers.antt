@@ -1,11 +1,24 @@
 -- `scan_depfile::rule_ends` meets its contract.
-use mathlib.Core.Path.{refl, sym, ◌∙◌}
-use Rattle.depfile.specs.Depfile.{byte, gap, lone}
+use mathlib.Core.Path.{◌≡◌, refl, sym, ◌∙◌}
+use Rattle.depfile.specs.Depfile.{byte, gap, lone, marks_of}
 use Rattle.scan_depfile.specs.Walk.{rule_ends}
-use Rattle.scan_depfile.specs.Answers.{NextMark}
 use Rattle.scan_depfile.proofs.Told.{mark_byte, mark_gap, mark_line, mark_lone}
 use Rattle.scan_depfile.proofs.Listing.{ends_text, ends_line_law, ends_not}
+use Prim.Native.Nat.{ℕ}
+use mathlib.Core.List.{List}
+use lib.ListN.{drop}
+use Rattle.scan_depfile.specs.declared.FoundMark.{FoundMark}
+use Rattle.scan_depfile.specs.declared.FoundMark.TheVariants.{Byte, Gap, Line, Lone}
+use Rattle.scan_depfile.specs.Answers.{MarkAt, NextMark}
+use mathlib.Core.Bool.{false}
 use Rattle.scan_depfile.proofs.rule_ends.Goals as goal
+
+goes_on : (s : List ℕ) (i : ℕ) (r : FoundMark) → MarkAt s i r → ((n : ℕ) → r ≡ Line n → ⊥) → false ≡ rule_ends (marks_of (drop i s))
+unfolding rule_ends
+goes_on s i (Byte b n) m h = sym (ends_not (byte _) (λ t. refl) (mark_byte _ m refl))
+goes_on s i (Gap n) m h = sym (ends_not gap (λ t. refl) (mark_gap _ m refl))
+goes_on s i (Line n) m h = absurd (h n refl)
+goes_on s i Lone m h = sym (ends_not lone (λ t. refl) (mark_lone _ m refl))
 
 pub returns-then-s-i : goal.returns-then-s-i
 returns-then-s-i c = sym (ends_text c.args.s.now c.args.i c.if-s-i.true)
@@ -18,14 +31,5 @@ only_blank-requires c =
 pub returns-in-Line : goal.returns-in-Line
 returns-in-Line c = c.only_blank.ensures ∙ sym (ends_line_law (mark_line _ c.mark_at.ensures c.in-Line.is))
 
-pub returns-in-Byte : goal.returns-in-Byte
-unfolding rule_ends
-returns-in-Byte c = sym (ends_not (byte _) (λ t. refl) (mark_byte _ c.mark_at.ensures c.in-Byte.is))
-
-pub returns-in-Gap : goal.returns-in-Gap
-unfolding rule_ends
-returns-in-Gap c = sym (ends_not gap (λ t. refl) (mark_gap _ c.mark_at.ensures c.in-Gap.is))
-
-pub returns-in-Lone : goal.returns-in-Lone
-unfolding rule_ends
-returns-in-Lone c = sym (ends_not lone (λ t. refl) (mark_lone _ c.mark_at.ensures c.in-Lone.is))
+pub returns-in_default : goal.returns-in_default
+returns-in_default c = goes_on _ _ _ c.mark_at.ensures c.in_default.not-Line

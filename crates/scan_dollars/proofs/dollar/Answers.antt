@@ -1,35 +1,38 @@
 -- `scan_dollars::dollar` meets its contract.
+use native.Mathlib.Omega.{arith}
 use Rattle.scan_dollars.specs.Element.{TellsElement}
-use Rattle.scan_dollars.proofs.Elements.{nothing_begins, short_begins, brace_begins, join_begins, byte_begins, other_begins}
+use Rattle.scan_dollars.proofs.Elements.{nothing_begins, short_begins, brace_begins, join_begins, byte_begins, dollar_or_colon, other_begins}
 use Rattle.scan_dollars.proofs.dollar.Goals as goal
 
 pub returns-then-s-at : goal.returns-then-s-at
 unfolding TellsElement
 returns-then-s-at c = nothing_begins c.args.s.now c.args.at c.if-s-at.true
 
-pub returns-then-k-eq-SHORT : goal.returns-then-k-eq-SHORT
+pub returns-in-1 : goal.returns-in-1
 unfolding TellsElement
-returns-then-k-eq-SHORT c = short_begins c.args.s.now c.if-s-at.false c.class_in-k.ensures c.if-k-eq-SHORT.true c.short_name-end.ensures
+returns-in-1 c = short_begins c.args.s.now c.if-s-at.false c.class_in.ensures c.in-1.is c.short_name-end.ensures
 
-pub returns-then-k-eq-OPEN_BRACE : goal.returns-then-k-eq-OPEN_BRACE
-returns-then-k-eq-OPEN_BRACE c = brace_begins c.args.s.now c.if-s-at.false c.class_in-k.ensures c.braced.result c.if-k-eq-OPEN_BRACE.true c.braced.ensures
+pub returns-in-10 : goal.returns-in-10
+returns-in-10 c = brace_begins c.args.s.now c.if-s-at.false c.class_in.ensures c.braced.result c.in-10.is c.braced.ensures
 
-pub returns-then-k-eq-NEWLINE : goal.returns-then-k-eq-NEWLINE
+pub returns-in-4 : goal.returns-in-4
 unfolding TellsElement
-returns-then-k-eq-NEWLINE c = join_begins c.args.s.now c.if-s-at.false c.class_in-k.ensures c.if-k-eq-NEWLINE.true c.spaces-end.ensures
+returns-in-4 c = join_begins c.args.s.now c.if-s-at.false c.class_in.ensures c.in-4.is c.spaces.ensures
 
-pub returns-then-k-eq-DOLLAR : goal.returns-then-k-eq-DOLLAR
+pub returns-in-5 : goal.returns-in-5
 unfolding TellsElement
-returns-then-k-eq-DOLLAR c = byte_begins c.args.s.now c.if-s-at.false c.class_in-k.ensures (rw c.if-k-eq-DOLLAR.true)
+returns-in-5 c = byte_begins c.args.s.now c.if-s-at.false c.class_in.ensures (rw c.in-5.is)
 
-pub returns-then-k-eq-SPACE : goal.returns-then-k-eq-SPACE
+pub returns-in-5-2 : goal.returns-in-5-2
 unfolding TellsElement
-returns-then-k-eq-SPACE c = byte_begins c.args.s.now c.if-s-at.false c.class_in-k.ensures (rw c.if-k-eq-SPACE.true)
+returns-in-5-2 c = byte_begins c.args.s.now c.if-s-at.false c.class_in.ensures (dollar_or_colon {k = c.class_in.result} (omega arith) (omega arith))
 
-pub returns-then-k-eq-COLON : goal.returns-then-k-eq-COLON
+pub returns-in_default : goal.returns-in_default
 unfolding TellsElement
-returns-then-k-eq-COLON c = byte_begins c.args.s.now c.if-s-at.false c.class_in-k.ensures (rw c.if-k-eq-COLON.true)
+returns-in_default c =
+    other_begins c.args.s.now c.if-s-at.false c.class_in.ensures (omega arith) (omega arith) (omega arith) (omega arith) (omega arith) (omega arith)
 
-pub returns : goal.returns
+pub returns-in_default-2 : goal.returns-in_default-2
 unfolding TellsElement
-returns c = other_begins c.args.s.now c.if-s-at.false c.class_in-k.ensures c.if-k-eq-SHORT.false c.if-k-eq-OPEN_BRACE.false c.if-k-eq-NEWLINE.false c.if-k-eq-DOLLAR.false c.if-k-eq-SPACE.false c.if-k-eq-COLON.false
+returns-in_default-2 c =
+    other_begins c.args.s.now c.if-s-at.false c.class_in.ensures (omega arith) (omega arith) (omega arith) (omega arith) (omega arith) (omega arith)

@@ -1,20 +1,20 @@
 -- `scan_dollars::past` meets its contract.
 use Rattle.scan_dollars.specs.Element.{PastAt}
-use Rattle.scan_dollars.proofs.Answers.{tells_byte, tells_join, tells_name, tells_bad}
-use Rattle.scan_dollars.proofs.Elements.{passed_byte, passed_join, passed_name, passed_bad}
+use Rattle.scan_dollars.proofs.Answers.{tells_bad}
+use Rattle.scan_dollars.proofs.Elements.{passed, passed_bad}
 use Rattle.scan_dollars.proofs.past.Goals as goal
 
 pub returns-in-Byte : goal.returns-in-Byte
 unfolding PastAt
-returns-in-Byte c = passed_byte (tells_byte _ _ _ _ c.dollar.ensures c.in-Byte.is)
+returns-in-Byte c = passed _ _ _ _ c.dollar.ensures c.in-Byte.is
 
-pub returns-in-Join : goal.returns-in-Join
+pub returns-in-Byte-2 : goal.returns-in-Byte-2
 unfolding PastAt
-returns-in-Join c = passed_join (tells_join _ _ _ _ c.dollar.ensures c.in-Join.is)
+returns-in-Byte-2 c = passed _ _ _ _ c.dollar.ensures c.in-Byte.is
 
-pub returns-in-Name : goal.returns-in-Name
+pub returns-in-Byte-3 : goal.returns-in-Byte-3
 unfolding PastAt
-returns-in-Name c = passed_name (tells_name _ _ _ _ c.dollar.ensures c.in-Name.is)
+returns-in-Byte-3 c = passed _ _ _ _ c.dollar.ensures c.in-Byte.is
 
 pub returns-in-Bad : goal.returns-in-Bad
 unfolding PastAt

@@ -1,42 +1,45 @@
 -- `scan_keywords::keyword` meets its contract.
-use mathlib.Core.Bool.{or-false}
-use mathlib.Core.Path.{sym, ◌∙◌}
+use mathlib.Core.Bool.{◌||◌}
+use mathlib.Core.Path.{◌≡◌, refl, sym, ◌∙◌}
+use Rattle.lists.specs.Bytes.{eq_bytes}
 use Rattle.lists.specs.Members.{any}
+use Rattle.lists.specs.Text.{bytes}
 use Rattle.spec.specs.Basics.{among}
 use Rattle.spec.specs.Forms.{keyword}
+use Rattle.scan_keywords.proofs.Ors.{or_then, or_else, five}
 use Rattle.scan_keywords.proofs.keyword.Goals as goal
-
-pub equal-requires : goal.equal-requires
-equal-requires c = tt
-
-pub returns-then-equal : goal.returns-then-equal
-unfolding keyword among any
-returns-then-equal c = rw (sym c.equal.ensures ∙ c.if-equal.true)
-
-pub equal-requires-2 : goal.equal-requires-2
-equal-requires-2 c = tt
-
-pub returns-then-equal-2 : goal.returns-then-equal-2
-unfolding keyword among any
-returns-then-equal-2 c = rw (sym c.equal.ensures ∙ c.if-equal.false, sym c.equal-2.ensures ∙ c.if-equal-2.true)
-
-pub equal-requires-3 : goal.equal-requires-3
-equal-requires-3 c = tt
-
-pub returns-then-equal-3 : goal.returns-then-equal-3
-unfolding keyword among any
-returns-then-equal-3 c = rw (sym c.equal.ensures ∙ c.if-equal.false, sym c.equal-2.ensures ∙ c.if-equal-2.false, sym c.equal-3.ensures ∙ c.if-equal-3.true)
-
-pub equal-requires-4 : goal.equal-requires-4
-equal-requires-4 c = tt
+use Rattle.scan_keywords.proofs.keyword.Goals.{then-equal, else-equal, then-equal-2, else-equal-2, then-equal-3, else-equal-3}
 
 pub returns-then-equal-4 : goal.returns-then-equal-4
 unfolding keyword among any
-returns-then-equal-4 c = rw (sym c.equal.ensures ∙ c.if-equal.false, sym c.equal-2.ensures ∙ c.if-equal-2.false, sym c.equal-3.ensures ∙ c.if-equal-3.false, sym c.equal-4.ensures ∙ c.if-equal-4.true)
+returns-then-equal-4 c =
+    let v1 : c.if-equal.value ≡ ((eq_bytes c.args.w.now (bytes "rule")) || eq_bytes c.args.w.now (bytes "build")) = elim c.if-equal.branch [
+      | then-equal w ↦ or_then _ (sym c.equal.ensures ∙ w.if-equal.true) (w.value-is ∙ w.if-equal.true)
+      | else-equal w ↦ or_else (sym c.equal.ensures ∙ w.if-equal.false) w.value-is w.equal-else-equal.ensures
+    ] in
+    let v2 : c.if-equal-2.value ≡ (((eq_bytes c.args.w.now (bytes "rule")) || eq_bytes c.args.w.now (bytes "build")) || eq_bytes c.args.w.now (bytes "default")) = elim c.if-equal-2.branch [
+      | then-equal-2 w ↦ or_then _ (sym v1 ∙ w.if-equal-2.true) (w.value-is ∙ w.if-equal-2.true)
+      | else-equal-2 w ↦ or_else (sym v1 ∙ w.if-equal-2.false) w.value-is w.equal-else-equal-2.ensures
+    ] in
+    let v3 : c.if-equal-3.value ≡ ((((eq_bytes c.args.w.now (bytes "rule")) || eq_bytes c.args.w.now (bytes "build")) || eq_bytes c.args.w.now (bytes "default")) || eq_bytes c.args.w.now (bytes "include")) = elim c.if-equal-3.branch [
+      | then-equal-3 w ↦ or_then _ (sym v2 ∙ w.if-equal-3.true) (w.value-is ∙ w.if-equal-3.true)
+      | else-equal-3 w ↦ or_else (sym v2 ∙ w.if-equal-3.false) w.value-is w.equal-else-equal-3.ensures
+    ] in
+    or_then (eq_bytes c.args.w.now (bytes "subninja")) (sym v3 ∙ c.if-equal-4.true) c.if-equal-4.true ∙ five (eq_bytes c.args.w.now (bytes "rule")) (eq_bytes c.args.w.now (bytes "build")) (eq_bytes c.args.w.now (bytes "default")) (eq_bytes c.args.w.now (bytes "include")) (eq_bytes c.args.w.now (bytes "subninja"))
 
-pub equal-requires-5 : goal.equal-requires-5
-equal-requires-5 c = tt
-
-pub returns : goal.returns
+pub returns-else-equal-4 : goal.returns-else-equal-4
 unfolding keyword among any
-returns c = rw (sym c.equal.ensures ∙ c.if-equal.false, sym c.equal-2.ensures ∙ c.if-equal-2.false, sym c.equal-3.ensures ∙ c.if-equal-3.false, sym c.equal-4.ensures ∙ c.if-equal-4.false) (c.equal-5.ensures ∙ sym (or-false _))
+returns-else-equal-4 c =
+    let v1 : c.if-equal.value ≡ ((eq_bytes c.args.w.now (bytes "rule")) || eq_bytes c.args.w.now (bytes "build")) = elim c.if-equal.branch [
+      | then-equal w ↦ or_then _ (sym c.equal.ensures ∙ w.if-equal.true) (w.value-is ∙ w.if-equal.true)
+      | else-equal w ↦ or_else (sym c.equal.ensures ∙ w.if-equal.false) w.value-is w.equal-else-equal.ensures
+    ] in
+    let v2 : c.if-equal-2.value ≡ (((eq_bytes c.args.w.now (bytes "rule")) || eq_bytes c.args.w.now (bytes "build")) || eq_bytes c.args.w.now (bytes "default")) = elim c.if-equal-2.branch [
+      | then-equal-2 w ↦ or_then _ (sym v1 ∙ w.if-equal-2.true) (w.value-is ∙ w.if-equal-2.true)
+      | else-equal-2 w ↦ or_else (sym v1 ∙ w.if-equal-2.false) w.value-is w.equal-else-equal-2.ensures
+    ] in
+    let v3 : c.if-equal-3.value ≡ ((((eq_bytes c.args.w.now (bytes "rule")) || eq_bytes c.args.w.now (bytes "build")) || eq_bytes c.args.w.now (bytes "default")) || eq_bytes c.args.w.now (bytes "include")) = elim c.if-equal-3.branch [
+      | then-equal-3 w ↦ or_then _ (sym v2 ∙ w.if-equal-3.true) (w.value-is ∙ w.if-equal-3.true)
+      | else-equal-3 w ↦ or_else (sym v2 ∙ w.if-equal-3.false) w.value-is w.equal-else-equal-3.ensures
+    ] in
+    or_else (sym v3 ∙ c.if-equal-4.false) refl c.equal-else-equal-4.ensures ∙ five (eq_bytes c.args.w.now (bytes "rule")) (eq_bytes c.args.w.now (bytes "build")) (eq_bytes c.args.w.now (bytes "default")) (eq_bytes c.args.w.now (bytes "include")) (eq_bytes c.args.w.now (bytes "subninja"))

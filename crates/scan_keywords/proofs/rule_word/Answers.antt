@@ -2,21 +2,21 @@
 use mathlib.Core.Path.{sym, ◌∙◌}
 use Rattle.spec.specs.Forms.{rule_word}
 use Rattle.scan_keywords.specs.Words.{word_cut}
-use Rattle.scan_tokens.proofs.Places.{empty, not_empty}
+use Rattle.scan_tokens.proofs.Places.{emptiness}
 use Rattle.scan_keywords.proofs.rule_word.Goals as goal
+use Rattle.scan_keywords.proofs.rule_word.Goals.{then-is_empty-via-then-is_empty, then-is_empty-via-else-is_empty+then-keyword}
 
-pub returns-then-w-eq0 : goal.returns-then-w-eq0
+pub returns-then-is_empty : goal.returns-then-is_empty
 unfolding word_cut rule_word
-returns-then-w-eq0 c = rw (empty c.args.w.now c.if-w-eq0.true)
-
-pub returns-then-keyword : goal.returns-then-keyword
-unfolding word_cut rule_word
-returns-then-keyword c = rw (not_empty c.args.w.now c.if-w-eq0.false, sym c.keyword.ensures ∙ c.if-keyword.true)
+returns-then-is_empty c = elim c.then-is_empty.branch [
+  | then-is_empty-via-then-is_empty w ↦ rw (emptiness c.args.w.now c.is_empty.ensures ∙ w.if-is_empty.true)
+  | then-is_empty-via-else-is_empty+then-keyword w ↦ rw (emptiness c.args.w.now c.is_empty.ensures ∙ w.if-is_empty.false, sym w.keyword.ensures ∙ w.if-keyword.true)
+]
 
 pub returns-then-later_keyword : goal.returns-then-later_keyword
 unfolding word_cut rule_word
-returns-then-later_keyword c = rw (not_empty c.args.w.now c.if-w-eq0.false, sym c.keyword.ensures ∙ c.if-keyword.false, sym c.later_keyword.ensures ∙ c.if-later_keyword.true)
+returns-then-later_keyword c = rw (emptiness c.args.w.now c.is_empty.ensures ∙ c.if-is_empty.false, sym c.keyword.ensures ∙ c.if-keyword.false, sym c.later_keyword.ensures ∙ c.if-later_keyword.true)
 
 pub returns : goal.returns
 unfolding word_cut rule_word
-returns c = rw (not_empty c.args.w.now c.if-w-eq0.false, sym c.keyword.ensures ∙ c.if-keyword.false, sym c.later_keyword.ensures ∙ c.if-later_keyword.false)
+returns c = rw (emptiness c.args.w.now c.is_empty.ensures ∙ c.if-is_empty.false, sym c.keyword.ensures ∙ c.if-keyword.false, sym c.later_keyword.ensures ∙ c.if-later_keyword.false)

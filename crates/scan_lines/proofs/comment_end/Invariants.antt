@@ -1,5 +1,3 @@
-use Prim.Native.Nat.{◌-◌}
-use lib.ListN.{length}
 use Rattle.spec.specs.Lines.{comment}
 use Rattle.scan_lines.specs.Endings.{end_from}
 use Rattle.scan_tokens.proofs.Places.{Going}
@@ -7,6 +5,3 @@ use Rattle.scan_lines.proofs.comment_end.Given as goal
 
 abbrev pub invariant-loop-i : goal.invariant-loop-i
 invariant-loop-i l = Going (end_from comment) l.m l.from l.i
-
-abbrev pub decreases-loop-i : goal.decreases-loop-i
-decreases-loop-i l = length l.m - l.i

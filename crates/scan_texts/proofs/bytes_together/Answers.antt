@@ -1,19 +1,7 @@
--- src/lib.rt:38:9
+-- `scan_texts::bytes_together` meets its contract.
 use Rattle.scan_texts.proofs.Texts.{bundle_head, texts_before, texts_together}
 use native.Mathlib.Omega.{arith}
 use Rattle.scan_texts.proofs.bytes_together.Goals as goal
-
--- src/lib.rt:39:9
-
--- src/lib.rt:40:21
-
--- src/lib.rt:40:16
-
--- src/lib.rt:40:16
-
--- src/lib.rt:40:5
-
--- src/lib.rt:34:1
 
 pub word-n-requires : goal.word-n-requires
 word-n-requires c = omega (arith, bundle_head _ c.requires)

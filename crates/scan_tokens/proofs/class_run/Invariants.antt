@@ -1,5 +1,3 @@
-use Prim.Native.Nat.{◌-◌}
-use lib.ListN.{length}
 use Rattle.lists.specs.Runs.{Scanning}
 use Rattle.spec.specs.Bytes.{class_of}
 use Rattle.scan_classes.specs.Table.{class_up_to}
@@ -7,6 +5,3 @@ use Rattle.scan_tokens.proofs.class_run.Given as goal
 
 abbrev pub invariant-loop-i : goal.invariant-loop-i
 invariant-loop-i l = Scanning (λ b. class_up_to l.last (class_of b)) l.s l.from l.i
-
-abbrev pub decreases-loop-i : goal.decreases-loop-i
-decreases-loop-i l = length l.s - l.i

@@ -1,6 +1,7 @@
 -- `first_wrong` meets its contract.
-use mathlib.Core.Path.{sym, ◌∙◌}
+use mathlib.Core.Path.{◌≡◌, sym, ◌∙◌}
 use native.Mathlib.Omega.{arith}
+use lib.ListN.{length}
 use Rattle.status_line.proofs.Wrong.{look_begin, look_bad, look_on, look_open, look_end, bad_after}
 use Rattle.status_line.proofs.first_wrong.Goals as goal
 
@@ -20,7 +21,9 @@ pub overflow_sub-result-then-after : goal.overflow_sub-result-then-after
 overflow_sub-result-then-after c = omega (arith, c.loop-i.invariant.begun c.if-after.true)
 
 pub returns-then-after : goal.returns-then-after
-returns-then-after c = look_open c.loop-i.invariant c.loop-i-test.false c.if-after.true
+returns-then-after c =
+    let z : c.loop-i.i ≡ length c.args.format.now = omega arith in
+    rw z at (look_open c.loop-i.invariant c.loop-i-test.false c.if-after.true)
 
 pub returns : goal.returns
 returns c = look_end c.loop-i.invariant c.loop-i-test.false c.if-after.false

@@ -10,8 +10,8 @@ returns-then-buffer-lt-TEXT c = line_short c.args.s c.args.format.now c.args.buf
 pub fill_line-requires : goal.fill_line-requires
 fill_line-requires c = record { room = c.if-buffer-lt-TEXT.false; low = omega arith }
 
-pub returns-in-At : goal.returns-in-At
-returns-in-At c = line_wrong c.args.s c.args.format.now c.args.buffer.now c.if-buffer-lt-TEXT.false (sym c.in-At.is ∙ c.first_wrong-w.ensures) c.zero_bytes_from.ensures
+pub returns-in-Some : goal.returns-in-Some
+returns-in-Some c = line_wrong c.args.s c.args.format.now c.args.buffer.now c.if-buffer-lt-TEXT.false (sym c.in-Some.is ∙ c.first_wrong.ensures) c.zero_bytes_from.ensures
 
-pub returns-in-Nowhere : goal.returns-in-Nowhere
-returns-in-Nowhere c = rw (line_sound c.args.s c.args.format.now c.args.buffer.now c.if-buffer-lt-TEXT.false (sym c.in-Nowhere.is ∙ c.first_wrong-w.ensures)) c.fill_line.ensures
+pub returns : goal.returns
+returns c = rw (line_sound c.args.s c.args.format.now c.args.buffer.now c.if-buffer-lt-TEXT.false (sym c.in_default.is ∙ c.first_wrong.ensures)) c.fill_line.ensures

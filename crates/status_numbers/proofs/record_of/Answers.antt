@@ -4,4 +4,4 @@ use Rattle.status_numbers.proofs.record_of.Goals as goal
 
 pub returns : goal.returns
 unfolding record_of
-returns c = rw (c.current_number-current.ensures, c.overall_number-overall.ensures, c.current_flag-paced.ensures, c.overall_flag-timed.ensures)
+returns c = rw (c.rate_number-2.ensures, c.rate_number.ensures, c.rate_flag-2.ensures, c.rate_flag.ensures)

@@ -12,11 +12,11 @@ locate-requires c = tt
 pub uncounted-requires : goal.uncounted-requires
 uncounted-requires c = tt
 
-pub returns-in-Accepted : goal.returns-in-Accepted
+pub returns-in-Ok : goal.returns-in-Ok
 unfolding in_numbers
-returns-in-Accepted c = counted c.args.bundle.now c.in-Accepted.is
+returns-in-Ok c = counted c.args.bundle.now c.in-Ok.is
 
-pub returns-in-Refused : goal.returns-in-Refused
-returns-in-Refused c =
-    refused_so c.args.bundle.now _ _ c.in-Refused.is
+pub returns-in-Err : goal.returns-in-Err
+returns-in-Err c =
+    refused_so c.args.bundle.now _ _ c.in-Err.is
     c.of_refusal.ensures c.locate.ensures c.uncounted.ensures

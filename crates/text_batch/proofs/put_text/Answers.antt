@@ -1,4 +1,5 @@
 -- `text_batch::put_text` meets its contract.
+use Rattle.std.proofs.lemmas.Result.{err_from_is_err_and}
 use mathlib.Core.Path.{sym}
 use Rattle.text_batch.proofs.Putting.{text_part}
 use native.Mathlib.Omega.{arith}
@@ -9,31 +10,33 @@ pub shape_of-one-then-room-end : goal.shape_of-one-then-room-end
 shape_of-one-then-room-end c = c.text_of.auto.buffer
 
 pub returns-then-room-end : goal.returns-then-room-end
-returns-then-room-end c = record { space = record { long = (c.text_of.auto.buffer) }; promise = put_long c.text_of.ensures c.in-Written.is c.if-room-end.true }
+returns-then-room-end c = record { space = record { long = (c.text_of.auto.buffer) }; promise = put_long c.text_of.ensures c.in_ok-n.was c.if-room-end.true }
 
 pub slice_bounds-copy_at-end : goal.slice_bounds-copy_at-end
-slice_bounds-copy_at-end c = omega (arith, text_short c.text_of.ensures c.in-Written.is c.requires.asked, c.requires.asked.room, c.text_of.auto)
+slice_bounds-copy_at-end c = omega (arith, text_short c.text_of.ensures c.in_ok-n.was c.requires.asked, c.requires.asked.room, c.text_of.auto)
 
-pub slice_bounds-copy_at-end-in-Written : goal.slice_bounds-copy_at-end-in-Written
-slice_bounds-copy_at-end-in-Written c = sym (text_part c.text_of.ensures c.in-Written.is c.requires.asked (omega (arith, c.requires.asked.room, c.text_of.auto)))
+pub slice_bounds-copy_at-end-2 : goal.slice_bounds-copy_at-end-2
+slice_bounds-copy_at-end-2 c = sym (text_part c.text_of.ensures c.in_ok-n.was c.requires.asked (omega (arith, c.requires.asked.room, c.text_of.auto)))
 
 pub copy_at-requires : goal.copy_at-requires
-copy_at-requires c = omega (arith, text_part c.text_of.ensures c.in-Written.is c.requires.asked (omega (arith, c.requires.asked.room, c.text_of.auto)), c.requires.before, c.requires.within, c.if-room-end.false)
+copy_at-requires c = omega (arith, text_part c.text_of.ensures c.in_ok-n.was c.requires.asked (omega (arith, c.requires.asked.room, c.text_of.auto)), c.requires.before, c.requires.within, c.if-room-end.false)
 
 pub overflow_add-result : goal.overflow_add-result
 overflow_add-result c = omega (arith, c.if-room-end.false, c.requires.before, c.requires.within)
 
-pub shape_of-one-else-room-end : goal.shape_of-one-else-room-end
-shape_of-one-else-room-end c = c.text_of.auto.buffer
+pub shape_of-one : goal.shape_of-one
+shape_of-one c = c.text_of.auto.buffer
 
 pub shape_of-bytes : goal.shape_of-bytes
 shape_of-bytes c = c.copy_at.auto.dst
 
-pub returns-else-room-end : goal.returns-else-room-end
-returns-else-room-end c = record { space = record { long = (c.text_of.auto.buffer) }; promise = put_ends c.text_of.ensures c.in-Written.is c.requires.before c.requires.within c.if-room-end.false (text_part c.text_of.ensures c.in-Written.is c.requires.asked (omega (arith, c.requires.asked.room, c.text_of.auto))) c.copy_at.ensures }
+pub returns : goal.returns
+returns c = record { space = record { long = (c.text_of.auto.buffer) }; promise = put_ends c.text_of.ensures c.in_ok-n.was c.requires.before c.requires.within c.if-room-end.false (text_part c.text_of.ensures c.in_ok-n.was c.requires.asked (omega (arith, c.requires.asked.room, c.text_of.auto))) c.copy_at.ensures }
 
-pub shape_of-one-in-Refused : goal.shape_of-one-in-Refused
-shape_of-one-in-Refused c = c.text_of.auto.buffer
+pub shape_of-one-in_err-n : goal.shape_of-one-in_err-n
+shape_of-one-in_err-n c = c.text_of.auto.buffer
 
-pub returns-in-Refused : goal.returns-in-Refused
-returns-in-Refused c = record { space = record { long = (c.text_of.auto.buffer) }; promise = put_refused c.text_of.ensures c.in-Refused.is }
+pub returns-in_err-n : goal.returns-in_err-n
+returns-in_err-n c =
+    let p = err_from_is_err_and c.from_residual.result c.from_residual.ensures.1 in
+    rw (p.1, p.2) (record { space = record { long = c.text_of.auto.buffer }; promise = put_refused c.text_of.ensures c.in_err-n.was })

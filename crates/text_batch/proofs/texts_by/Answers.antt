@@ -16,32 +16,32 @@ zero_bytes_from-requires c = tt
 pub zero_words_from-requires : goal.zero_words_from-requires
 zero_words_from-requires c = tt
 
-pub zero_bytes_from-requires-in-Refused : goal.zero_bytes_from-requires-in-Refused
-zero_bytes_from-requires-in-Refused c = tt
+pub zero_bytes_from-requires-in-Err : goal.zero_bytes_from-requires-in-Err
+zero_bytes_from-requires-in-Err c = tt
 
-pub zero_words_from-requires-in-Refused : goal.zero_words_from-requires-in-Refused
-zero_words_from-requires-in-Refused c = tt
+pub zero_words_from-requires-in-Err : goal.zero_words_from-requires-in-Err
+zero_words_from-requires-in-Err c = tt
 
-pub shape_of-one-in-Stopped : goal.shape_of-one-in-Stopped
-shape_of-one-in-Stopped c = c.walk.auto.one
+pub shape_of-one-in-Ok : goal.shape_of-one-in-Ok
+shape_of-one-in-Ok c = c.walk.auto.one
 
-pub shape_of-bytes-in-Stopped : goal.shape_of-bytes-in-Stopped
-shape_of-bytes-in-Stopped c = c.zero_bytes_from.auto.buf ∙ c.walk.auto.bytes
+pub shape_of-bytes-in-Ok : goal.shape_of-bytes-in-Ok
+shape_of-bytes-in-Ok c = c.zero_bytes_from.auto.buf ∙ c.walk.auto.bytes
 
-pub shape_of-ends-in-Stopped : goal.shape_of-ends-in-Stopped
-shape_of-ends-in-Stopped c = c.zero_words_from.auto.buf ∙ c.walk.auto.ends
+pub shape_of-ends-in-Ok : goal.shape_of-ends-in-Ok
+shape_of-ends-in-Ok c = c.zero_words_from.auto.buf ∙ c.walk.auto.ends
 
-pub returns-in-Stopped : goal.returns-in-Stopped
-returns-in-Stopped c = record { space = record { long = (c.walk.auto.one) }; promise = texts_written (rw c.in-Stopped.is at c.walk.ensures.promise) c.usable-room.ensures (omega (arith, c.walk.auto)) (omega (arith, c.walk.auto)) c.zero_bytes_from.ensures c.zero_words_from.ensures }
+pub returns-in-Ok : goal.returns-in-Ok
+returns-in-Ok c = record { space = record { long = (c.walk.auto.one) }; promise = texts_written (rw c.in-Ok.is at c.walk.ensures.promise) c.usable-room.ensures (omega (arith, c.walk.auto)) (omega (arith, c.walk.auto)) c.zero_bytes_from.ensures c.zero_words_from.ensures }
 
-pub shape_of-one-in-Refused : goal.shape_of-one-in-Refused
-shape_of-one-in-Refused c = c.walk.auto.one
+pub shape_of-one-in-Err : goal.shape_of-one-in-Err
+shape_of-one-in-Err c = c.walk.auto.one
 
-pub shape_of-bytes-in-Refused : goal.shape_of-bytes-in-Refused
-shape_of-bytes-in-Refused c = c.zero_bytes_from-in-Refused.auto.buf ∙ c.walk.auto.bytes
+pub shape_of-bytes-in-Err : goal.shape_of-bytes-in-Err
+shape_of-bytes-in-Err c = c.zero_bytes_from-in-Err.auto.buf ∙ c.walk.auto.bytes
 
-pub shape_of-ends-in-Refused : goal.shape_of-ends-in-Refused
-shape_of-ends-in-Refused c = c.zero_words_from-in-Refused.auto.buf ∙ c.walk.auto.ends
+pub shape_of-ends-in-Err : goal.shape_of-ends-in-Err
+shape_of-ends-in-Err c = c.zero_words_from-in-Err.auto.buf ∙ c.walk.auto.ends
 
-pub returns-in-Refused : goal.returns-in-Refused
-returns-in-Refused c = record { space = record { long = (c.walk.auto.one) }; promise = texts_refused (rw c.in-Refused.is at c.walk.ensures.promise) c.usable-room.ensures (omega (arith, c.walk.auto)) (omega (arith, c.walk.auto)) c.zero_bytes_from-in-Refused.ensures c.zero_words_from-in-Refused.ensures }
+pub returns-in-Err : goal.returns-in-Err
+returns-in-Err c = record { space = record { long = (c.walk.auto.one) }; promise = texts_refused (rw c.in-Err.is at c.walk.ensures.promise) c.usable-room.ensures (omega (arith, c.walk.auto)) (omega (arith, c.walk.auto)) c.zero_bytes_from-in-Err.ensures c.zero_words_from-in-Err.ensures }

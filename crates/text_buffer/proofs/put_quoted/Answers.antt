@@ -19,4 +19,4 @@ pub loop-i-preserved : goal.loop-i-preserved
 loop-i-preserved c = copy_on c.loop-i.invariant c.loop-i-test.true (sym c.is_safe.ensures ∙ c.if-not-is_safe.false)
 
 pub returns : goal.returns
-returns c = copy_end c.loop-i.invariant c.loop-i-test.false
+returns c = copy_end c.loop-i.invariant c.loop-i-test.false c.loop-i.auto.i-end

@@ -1,5 +1,6 @@
 -- `text_expansion::write_name` and `text_expansion::write_text`, which call one another, meet their contracts. Each rule text goes one less deep, and of one depth the text comes before its names.
 use native.Mathlib.Omega.{arith}
+use mathlib.Core.Path.{sym, ◌∙◌}
 use Rattle.text_references.proofs.Turns.{as_bytes, as_name}
 use Rattle.text_expansion.proofs.Writing.{write_begin, bytes_on, bytes_over, name_asked, name_on, name_over, write_end}
 use Rattle.text_expansion.proofs.Keys.{in_scope, key_asked, plain_asked, plain_written, again_behind, again_written, depth_left, text_asked, key_written}
@@ -9,13 +10,13 @@ pub write_name-lookup-source-requires : goal.write_name-lookup-source-requires
 write_name-lookup-source-requires t c = in_scope c.requires
 
 pub write_name-write_again-requires : goal.write_name-write_again-requires
-write_name-write_again-requires t c = again_behind (key_asked c.requires c.lookup-source.ensures c.in-Text.is) c.span_of-span.ensures c.if-from-to.true
+write_name-write_again-requires t c = again_behind (key_asked c.requires c.lookup-source.ensures c.in-Text.is) (sym c.span_of.ensures ∙ c.in-Some.is)
 
 pub write_name-write_plain-requires : goal.write_name-write_plain-requires
 write_name-write_plain-requires t c = plain_asked c.requires c.lookup-source.ensures
 
-pub write_name-returns-then-from-to : goal.write_name-returns-then-from-to
-write_name-returns-then-from-to t c = again_written (key_asked c.requires c.lookup-source.ensures c.in-Text.is) c.span_of-span.ensures c.if-from-to.true c.write_again.ensures
+pub write_name-returns-in-Some : goal.write_name-returns-in-Some
+write_name-returns-in-Some t c = again_written (key_asked c.requires c.lookup-source.ensures c.in-Text.is) (sym c.span_of.ensures ∙ c.in-Some.is) c.write_again.ensures
 
 pub write_name-overflow_sub-deeper : goal.write_name-overflow_sub-deeper
 write_name-overflow_sub-deeper t c = depth_left (key_asked c.requires c.lookup-source.ensures c.in-Text.is)

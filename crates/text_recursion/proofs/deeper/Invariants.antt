@@ -1,10 +1,5 @@
-use Prim.Native.Nat.{◌-◌}
-use Rattle.spec.specs.Text.{rule_keys}
 use Rattle.text_recursion.proofs.Levels.{Marking}
 use Rattle.text_recursion.proofs.deeper.Given as goal
 
 abbrev pub invariant-loop-k : goal.invariant-loop-k
 invariant-loop-k l = Marking l.texts l.bind l.a l.d l.r l.k
-
-abbrev pub decreases-loop-k : goal.decreases-loop-k
-decreases-loop-k l = rule_keys - l.k

@@ -7,10 +7,10 @@ pub asked-requires : goal.asked-requires
 asked-requires c = reads c.requires
 
 pub text_at-requires : goal.text_at-requires
-text_at-requires c = let a = c.args in step_asked (asked_step a.texts.now a.bind.now a.graph.now a.c a.x.step c.asked.ensures c.in-Step.is) c.requires
+text_at-requires c = let a = c.args in step_asked (asked_step a.read.now.texts.now a.read.now.bind.now a.read.now.graph.now a.c a.x.step c.asked.ensures c.in-Some.is) c.requires
 
-pub returns-in-NoCommand : goal.returns-in-NoCommand
-returns-in-NoCommand c = let a = c.args in no_command c.requires a.x.wanted (asked_none a.texts.now a.bind.now a.graph.now a.c a.x.step c.asked.ensures c.in-NoCommand.is) c.zero_bytes_from.ensures
+pub returns-in_default : goal.returns-in_default
+returns-in_default c = let a = c.args in no_command c.requires a.x.wanted (asked_none a.read.now.texts.now a.read.now.bind.now a.read.now.graph.now a.c a.x.step c.asked.ensures c.in_default.is) c.zero_bytes_from.ensures
 
-pub returns-in-Step : goal.returns-in-Step
-returns-in-Step c = let a = c.args in step_text (asked_step a.texts.now a.bind.now a.graph.now a.c a.x.step c.asked.ensures c.in-Step.is) c.requires c.wanted_key-key.ensures c.text_at.ensures
+pub returns : goal.returns
+returns c = let a = c.args in step_text (asked_step a.read.now.texts.now a.read.now.bind.now a.read.now.graph.now a.c a.x.step c.asked.ensures c.in-Some.is) c.requires c.wanted_key-key.ensures c.text_at.ensures

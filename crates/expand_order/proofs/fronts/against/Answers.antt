@@ -9,9 +9,9 @@ pub returns-then-y : goal.returns-then-y
 unfolding bytes_of
 returns-then-y c = rw c.if-y.true c.ahead.ensures
 
-pub slice_bounds-ahead-end-2 : goal.slice_bounds-ahead-end-2
-slice_bounds-ahead-end-2 c = c.requires.in_raw c.if-y.false
+pub slice_bounds-ahead-end-else-y : goal.slice_bounds-ahead-end-else-y
+slice_bounds-ahead-end-else-y c = c.requires.in_raw c.if-y.false
 
-pub returns : goal.returns
+pub returns-else-y : goal.returns-else-y
 unfolding bytes_of
-returns c = rw c.if-y.false c.ahead-2.ensures
+returns-else-y c = rw c.if-y.false c.ahead-else-y.ensures

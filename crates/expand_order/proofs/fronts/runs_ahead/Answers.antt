@@ -9,9 +9,9 @@ pub returns-then-x : goal.returns-then-x
 unfolding bytes_of
 returns-then-x c = rw c.if-x.true c.against.ensures
 
-pub slice_bounds-against-end-2 : goal.slice_bounds-against-end-2
-slice_bounds-against-end-2 c = c.requires.0.in_raw c.if-x.false
+pub slice_bounds-against-end-else-x : goal.slice_bounds-against-end-else-x
+slice_bounds-against-end-else-x c = c.requires.0.in_raw c.if-x.false
 
-pub returns : goal.returns
+pub returns-else-x : goal.returns-else-x
 unfolding bytes_of
-returns c = rw c.if-x.false c.against-2.ensures
+returns-else-x c = rw c.if-x.false c.against-else-x.ensures

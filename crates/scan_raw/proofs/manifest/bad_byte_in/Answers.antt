@@ -17,6 +17,6 @@ pub returns-then-last-eq10 : goal.returns-then-last-eq10
 unfolding place_of
 returns-then-last-eq10 c = check_ended c.loop-i.invariant c.loop-i-test.false c.if-last-eq10.true
 
-pub returns : goal.returns
+pub returns-else-last-eq10 : goal.returns-else-last-eq10
 unfolding place_of
-returns c = check_open c.loop-i.invariant c.loop-i-test.false c.if-last-eq10.false
+returns-else-last-eq10 c = check_open c.loop-i.invariant c.loop-i-test.false c.if-last-eq10.false

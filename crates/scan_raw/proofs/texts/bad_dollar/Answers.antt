@@ -12,15 +12,15 @@ use Rattle.scan_raw.proofs.texts.bad_dollar.Goals as goal
 pub loop-i-init : goal.loop-i-init
 loop-i-init c = going_begin (omega arith)
 
-pub loop-i-smaller-in-To : goal.loop-i-smaller-in-To
-loop-i-smaller-in-To c = omega (arith, past_to _ _ _ c.past.ensures c.in-To.is)
+pub loop-i-smaller-then-raw-i-eq36 : goal.loop-i-smaller-then-raw-i-eq36
+loop-i-smaller-then-raw-i-eq36 c = omega (arith, past_to _ _ _ c.past.ensures c.in-Some.is)
 
-pub loop-i-preserved-in-To : goal.loop-i-preserved-in-To
-loop-i-preserved-in-To c = text_past (λ b. false) c.loop-i.invariant c.loop-i-test.true refl c.if-raw-i-eq36.true (past_to _ _ _ c.past.ensures c.in-To.is)
+pub loop-i-preserved-then-raw-i-eq36 : goal.loop-i-preserved-then-raw-i-eq36
+loop-i-preserved-then-raw-i-eq36 c = text_past (λ b. false) c.loop-i.invariant c.loop-i-test.true refl c.if-raw-i-eq36.true (past_to _ _ _ c.past.ensures c.in-Some.is)
 
-pub returns-in-Bad : goal.returns-in-Bad
+pub returns-in_default : goal.returns-in_default
 unfolding ValueScanned
-returns-in-Bad c = value_bad _ _ c.loop-i-test.true (text_bad (λ b. false) c.loop-i.invariant c.loop-i-test.true refl c.if-raw-i-eq36.true (past_bad _ _ _ c.past.ensures c.in-Bad.is))
+returns-in_default c = value_bad _ _ c.loop-i-test.true (text_bad (λ b. false) c.loop-i.invariant c.loop-i-test.true refl c.if-raw-i-eq36.true (past_bad _ _ _ c.past.ensures c.in_default.is))
 
 pub loop-i-preserved : goal.loop-i-preserved
 loop-i-preserved c = text_byte (λ b. false) c.loop-i.invariant c.loop-i-test.true refl (ne_eqb _ _ c.if-raw-i-eq36.false)

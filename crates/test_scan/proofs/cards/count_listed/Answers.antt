@@ -1,5 +1,5 @@
 -- `test_scan::cards::count_listed` meets its contract.
-use Rattle.test_scan.proofs.Listing.{counting_begin, counting_end, counting_bad, counting_turn, counting_more}
+use Rattle.test_scan.proofs.Listing.{counting_begin, counting_done, counting_turn, counting_more}
 use native.Mathlib.Omega.{arith}
 use borrow.Author.Rules.{rules}
 use Rattle.test_scan.proofs.cards.count_listed.Goals as goal
@@ -7,11 +7,8 @@ use Rattle.test_scan.proofs.cards.count_listed.Goals as goal
 pub loop-end-init : goal.loop-end-init
 loop-end-init c = counting_begin
 
-pub returns-in-End : goal.returns-in-End
-returns-in-End c = counting_end c.loop-end.invariant c.name_at.ensures c.in-End.is
-
-pub returns-in-Bad : goal.returns-in-Bad
-returns-in-Bad c = counting_bad c.loop-end.invariant c.name_at.ensures c.in-Bad.is
+pub returns : goal.returns
+returns c = counting_done c.loop-end.invariant _ c.name_at.ensures c.in_default.not-Name
 
 pub slice_bounds-is_listed-count : goal.slice_bounds-is_listed-count
 slice_bounds-is_listed-count c = let t = counting_turn c.loop-end.invariant c.name_at.ensures c.in-Name.is in omega (arith, t.some, t.within)

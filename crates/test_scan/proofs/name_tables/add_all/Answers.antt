@@ -1,6 +1,6 @@
 -- `test_scan::name_tables::add_all` meets its contract.
 use mathlib.Core.Path.{refl}
-use Rattle.test_scan.proofs.Adding.{adding_begin, adding_sound, adding_full, adding_end, adding_bad, adding_turn, adding_more}
+use Rattle.test_scan.proofs.Adding.{adding_begin, adding_sound, adding_full, adding_done, adding_turn, adding_more}
 use native.Mathlib.Omega.{arith}
 use borrow.Author.Rules.{rules}
 use Rattle.test_scan.proofs.name_tables.add_all.Goals as goal
@@ -8,11 +8,8 @@ use Rattle.test_scan.proofs.name_tables.add_all.Goals as goal
 pub loop-n-init : goal.loop-n-init
 loop-n-init c = (refl, adding_begin _ _ c.requires)
 
-pub returns-in-End : goal.returns-in-End
-returns-in-End c = adding_end c.loop-n.invariant.1 c.name_at.ensures c.in-End.is
-
-pub returns-in-Bad : goal.returns-in-Bad
-returns-in-Bad c = adding_bad c.loop-n.invariant.1 c.name_at.ensures c.in-Bad.is
+pub returns-in_default : goal.returns-in_default
+returns-in_default c = adding_done c.loop-n.invariant.1 _ c.name_at.ensures c.in_default.not-Name
 
 pub slice_bounds-add_name-count : goal.slice_bounds-add_name-count
 slice_bounds-add_name-count c = let t = adding_turn c.loop-n.invariant.1 c.name_at.ensures c.in-Name.is in omega (arith, t.some, t.within)

@@ -5,12 +5,12 @@ use Rattle.test_scan.specs.Scanners.{or_none}
 use Rattle.test_scan.proofs.scanners.kestrenyo_bad_dollar.Goals as goal
 
 pub overflow_add-result : goal.overflow_add-result
-overflow_add-result c = omega (arith, (value_bad _ _ c.bad_dollar.ensures c.in-At.is).within)
+overflow_add-result c = omega (arith, (value_bad _ _ c.bad_dollar.ensures c.in-Some.is).within)
 
-pub returns-in-Nowhere : goal.returns-in-Nowhere
+pub returns-in-None : goal.returns-in-None
 unfolding or_none
-returns-in-Nowhere c = rw (value_sound _ _ c.bad_dollar.ensures c.in-Nowhere.is)
+returns-in-None c = rw (value_sound _ _ c.bad_dollar.ensures c.in-None.is)
 
-pub returns-in-At : goal.returns-in-At
+pub returns-in-Some : goal.returns-in-Some
 unfolding or_none
-returns-in-At c = rw (value_bad _ _ c.bad_dollar.ensures c.in-At.is).bad
+returns-in-Some c = rw (value_bad _ _ c.bad_dollar.ensures c.in-Some.is).bad

@@ -5,10 +5,10 @@ use Rattle.test_scan.proofs.Numbers.{dollar_past, dollar_bad}
 use Rattle.test_scan.proofs.scanners.kestrenyo_dollar.Goals as goal
 
 pub overflow_add-result : goal.overflow_add-result
-overflow_add-result c = omega (arith, (past_to _ _ _ c.past.ensures c.in-To.is).within)
+overflow_add-result c = omega (arith, (past_to _ _ _ c.past.ensures c.in-Some.is).within)
 
-pub returns-in-To : goal.returns-in-To
-returns-in-To c = dollar_past _ _ c.start_in-i.ensures (past_to _ _ _ c.past.ensures c.in-To.is)
+pub returns-in-Some : goal.returns-in-Some
+returns-in-Some c = dollar_past _ _ c.start_in-i.ensures (past_to _ _ _ c.past.ensures c.in-Some.is)
 
-pub returns-in-Bad : goal.returns-in-Bad
-returns-in-Bad c = dollar_bad _ _ c.start_in-i.ensures (past_bad _ _ _ c.past.ensures c.in-Bad.is)
+pub returns-in-None : goal.returns-in-None
+returns-in-None c = dollar_bad _ _ c.start_in-i.ensures (past_bad _ _ _ c.past.ensures c.in-None.is)

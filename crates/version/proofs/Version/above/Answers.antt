@@ -1,16 +1,10 @@
 -- `Version::above` meets its contract.
-use borrow.Author.Tests.{eq-eqb, ne_eqb}
+use Rattle.std.proofs.Common.{arith}
+use Rattle.std.proofs.lemmas.Grind.{common_steps}
+use Rattle.std.proofs.lemmas.Bool.Decides.{nat_tests}
 use Rattle.version.specs.Version.{above}
 use Rattle.version.proofs.Version.above.Goals as goal
 
-pub returns-then-self-other : goal.returns-then-self-other
-unfolding above
-returns-then-self-other c = rw (ne_eqb _ _ c.if-self-other.true)
-
-pub returns-then-self-other-2 : goal.returns-then-self-other-2
-unfolding above
-returns-then-self-other-2 c = rw (eq-eqb _ _ c.if-self-other.false, ne_eqb _ _ c.if-self-other-2.true)
-
 pub returns : goal.returns
 unfolding above
-returns c = rw (eq-eqb _ _ c.if-self-other.false, eq-eqb _ _ c.if-self-other-2.false)
+returns c = grind (arith, common_steps, nat_tests, c.gt.ensures)

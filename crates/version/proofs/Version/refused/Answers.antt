@@ -3,10 +3,10 @@ use mathlib.Core.Path.{sym, ◌∙◌, ap}
 use Rattle.version.specs.Version.{refused_version, too_new}
 use Rattle.version.proofs.Version.refused.Goals as goal
 
-pub returns-in-Read : goal.returns-in-Read
+pub returns-in-Some : goal.returns-in-Some
 unfolding refused_version too_new
-returns-in-Read c = c.above.ensures ∙ sym (ap too_new (sym c.read.ensures ∙ c.in-Read.is))
+returns-in-Some c = c.above.ensures ∙ sym (ap too_new (sym c.read.ensures ∙ c.in-Some.is))
 
-pub returns-in-Malformed : goal.returns-in-Malformed
+pub returns-in-None : goal.returns-in-None
 unfolding refused_version too_new
-returns-in-Malformed c = sym (ap too_new (sym c.read.ensures ∙ c.in-Malformed.is))
+returns-in-None c = sym (ap too_new (sym c.read.ensures ∙ c.in-None.is))
