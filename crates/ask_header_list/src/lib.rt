@@ -190,7 +190,9 @@ fn close_step(
 }
 
 // Step s with its listed inputs, by its depfile's name. `graph` has the written columns, `second` those of the steps
-// before it with their listed inputs. The word buffer is working space.
+// before it with their listed inputs. The word buffer is working space. It stands by itself, which keeps the loops over
+// a list's bytes short.
+#[inline(never)]
 pub fn add_headers(
     headers: &[u8],
     count: usize,

@@ -33,7 +33,9 @@ fn put_run(word: &mut [u8], at: usize, raw: &[u8], texts: &[u8], r: Run)
     }
 }
 
-// Writes the expansion of a raw text into the buffer as far as it fits, and gives the length of the whole.
+// Writes the expansion of a raw text into the buffer as far as it fits, and gives the length of the whole. It is built
+// into its callers, and `run_at` with it.
+#[inline(always)]
 pub fn expand(
     t: &[u8; 256],
     raw: &[u8],

@@ -43,7 +43,9 @@ fn variable(wanted: &[u8], texts: &[u8], bind: &[u32], count: usize, next: usize
     }
 }
 
-// The run that begins at place i of the raw text.
+// The run that begins at place i of the raw text. It is built into what asks for it: a call hands each run over in
+// memory, and a value of joins takes 1.8 times as long.
+#[inline(always)]
 pub fn run_at(t: &[u8; 256], raw: &[u8], i: usize, texts: &[u8], bind: &[u32], count: usize) -> Run
     requires { (i < length raw.now) × ExpandReady t.now raw.now texts.now bind.now count i }
     ensures { BeginsRun raw.now texts.now bind.now count i result }
@@ -80,7 +82,9 @@ pub fn run_at(t: &[u8; 256], raw: &[u8], i: usize, texts: &[u8], bind: &[u32], c
     }
 }
 
-// The first run from r on that has a byte, or one at the end of the raw text.
+// The first run from r on that has a byte, or one at the end of the raw text. It is built into its callers, as `run_at`
+// is.
+#[inline(always)]
 pub fn filled(t: &[u8; 256], raw: &[u8], texts: &[u8], bind: &[u32], count: usize, r: Run) -> Run
     requires { Going t.now raw.now texts.now bind.now count r }
     ensures { Filled raw.now texts.now bind.now count r result }

@@ -78,8 +78,10 @@ fn list_pending(
     requires { ListAsked g.now.mentions.now g.now.ends.now g.now.made.now order.now pending.old clear.old list.old }
     ensures { Leaves (Spare pending.old pending.new × Spare clear.old clear.new) (Shown (least_in g.now.mentions.now g.now.ends.now g.now.made.now pending.old) list.old result list.new) }
 {
+    // a copy that nothing else holds: what is written then leaves its slices where they are, look by look
+    let own = *g;
     let mut count: usize = 0;
-    while let Some(s) = next_ready(g, order, pending, clear) {
+    while let Some(s) = next_ready(&own, order, pending, clear) {
         list[count] = s as u32;
         count += 1;
         pending[s] = 0;

@@ -122,7 +122,9 @@ fn place_of(texts: &[u8], bind: &[u32], count: usize, owner: usize, wanted: &[u8
     low
 }
 
-// The newest entry of this owner and this name.
+// The newest entry of this owner and this name. It stands by itself, so that what asks for it stays short enough to be
+// built into its callers.
+#[inline(never)]
 pub fn newest(
     texts: &[u8],
     bind: &[u32],

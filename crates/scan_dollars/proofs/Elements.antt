@@ -1,16 +1,16 @@
 -- What a `$` begins, at places of a slice.
 use Prim.Native.Nat.{ℕ, ◌+◌, ◌≤◌, ◌<◌}
-use mathlib.Core.Bool.{true, false, ◌||◌}
+use mathlib.Core.Bool.{true, ◌||◌}
 use mathlib.Core.List.{List, ◌∷◌}
 use mathlib.Core.Logic.{◌⊎◌, inl, inr}
 use mathlib.Core.Option.{none}
 use mathlib.Core.Path.{◌≡◌, sym, ◌∙◌, ap}
 use native.Mathlib.Omega.{arith}
 use native.Mathlib.Nat.{le_refl, le_trans}
-use borrow.Author.Tests.{ne_eqb, eqb-false}
+use borrow.Author.Tests.{ne_eqb}
 use lib.Dec.{eqb}
 use lib.ListN.{length, drop, get_or}
-use Rattle.lists.specs.Tests.{if_b, split}
+use Rattle.lists.specs.Tests.{if_b}
 use Rattle.lists.specs.Parts.{part, part_none, length_part}
 use Rattle.lists.specs.Runs.{Reads, run, after_run, part_run}
 use Rattle.spec.specs.Bytes.{close_brace, short_byte, class_of}
@@ -86,10 +86,6 @@ tells_from s i j x y Bad h e f = e ∙ f
 pub nothing_begins : (s : List ℕ) (at : ℕ) → length s ≤ at → element (drop at s) ≡ wrong
 unfolding element
 nothing_begins s at h = rw (at_end s at h)
-
-pub dollar_or_colon : {k : ℕ} → 5 ≤ k → k ≤ 6 → eqb k 5 || eqb k 3 || eqb k 6 ≡ true
-dollar_or_colon {k} a b =
-    split (eqb k 5) (λ (e : eqb k 5 ≡ true). rw e) (λ (e : eqb k 5 ≡ false). let z : k ≡ 6 = omega (arith, eqb-false k 5 e) in rw z)
 
 module _ (s : List ℕ) {at k : ℕ} (h : at < length s) (c : k ≡ class_of (get_or s at 0)) where
   here : element (drop at s) ≡ by_class k (get_or s at 0) (drop (at + 1) s)

@@ -59,7 +59,10 @@ pub fn dollar(t: &[u8; 256], s: &[u8], at: usize) -> Escape
         }
         scan_classes::OPEN_BRACE => braced(t, s, next),
         scan_classes::NEWLINE => Escape::Join(scan_tokens::spaces(s, next)),
-        scan_classes::DOLLAR | scan_classes::SPACE | scan_classes::COLON => Escape::Byte(b, next),
+        // each by itself, so that the compiler's table has them: by one pattern for the three it tests once more
+        scan_classes::DOLLAR => Escape::Byte(b, next),
+        scan_classes::SPACE => Escape::Byte(b, next),
+        scan_classes::COLON => Escape::Byte(b, next),
         _ => Escape::Bad,
     }
 }

@@ -17,12 +17,14 @@ pub fn find(s: &[u8], from: usize, b: u8) -> usize
     s.len()
 }
 
-// Copies src into dst from place `at` on.
+// Copies src into dst from place `at` on. By std's `copy_from_slice` the library would need `memmove` from outside.
 pub fn copy_at(dst: &mut [u8], at: usize, src: &[u8])
     requires { at + length src.now ≤ length dst.old }
     ensures { dst.new ≡ paste dst.old at src.now (length src.now) }
 {
-    dst[at..at + src.len()].copy_from_slice(src);
+    for i in 0..src.len() {
+        dst[at + i] = src[i];
+    }
 }
 
 // Zeroes the places from `from` up to, not including, `to`.

@@ -1,5 +1,4 @@
-// Slices of bytes compared by eight bytes at a time, since what is compared often begins alike. The library's `cmp`
-// and `==` of slices go byte by byte: it keeps its comparison by words for texts.
+// Slices of bytes compared by eight bytes at a time, since what is compared often begins alike.
 #![tactic(auto)]
 
 ghost use Rattle.std.specs.Prelude.{◌≡◌, ◌+◌, ◌≤◌, min, length};

@@ -1,7 +1,7 @@
 -- `scan_dollars::dollar` meets its contract.
 use native.Mathlib.Omega.{arith}
 use Rattle.scan_dollars.specs.Element.{TellsElement}
-use Rattle.scan_dollars.proofs.Elements.{nothing_begins, short_begins, brace_begins, join_begins, byte_begins, dollar_or_colon, other_begins}
+use Rattle.scan_dollars.proofs.Elements.{nothing_begins, short_begins, brace_begins, join_begins, byte_begins, other_begins}
 use Rattle.scan_dollars.proofs.dollar.Goals as goal
 
 pub returns-then-s-at : goal.returns-then-s-at
@@ -23,16 +23,15 @@ pub returns-in-5 : goal.returns-in-5
 unfolding TellsElement
 returns-in-5 c = byte_begins c.args.s.now c.if-s-at.false c.class_in.ensures (rw c.in-5.is)
 
-pub returns-in-5-2 : goal.returns-in-5-2
+pub returns-in-3 : goal.returns-in-3
 unfolding TellsElement
-returns-in-5-2 c = byte_begins c.args.s.now c.if-s-at.false c.class_in.ensures (dollar_or_colon {k = c.class_in.result} (omega arith) (omega arith))
+returns-in-3 c = byte_begins c.args.s.now c.if-s-at.false c.class_in.ensures (rw c.in-3.is)
+
+pub returns-in-6 : goal.returns-in-6
+unfolding TellsElement
+returns-in-6 c = byte_begins c.args.s.now c.if-s-at.false c.class_in.ensures (rw c.in-6.is)
 
 pub returns-in_default : goal.returns-in_default
 unfolding TellsElement
 returns-in_default c =
-    other_begins c.args.s.now c.if-s-at.false c.class_in.ensures (omega arith) (omega arith) (omega arith) (omega arith) (omega arith) (omega arith)
-
-pub returns-in_default-2 : goal.returns-in_default-2
-unfolding TellsElement
-returns-in_default-2 c =
     other_begins c.args.s.now c.if-s-at.false c.class_in.ensures (omega arith) (omega arith) (omega arith) (omega arith) (omega arith) (omega arith)
