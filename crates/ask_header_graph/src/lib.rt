@@ -111,9 +111,17 @@ fn walk_steps(
 {
     let mut d = Counts { paths: 0, ..c };
     for s in 0..c.steps {
-        d = head_step(
+        // no `?`: with a `match` the must-fail edit `refusal_passed_over` changes the value returned, and not the form
+        match head_step(
             t, headers, count, order, texts, bind, graph, c, names, index, second, name, word, s, d,
-        )?;
+        ) {
+            Ok(e) => {
+                d = e;
+            }
+            Err(r) => {
+                return Err(r);
+            }
+        }
     }
     Ok(d)
 }

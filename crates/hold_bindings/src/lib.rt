@@ -88,7 +88,9 @@ fn is_named(texts: &[u8], bind: &[u32], k: usize, owner: usize, wanted: &[u8]) -
     at(bind, 3 * k + 2) == owner && equal(wanted, entry_name(texts, bind, k))
 }
 
-// Whether this owner and this name come before those of entry k.
+// Whether this owner and this name come before those of entry k. It and `place_of` are built into what calls them: with
+// a call of `place_of` in each, the lookups for texts took a fifth to a third more instructions.
+#[inline(always)]
 fn is_before(texts: &[u8], bind: &[u32], k: usize, owner: usize, wanted: &[u8]) -> bool
     requires { HasEntry texts.now bind.now k }
     ensures { (log : List Logged) (count : ℕ) → HoldsBindings log texts.now bind.now count → k < count → result ≡ less_bytes (owner ∷ wanted.now) (key_at log k) }
@@ -105,6 +107,7 @@ fn is_before(texts: &[u8], bind: &[u32], k: usize, owner: usize, wanted: &[u8]) 
 }
 
 // Where the index has the first entry that comes after this owner and this name, by halving.
+#[inline(always)]
 fn place_of(texts: &[u8], bind: &[u32], count: usize, owner: usize, wanted: &[u8]) -> usize
     requires { SoundBindings texts.now bind.now count }
     ensures { PlaceOf texts.now bind.now count owner wanted.now result }
@@ -122,9 +125,7 @@ fn place_of(texts: &[u8], bind: &[u32], count: usize, owner: usize, wanted: &[u8
     low
 }
 
-// The newest entry of this owner and this name. It stands by itself, so that what asks for it stays short enough to be
-// built into its callers.
-#[inline(never)]
+// The newest entry of this owner and this name.
 pub fn newest(
     texts: &[u8],
     bind: &[u32],

@@ -36,7 +36,8 @@ fn ask_texts(
     texts(bundle, steps, Wanted::Command, bytes, ends).map_err(of_refusal)
 }
 
-// "Texts are all checked, in list order": by one reading, where the buffers have room for all.
+// "Texts are all checked, in list order": by one reading, where the buffers have room for all. The answer is of how many
+// steps, from the first on, they hold the texts: of all, or of none after more than one reading.
 fn check_texts(
     bundle: &[u8],
     steps: &[u32],
@@ -48,11 +49,18 @@ fn check_texts(
 {
     let mut i = 0;
     while i < steps.len() {
-        let n = ask_texts(bundle, &steps[i..], bytes, ends)?;
-        if n == steps.len() {
-            return Ok(n);
+        // no `?`: with a `match` the must-fail edit `refused_text_passes` changes the value returned, and not the form
+        match ask_texts(bundle, &steps[i..], bytes, ends) {
+            Ok(n) => {
+                if n == steps.len() {
+                    return Ok(n);
+                }
+                i += n;
+            }
+            Err(n) => {
+                return Err(n);
+            }
         }
-        i += n;
     }
     Ok(0)
 }

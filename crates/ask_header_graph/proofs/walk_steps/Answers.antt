@@ -1,6 +1,5 @@
 -- `ask_header_graph::walk_steps` meets its contract.
 use Rattle.ask_header_graph.proofs.Walking.{walk_begin, turn_asked, walk_more, walk_refused, walk_end}
-use Rattle.std.proofs.lemmas.Result.{err_from_is_err_and}
 use mathlib.Core.Path.{◌∙◌}
 use Rattle.ask_header_graph.proofs.walk_steps.Goals as goal
 
@@ -11,25 +10,25 @@ pub head_step-requires : goal.head_step-requires
 head_step-requires c = turn_asked c.loop-s.invariant c.loop-s-test.true
 
 pub loop-s-preserved : goal.loop-s-preserved
-loop-s-preserved c = walk_more c.loop-s.invariant c.loop-s-test.true c.head_step.ensures.promise c.in_ok-d.was c.head_step.auto.names c.head_step.auto.index c.head_step.auto.second c.head_step.auto.name c.head_step.auto.word
+loop-s-preserved c = walk_more c.loop-s.invariant c.loop-s-test.true c.head_step.ensures.promise c.in-Ok.is c.head_step.auto.names c.head_step.auto.index c.head_step.auto.second c.head_step.auto.name c.head_step.auto.word
 
-pub shape_of-names-in_err-d : goal.shape_of-names-in_err-d
-shape_of-names-in_err-d c = c.head_step.auto.names ∙ c.loop-s.invariant.names_long
+pub shape_of-names-in-Err : goal.shape_of-names-in-Err
+shape_of-names-in-Err c = c.head_step.auto.names ∙ c.loop-s.invariant.names_long
 
-pub shape_of-index-in_err-d : goal.shape_of-index-in_err-d
-shape_of-index-in_err-d c = c.head_step.auto.index ∙ c.loop-s.invariant.index_long
+pub shape_of-index-in-Err : goal.shape_of-index-in-Err
+shape_of-index-in-Err c = c.head_step.auto.index ∙ c.loop-s.invariant.index_long
 
-pub shape_of-second-in_err-d : goal.shape_of-second-in_err-d
-shape_of-second-in_err-d c = c.head_step.auto.second ∙ c.loop-s.invariant.second_long
+pub shape_of-second-in-Err : goal.shape_of-second-in-Err
+shape_of-second-in-Err c = c.head_step.auto.second ∙ c.loop-s.invariant.second_long
 
-pub shape_of-name-in_err-d : goal.shape_of-name-in_err-d
-shape_of-name-in_err-d c = c.head_step.auto.name ∙ c.loop-s.invariant.name_long
+pub shape_of-name-in-Err : goal.shape_of-name-in-Err
+shape_of-name-in-Err c = c.head_step.auto.name ∙ c.loop-s.invariant.name_long
 
-pub shape_of-word-in_err-d : goal.shape_of-word-in_err-d
-shape_of-word-in_err-d c = c.head_step.auto.word ∙ c.loop-s.invariant.word_long
+pub shape_of-word-in-Err : goal.shape_of-word-in-Err
+shape_of-word-in-Err c = c.head_step.auto.word ∙ c.loop-s.invariant.word_long
 
-pub returns-in_err-d : goal.returns-in_err-d
-returns-in_err-d c = record { space = (record { long = (c.head_step.auto.names ∙ c.loop-s.invariant.names_long) }, record { long = (c.head_step.auto.index ∙ c.loop-s.invariant.index_long) }, record { long = (c.head_step.auto.second ∙ c.loop-s.invariant.second_long) }, record { long = (c.head_step.auto.name ∙ c.loop-s.invariant.name_long) }, record { long = (c.head_step.auto.word ∙ c.loop-s.invariant.word_long) }); promise = (let p = err_from_is_err_and c.from_residual.result c.from_residual.ensures.1 in rw (p.1, p.2) (walk_refused c.loop-s.invariant c.loop-s-test.true c.head_step.ensures.promise c.in_err-d.was)) }
+pub returns-in-Err : goal.returns-in-Err
+returns-in-Err c = record { space = (record { long = (c.head_step.auto.names ∙ c.loop-s.invariant.names_long) }, record { long = (c.head_step.auto.index ∙ c.loop-s.invariant.index_long) }, record { long = (c.head_step.auto.second ∙ c.loop-s.invariant.second_long) }, record { long = (c.head_step.auto.name ∙ c.loop-s.invariant.name_long) }, record { long = (c.head_step.auto.word ∙ c.loop-s.invariant.word_long) }); promise = walk_refused c.loop-s.invariant c.loop-s-test.true c.head_step.ensures.promise c.in-Err.is }
 
 pub shape_of-names : goal.shape_of-names
 shape_of-names c = c.loop-s.invariant.names_long

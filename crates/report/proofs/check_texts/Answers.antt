@@ -1,5 +1,4 @@
 -- `report::check_texts` meets its contract.
-use Rattle.std.proofs.lemmas.Result.{err_from_is_err_and}
 use native.Mathlib.Omega.{arith}
 use mathlib.Core.Path.{◌∙◌}
 use Rattle.report.proofs.Rounds.{checking_start, checking_asks, checking_more, checking_on, checking_all, checking_stops, checking_end}
@@ -18,27 +17,25 @@ pub shape_of-ends-then-n-steps : goal.shape_of-ends-then-n-steps
 shape_of-ends-then-n-steps c = c.ask_texts.auto.ends ∙ c.loop-i.invariant.ends_kept
 
 pub returns-then-n-steps : goal.returns-then-n-steps
-returns-then-n-steps c = checking_all c.loop-i-test.true c.loop-i.invariant _ _ _ c.if-n-steps.true (rw c.in_ok-n.was at c.ask_texts.ensures)
+returns-then-n-steps c = checking_all c.loop-i-test.true c.loop-i.invariant _ _ _ c.if-n-steps.true (rw c.in-Ok.is at c.ask_texts.ensures)
 
 pub overflow_add-i : goal.overflow_add-i
-overflow_add-i c = omega (arith, checking_more c.loop-i-test.true c.loop-i.invariant _ _ _ (rw c.in_ok-n.was at c.ask_texts.ensures))
+overflow_add-i c = omega (arith, checking_more c.loop-i-test.true c.loop-i.invariant _ _ _ (rw c.in-Ok.is at c.ask_texts.ensures))
 
 pub loop-i-smaller : goal.loop-i-smaller
-loop-i-smaller c = omega (arith, checking_more c.loop-i-test.true c.loop-i.invariant _ _ _ (rw c.in_ok-n.was at c.ask_texts.ensures))
+loop-i-smaller c = omega (arith, checking_more c.loop-i-test.true c.loop-i.invariant _ _ _ (rw c.in-Ok.is at c.ask_texts.ensures))
 
 pub loop-i-preserved : goal.loop-i-preserved
-loop-i-preserved c = checking_on c.loop-i-test.true c.loop-i.invariant _ _ _ c.ask_texts.auto.bytes c.ask_texts.auto.ends (rw c.in_ok-n.was at c.ask_texts.ensures)
+loop-i-preserved c = checking_on c.loop-i-test.true c.loop-i.invariant _ _ _ c.ask_texts.auto.bytes c.ask_texts.auto.ends (rw c.in-Ok.is at c.ask_texts.ensures)
 
-pub shape_of-bytes-in_err-n : goal.shape_of-bytes-in_err-n
-shape_of-bytes-in_err-n c = c.ask_texts.auto.bytes ∙ c.loop-i.invariant.bytes_kept
+pub shape_of-bytes-in-Err : goal.shape_of-bytes-in-Err
+shape_of-bytes-in-Err c = c.ask_texts.auto.bytes ∙ c.loop-i.invariant.bytes_kept
 
-pub shape_of-ends-in_err-n : goal.shape_of-ends-in_err-n
-shape_of-ends-in_err-n c = c.ask_texts.auto.ends ∙ c.loop-i.invariant.ends_kept
+pub shape_of-ends-in-Err : goal.shape_of-ends-in-Err
+shape_of-ends-in-Err c = c.ask_texts.auto.ends ∙ c.loop-i.invariant.ends_kept
 
-pub returns-in_err-n : goal.returns-in_err-n
-returns-in_err-n c =
-    let p = err_from_is_err_and c.from_residual.result c.from_residual.ensures.1 in
-    rw (p.1, p.2) (checking_stops c.loop-i-test.true c.loop-i.invariant _ _ _ (rw c.in_err-n.was at c.ask_texts.ensures))
+pub returns-in-Err : goal.returns-in-Err
+returns-in-Err c = checking_stops c.loop-i-test.true c.loop-i.invariant _ _ _ (rw c.in-Err.is at c.ask_texts.ensures)
 
 pub shape_of-bytes : goal.shape_of-bytes
 shape_of-bytes c = c.loop-i.invariant.bytes_kept
